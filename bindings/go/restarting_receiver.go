@@ -12,7 +12,11 @@ package rtpwire
 // The first packet of all has the rollover count 1, and the first one of each later epoch 2 more than the highest
 // number before it: so all numbers of an epoch are above those of the epochs before it.
 //
-// The zero RestartingReceiver has taken nothing yet, and has the bounds of the RFC. It is 32 bytes, and may be copied.
+// Not for a stream with retransmissions under its own SSRC either: two that are 128 and more below the highest number,
+// one after the other, look as if the sender had started again.
+//
+// The zero RestartingReceiver has taken nothing yet, with the RFC's MAX_DROPOUT of 3,000, and takes a source with its
+// first packet, where the RFC's MIN_SEQUENTIAL is 2. It is 32 bytes, and may be copied.
 type RestartingReceiver struct {
 	highest uint64
 	words   [2]uint64

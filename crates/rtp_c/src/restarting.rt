@@ -14,7 +14,8 @@ use rtp_wire::{RestartingReceiver, RestartingVerdict, WideReceiver};
 const MAX_DROPOUT: u16 = 3000;
 
 /// The receive state of one stream: `rtpw_restarting_receiver` in C, 32 bytes. Each value is one;
-/// all zeros have taken nothing yet, and have RFC 3550's bounds.
+/// all zeros have taken nothing yet, with RFC 3550's `MAX_DROPOUT` of 3,000, and take the first
+/// packet of a source, where the RFC's `MIN_SEQUENTIAL` is 2.
 ///
 /// Each `started` but 0 counts as 1, and the highest number as taken whatever its bit says. Where
 /// nothing is taken yet neither `highest` nor the words are looked at.

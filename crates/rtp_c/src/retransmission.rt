@@ -58,8 +58,8 @@ fn refusal(cause: NotRetransmitted) -> i32
 /// Makes the packet in the first `len` bytes of the buffer a retransmission, in place, and writes
 /// the length of that to `len` (RFC 4588, 4): it has this SSRC, payload type, 0 to 127, and
 /// sequence number, its elements have their new ids, and its payload is the original sequence
-/// number in two bytes and the original payload without its padding. All other parts stay, and so
-/// do the bytes behind it.
+/// number in two bytes and the original payload without its padding. P is clear, all other parts
+/// stay, and so do the bytes behind it.
 ///
 /// `OK`; `BAD_FIELD` where the payload type is above 127, the length is greater than the buffer's,
 /// the padding's last byte counts more bytes than the payload has, or the form of the block can't
@@ -111,8 +111,8 @@ pub extern "C" fn rtpw_to_retransmission(
 /// Makes the retransmission in the first `len` bytes of the buffer the packet that it repeats, in
 /// place, and writes the length of that to `len` (RFC 4588, 4): it has this SSRC and payload type,
 /// 0 to 127, and the original sequence number, its elements have their new ids, and its payload is
-/// what follows that number, without any padding. All other parts stay, and so do the bytes behind
-/// it.
+/// what follows that number, without any padding. P is clear, all other parts stay, and so do the
+/// bytes behind it.
 ///
 /// `OK`; `BAD_FIELD` where the payload type is above 127, the length is greater than the buffer's,
 /// the padding's last byte counts more bytes than the payload has, or the form of the block can't

@@ -146,7 +146,9 @@ class Taken(NamedTuple):
 
 class RestartingReceiver(_State):
     """The receive state of one stream that isn't authenticated and whose sender may start again under the same SSRC
-    (RFC 3550, appendix A.1). Not for SRTP: there a packet that isn't authentic must change nothing.
+    (RFC 3550, appendix A.1). Not for SRTP: there a packet that isn't authentic must change nothing. Nor for a stream
+    with retransmissions under its own SSRC: two that are 128 and more below the highest number, one after the other,
+    look as if the sender had started again.
 
     A packet is of the stream where its number is less than max_dropout above the highest one taken, or less than 128
     below it: it is judged by the window, as by `Receiver`. Any other is outside of the stream, and is refused; but

@@ -22,7 +22,9 @@ pub enum Arrival {
 /// started again, and that second packet is taken.
 ///
 /// Don't use it for SRTP: there a packet that isn't authentic must change nothing, and a sender that
-/// starts again would use the numbers of its key anew.
+/// starts again would use the numbers of its key anew. Nor for a stream with retransmissions under its own
+/// SSRC: two that are 128 and more below the highest number, one after the other, look as if the sender had
+/// started again.
 ///
 /// The first number has the rollover count 1, and the first one of each later epoch 2 more than the
 /// highest before it: all numbers of an epoch are above those of the epochs before it.

@@ -21,7 +21,7 @@ use rtp_ext::{
 };
 
 // How many bytes stand before a block's body.
-pub(super) const BLOCK_HEADER_LEN: usize = 4;
+pub(crate) const BLOCK_HEADER_LEN: usize = 4;
 
 // The four bytes before a body of `words` words.
 fn block_header(form: ExtensionsForm, words: u16) -> [u8; BLOCK_HEADER_LEN]

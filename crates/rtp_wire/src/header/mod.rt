@@ -9,6 +9,6 @@ mod sequence_number;
 mod writing;
 mod writing_values;
 
-pub(crate) use block::in_words;
+pub(crate) use block::{BLOCK_HEADER_LEN, in_words};
 pub use not_a_header::NotAHeader;
 pub use rtp_header::RtpHeader;

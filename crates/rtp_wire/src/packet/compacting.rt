@@ -6,10 +6,10 @@ ghost use Rattle.rtp_wire.specs.NotAHeader.{IsNoPacket};
 ghost use Rattle.rtp_wire.specs.NotAPacket.{IsFirstCause};
 ghost use Rattle.rtp_wire.specs.PutIntoPacket.{Compacts};
 
-use super::putting::{HEADER_LEN, resize};
+use super::putting::resize;
 use super::rtp_packet::sources_end;
 use super::{NotAPacket, RtpPacket};
-use crate::header::in_words;
+use crate::header::{BLOCK_HEADER_LEN, in_words};
 use rtp_ext::{ExtensionsForm, take_out};
 
 // An id that no element of the form has.
@@ -49,9 +49,9 @@ pub fn compact(datagram: &mut [u8]) -> Result<usize, NotAPacket>
         return Ok(len);
     };
     let block_at = sources_end(datagram[0]);
-    let body = &mut datagram[block_at + HEADER_LEN..payload_at];
+    let body = &mut datagram[block_at + BLOCK_HEADER_LEN..payload_at];
     let elements_len = take_out(form, body, id_of_none(form));
     let body_len = in_words(elements_len);
     resize(datagram, len, block_at, payload_at, body_len);
-    Ok(block_at + HEADER_LEN + body_len + (len - payload_at))
+    Ok(block_at + BLOCK_HEADER_LEN + body_len + (len - payload_at))
 }

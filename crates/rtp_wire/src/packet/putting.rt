@@ -13,12 +13,9 @@ ghost use Rattle.rtp_wire.specs.PutIntoPacket.{IsSetInPlace, PutsElement, Applie
 
 use super::rtp_packet::sources_end;
 use super::{NotPut, RtpPacket};
-use crate::header::in_words;
+use crate::header::{BLOCK_HEADER_LEN, in_words};
 use rtp_base::put;
 use rtp_ext::{ExtensionsForm, Survey, form_to_put, put_anew, put_len, set_sole, survey_of};
-
-// How many bytes stand before a block's body.
-pub(super) const HEADER_LEN: usize = 4;
 
 // The most bytes that the body of a block has: 65,535 words.
 const MAX_BODY_LEN: usize = 4 * 65_535;
@@ -98,7 +95,7 @@ impl Plan {
         if !self.is_announced {
             return false;
         }
-        let body_at = self.block_at + HEADER_LEN;
+        let body_at = self.block_at + BLOCK_HEADER_LEN;
         let body = &mut datagram[body_at..self.payload_at];
         set_sole(body, &self.survey, id, data)
     }
@@ -136,7 +133,7 @@ impl Plan {
         if !self.is_announced {
             announce(buf, self.block_at, self.new_form);
         }
-        let body_at = self.block_at + HEADER_LEN;
+        let body_at = self.block_at + BLOCK_HEADER_LEN;
         let body = &mut buf[body_at..body_at + new_body_len];
         put_anew(
             self.form,
@@ -203,7 +200,7 @@ pub(super) fn resize(
     requires few { body_len ≤ 4 * 65535 }
     ensures { buf.new ≡ resized buf.old len block_at payload_at body_len }
 {
-    let new_payload_at = block_at + HEADER_LEN + body_len;
+    let new_payload_at = block_at + BLOCK_HEADER_LEN + body_len;
     move_bytes(buf, payload_at, len, new_payload_at);
     let words = (body_len / 4) as u16;
     put(buf, block_at + 2, &words.to_be_bytes());
@@ -279,7 +276,7 @@ pub fn put_element(
     if new_body_len > MAX_BODY_LEN {
         return Err(NotPut::LongBlock);
     }
-    let new_len = plan.block_at + HEADER_LEN + new_body_len + (len - plan.payload_at);
+    let new_len = plan.block_at + BLOCK_HEADER_LEN + new_body_len + (len - plan.payload_at);
     if new_len > buf.len() {
         return Err(NotPut::NoRoom { needed: new_len });
     }
