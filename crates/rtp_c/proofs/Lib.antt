@@ -23,3 +23,4 @@ mod StoredLemmas
 mod StoredWideLemmas
 mod RestartingLemmas
 mod RetransmissionLemmas
+mod SettingLemmas

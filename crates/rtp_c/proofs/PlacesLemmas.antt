@@ -1,23 +1,35 @@
--- Items in places, of which there are four.
-use Rattle.std.proofs.Common.{◌≡◌, ◌≤◌, List, [], ◌∷◌, length, slice_index_or, subst, arith}
+-- Items in places.
+use Rattle.std.proofs.Common.{◌<◌, List, [], ◌∷◌, ◌++◌, length, get_or, set, arith}
 use Rattle.rtp_c.specs.LayersView.{AreInPlaces}
 
-in_four : {A B : Type 0} (IsViewOf : A → B → Type 0) (nothing : A) (items : List A) (p q r s : B) → length items ≤ 4
-    → IsViewOf (slice_index_or items 0 nothing) p → IsViewOf (slice_index_or items 1 nothing) q
-    → IsViewOf (slice_index_or items 2 nothing) r → IsViewOf (slice_index_or items 3 nothing) s
-    → AreInPlaces IsViewOf nothing items (p ∷ q ∷ r ∷ s ∷ [])
-in_four IsViewOf nothing [] p q r s few first second third fourth = (first, (second, (third, (fourth, tt))))
-in_four IsViewOf nothing (a ∷ []) p q r s few first second third fourth = (first, (second, (third, (fourth, tt))))
-in_four IsViewOf nothing (a ∷ b ∷ []) p q r s few first second third fourth = (first, (second, (third, (fourth, tt))))
-in_four IsViewOf nothing (a ∷ b ∷ c ∷ []) p q r s few first second third fourth = (first, (second, (third, (fourth, tt))))
-in_four IsViewOf nothing (a ∷ b ∷ c ∷ d ∷ []) p q r s few first second third fourth = (first, (second, (third, (fourth, tt))))
-in_four IsViewOf nothing (a ∷ b ∷ c ∷ d ∷ e ∷ items) p q r s few first second third fourth = absurd (omega arith)
+-- the place after the last item has the view of nothing
+pub AreInPlaces-after : {A B : Type 0} (IsViewOf : A → B → Type 0) (nothing : A) (items : List A) (views : List B) (unused : B) → length items < length views
+    → AreInPlaces IsViewOf nothing items views → IsViewOf nothing (get_or views (length items) unused)
+AreInPlaces-after IsViewOf nothing [] [] unused room are = absurd (omega arith)
+AreInPlaces-after IsViewOf nothing [] (view ∷ views) unused room are = are.0
+AreInPlaces-after IsViewOf nothing (item ∷ items) [] unused room are = absurd (omega arith)
+AreInPlaces-after IsViewOf nothing (item ∷ items) (view ∷ views) unused room are = AreInPlaces-after IsViewOf nothing items views unused (omega arith) are.1
 
--- each place has the view of what is at its index
-pub AreInPlaces-four : {A B : Type 0} (IsViewOf : A → B → Type 0) (nothing : A) (items held : List A) (p q r s : B) → held ≡ items → length held ≤ 4
-    → IsViewOf (slice_index_or held 0 nothing) p → IsViewOf (slice_index_or held 1 nothing) q
-    → IsViewOf (slice_index_or held 2 nothing) r → IsViewOf (slice_index_or held 3 nothing) s
-    → AreInPlaces IsViewOf nothing items (p ∷ q ∷ r ∷ s ∷ [])
-AreInPlaces-four {A = A} IsViewOf nothing items held p q r s same few first second third fourth =
-    subst (λ (all : List A). AreInPlaces IsViewOf nothing all (p ∷ q ∷ r ∷ s ∷ [])) same
-    (in_four IsViewOf nothing held p q r s few first second third fourth)
+-- the view of an item more is put there
+pub AreInPlaces-more : {A B : Type 0} (IsViewOf : A → B → Type 0) (nothing : A) (items : List A) (views : List B) (item : A) (view : B) → length items < length views
+    → IsViewOf item view → AreInPlaces IsViewOf nothing items views → AreInPlaces IsViewOf nothing (items ++ item ∷ []) (set views (length items) view)
+AreInPlaces-more IsViewOf nothing [] [] item view room is are = absurd (omega arith)
+AreInPlaces-more IsViewOf nothing [] (first ∷ views) item view room is are = (is, are.1)
+AreInPlaces-more IsViewOf nothing (i ∷ items) [] item view room is are = absurd (omega arith)
+AreInPlaces-more IsViewOf nothing (i ∷ items) (first ∷ views) item view room is are = (are.0, AreInPlaces-more IsViewOf nothing items views item view (omega arith) is are.1)
+
+-- the last item's place has its view
+pub AreInPlaces-last : {A B : Type 0} (IsViewOf : A → B → Type 0) (nothing : A) (before : List A) (item : A) (views : List B) (unused : B)
+    → AreInPlaces IsViewOf nothing (before ++ item ∷ []) views → IsViewOf item (get_or views (length before) unused)
+AreInPlaces-last IsViewOf nothing [] item [] unused are = absurd are
+AreInPlaces-last IsViewOf nothing [] item (view ∷ views) unused are = are.0
+AreInPlaces-last IsViewOf nothing (i ∷ before) item [] unused are = absurd are
+AreInPlaces-last IsViewOf nothing (i ∷ before) item (view ∷ views) unused are = AreInPlaces-last IsViewOf nothing before item views unused are.1
+
+-- the view of another item is put in its place
+pub AreInPlaces-changed : {A B : Type 0} (IsViewOf : A → B → Type 0) (nothing : A) (before : List A) (old new : A) (views : List B) (view : B)
+    → IsViewOf new view → AreInPlaces IsViewOf nothing (before ++ old ∷ []) views → AreInPlaces IsViewOf nothing (before ++ new ∷ []) (set views (length before) view)
+AreInPlaces-changed IsViewOf nothing [] old new [] view is are = absurd are
+AreInPlaces-changed IsViewOf nothing [] old new (first ∷ views) view is are = (is, are.1)
+AreInPlaces-changed IsViewOf nothing (i ∷ before) old new [] view is are = absurd are
+AreInPlaces-changed IsViewOf nothing (i ∷ before) old new (first ∷ views) view is are = (are.0, AreInPlaces-changed IsViewOf nothing before old new views view is are.1)

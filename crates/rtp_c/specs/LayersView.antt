@@ -1,5 +1,5 @@
 -- What C is told of a layer allocation (video-layers-allocation00).
-use Rattle.std.specs.Prelude.{◌≡◌, List, [], ◌∷◌, length, None}
+use Rattle.std.specs.Prelude.{◌≡◌, ℕ, zero, suc, ◌-◌, List, [], ◌∷◌, length, None}
 use Rattle.std.specs.Option.{option_map}
 use Rattle.rtp_vla.specs.Allocation as vla
 use Rattle.rtp_c.specs.declared.layers.Layer.{Layer}
@@ -30,6 +30,13 @@ bare_layer = record { temporal_layers = []; resolution_and_framerate = None }
 pub record IsViewOfStream (stream : vla.Stream) (view : Stream) : Type 0 where
   pub layers_are : AreInPlaces IsViewOfLayer bare_layer stream view.layers
   pub count_is : view.count ≡ length stream
+
+-- how many layers more there is room for in the last stream, of which there are so many
+abbrev pub layer_room : ℕ → List Stream → ℕ
+layer_room zero streams = 0
+layer_room (suc before) [] = 0
+layer_room (suc zero) (stream ∷ streams) = 4 - stream.count
+layer_room (suc (suc before)) (stream ∷ streams) = layer_room (suc before) streams
 
 -- an allocation: its streams and how many there are, and the index of the packet's stream
 pub record IsViewOfLayers (allocation : vla.Allocation) (view : Layers) : Type 0 where

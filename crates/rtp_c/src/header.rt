@@ -15,11 +15,10 @@ ghost use Rattle.rtp_c.specs.HeaderView.{IsViewOfHeader, IsParsedAs, IsParsedWit
 ghost use Rattle.rtp_c.specs.Status.{ok, IsHeaderStatus};
 
 use super::kinds::StoredMap;
-use super::layers::{Layers, put_layers, put_no_layers};
+use super::layers::{Layers, put_no_layers};
 use super::status::{OK, UNKNOWN_FORM, header_status_of};
 use super::values::{ValuesView, flag_number, put_no_values, put_values};
 use rtp_ext::read_layers;
-use rtp_vla::vla::VideoLayers;
 use rtp_wire::{Csrcs, RtpHeader, RtpPacket};
 
 /// The header of a packet (RFC 3550, 5.1), with the values of its block: `rtpw_header` in C, 224
@@ -102,7 +101,7 @@ fn put_header(packet: &RtpPacket<'_>, map: &StoredMap, view: &mut HeaderView)
 }
 
 // Puts what C is told of the layers that the packet's block gives under the map. It stays out of
-// line, so that the layers aren't on the stack while the header is read.
+// line, since few headers have layers.
 #[inline(never)]
 fn put_layers_of(packet: &RtpPacket<'_>, map: &StoredMap, view: &mut Layers)
     ensures { (values : ExtensionValues)
@@ -113,9 +112,10 @@ fn put_layers_of(packet: &RtpPacket<'_>, map: &StoredMap, view: &mut Layers)
         put_no_layers(view);
         return;
     };
-    let mut layers = VideoLayers::default();
-    read_layers(map, body, form, &mut layers);
-    put_layers(&layers, view);
+    if read_layers(map, body, form, view) {
+        return;
+    }
+    put_no_layers(view);
 }
 
 // The status of the first cause for which no header begins the bytes, and `OK` where one does.

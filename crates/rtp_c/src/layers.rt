@@ -1,10 +1,10 @@
 //! The layer allocation of a sender of video.
 
-ghost use Rattle.std.specs.Prelude.{◌≡◌, slice_index, slice_index_or, []};
+ghost use Rattle.std.specs.Prelude.{◌≡◌, ◌<◌, ◌+◌, length, slice_index, slice_set};
 ghost use Rattle.rtp_vla.specs.Allocation.{nothing_sent};
 ghost use Rattle.rtp_c.specs.LayersView as spec;
 
-use rtp_vla::vla::{TemporalLayerAllocation, VideoLayer, VideoLayers, VideoStream};
+use rtp_vla::vla::{SetLayers, TemporalLayerAllocation, VideoLayer};
 
 /// What is active of one spatial layer: `rtpw_layer` in C, 40 bytes.
 #[repr(C)]
@@ -53,6 +53,21 @@ impl Stream {
         layers: [Layer::BARE; 4],
         count: 0,
     };
+
+    // Puts a layer after the others.
+    #[inline(always)]
+    fn push(&mut self, layer: Layer)
+        requires { self.old.count < 4 }
+        ensures places { length self.old.layers ≡ 4 }
+        ensures put { self.new ≡ record self.old {
+          layers = slice_set self.old.layers self.old.count layer;
+          count = self.old.count + 1;
+        } }
+    {
+        are_four_layers(&self.layers);
+        self.layers[usize::from(self.count)] = layer;
+        self.count += 1;
+    }
 }
 
 /// What a sender of video keeps active (`video-layers-allocation00`): `rtpw_layers` in C, 680
@@ -114,55 +129,46 @@ fn view_of_layer(layer: &VideoLayer) -> Layer
     view
 }
 
-// What C is told of the layer at this index.
-fn layer_at(layers: &[VideoLayer], index: usize) -> Layer
-    ensures { spec.IsViewOfLayer (slice_index_or layers.now index spec.bare_layer) result }
-{
-    match layers.get(index) {
-        Some(layer) => view_of_layer(layer),
-        None => Layer::BARE,
-    }
-}
+// Says how many places an array has.
+#[inline(always)]
+fn are_four_layers(_places: &[Layer; 4])
+    ensures { length _places.now ≡ 4 }
+{}
 
-// What C is told of a stream.
-fn view_of_stream(stream: &VideoStream) -> Stream
-    ensures { spec.IsViewOfStream stream.now result }
-{
-    let layers = stream.spatial_layers();
-    Stream {
-        layers: [
-            layer_at(layers, 0),
-            layer_at(layers, 1),
-            layer_at(layers, 2),
-            layer_at(layers, 3),
-        ],
-        count: layers.len() as u8,
-    }
-}
+// The same.
+#[inline(always)]
+fn are_four_streams(_places: &[Stream; 4])
+    ensures { length _places.now ≡ 4 }
+{}
 
-// What C is told of the stream at this index.
-fn stream_at(streams: &[VideoStream], index: usize) -> Stream
-    ensures { spec.IsViewOfStream (slice_index_or streams.now index []) result }
-{
-    match streams.get(index) {
-        Some(stream) => view_of_stream(stream),
-        None => Stream::EMPTY,
-    }
-}
+impl SetLayers for Layers {
+    ghost use Rattle.std.specs.Prelude.{◌-◌};
+    ghost use Rattle.rtp_c.specs.LayersView.{IsViewOfLayers, layer_room};
 
-// Puts what C is told of an allocation.
-pub fn put_layers(allocation: &VideoLayers, view: &mut Layers)
-    ensures { spec.IsViewOfLayers allocation.now view.new }
-{
-    let streams = allocation.simulcast_streams();
-    view.streams = [
-        stream_at(streams, 0),
-        stream_at(streams, 1),
-        stream_at(streams, 2),
-        stream_at(streams, 3),
-    ];
-    view.count = streams.len() as u8;
-    view.current = allocation.current_simulcast_stream_index();
+    ghost shows = { λ view allocation. IsViewOfLayers allocation view };
+
+    ghost stream_room = { λ view. 4 - view.count };
+
+    ghost layer_room = { λ view. layer_room view.count view.streams };
+
+    #[inline(always)]
+    fn begin(&mut self, index: u8) {
+        *self = Layers::NONE;
+        self.current = index;
+    }
+
+    #[inline(always)]
+    fn put_stream(&mut self) {
+        are_four_streams(&self.streams);
+        self.streams[usize::from(self.count)].count = 0;
+        self.count += 1;
+    }
+
+    #[inline(always)]
+    fn put_layer(&mut self, layer: &VideoLayer) {
+        let stream = usize::from(self.count) - 1;
+        self.streams[stream].push(view_of_layer(layer));
+    }
 }
 
 // Puts what C is told where nothing is sent.

@@ -1,7 +1,7 @@
 //! The values of a block of header extensions, as the map's kinds read them.
 
-ghost use Rattle.std.specs.Prelude.{◌≡◌, ◌≤◌, ◌∷◌, ℕ, List, false, length, Some, IsOk, IsErr, IfOk, IfSome, OnOk, OnErr, IsTrue, ◌↔◌};
-ghost use Rattle.std.specs.Bool.{then_some, OnTrue, OnFalse};
+ghost use Rattle.std.specs.Prelude.{◌≡◌, ◌≤◌, ◌∷◌, ℕ, List, false, length, is_some, Some, IsOk, IsErr, IfOk, IfSome, OnOk, OnErr, IsTrue, ◌↔◌};
+ghost use Rattle.std.specs.Bool.{OnTrue, OnFalse};
 ghost use Rattle.rtp_ext.specs.Elements.{Element, AreElements};
 ghost use Rattle.rtp_ext.specs.Memory.{HasAllocation, IsStopped, ReadUntilRefused};
 ghost use Rattle.rtp_values.specs.declared.value.values.ExtensionValues.{ExtensionValues};
@@ -15,7 +15,7 @@ use super::kinds::Kinds;
 use super::{Elements, ExtensionMap, ExtensionsForm};
 use rtp_values::{ExtensionValues, KnownKind, SetValues};
 use rtp_vla::vla;
-use rtp_vla::vla::VideoLayers;
+use rtp_vla::vla::SetLayers;
 use std::alloc::{AllocError, Global};
 
 /// Reads the elements of a block's body into the values, under any map, as [`ExtensionMap::parse`]
@@ -109,23 +109,26 @@ fn is_another_allocation(data: &[u8]) -> bool
     vla::is_allocation(data)
 }
 
-/// Reads the layer allocation among the values that the elements of a block's body give into a
-/// value of fixed size, which takes no memory: that of the last element whose id is mapped to it
-/// and whose data mean one. `false` exactly where the elements give none, and then nothing is
-/// changed.
-pub fn read_layers<K: Kinds>(
+/// Reads the layer allocation among the values that the elements of a block's body give into what
+/// the caller gives, which takes no memory: that of the last element whose id is mapped to it and
+/// whose data mean one. `false` exactly where the elements give none, and then nothing is changed.
+pub fn read_layers<K: Kinds, L: SetLayers>(
     exts: &K,
     buf: &[u8],
     form: ExtensionsForm,
-    layers: &mut VideoLayers,
+    layers: &mut L,
 ) -> bool
     ensures found { (values : ExtensionValues) → SaysValues form (K.slots exts.now) buf.now values →
-        then_some result layers.new ≡ values.video_layers_allocation }
+        result ≡ is_some values.video_layers_allocation }
+    ensures shown { (values : ExtensionValues) → SaysValues form (K.slots exts.now) buf.now values →
+        IfSome values.video_layers_allocation (L.shows layers.new) }
     ensures unchanged { result ≡ false → layers.new ≡ layers.old }
 {
     let mut found = false;
     for (id, element) in Elements::new(buf, form) {
-        if exts.get(id) == Some(KnownKind::VideoLayersAllocation) && layers.parse_into(element) {
+        if exts.get(id) == Some(KnownKind::VideoLayersAllocation)
+            && vla::read_into(element, layers)
+        {
             found = true;
         }
     }

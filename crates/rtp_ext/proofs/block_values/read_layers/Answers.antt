@@ -1,5 +1,4 @@
-use Rattle.std.proofs.Common.{◌∷◌, ◌≡◌, ◌++◌, ◌∙◌, sym, refl, subst, ap, ℕ, List, [], Bor, Bool, true, false, Option, Some, None, IsSomeAnd}
-use Rattle.std.specs.Bool.{then_some}
+use Rattle.std.proofs.Common.{◌∷◌, ◌≡◌, ◌++◌, ◌∙◌, sym, refl, subst, ap, ℕ, List, [], Bor, Bool, true, false, Option, Some, None, is_some, IfSome, IsSomeAnd}
 use Rattle.std.proofs.lemmas.Bool.{false≢true}
 use Rattle.std.proofs.lemmas.List.{map-append}
 use Rattle.std.proofs.lemmas.List.Elements.{All-nil}
@@ -11,12 +10,12 @@ use Rattle.rtp_vla.specs.Allocation.{Allocation, Means}
 use Rattle.rtp_values.specs.declared.value.values.ExtensionValues.{ExtensionValues}
 use Rattle.rtp_ext.specs.Elements.{Element}
 use Rattle.rtp_ext.specs.ExtensionMap.{Slots}
-use Rattle.rtp_ext.specs.BlockValues.{Carries, AreFields, last}
+use Rattle.rtp_ext.specs.BlockValues.{Carries, AreFields, SaysValues, last}
 use Rattle.rtp_ext.proofs.KindsByIdLemmas.{AreFields-known}
-use Rattle.rtp_ext.proofs.ValuesLaws.{AreFields-passed, AreFields-one}
+use Rattle.rtp_ext.proofs.ValuesLaws.{AreValues-none, AreFields-passed, AreFields-one}
 use Rattle.rtp_ext.proofs.LastAllocationLemmas.{kind-tested}
 use Rattle.rtp_ext.proofs.block_values.read_layers.Goals as goal
-use Rattle.rtp_ext.proofs.block_values.read_layers.Goals.{else-eq-via-then-eq+else-parse_into, else-eq-via-else-eq}
+use Rattle.rtp_ext.proofs.block_values.read_layers.Goals.{else-eq-via-then-eq+else-read_into, else-eq-via-else-eq}
 
 -- data of which none is read mean no allocation
 no_meaning : (bytes : List ℕ) (read : Bool) (New : Allocation → Type 0) (known : Option Allocation) → ((a : Allocation) → Means bytes a → (read ≡ true) × New a)
@@ -25,47 +24,67 @@ no_meaning bytes read New None only is means = means
 no_meaning bytes read New (Some a) only is means = false≢true (sym is ∙ (only a means).0)
 
 -- an element that doesn't carry the allocation
-passed : (exts : Slots) (done : List Element) (element : Element) (found : Bool) (old new : Allocation) → new ≡ old
-    → (Carries exts VideoLayersAllocation element → ⊥)
-    → AreFields exts done VideoLayersAllocation no_values (record no_values { video_layers_allocation = then_some found old })
-    → AreFields exts (done ++ element ∷ []) VideoLayersAllocation no_values (record no_values { video_layers_allocation = then_some found new })
-passed exts done element found old new same not_carried fields =
-    subst (λ (a : Allocation). AreFields exts (done ++ element ∷ []) VideoLayersAllocation no_values (record no_values { video_layers_allocation = then_some found a }))
-    (sym same) (AreFields-passed exts done element VideoLayersAllocation no_values _ _ not_carried (SameFields-refl VideoLayersAllocation _) fields)
+passed : (exts : Slots) (done : List Element) (element : Element) (known : Option Allocation) → (Carries exts VideoLayersAllocation element → ⊥)
+    → AreFields exts done VideoLayersAllocation no_values (record no_values { video_layers_allocation = known })
+    → AreFields exts (done ++ element ∷ []) VideoLayersAllocation no_values (record no_values { video_layers_allocation = known })
+passed exts done element known not_carried = AreFields-passed exts done element VideoLayersAllocation no_values _ _ not_carried (SameFields-refl VideoLayersAllocation _)
 
-pub loop-id-preserved-then-parse_into : goal.loop-id-preserved-then-parse_into
-loop-id-preserved-then-parse_into g c =
-    let mapped = sym c.get.ensures ∙ (kind-tested c.get.result c.eq.result c.eq.ensures).0 c.if-eq.true in (
-      simp map-append (last _ [] (c.in-Some.id, c.in-Some.element.now) refl mapped c.if-parse_into.ensures.found
+pub loop-id-init : goal.loop-id-init
+loop-id-init g c = (None, AreValues-none (g.K.Kinds.known c.args.exts.now) no_values VideoLayersAllocation, refl, tt, λ _. refl)
+
+pub loop-id-preserved-then-read_into : goal.loop-id-preserved-then-read_into
+loop-id-preserved-then-read_into g c =
+    let mapped = sym c.get.ensures ∙ (kind-tested c.get.result c.eq.result c.eq.ensures).0 c.if-eq.true in
+    let read = c.if-read_into.ensures.found in (
+      Some read.0,
+      simp map-append (last _ [] (c.in-Some.id, c.in-Some.element.now) refl mapped read.1
           (All-nil (λ later. Carries (g.K.Kinds.known c.args.exts.now) VideoLayersAllocation later → ⊥))),
+      refl,
+      read.2,
       λ none. absurd (false≢true (sym none)),
     )
 
 pub loop-id-preserved : goal.loop-id-preserved
-loop-id-preserved g c = elim c.else-eq.branch [
-  | else-eq-via-then-eq+else-parse_into w ↦ (
-    simp map-append (passed (g.K.Kinds.known c.args.exts.now) _ (c.in-Some.id, c.in-Some.element.now) c.loop-id.found c.loop-id.layers c.else-eq.layers
-        (w.layers-is ∙ w.parse_into.ensures.same w.if-parse_into.false)
-        (λ carries. no_meaning _ w.parse_into.result _ _ w.parse_into.ensures.only w.if-parse_into.false carries.1.1) c.loop-id.invariant.0),
-    λ none. w.layers-is ∙ w.parse_into.ensures.same w.if-parse_into.false ∙ c.loop-id.invariant.1 none,
-  )
-  | else-eq-via-else-eq w ↦ (
-    simp map-append (passed (g.K.Kinds.known c.args.exts.now) _ (c.in-Some.id, c.in-Some.element.now) c.loop-id.found c.loop-id.layers c.else-eq.layers
-        w.layers-is
-        (λ carries. false≢true (sym w.if-eq.false ∙ (kind-tested c.get.result c.eq.result c.eq.ensures).1 (c.get.ensures ∙ carries.0))) c.loop-id.invariant.0),
-    λ none. w.layers-is ∙ c.loop-id.invariant.1 none,
-  )
-]
+loop-id-preserved g c =
+    let so_far = c.loop-id.invariant in
+    elim c.else-eq.branch [
+      | else-eq-via-then-eq+else-read_into w ↦ (
+          let same = w.layers-is ∙ w.read_into.ensures.unchanged w.if-read_into.false in (
+            so_far.0,
+            simp map-append (passed (g.K.Kinds.known c.args.exts.now) _ (c.in-Some.id, c.in-Some.element.now) so_far.0
+                (λ carries. no_meaning _ w.read_into.result _ _ w.read_into.ensures.only w.if-read_into.false carries.1.1) so_far.1),
+            so_far.2,
+            subst (λ layers. IfSome so_far.0 (g.L.SetLayers.shows layers)) (sym same) so_far.3,
+            λ none. same ∙ so_far.4 none,
+          )
+          )
+      | else-eq-via-else-eq w ↦ (
+        so_far.0,
+        simp map-append (passed (g.K.Kinds.known c.args.exts.now) _ (c.in-Some.id, c.in-Some.element.now) so_far.0
+            (λ carries. false≢true (sym w.if-eq.false ∙ (kind-tested c.get.result c.eq.result c.eq.ensures).1 (c.get.ensures ∙ carries.0))) so_far.1),
+        so_far.2,
+        subst (λ layers. IfSome so_far.0 (g.L.SetLayers.shows layers)) (sym w.layers-is) so_far.3,
+        λ none. w.layers-is ∙ so_far.4 none,
+      )
+    ]
 
-pub returns-clause-found : goal.returns-clause-found
-returns-clause-found g c values says =
+-- the allocation that was read is that of the values
+known_is : (g : _) (c : goal.In-None g) (values : ExtensionValues) → SaysValues c.args.form (g.K.Kinds.slots c.args.exts.now) c.args.buf.now values
+    → c.loop-id.invariant.0 ≡ values.video_layers_allocation
+known_is g c values says =
     let end = YieldsList-end (YieldsList-from_first (λ (item : ℕ × Bor (List ℕ)). (item.0, item.1.now)) (λ left. left)
     c.new-id-items.result c.into_iter-id-iterator.ensures.into_iter_gives)
     c.loop-id.yielded _ c.loop-id.yielded_by _ _ c.in-None.is c.next.ensures.steps in
-    let shown : ExtensionValues = record no_values { video_layers_allocation = then_some c.loop-id.found c.loop-id.layers } in
+    let shown : ExtensionValues = record no_values { video_layers_allocation = c.loop-id.invariant.0 } in
     ap (λ (v : ExtensionValues). v.video_layers_allocation) (sym (AreFields-one (g.K.Kinds.slots c.args.exts.now) says.elements VideoLayersAllocation no_values shown values
     (AreFields-known (g.K.Kinds.slots c.args.exts.now) says.elements VideoLayersAllocation no_values shown
     (subst (λ (slots : Slots). AreFields slots says.elements VideoLayersAllocation no_values shown) (g.met.K.Kinds.known_is c.args.exts.now)
     (subst (λ (es : List Element). AreFields (g.K.Kinds.known c.args.exts.now) es VideoLayersAllocation no_values shown)
-    (end.0 ∙ sym (c.new-id-items.ensures.only says.elements says.are_elements)) c.loop-id.invariant.0)))
+    (end.0 ∙ sym (c.new-id-items.ensures.only says.elements says.are_elements)) c.loop-id.invariant.1)))
     (says.are_values VideoLayersAllocation)))
+
+pub returns-clause-found : goal.returns-clause-found
+returns-clause-found g c values says = c.loop-id.invariant.2 ∙ ap is_some (known_is g c values says)
+
+pub returns-clause-shown : goal.returns-clause-shown
+returns-clause-shown g c values says = subst (λ (known : Option Allocation). IfSome known (g.L.SetLayers.shows c.loop-id.layers)) (known_is g c values says) c.loop-id.invariant.3

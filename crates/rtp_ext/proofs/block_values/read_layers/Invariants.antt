@@ -1,13 +1,15 @@
-use Rattle.std.proofs.Common.{◌≡◌, false, map}
-use Rattle.std.specs.Bool.{then_some}
+use Rattle.std.proofs.Common.{◌≡◌, false, map, Option, is_some, IfSome}
+use Rattle.rtp_vla.specs.Allocation.{Allocation}
 use Rattle.rtp_values.specs.declared.kind.Extension.TheVariants.{VideoLayersAllocation}
 use Rattle.rtp_values.specs.Values.{no_values}
 use Rattle.rtp_ext.specs.BlockValues.{AreFields}
 use Rattle.rtp_ext.proofs.block_values.read_layers.Given as goal
 
--- the allocation is that of the elements that were passed, and where they have none it stays
+-- the allocation is that of the elements that were passed, and where they have none what is there stays
 abbrev pub invariant-loop-id : goal.invariant-loop-id
 invariant-loop-id g l =
-    (AreFields (g.K.Kinds.known l.exts) (map (λ item. (item.0, item.1.now)) l.yielded) VideoLayersAllocation no_values
-    (record no_values { video_layers_allocation = then_some l.found l.layers }))
+    (known : Option Allocation)
+    × AreFields (g.K.Kinds.known l.exts) (map (λ item. (item.0, item.1.now)) l.yielded) VideoLayersAllocation no_values (record no_values { video_layers_allocation = known })
+    × (l.found ≡ is_some known)
+    × IfSome known (g.L.SetLayers.shows l.layers)
     × (l.found ≡ false → l.layers ≡ l.initial.layers)
