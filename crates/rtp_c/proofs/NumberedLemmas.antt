@@ -225,3 +225,42 @@ numbered_kind numbers zero kind is = cc
 numbered_kind numbers (suc k) kind is =
     let found = kind_of_extension (kind_numbered (get_or numbers (suc k) 0)) kind (extension_numbered numbers (suc k) _ (omega arith) refl ∙ is) in
     sym (subst (IsKindNumbered (get_or numbers (suc k) 0)) found (numbered_is (get_or numbers (suc k) 0)))
+
+numbered_lowest : (numbers : List ℕ) (kind : KnownKind) (index : ℕ) → IsFirstNumber (drop 1 numbers) (kind_number kind) index
+    → IsLowest (numbered_slots numbers) (extension_of_kind kind) (suc index)
+numbered_lowest numbers kind index first = record {
+  mapped = sym (extension_numbered numbers (suc index) (Some kind) (omega arith) (sym (ap kind_numbered here ∙ number_of_kind kind)));
+  lowest = before;
+}
+  where
+    here : get_or numbers (suc index) 0 ≡ kind_number kind
+    here = sym (after_first numbers index) ∙ first.here
+
+    before : (k : ℕ) → k < suc index → extension_at (numbered_slots numbers) k ≡ Some (extension_of_kind kind) → ⊥
+    before zero below is = cc
+    before (suc k) below is = first.before k (omega arith) (after_first numbers k ∙ numbered_kind numbers (suc k) kind is)
+
+pub numbered-found : (from to rest : List ℕ) (id : ℕ) (kind : KnownKind) (index new : ℕ) → rest ≡ drop 1 to → option_map extension_of_kind (Some kind) ≡ extension_at (numbered_slots from) id
+    → IsFirstNumber rest (kind_number kind) index → new ≡ index + 1 → IsNewId (numbered_slots from) (numbered_slots to) id (Some new)
+numbered-found from to rest id kind index new rest_is is first new_is =
+    let next : suc index ≡ new = omega (arith, new_is) in (
+      extension_of_kind kind,
+      sym is,
+      subst (IsLowest (numbered_slots to) (extension_of_kind kind)) next
+          (numbered_lowest to kind index (subst (λ (ns : List ℕ). IsFirstNumber ns (kind_number kind) index) rest_is first)),
+    )
+
+pub numbered-unmapped : (from to rest : List ℕ) (id : ℕ) (kind : KnownKind) → rest ≡ drop 1 to → option_map extension_of_kind (Some kind) ≡ extension_at (numbered_slots from) id
+    → ((k : ℕ) → k < length rest → get_or rest k 0 ≢ kind_number kind) → IsNewId (numbered_slots from) (numbered_slots to) id None
+numbered-unmapped from to rest id kind rest_is is never = λ extension mapped.
+    let same : extension_of_kind kind ≡ extension = one_kind (is ∙ mapped) in
+    subst (IsUnmapped (numbered_slots to)) same nowhere
+  where
+    nowhere : IsUnmapped (numbered_slots to) (extension_of_kind kind)
+    nowhere zero is_here = cc
+    nowhere (suc k) is_here =
+        let number = after_first to k ∙ numbered_kind to (suc k) kind is_here in
+        elim (cases_lt k (length (drop 1 to))) [
+          | inl within ↦ never k (omega (arith, within, ap length rest_is)) (ap (λ (ns : List ℕ). get_or ns k 0) rest_is ∙ number)
+          | inr past ↦ number≢0 kind (sym number ∙ get_or_past (drop 1 to) k 0 (omega (arith, past)))
+        ]

@@ -170,6 +170,12 @@ impl Kinds for StoredMap {
         if end <= LOW_SLOTS { end } else { ALL_SLOTS }
     }
 
+    fn id_under(&self, other: &Self, id: u8) -> Option<u8> {
+        let kind = self.get(id)?;
+        let index = index_of(&other.kind[1..], number_of(kind))?;
+        Some(index as u8 + 1)
+    }
+
     // By the numbers, so that many are looked at at once. What stands at index 0 is that of no id.
     fn rename(&self, from: KnownKind, to: KnownKind, lowest: u8, ids: &mut [u8; 256]) {
         let from = number_of(from);

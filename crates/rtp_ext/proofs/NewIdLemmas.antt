@@ -72,6 +72,58 @@ two_byte-carried ids (e ∷ elements) = two_byte-carried ids elements ∙ ap (λ
 
 -- ---- the table
 
+-- an id that a map has
+pub HasNoIdAbove-length : (slots : Slots) → length slots ≡ 255 → HasNoIdAbove 255 slots
+HasNoIdAbove-length slots long = λ id above. past slots id long above
+  where
+    past : (slots : Slots) (id : ℕ) → length slots ≡ 255 → 255 < id → entry_at slots id ≡ None
+    past slots zero long above = absurd (omega arith)
+    past slots (suc k) long above = get_or_past slots k None (omega arith)
+
+-- the ids below an id have their new ids in the table
+pub record HasNewIdsTo (from to : Slots) (ids : List (Option ℕ)) (passed : ℕ) : Type 0 where
+  pub long : length ids ≡ 256
+  pub no_others : 0 < passed → HasNoIdAbove 255 from
+  pub new : (id : ℕ) (e : Option ℕ) → id < passed → IsNewId from to id (get_or ids id e)
+  pub valid : (id : ℕ) (e : Option ℕ) → id < passed → IfSome (get_or ids id e) IsId
+
+pub HasNewIdsTo-start : (from to : Slots) (ids : List (Option ℕ)) → length ids ≡ 256 → HasNewIdsTo from to ids 0
+HasNewIdsTo-start from to ids long = record {
+  long = long;
+  no_others = λ below. absurd (omega arith);
+  new = λ id e below. absurd (omega arith);
+  valid = λ id e below. absurd (omega arith);
+}
+
+set_each : (P : ℕ → Option ℕ → Type 0) (ids : List (Option ℕ)) (passed : ℕ) (new : Option ℕ) → passed < length ids
+    → ((k : ℕ) (e : Option ℕ) → k < passed → P k (get_or ids k e)) → P passed new → (k : ℕ) (e : Option ℕ) → k < passed + 1 → P k (get_or (set ids passed new) k e)
+set_each P ids passed new within before here k e below = elim (cases_lt k passed) [
+  | inl earlier ↦ subst (P k) (sym (get_or-set_other ids passed k new e (omega arith))) (before k e earlier)
+  | inr later ↦
+      let same : passed ≡ k = omega arith in
+      subst (λ i. P i (get_or (set ids passed new) i e)) same (subst (P passed) (sym (get_or-set_same ids passed new e within)) here)
+]
+
+pub HasNewIdsTo-next : (from to : Slots) (ids : List (Option ℕ)) (passed : ℕ) (new : Option ℕ) → passed < 256 → HasNewIdsTo from to ids passed
+    → IsNewId from to passed new → IfSome new IsId → HasNoIdAbove 255 from → HasNewIdsTo from to (set ids passed new) (passed + 1)
+HasNewIdsTo-next from to ids passed new within was is valid no_others = record {
+  long = length-set ids passed new ∙ was.long;
+  no_others = λ below. no_others;
+  new = λ id e below. set_each (IsNewId from to) ids passed new (omega (arith, was.long)) (λ k d here. was.new k d here) is id e below;
+  valid = λ id e below. set_each (λ k slot. IfSome slot IsId) ids passed new (omega (arith, was.long)) (λ k d here. was.valid k d here) valid id e below;
+}
+
+-- a table of the new ids from 0 on has the new id of each
+pub AreNewIds-table : (from to : Slots) (ids : List (Option ℕ)) (passed : ℕ) → 256 ≤ passed → HasNewIdsTo from to ids passed → AreNewIds from to ids
+AreNewIds-table from to ids passed whole are = λ id. elim (cases_lt id 256) [
+  | inl below ↦ are.new id None (omega arith)
+  | inr above ↦ subst (IsNewId from to id) (sym (get_or_past ids id None (omega (arith, are.long))))
+      (λ extension is. absurd (unmapped (ap extension_of (are.no_others (omega arith) id (omega arith))) is))
+]
+  where
+    unmapped : {X : Type 0} {slot : Option X} {x : X} → slot ≡ None → slot ≡ Some x → ⊥
+    unmapped empty filled = cc
+
 -- such a table carries the extensions
 pub CarriesExtensions-new : (from to : Slots) (ids : List (Option ℕ)) → AreNewIds from to ids → CarriesExtensions from to ids
 CarriesExtensions-new from to ids are = record {
@@ -121,10 +173,29 @@ pub ids_in_bytes-zero : (bytes : List ℕ) → get_or bytes 0 0 ≡ 0 → ids_in
 ids_in_bytes-zero [] is = refl
 ids_in_bytes-zero (first ∷ bytes) is = ap (λ (id : Option ℕ). id ∷ map id_in_byte bytes) (sym (ap id_in_byte is))
 
+-- the ids below an id have their new ids in a table of bytes
+abbrev pub HasNewBytesTo : Slots → Slots → List ℕ → ℕ → Type 0
+HasNewBytesTo from to bytes passed = HasNewIdsTo from to (map id_in_byte bytes) passed
+
+pub HasNewBytesTo-start : (from to : Slots) (bytes : List ℕ) → length bytes ≡ 256 → HasNewBytesTo from to bytes 0
+HasNewBytesTo-start from to bytes long = HasNewIdsTo-start from to (map id_in_byte bytes) (length-map bytes id_in_byte ∙ long)
+
 pub byte_said : (new : Option ℕ) → IfSome new IsId → id_in_byte (byte_of_id new) ≡ new
 byte_said None valid = refl
 byte_said (Some zero) valid = absurd (omega (arith, valid.0))
 byte_said (Some (suc k)) valid = refl
+
+pub HasNewBytesTo-next : (from to : Slots) (bytes : List ℕ) (passed : ℕ) (new : Option ℕ) → passed < 256 → HasNewBytesTo from to bytes passed
+    → IsNewId from to passed new → IfSome new IsId → HasNoIdAbove 255 from → HasNewBytesTo from to (set bytes passed (byte_of_id new)) (passed + 1)
+HasNewBytesTo-next from to bytes passed new within was is valid no_others =
+    subst (λ (ids : List (Option ℕ)). HasNewIdsTo from to ids (passed + 1))
+    (sym (map-set id_in_byte bytes passed (byte_of_id new) ∙ ap (set (map id_in_byte bytes) passed) (byte_said new valid)))
+    (HasNewIdsTo-next from to (map id_in_byte bytes) passed new within was is valid no_others)
+
+-- the bytes of such a table say the new ids
+pub AreNewBytes-table : (from to : Slots) (bytes : List ℕ) (passed : ℕ) → 256 ≤ passed → HasNewBytesTo from to bytes passed → AreNewBytes from to bytes
+AreNewBytes-table from to bytes passed whole are = λ id.
+    subst (IsNewId from to id) (new_id-byte bytes id) (AreNewIds-table from to (map id_in_byte bytes) passed whole are id)
 
 -- they make a table
 pub AreNewBytes-new : (from to : Slots) (bytes : List ℕ) → AreNewBytes from to bytes → AreNewIds from to (map id_in_byte bytes)

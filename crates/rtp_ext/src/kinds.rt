@@ -5,9 +5,9 @@ ghost use Rattle.std.specs.Option.{option_map};
 ghost use Rattle.std.specs.List.{list_any};
 ghost use Rattle.rtp_values.specs.declared.kind.Extension.{Extension};
 ghost use Rattle.rtp_values.specs.KnownKind.{extension_of_kind};
-ghost use Rattle.rtp_ext.specs.ExtensionMap.{Slots, extension_at, items_from};
+ghost use Rattle.rtp_ext.specs.ExtensionMap.{IsId, Slots, HasNoIdAbove, extension_at, items_from};
 ghost use Rattle.rtp_ext.specs.KindsById.{is_long_item, known_slots};
-ghost use Rattle.rtp_ext.specs.NewIds.{Renames};
+ghost use Rattle.rtp_ext.specs.NewIds.{IsNewId, AreNewBytes, Renames};
 
 use super::renamed_ids::renamed;
 use rtp_values::KnownKind;
@@ -57,6 +57,24 @@ pub trait Kinds {
         requires within { end ≤ 255 }
         ensures most { length (items_from 0 (known self.now)) ≤ result }
         ensures few { result ≤ 255 };
+
+    /// The lowest id that the other map has for the extension of this id.
+    fn id_under(&self, other: &Self, id: u8) -> Option<u8>
+        ensures new { IsNewId (slots self.now) (slots other.now) id result }
+        ensures valid { IfSome result IsId }
+        ensures no_others { HasNoIdAbove 255 (slots self.now) };
+
+    /// The new id of each id where elements go from this map to the other, each at the index of the
+    /// old one: the lowest id that the other map has for its extension, and 0 where it has none.
+    fn new_ids(&self, other: &Self) -> [u8; 256]
+        ensures { AreNewBytes (slots self.now) (slots other.now) result }
+    {
+        let mut ids = [0; 256];
+        for (id, new) in ids.iter_mut().enumerate() {
+            *new = self.id_under(other, id as u8).unwrap_or(0);
+        }
+        ids
+    }
 
     /// Puts `lowest` at the index of each id that is mapped to the first kind, and 0 at that of
     /// each id that is mapped to the second. Precondition: the kinds are two.

@@ -7,12 +7,12 @@ ghost use Rattle.rtp_values.specs.KnownKind.{extension_of_kind};
 ghost use Rattle.rtp_ext.specs.declared.form.ExtensionsForm.TheVariants.{OneByte};
 ghost use Rattle.rtp_ext.specs.ElementReading.{elements_left};
 ghost use Rattle.rtp_ext.specs.ElementsInPlace.{CanRenumber};
-ghost use Rattle.rtp_ext.specs.NewIds.{new_id, AreNewIds, AreNewBytes, CarriesExtensions, AreRenamedIds, id_in_byte, ids_in_bytes};
+ghost use Rattle.rtp_ext.specs.NewIds.{new_id, AreNewIds, CarriesExtensions, AreRenamedIds, id_in_byte, ids_in_bytes};
 ghost use Rattle.rtp_ext.specs.IdChanges.{carries_id};
 
 use super::kinds::Kinds;
 use super::renamed_ids::renamed_ids;
-use super::{Elements, ExtensionMap, ExtensionsForm, MAX_ID, MAX_ID_ONE_BYTE_FORM};
+use super::{Elements, ExtensionsForm, MAX_ID, MAX_ID_ONE_BYTE_FORM};
 use rtp_values::KnownKind;
 use std::marker::Model;
 use std::simd::prelude::*;
@@ -64,27 +64,15 @@ fn are_short(ids: &[u8]) -> bool
     above.to_bitmask() == 0
 }
 
-// The new ids of one map's ids under another, each at the index of the old one, with 0 where an id
-// has none, as one that isn't mapped.
-fn bytes_between(from: &ExtensionMap, to: &ExtensionMap) -> [u8; IDS]
-    ensures { AreNewBytes from.now to.now result }
-{
-    let mut ids = [0; IDS];
-    for (id, ext) in from.iter() {
-        ids[usize::from(id)] = to.lowest_id(ext).unwrap_or(0);
-    }
-    ids
-}
-
 impl NewIds {
     /// For each id that `from` maps to an extension that `to` maps as well, the lowest id that `to`
     /// has for it (RFC 8285, 5). Every other id has no new one. Takes no memory.
-    pub fn between(from: &ExtensionMap, to: &ExtensionMap) -> Self
-        ensures ids { AreNewIds from.now to.now result }
-        ensures carries { CarriesExtensions from.now to.now result }
+    pub fn between<K: Kinds>(from: &K, to: &K) -> Self
+        ensures ids { AreNewIds (K.slots from.now) (K.slots to.now) result }
+        ensures carries { CarriesExtensions (K.slots from.now) (K.slots to.now) result }
     {
         NewIds {
-            ids: bytes_between(from, to),
+            ids: from.new_ids(to),
         }
     }
 

@@ -3,8 +3,8 @@
 ghost use Rattle.std.specs.Prelude.{true, false};
 
 use super::ExtensionMap;
-use crate::MAX_ID_ONE_BYTE_FORM;
 use crate::kinds::Kinds;
+use crate::{MAX_ID_ONE_BYTE_FORM, slots};
 use rtp_values::KnownKind;
 
 impl Kinds for ExtensionMap {
@@ -46,6 +46,19 @@ impl Kinds for ExtensionMap {
     #[inline(always)]
     fn at_most(&self, _end: usize) -> usize {
         self.kinds.len()
+    }
+
+    fn id_under(&self, other: &Self, id: u8) -> Option<u8> {
+        other.lowest_id(slots::extension(&self.slots, id)?)
+    }
+
+    // An id that isn't mapped has no new one.
+    fn new_ids(&self, other: &Self) -> [u8; 256] {
+        let mut ids = [0; 256];
+        for (id, ext) in self.iter() {
+            ids[usize::from(id)] = other.lowest_id(ext).unwrap_or(0);
+        }
+        ids
     }
 
     fn rename(&self, from: KnownKind, to: KnownKind, lowest: u8, ids: &mut [u8; 256]) {

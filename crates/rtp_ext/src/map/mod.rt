@@ -169,7 +169,7 @@ impl ExtensionMap {
     }
 
     // The lowest id that is mapped to the extension.
-    pub(crate) fn lowest_id(&self, ext: &Extension) -> Option<u8>
+    fn lowest_id(&self, ext: &Extension) -> Option<u8>
         ensures found { IfSome result (spec.IsLowest self.now ext.now) }
         ensures valid { IfSome result spec.IsId }
         ensures none { IfNone result (spec.IsUnmapped self.now ext.now) }

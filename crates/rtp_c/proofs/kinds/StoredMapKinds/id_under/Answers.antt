@@ -1,0 +1,32 @@
+use Rattle.std.proofs.Common.{◌≡◌, ◌≢◌, ◌<◌, ◌+◌, ℕ, List, arith, ap, sym, refl, ◌∙◌, subst, length, length-drop, drop, take, get_or, rules, Some}
+use Rattle.std.specs.Option.{option_map}
+use Rattle.std.proofs.lemmas.List.{take_all}
+use Rattle.rtp_values.specs.KnownKind.{extension_of_kind}
+use Rattle.rtp_ext.specs.ExtensionMap.{extension_at}
+use Rattle.rtp_ext.specs.NewIds.{IsNewId}
+use Rattle.rtp_c.specs.StoredMap.{IsFirstNumber, numbered_slots}
+use Rattle.rtp_c.proofs.NumberedLemmas.{numbered-found, numbered-unmapped}
+use Rattle.rtp_c.proofs.kinds.StoredMapKinds.id_under.Goals as goal
+
+-- the numbers of the ids from 1 on
+rest_is : (numbers : List ℕ) → length numbers ≡ 256 → take 255 (drop 1 numbers) ≡ drop 1 numbers
+rest_is numbers long = take_all 255 (drop 1 numbers) (omega (arith, long, length-drop 1 numbers))
+
+pub returns-in_err-index-clause-new : goal.returns-in_err-index-clause-new
+returns-in_err-index-clause-new c =
+    let to = c.args.other.now.kind in
+    let many : length to ≡ 256 = search rules in
+    let found : option_map extension_of_kind (Some c.in_ok-kind.kind) ≡ extension_at (numbered_slots c.args.self.now.kind) c.args.id =
+    ap (option_map extension_of_kind) (sym c.in_ok-kind.was) ∙ c.get.ensures in
+    subst (IsNewId (numbered_slots c.args.self.now.kind) (numbered_slots to) c.args.id) (sym c.from_residual-in_err-index.ensures)
+    (numbered-unmapped c.args.self.now.kind to (take 255 (drop 1 to)) c.args.id c.in_ok-kind.kind (rest_is to many) found
+    (subst (λ (n : ℕ). (k : ℕ) → k < length (take 255 (drop 1 to)) → get_or (take 255 (drop 1 to)) k 0 ≢ n) c.number_of.ensures c.in_err-index.ensures.none))
+
+pub returns-clause-new : goal.returns-clause-new
+returns-clause-new c =
+    let to = c.args.other.now.kind in
+    let many : length to ≡ 256 = search rules in
+    let found : option_map extension_of_kind (Some c.in_ok-kind.kind) ≡ extension_at (numbered_slots c.args.self.now.kind) c.args.id =
+    ap (option_map extension_of_kind) (sym c.in_ok-kind.was) ∙ c.get.ensures in
+    numbered-found c.args.self.now.kind to (take 255 (drop 1 to)) c.args.id c.in_ok-kind.kind c.in_ok-index.index (c.in_ok-index.index + 1) (rest_is to many) found
+    (subst (λ (n : ℕ). IsFirstNumber (take 255 (drop 1 to)) n c.in_ok-index.index) c.number_of.ensures c.in_ok-index.ensures.found) refl
