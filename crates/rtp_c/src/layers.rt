@@ -1,8 +1,9 @@
 //! The layer allocation of a sender of video.
 
-ghost use Rattle.std.specs.Prelude.{◌≡◌, ◌<◌, ◌+◌, length, slice_index, slice_set};
+ghost use Rattle.std.specs.Prelude.{◌≡◌, ◌<◌, ◌+◌, length, slice_index, slice_index_or, slice_set};
 ghost use Rattle.rtp_vla.specs.Allocation.{nothing_sent};
 ghost use Rattle.rtp_c.specs.LayersView as spec;
+ghost use Rattle.rtp_c.specs.declared.layers.Stream.{Stream};
 
 use rtp_vla::vla::{SetLayers, TemporalLayerAllocation, VideoLayer};
 
@@ -64,8 +65,7 @@ impl Stream {
           count = self.old.count + 1;
         } }
     {
-        are_four_layers(&self.layers);
-        self.layers[usize::from(self.count)] = layer;
+        set_layer(&mut self.layers, usize::from(self.count), layer);
         self.count += 1;
     }
 }
@@ -129,17 +129,26 @@ fn view_of_layer(layer: &VideoLayer) -> Layer
     view
 }
 
-// Says how many places an array has.
+// Puts a layer at this place of a stream.
 #[inline(always)]
-fn are_four_layers(_places: &[Layer; 4])
-    ensures { length _places.now ≡ 4 }
-{}
+fn set_layer(layers: &mut [Layer; 4], index: usize, layer: Layer)
+    requires { index < 4 }
+    ensures places { length layers.old ≡ 4 }
+    ensures set { layers.new ≡ slice_set layers.old index layer }
+{
+    layers[index] = layer;
+}
 
-// The same.
+// Takes the layers out of the stream at this place.
 #[inline(always)]
-fn are_four_streams(_places: &[Stream; 4])
-    ensures { length _places.now ≡ 4 }
-{}
+fn clear_stream(streams: &mut [Stream; 4], index: usize)
+    requires { index < 4 }
+    ensures places { length streams.old ≡ 4 }
+    ensures cleared { (unused : Stream) → streams.new ≡ slice_set streams.old index
+        (record (slice_index_or streams.old index unused) { count = 0 }) }
+{
+    streams[index].count = 0;
+}
 
 impl SetLayers for Layers {
     ghost use Rattle.std.specs.Prelude.{◌-◌};
@@ -159,8 +168,7 @@ impl SetLayers for Layers {
 
     #[inline(always)]
     fn put_stream(&mut self) {
-        are_four_streams(&self.streams);
-        self.streams[usize::from(self.count)].count = 0;
+        clear_stream(&mut self.streams, usize::from(self.count));
         self.count += 1;
     }
 
