@@ -1,4 +1,4 @@
-use Rattle.std.proofs.Common.{◌≡◌, ◌∙◌, arith, [], length, ap}
+use Rattle.std.proofs.Common.{arith, [], ap}
 use Rattle.rtp_c.specs.declared.layers.Stream.{Stream}
 use Rattle.rtp_c.proofs.SettingLemmas.{shows_layer, layer_room-last, layer_room-more}
 use Rattle.rtp_c.proofs.layers.LayersSetLayers.put_layer.Goals as goal

@@ -1,6 +1,4 @@
-use Rattle.std.proofs.Common.{◌≡◌, ◌+◌, ◌-◌, ◌∙◌, ℕ, suc, arith, [], length, List, set, get_or, ap, length-set, get_or-set_same}
-use Rattle.rtp_c.specs.LayersView.{layer_room}
-use Rattle.rtp_c.specs.declared.layers.Stream.{Stream}
+use Rattle.std.proofs.Common.{arith, [], get_or}
 use Rattle.rtp_c.proofs.SettingLemmas.{shows_stream, layer_room-new}
 use Rattle.rtp_c.proofs.layers.LayersSetLayers.put_stream.Goals as goal
 
