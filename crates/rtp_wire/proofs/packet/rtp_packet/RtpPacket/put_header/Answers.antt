@@ -1,4 +1,4 @@
-use Rattle.std.proofs.Common.{ap, OnOk, OnErr}
+use Rattle.std.proofs.Common.{ap}
 use Rattle.std.proofs.lemmas.Result.{on_ok_weaker, on_err_weaker}
 use Rattle.rtp_wire.specs.declared.header.rtp_header.RtpHeader.{RtpHeader}
 use Rattle.rtp_wire.specs.PartsOf.{parts_of}
