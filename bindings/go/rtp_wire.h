@@ -30,7 +30,8 @@
  *
  * A buffer is a pointer and then its size in bytes. Numbers are in the byte order of the machine:
  * what stands in a packet in network byte order is turned. Outputs are written whole where the
- * status is RTPW_OK, and else not at all.
+ * status is RTPW_OK, and else not at all; but rtpw_restarting_receive writes the number at RTPW_RESTARTED too, and
+ * its state at each status.
  *
  * Where a call has several faults, the status is that of the first of these:
  *   1. an argument is out of its range whatever the buffers hold, or data lie in the buffer: RTPW_BAD_FIELD;
@@ -144,7 +145,8 @@ typedef struct {
 /* Whether a datagram on a port that RTP and RTCP share is RTCP (RFC 5761, 4): it has version 2, and its
  * second byte, the RTCP packet type, is 192 to 223. It comes before rtpw_packet_parse and rtpw_parse, which
  * would take a receiver report for RTP: as RTP that byte is M and a payload type of 64 to 95, which a stream
- * on such a port must not have. False of fewer than two bytes. */
+ * on such a port must not have. False of fewer than two bytes; no other byte is looked at, and two or three are
+ * enough, though no RTCP packet has fewer than four. */
 bool rtpw_is_rtcp(const uint8_t *datagram, size_t len);
 
 /* Reads the header of the packet in the buffer. RTPW_OK, or the first cause for which it holds none. A block of
@@ -219,14 +221,18 @@ enum { RTPW_ANY_FORM = 0 };
 
 /* Puts an element, of an id from 1 on with at most 255 bytes of data, into the packet: it then has exactly one
  * of this id, in place of the last one of the id or as the last of all. The other elements stay, in order,
- * and all other parts too; without a block the packet gets one. Where the element is the only one of its id
- * and has as many bytes, only these change. Else the block is made anew: its padding is used up, and then the
- * payload moves by whole words; a body never becomes shorter (rtpw_compact). What stands where reading ends, an
- * element that is cut short or what follows the id 15, is no element, and goes where the block is made anew.
+ * and all other parts too, as do the low four bits of a profile 0x1000 to 0x100F (a block that gets the two-byte form
+ * here has 0x1000); without a block the packet gets one. Where the element is the only one of its id and has as
+ * many bytes, and the block keeps its form, only these bytes change. Else the block is made anew: its padding is used
+ * up, and then the payload moves by whole words; a body never becomes shorter (rtpw_compact). What stands where reading
+ * ends, an element that is cut short or what follows the id 15, is no element, and goes where the block is made anew.
+ * What lies behind the packet's new end stays.
  *
  * A one-byte block that can't carry the element becomes a two-byte one, where the forms that are allowed let
  * it: RTPW_ANY_FORM; RTPW_ONE_BYTE_FORM alone, as for a peer that hasn't agreed to both in one stream (RFC 8285,
- * 4.1.2); or RTPW_TWO_BYTE_FORM alone, which the block then gets. It carries no element of the id 0, so these go.
+ * 4.1.2), which refuses each packet whose block has the two-byte form, whatever stands there; or RTPW_TWO_BYTE_FORM
+ * alone, which the block then gets, also where the element would only change. It carries no element of the id 0, so
+ * these go.
  *
  *     uint8_t bytes[1500];
  *     memcpy(bytes, datagram, len);
@@ -235,16 +241,16 @@ enum { RTPW_ANY_FORM = 0 };
  * RTPW_OK; RTPW_BAD_FIELD, before all else, where `allowed` is none of the three, *len is past the buffer, the
  * id is 0, there are more than 255 bytes of data, or one of these lies in the `size` bytes of the buffer, as those
  * of another element of the packet do: copy them first; the first cause for which the bytes are no packet;
- * RTPW_UNKNOWN_FORM where the block is of RTPW_OTHER_FORM; RTPW_BAD_FIELD where it needs a form that isn't
- * allowed, or more than 65,535 words; RTPW_SHORT_BUFFER. */
+ * RTPW_UNKNOWN_FORM where the block is of RTPW_OTHER_FORM; RTPW_BAD_FIELD where it has or needs a form that isn't
+ * allowed, or needs more than 65,535 words; RTPW_SHORT_BUFFER. */
 RTPW_CHECKED int32_t rtpw_put_element(uint8_t *buf, size_t size, size_t *len, uint8_t id, const uint8_t *data,
                                       size_t data_len, uint8_t allowed);
 
 /* Makes the packet as short as its elements allow: these stand in a row, the body is filled up to whole words,
  * and the payload moves to the front; what stands where reading ends goes. So rtpw_remove_element and then this gives
- * bytes back; what is then behind the packet, up to its old end, may be anything. A block of RTPW_OTHER_FORM
- * stays. RTPW_OK; RTPW_BAD_FIELD where *len is past the buffer; or the first cause for which the bytes are no
- * packet. */
+ * bytes back; what is then behind the packet, up to its old end, may be anything. A block without elements becomes
+ * one of no words, and X stays set; a block of RTPW_OTHER_FORM stays as it is. RTPW_OK; RTPW_BAD_FIELD where *len is
+ * past the buffer; or the first cause for which the bytes are no packet. */
 RTPW_CHECKED int32_t rtpw_compact(uint8_t *buf, size_t size, size_t *len);
 
 /* ---- The elements of a block ---- */
@@ -336,9 +342,9 @@ typedef struct {
 } rtpw_time;
 
 /* The values of a block's elements. Each has_ is 1 where the value is there; as read, one that is absent
- * is 0. The texts are letters, digits and underscores, and a zero ends them: as read each other character is an
- * underscore, and what is too long is cut, so compare with the SDP's text changed likewise, or look at the
- * element's data. 136 bytes. */
+ * is 0. The texts are letters, digits and underscores, and a zero ends them: as read each other character, a zero byte
+ * too, is an underscore, and what is too long is cut, so compare with the SDP's text changed likewise, or look at the
+ * element's data. Data that aren't UTF-8 are not well-formed for a text, and give none. 136 bytes. */
 typedef struct {
     uint64_t send_time;           /* microseconds, modulo 64 seconds */
     uint64_t capture_time;        /* an NTP timestamp, 32.32 */
@@ -432,7 +438,8 @@ RTPW_CHECKED int32_t rtpw_parse(const uint8_t *datagram, size_t len, const rtpw_
 
 /* A spatial layer. 40 bytes. */
 typedef struct {
-    uint64_t kbps[4];       /* of each temporal layer with those below it, in kilobits per second; 0 after the last */
+    uint64_t kbps[4];       /* of each temporal layer with those below it, in kilobits per second; after the last as read
+                             * 0, and as written not looked at */
     uint16_t width;         /* in pixels, 1 to 65,535; 0 where has_resolution is 0 */
     uint16_t height;        /* the same */
     uint8_t framerate;      /* at most so many frames per second; 0 where has_resolution is 0 */
@@ -440,7 +447,8 @@ typedef struct {
     uint8_t rates;          /* how many temporal layers there are, 0 to 4: 0 where the layer isn't active */
 } rtpw_layer;
 
-/* A simulcast stream: its spatial layers by rising resolution, all zeros after the last. 168 bytes. */
+/* A simulcast stream: its spatial layers by rising resolution; after the last as read all zeros, and as written not
+ * looked at. 168 bytes. */
 typedef struct {
     rtpw_layer layers[4];
     uint8_t count; /* 0 to 4 */
@@ -491,7 +499,9 @@ RTPW_CHECKED int32_t rtpw_write(const rtpw_map *map, const rtpw_header *header, 
 
 /* As rtpw_wire_len and rtpw_write, with these layers, whatever has_layers holds: an element of them for each id
  * that means RTPW_KIND_LAYERS. So what rtpw_parse_layers read is written again. A stream is written without the
- * layers at its end that aren't active. At most 65,612 bytes.
+ * layers at its end that aren't active. Where three streams have masks of their own, the half of a byte that is
+ * left after the third has all four bits set, where the description of video-layers-allocation00 has zeros; readers
+ * don't look there. At most 65,612 bytes.
  *
  * RTPW_BAD_FIELD also where no element can carry the layers, mapped or not: a count or `rates` is above 4;
  * `current` is above 3, or above 0 without a stream; a rate is 2^63 or more; a width or height that is there is 0;
@@ -566,7 +576,8 @@ RTPW_CHECKED int32_t rtpw_renumber(uint8_t *datagram, size_t len, const rtpw_new
 /* Makes a packet of padding alone after its header: sets P, and writes the padding from header_len on,
  * zeros and in the last byte their count: pad_len rounded up to whole blocks, at most 240 bytes. With a
  * pad_len of 0 nothing changes, no room is wanted, and the count is 0. To pad a packet with a payload, pass
- * the end of the payload as header_len. Whether the buffer holds a packet isn't looked at. RTPW_OK;
+ * the end of the payload as header_len. Whether the buffer holds a packet isn't looked at: with a header_len of 0
+ * the padding takes the place of the first byte, and no P is set. RTPW_OK;
  * RTPW_BAD_FIELD where block_size is 0, whatever pad_len is; RTPW_SHORT_BUFFER where size is below header_len
  * and the padding. The packet then has header_len + *count bytes. */
 RTPW_CHECKED int32_t rtpw_pad(uint8_t *datagram, size_t size, size_t header_len, uint8_t pad_len,
@@ -587,8 +598,8 @@ void rtpw_new_ids_to_retransmission(const rtpw_map *map, rtpw_new_ids *ids);
 void rtpw_new_ids_from_retransmission(const rtpw_map *map, rtpw_new_ids *ids);
 /* Makes the packet in the first *len bytes of the buffer a retransmission (RFC 4588, 4): with this SSRC, payload
  * type and number of its own, the elements under their new ids, and as payload the original number in two bytes
- * and the original payload without its padding. All else stays, M and the timestamp too. *len becomes its
- * length, two bytes more than the packet has without its padding; bytes behind it stay. The payload
+ * and the original payload without its padding. P becomes clear, and all else stays, M and the timestamp too. *len
+ * becomes its length, two bytes more than the packet has without its padding; bytes behind it stay. The payload
  * moves within the buffer; `len` and `ids` must not lie there.
  *
  * RTPW_OK; RTPW_BAD_FIELD where payload_type is above 127, *len is above size, padding_fits is 0, or the packet's
@@ -607,11 +618,13 @@ RTPW_CHECKED int32_t rtpw_to_retransmission(uint8_t *buf, size_t size, size_t *l
                                             uint16_t number, const rtpw_new_ids *ids);
 /* Makes the retransmission in the first *len bytes of the buffer the packet that it repeats: with this SSRC and
  * payload type, the original number, the elements under their new ids, and as payload what follows that number,
- * without padding. All else stays. *len becomes its length, two bytes less than the retransmission has
- * without its padding; bytes behind it stay.
+ * without padding. P becomes clear, and all else stays. *len becomes its length, two bytes less than the
+ * retransmission has without its padding; bytes behind it stay.
  *
- * RTPW_OK; RTPW_BAD_FIELD as rtpw_to_retransmission; the first cause for which there is no packet; or RTPW_NONE
- * where the payload has fewer than the two bytes of a number. Where it isn't RTPW_OK nothing changes. */
+ * RTPW_OK; or the first that applies: RTPW_BAD_FIELD where payload_type is above 127 or *len is above size; the first
+ * cause for which there is no packet; RTPW_BAD_FIELD where padding_fits is 0; RTPW_NONE where the payload without its
+ * padding has fewer than the two bytes of a number; RTPW_BAD_FIELD where the packet's form can't carry a new id that an
+ * element gets. Where it isn't RTPW_OK nothing changes. */
 RTPW_CHECKED int32_t rtpw_from_retransmission(uint8_t *buf, size_t size, size_t *len, uint32_t ssrc,
                                               uint8_t payload_type, const rtpw_new_ids *ids);
 
@@ -673,7 +686,8 @@ typedef struct {
 } rtpw_wide_receiver;
 
 /* Where started, bit n % 64 of words[n / 64 % count] is whether the number n is taken, for the highest number and
- * each less than 64 * count below it. */
+ * each less than 64 * count below it. The bits that numbers below 0 would have are 0 unless the caller set them, and
+ * are cleared before a number that has the same bit is judged. */
 
 RTPW_CHECKED int32_t rtpw_wide_receiver_start(rtpw_wide_receiver *receiver, uint64_t rollover_count);
 uint64_t rtpw_wide_receiver_number_of(const rtpw_wide_receiver *receiver, uint16_t sequence_number);
@@ -701,8 +715,13 @@ RTPW_CHECKED int32_t rtpw_wide_receiver_receive(rtpw_wide_receiver *receiver, ui
  * above those of the epochs before it, and a packet from before the first one of an epoch has a number too. Where
  * 2^64 leaves no such number the packet is refused.
  *
- * 32 bytes of plain memory, of which each value is a state. {0} has taken nothing yet, and has the bounds of the
- * RFC; set max_dropout and min_sequential where others are wanted. Each `started` but 0 counts as 1, and where
+ * Not for a stream with retransmissions under its own SSRC either: two that are 128 and more below the highest
+ * number, one after the other, look as if the sender had started again.
+ *
+ * 32 bytes of plain memory, of which each value is a state. {0} has taken nothing yet, with the RFC's MAX_DROPOUT of
+ * 3,000. The other two bounds are not the RFC's: MAX_MISORDER is the window's 128, where it has 100, and a
+ * min_sequential of 0 takes a source with its first packet, where its MIN_SEQUENTIAL is 2. Set max_dropout and
+ * min_sequential where others are wanted. Each `started` but 0 counts as 1, and where
  * started the highest number as taken, whatever its bit is. */
 typedef struct {
     uint64_t highest;       /* the highest number taken in the epoch; before that it isn't looked at */
