@@ -345,15 +345,15 @@ func TestNilMapsAreNotSet(t *testing.T) {
 		return false
 	}
 	var none *rtpwire.Map
-	const uri = "urn:ietf:params:rtp-hdrext:sdes:mid"
+	const uri = "urn:ietf:params:rtp-hdrext:sdes:rtp-stream-id"
 	same(t, "set", panics(func() { _ = none.Set(1, rtpwire.KindMID) }), true)
-	same(t, "set by URI", panics(func() { _, _ = none.SetURI(1, uri) }), true)
-	same(t, "nothing is set", panics(func() { _ = none.Set(1, rtpwire.KindNone) }), true)
+	same(t, "set by URI", panics(func() { _, _ = none.SetURI(2, uri) }), true)
+	same(t, "nothing is set", panics(func() { _ = none.Set(3, rtpwire.KindNone) }), true)
 
-	// an element of the id 1, the mid "a" where a map says so
-	datagram := []byte{0x90, 0, 0, 5, 0, 0, 0, 1, 0, 0, 0, 0x2C, 0xBE, 0xDE, 0, 1, 0x10, 'a', 0, 0}
+	// elements of the ids 1 and 2: the mid "a" and the rid "b" where a map says so
+	datagram := []byte{0x90, 0, 0, 5, 0, 0, 0, 1, 0, 0, 0, 0x2C, 0xBE, 0xDE, 0, 1, 0x10, 'a', 0x20, 'b'}
 	same(t, "values", parsed(t, datagram, nil).Values, rtpwire.Values{})
-	same(t, "ids", []uint8{none.IDOf(rtpwire.KindMID), none.IDOf(rtpwire.KindNone)}, []uint8{0, 0})
+	same(t, "ids", []uint8{none.IDOf(rtpwire.KindMID), none.IDOf(rtpwire.KindRID)}, []uint8{0, 0})
 	var values rtpwire.Values
 	same(t, "the mid", values.SetMID("a"), nil)
 	header := rtpwire.Header{HasExtension: true, Values: values}
