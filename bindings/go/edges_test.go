@@ -336,6 +336,31 @@ func TestEndsOfMaps(t *testing.T) {
 	same(t, "of one map", []any{*rtpwire.NewIDsBetween(&m, nil), *rtpwire.NewIDsBetween(nil, &m)}, []any{rtpwire.NewIDs{}, rtpwire.NewIDs{}})
 }
 
+// A nil Map is read as one in which no id means anything, and can't be set: what is read with one afterwards has no
+// value either.
+func TestNilMapsAreNotSet(t *testing.T) {
+	panics := func(set func()) (is bool) {
+		defer func() { is = recover() != nil }()
+		set()
+		return false
+	}
+	var none *rtpwire.Map
+	const uri = "urn:ietf:params:rtp-hdrext:sdes:rtp-stream-id"
+	same(t, "set", panics(func() { _ = none.Set(1, rtpwire.KindMID) }), true)
+	same(t, "set by URI", panics(func() { _, _ = none.SetURI(2, uri) }), true)
+	same(t, "nothing is set", panics(func() { _ = none.Set(3, rtpwire.KindNone) }), true)
+
+	// elements of the ids 1 and 2: the mid "a" and the rid "b" where a map says so
+	datagram := []byte{0x90, 0, 0, 5, 0, 0, 0, 1, 0, 0, 0, 0x2C, 0xBE, 0xDE, 0, 1, 0x10, 'a', 0x20, 'b'}
+	same(t, "values", parsed(t, datagram, nil).Values, rtpwire.Values{})
+	same(t, "ids", []uint8{none.IDOf(rtpwire.KindMID), none.IDOf(rtpwire.KindRID)}, []uint8{0, 0})
+	var values rtpwire.Values
+	same(t, "the mid", values.SetMID("a"), nil)
+	header := rtpwire.Header{HasExtension: true, Values: values}
+	length, err := header.WireLen(nil)
+	same(t, "written", []any{length, err}, []any{16, nil})
+}
+
 // A cause is an error of its own, and wraps none.
 func TestCausesAreErrors(t *testing.T) {
 	for cause := 0; cause < 256; cause++ {

@@ -37,6 +37,39 @@ func TestReceiver(t *testing.T) {
 	same(t, "highest", []any{highest, ok}, []any{uint64(65736), true})
 }
 
+// A packet whose block has another form is judged as any other is, and so is a replay of it: 5 with the rollover count 1
+// is 65,541.
+func TestOtherFormsAreJudged(t *testing.T) {
+	receiver, err := rtpwire.NewReceiver(1)
+	same(t, "started", err, nil)
+	words, restarting := wide(t, 1, 1), new(rtpwire.RestartingReceiver)
+	for _, row := range []struct {
+		what   string
+		call   func([]byte, *rtpwire.Map, *rtpwire.Packet) (uint64, error)
+		number uint64
+		err    error
+	}{
+		{"checked", receiver.CheckPacket, 65541, nil},
+		{"received", receiver.ReceivePacket, 65541, nil},
+		{"a replay is checked", receiver.CheckPacket, 65541, rtpwire.ErrRefused},
+		{"a replay is received", receiver.ReceivePacket, 0, rtpwire.ErrRefused},
+		{"checked by words", words.CheckPacket, 65541, nil},
+		{"received by words", words.ReceivePacket, 65541, nil},
+		{"a replay is checked by words", words.CheckPacket, 65541, rtpwire.ErrRefused},
+		{"a replay is received by words", words.ReceivePacket, 0, rtpwire.ErrRefused},
+	} {
+		var packet rtpwire.Packet
+		number, err := row.call(camera(), rtpwire.StandardMap(), &packet)
+		same(t, row.what, []any{number, err, packet.BlockProfile()}, []any{row.number, row.err, uint16(0xABAC)})
+	}
+	for _, wanted := range [][]any{{uint64(65541), rtpwire.Taken, nil}, {uint64(0), rtpwire.Refused, nil}} {
+		var packet rtpwire.Packet
+		number, verdict, err := restarting.ReceivePacket(camera(), rtpwire.StandardMap(), &packet)
+		same(t, "of a source", []any{number, verdict, err}, wanted)
+		same(t, "the packet", packet.BlockProfile(), uint16(0xABAC))
+	}
+}
+
 func TestRolloverCounts(t *testing.T) {
 	r, err := rtpwire.NewReceiver(1)
 	if err != nil {

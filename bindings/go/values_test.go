@@ -271,6 +271,8 @@ func TestMaps(t *testing.T) {
 	same(t, "an unknown URI", []any{kind, err, m.Get(9)}, []any{rtpwire.KindNone, nil, rtpwire.KindNone})
 	_, err = m.SetURI(0, "urn:ietf:params:rtp-hdrext:sdes:mid")
 	same(t, "the id 0 by URI", err, rtpwire.ErrBadField)
+	kind, err = m.SetURI(0, "urn:x")
+	same(t, "the id 0 by an unknown URI", []any{kind, err}, []any{rtpwire.KindNone, rtpwire.ErrBadField})
 
 	standard := rtpwire.StandardMap()
 	usual := map[uint8]rtpwire.Kind{

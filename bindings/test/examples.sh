@@ -71,9 +71,12 @@ for flags in {0..7}; do
 done >"$scratch/flags.expected"
 tells_a_full_device() { # the line, the program
     local status=0
-    echo "$1" | "${@:2}" >/dev/full 2>"$scratch/told" || status=$?
+    printf '%b\n' "$1" | "${@:2}" >/dev/full 2>"$scratch/told" || status=$?
     [ $status -eq 1 ] || fail "${*:2}, what can't be written"
     says_why "${@:2}"
+}
+tells_a_full_device_of_a_bad_line() { # the program: in the other languages the status is that of the bad line
+    [[ $* != *_rust ]] || for bad in 8G '80\n8G'; do tells_a_full_device "$bad" "$@"; done
 }
 # Ids are decimal numbers, also with zeros before them, and the last line of an id counts. In the two-byte form: the mid
 # a of the id 10, the rid b of 8, the repaired rid c of 77, -10 dB with voice of 99, 258 of 255; and a mid of 9 and a
@@ -154,6 +157,7 @@ compare() {
     is_bad_at_the_end "$@"
     is_bad later 'map 3 urn:x\n8G' "$@"
     tells_a_full_device 80 "$@"
+    tells_a_full_device_of_a_bad_line "$@"
     "$@" <"$scratch/far.lines" | tail -n 1 >"$scratch/said"
     echo 'verdict 196609: taken 4294967296' | cmp - "$scratch/said" >&2 || fail "$*, a number past 2^32"
     # A carriage return or a zero byte within a URI is a part of it: no kind is known, and the mid isn't told.
@@ -372,6 +376,7 @@ sends_on() {
     is_bad later '80\nmap 3 urn:x' "$@"
     is_bad later 'map 3 urn:x\n8G' "$@"
     tells_a_full_device 80 "$@"
+    tells_a_full_device_of_a_bad_line "$@"
     for bad in "${bad_hex[@]}" "${bad_maps[@]}"; do is_bad first "$bad" "$@"; done
     for bad in "${bad_uris[@]}"; do is_bad_uri "$bad" "$@"; done
     is_bad_at_the_end "$@"
@@ -407,6 +412,11 @@ if [ -e "$folder/sfu_c" ]; then
         bytes=$("$folder/sfu_c" <"$scratch/$it.lines" | awk 'NF == 2 { bytes += length($2) / 2 } END { print bytes }')
         "$folder/sfu_c" 1 <"$scratch/$it.lines" | grep -q " datagrams, $bytes bytes to receivers" || fail "the SFU, once, $it"
     done
+    # A payload of 70,000 bytes, behind headers of 28, 48 and 40 bytes.
+    printf '80000001000000010000002C%0140000d\n' 0 | "$folder/sfu_c" 1 | sed 's/receivers, .*/receivers/' >"$scratch/said"
+    printf '%s\n' '1 datagrams, 210116 bytes to receivers' \
+        'taken 1 replays 0 late 0 rtcp 0 unreadable 0 strangers 0 sent 3 unsent 0' | diff - "$scratch/said" >&2 ||
+        fail 'the SFU, once, a long payload'
     # 1,000 is the highest number the second time: 127 below 1,127, 128 below 1,128, and taken where it came itself. After
     # 65,535 comes 999, and ten times is a decimal number.
     again() { # the numbers, how often, what is counted

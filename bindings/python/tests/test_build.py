@@ -18,7 +18,7 @@ import unittest.mock
 import zipfile
 from pathlib import Path
 from types import ModuleType
-from typing import Any, Dict
+from typing import Any, Dict, List
 
 ARM = "aarch64-linux-gnu-gcc"
 HERE = Path(__file__).resolve().parent.parent
@@ -97,6 +97,26 @@ class Build(unittest.TestCase):
             name = build(str(self.folder))
             self.assertEqual(build(str(other)), name)
             self.assertEqual((self.folder / name).read_bytes(), (other / name).read_bytes())
+
+    def test_the_order_of_a_source_distribution(self) -> None:
+        # part by part, and in each by name, in whatever order the file system lists them
+        def names_of(folder: str) -> List[str]:
+            return sorted(f"{folder}/{name}" for name in os.listdir(HERE / folder) if name.endswith(".py"))
+
+        wanted = ["PKG-INFO", "pyproject.toml", "README.md", "backend/rtp_wire_backend.py", "src/whole_packet.c"]
+        wanted += [*names_of("src/rtp_wire"), "src/rtp_wire/py.typed"]
+        wanted += [*names_of("examples"), *names_of("tests")]
+        wanted += [f"texts/{name}" for name in self.backend.TEXTS]
+        glob, folder = Path.glob, f"rtp_wire-{self.backend.version()}"
+        for backwards in (False, True):
+
+            def listed(place: Path, part: str, backwards: bool = backwards) -> List[Path]:
+                return sorted(glob(place, part), reverse=backwards)
+
+            with unittest.mock.patch.object(Path, "glob", listed):
+                file = self.folder / self.backend.build_sdist(str(self.folder))
+            with tarfile.open(file) as archive:
+                self.assertEqual(archive.getnames(), [f"{folder}/{name}" for name in wanted])
 
     @unittest.skipUnless(shutil.which(ARM), f"there is no {ARM}")
     def test_the_library_is_built_for_arm(self) -> None:

@@ -46,6 +46,16 @@ LONG = bytes.fromhex(
 Refused = Tuple[Callable[[], Any], str]
 
 
+class Whole:
+    """A whole number that has nothing but its index."""
+
+    def __init__(self, number: int) -> None:
+        self._number = number
+
+    def __index__(self) -> int:
+        return self._number
+
+
 def past(name: str, bits: int, value: Optional[int] = None) -> str:
     """What is said of a number that is more than so many bits can hold, here the first one of these."""
     return f"{name} is {1 << bits if value is None else value}, and not 0 to {(1 << bits) - 1}"
@@ -219,6 +229,20 @@ class Ranges(unittest.TestCase):
             ]
         )
 
+    def test_letters_outside_of_ascii(self) -> None:
+        # each is one letter, however many bytes of UTF-8 it has; a half of a surrogate pair has none
+        for name, most in (("mid", 16), ("rid", 8), ("repaired_rid", 8)):
+            for letter in ("\xE9", "\u20AC", "\U0001F600", "\uD800", "\uDFFF"):
+                wide = letter * (most + 1)
+                self.are_refused(
+                    [
+                        (valued(**{name: letter}), "an argument is out of its range"),
+                        (valued(**{name: "a" + letter}), "an argument is out of its range"),
+                        (valued(**{name: letter * most}), "an argument is out of its range"),
+                        (valued(**{name: wide}), f"{name} is {wide!r}{too_long(most)}"),
+                    ]
+                )
+
     def test_layers(self) -> None:
         def sized(width: int, height: int, framerate: int) -> Layer:
             return Layer((5,), Resolution(width, height, framerate))
@@ -271,6 +295,40 @@ class Ranges(unittest.TestCase):
             ]
         rows.append((lambda: to_retransmission(buf, 38, 1, 1, 65536, ids), past("number", 16)))
         self.are_refused(rows)
+
+    def test_numbers_of_other_types(self) -> None:
+        number: Callable[[int], Any] = Whole
+        self.assertEqual(extend_u8(number(0), number(7)), 7)
+        self.assertEqual(extend_u15(number(0), number(7)), 7)
+        self.assertEqual(extend_u16(number(0), number(7)), 7)
+        self.assertEqual(extend_u32(number(0), number(7)), 7)
+        # 5 with the rollover count 1
+        self.assertEqual(Receiver(number(1)).receive(number(5)), 65541)
+        self.assertEqual(WideReceiver(number(2), number(1)).receive(number(5)), 65541)
+        taken = RestartingReceiver(number(1), number(1)).receive(number(5))
+        self.assertEqual(taken and taken.number, 65541)
+        receiver = Receiver()
+        receiver.record(number(5))
+        self.assertEqual((receiver.accepts(number(5)), receiver.accepts(number(6))), (False, True))
+        header = Header(
+            marker=number(1),
+            payload_type=number(33),
+            sequence_number=number(5),
+            timestamp=number(160),
+            ssrc=number(44),
+            csrc=(number(9),),
+            has_extension=number(1),
+            values=Values(audio_level=number(-10), voice_activity=number(1)),
+        )
+        written = bytes.fromhex("91A10005 000000A0 0000002C 00000009 BEDE0001 108A0000")
+        self.assertEqual(header.write(Map({1: Kind.AUDIO_LEVEL})), written)
+        self.packet.sequence_number = number(0x1234)
+        self.packet.set_element(number(2), b"ab")
+        self.assertEqual(self.datagram, LONG[:2] + b"\x12\x34" + LONG[4:34] + b"ab" + LONG[36:] + bytes(40))
+        self.packet.sequence_number = number(1)
+        self.packet.set_element(number(2), b"\xAA\xBB")
+        # what is told of one is the number
+        self.are_refused([(lambda: extend_u16(0, number(65536)), past("number", 16))])
 
 
 class DataOfTheBufferItself(unittest.TestCase):

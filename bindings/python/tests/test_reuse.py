@@ -35,6 +35,7 @@ from rtp_wire import (
     VideoTiming,
     WideReceiver,
     _library,
+    _values,
 )
 
 # V=2, P, X, CC=2; M, PT=33; 47,000; 10,000; 44; the sources 1 and 2; a block of two words: 1 (AA), 2 (BB CC),
@@ -477,6 +478,10 @@ class Kept(unittest.TestCase):
         self.assertEqual(Header.parse(written, map).values, Values(mid="a", rid="b"))
         for values in (Header.parse(written).values, Packet.parse(written).values, Header.parse(written, Map()).values):
             self.assertEqual(values, Values())
+
+    def test_what_is_kept_of_packets_has_a_bound(self) -> None:
+        # which values a packet has is up to who sends it
+        self.assertEqual(_values._readers_of.cache_info().maxsize, 1024)
 
     def test_values_that_are_not_written_are_looked_at(self) -> None:
         for values in (Values(mid="-"), Values(video_orientation=45), Values(playout_delay_min=Time(1, 0))):
