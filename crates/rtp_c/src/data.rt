@@ -1,6 +1,6 @@
 //! The data of one element, made of the values that C gives.
 
-ghost use Rattle.std.specs.Prelude.{◌≡◌, ◌≢◌, ◌↔◌, ◌≤◌, ◌⊎◌, length, IfSome};
+ghost use Rattle.std.specs.Prelude.{◌≡◌, ◌≢◌, ◌↔◌, ◌≤◌, ◌⊎◌, length, None, IfSome};
 ghost use Rattle.std.specs.Option.{option_map};
 ghost use Rattle.rtp_values.specs.KnownKind.{extension_of_kind};
 ghost use Rattle.rtp_values.specs.Spelling.{spelled_data};
@@ -14,14 +14,18 @@ use super::values::ValuesView;
 use rtp_values::{ExtensionValues, KnownKind};
 use std::mem::ManuallyDrop;
 
-// How many bytes of data an element of this kind has. It is a call, so that what is told before it
-// costs little.
+// How many bytes of data an element of this kind has for values without a layer allocation, as C's
+// are. It is a call, so that what is told before it costs little.
 #[inline(never)]
 fn len_of(kind: KnownKind, values: &ExtensionValues) -> Option<usize>
+    requires { values.now.video_layers_allocation ≡ None }
     ensures length { result ≡ option_map length (spelled_data (extension_of_kind kind) values.now) }
     ensures few { IfSome result (λ len. len ≤ 255) }
 {
-    kind.data_len(values)
+    match kind {
+        KnownKind::VideoLayersAllocation => None,
+        _ => kind.data_len(values),
+    }
 }
 
 /// Writes the data that an element of this kind has for these values to the front of the buffer, as
