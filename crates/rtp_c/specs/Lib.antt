@@ -22,3 +22,5 @@ pub mod ElementData
 pub mod SetFields
 pub mod WrittenElements
 pub mod WrittenHeader
+pub mod StandardData
+pub mod StandardOffset
