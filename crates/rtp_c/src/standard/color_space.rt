@@ -230,14 +230,14 @@ fn put_space(view: &SpaceView, bytes: &mut [u8; 28]) -> Option<usize>
 /// Reads a color space (WebRTC's `color-space`). `OK`, or `BAD_FIELD` where there are neither four
 /// bytes nor 28, or a siting of the fourth byte is 3, and then nothing is written.
 #[unsafe(no_mangle)]
-pub extern "C" fn rtpw_read_color_space(data: &[u8], space: &mut SpaceView) -> i32
-    ensures read { result ≡ ok → IsViewOfSpace (color_in data.now) space.new }
-    ensures ok { (result ≡ ok) ↔ ((length data.now ≡ 4) ⊎ (length data.now ≡ 28))
-        × (slice_index data.now 3 / 4 % 4 < 3) × (slice_index data.now 3 % 4 < 3) }
+pub extern "C" fn rtpw_read_color_space(bytes: &[u8], space: &mut SpaceView) -> i32
+    ensures read { result ≡ ok → IsViewOfSpace (color_in bytes.now) space.new }
+    ensures ok { (result ≡ ok) ↔ ((length bytes.now ≡ 4) ⊎ (length bytes.now ≡ 28))
+        × (slice_index bytes.now 3 / 4 % 4 < 3) × (slice_index bytes.now 3 % 4 < 3) }
     ensures statuses { (result ≡ ok) ⊎ (result ≡ bad_field) }
     ensures unchanged { result ≢ ok → space.new ≡ space.old }
 {
-    let Some(read) = ColorSpace::parse(data) else {
+    let Some(read) = ColorSpace::parse(bytes) else {
         return BAD_FIELD;
     };
     *space = view_of(&read);

@@ -43,15 +43,15 @@ fn descriptor_of(view: &DescriptorView) -> DependencyDescriptor
 /// `BAD_FIELD` where there are fewer, and then nothing is written.
 #[unsafe(no_mangle)]
 pub extern "C" fn rtpw_read_dependency_descriptor(
-    data: &[u8],
+    bytes: &[u8],
     descriptor: &mut DescriptorView,
 ) -> i32
-    ensures read { result ≡ ok → IsViewOfDescriptor (descriptor_in data.now) descriptor.new }
-    ensures ok { (result ≡ ok) ↔ (3 ≤ length data.now) }
+    ensures read { result ≡ ok → IsViewOfDescriptor (descriptor_in bytes.now) descriptor.new }
+    ensures ok { (result ≡ ok) ↔ (3 ≤ length bytes.now) }
     ensures statuses { (result ≡ ok) ⊎ (result ≡ bad_field) }
     ensures unchanged { result ≢ ok → descriptor.new ≡ descriptor.old }
 {
-    let Some(read) = DependencyDescriptor::parse(data) else {
+    let Some(read) = DependencyDescriptor::parse(bytes) else {
         return BAD_FIELD;
     };
     *descriptor = DescriptorView {
@@ -90,9 +90,9 @@ pub extern "C" fn rtpw_write_dependency_descriptor(
 /// Whether a descriptor brings a template dependency structure (AV1's RTP payload format, A.8): the
 /// first bit of its fourth byte is set, if it has one.
 #[unsafe(no_mangle)]
-pub extern "C" fn rtpw_has_structure(data: &[u8]) -> bool
+pub extern "C" fn rtpw_has_structure(bytes: &[u8]) -> bool
     ensures { IsTrue result ↔
-        (3 < length data.now) × IsTrue (has_bit 7 (slice_index data.now 3)) }
+        (3 < length bytes.now) × IsTrue (has_bit 7 (slice_index bytes.now 3)) }
 {
-    DependencyDescriptor::has_structure(data)
+    DependencyDescriptor::has_structure(bytes)
 }

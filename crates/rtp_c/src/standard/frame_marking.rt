@@ -111,13 +111,13 @@ fn put_marking(view: &MarkingView, bytes: &mut [u8; 3]) -> Option<usize>
 /// Reads a frame marking (RFC 9626, 3). `OK`, or `BAD_FIELD` where there aren't one to three bytes,
 /// and then nothing is written.
 #[unsafe(no_mangle)]
-pub extern "C" fn rtpw_read_frame_marking(data: &[u8], marking: &mut MarkingView) -> i32
-    ensures read { result ≡ ok → IsViewOfMarking (marking_in data.now) marking.new }
-    ensures ok { (result ≡ ok) ↔ (1 ≤ length data.now) × (length data.now ≤ 3) }
+pub extern "C" fn rtpw_read_frame_marking(bytes: &[u8], marking: &mut MarkingView) -> i32
+    ensures read { result ≡ ok → IsViewOfMarking (marking_in bytes.now) marking.new }
+    ensures ok { (result ≡ ok) ↔ (1 ≤ length bytes.now) × (length bytes.now ≤ 3) }
     ensures statuses { (result ≡ ok) ⊎ (result ≡ bad_field) }
     ensures unchanged { result ≢ ok → marking.new ≡ marking.old }
 {
-    let Some(read) = FrameMarking::parse(data) else {
+    let Some(read) = FrameMarking::parse(bytes) else {
         return BAD_FIELD;
     };
     *marking = view_of(&read);

@@ -14,17 +14,17 @@ use rtp_values::standard::{mixer_audio_level, write_mixer_audio_levels};
 /// CSRC or the data no byte for it, and then nothing is written.
 #[unsafe(no_mangle)]
 pub extern "C" fn rtpw_read_mixer_level(
-    data: &[u8],
+    bytes: &[u8],
     csrc_count: usize,
     index: usize,
     level: &mut i8,
 ) -> i32
-    ensures read { result ≡ ok → level.new ≡ level_in (slice_index data.now index) }
-    ensures ok { (result ≡ ok) ↔ (index < csrc_count) × (index < length data.now) }
+    ensures read { result ≡ ok → level.new ≡ level_in (slice_index bytes.now index) }
+    ensures ok { (result ≡ ok) ↔ (index < csrc_count) × (index < length bytes.now) }
     ensures statuses { (result ≡ ok) ⊎ (result ≡ bad_field) }
     ensures unchanged { result ≢ ok → level.new ≡ level.old }
 {
-    let Some(read) = mixer_audio_level(data, csrc_count, index) else {
+    let Some(read) = mixer_audio_level(bytes, csrc_count, index) else {
         return BAD_FIELD;
     };
     *level = read;

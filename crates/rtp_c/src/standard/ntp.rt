@@ -14,13 +14,13 @@ use rtp_values::standard::{extend_ntp_56, ntp_56_bytes, ntp_64_bytes, parse_ntp_
 /// Reads an NTP timestamp of 64 bits (RFC 6051, 3.3). `OK`, or `BAD_FIELD` where there aren't eight
 /// bytes, and then nothing is written.
 #[unsafe(no_mangle)]
-pub extern "C" fn rtpw_read_ntp_64(data: &[u8], time: &mut u64) -> i32
-    ensures read { result ≡ ok → time.new ≡ big_endian data.now }
-    ensures ok { (result ≡ ok) ↔ (length data.now ≡ 8) }
+pub extern "C" fn rtpw_read_ntp_64(bytes: &[u8], time: &mut u64) -> i32
+    ensures read { result ≡ ok → time.new ≡ big_endian bytes.now }
+    ensures ok { (result ≡ ok) ↔ (length bytes.now ≡ 8) }
     ensures statuses { (result ≡ ok) ⊎ (result ≡ bad_field) }
     ensures unchanged { result ≢ ok → time.new ≡ time.old }
 {
-    let Some(read) = parse_ntp_64(data) else {
+    let Some(read) = parse_ntp_64(bytes) else {
         return BAD_FIELD;
     };
     *time = read;
@@ -44,13 +44,13 @@ pub extern "C" fn rtpw_write_ntp_64(time: u64, buf: &mut [u8], len: &mut usize) 
 /// [`rtpw_extend_ntp_56`] finds the high eight bits. `OK`, or `BAD_FIELD` where there aren't seven
 /// bytes, and then nothing is written.
 #[unsafe(no_mangle)]
-pub extern "C" fn rtpw_read_ntp_56(data: &[u8], time: &mut u64) -> i32
-    ensures read { result ≡ ok → time.new ≡ big_endian data.now }
-    ensures ok { (result ≡ ok) ↔ (length data.now ≡ 7) }
+pub extern "C" fn rtpw_read_ntp_56(bytes: &[u8], time: &mut u64) -> i32
+    ensures read { result ≡ ok → time.new ≡ big_endian bytes.now }
+    ensures ok { (result ≡ ok) ↔ (length bytes.now ≡ 7) }
     ensures statuses { (result ≡ ok) ⊎ (result ≡ bad_field) }
     ensures unchanged { result ≢ ok → time.new ≡ time.old }
 {
-    let Some(read) = parse_ntp_56(data) else {
+    let Some(read) = parse_ntp_56(bytes) else {
         return BAD_FIELD;
     };
     *time = read;

@@ -64,14 +64,14 @@ fn given_orientation(view: &OrientationView) -> Option<Orientation>
 /// Reads how a picture was taken, and is to be shown (3GPP TS 26.114, 7.4.5). `OK`, or `BAD_FIELD`
 /// where there isn't one byte, and then nothing is written.
 #[unsafe(no_mangle)]
-pub extern "C" fn rtpw_read_orientation(data: &[u8], orientation: &mut OrientationView) -> i32
+pub extern "C" fn rtpw_read_orientation(bytes: &[u8], orientation: &mut OrientationView) -> i32
     ensures read { result ≡ ok →
-        IsViewOfOrientation (orientation_in (slice_index data.now 0)) orientation.new }
-    ensures ok { (result ≡ ok) ↔ (length data.now ≡ 1) }
+        IsViewOfOrientation (orientation_in (slice_index bytes.now 0)) orientation.new }
+    ensures ok { (result ≡ ok) ↔ (length bytes.now ≡ 1) }
     ensures statuses { (result ≡ ok) ⊎ (result ≡ bad_field) }
     ensures unchanged { result ≢ ok → orientation.new ≡ orientation.old }
 {
-    let Some(read) = Orientation::parse(data) else {
+    let Some(read) = Orientation::parse(bytes) else {
         return BAD_FIELD;
     };
     *orientation = OrientationView {

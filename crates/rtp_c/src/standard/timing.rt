@@ -79,13 +79,13 @@ fn put_timing(view: &TimingView, bytes: &mut [u8; 13]) -> usize
 /// Reads a video timing (WebRTC's `video-timing`). `OK`, or `BAD_FIELD` where there are neither 13
 /// bytes nor 12, and then nothing is written.
 #[unsafe(no_mangle)]
-pub extern "C" fn rtpw_read_timing(data: &[u8], timing: &mut TimingView) -> i32
-    ensures read { result ≡ ok → IsViewOfTiming (timing_in data.now) timing.new }
-    ensures ok { (result ≡ ok) ↔ (length data.now ≡ 12) ⊎ (length data.now ≡ 13) }
+pub extern "C" fn rtpw_read_timing(bytes: &[u8], timing: &mut TimingView) -> i32
+    ensures read { result ≡ ok → IsViewOfTiming (timing_in bytes.now) timing.new }
+    ensures ok { (result ≡ ok) ↔ (length bytes.now ≡ 12) ⊎ (length bytes.now ≡ 13) }
     ensures statuses { (result ≡ ok) ⊎ (result ≡ bad_field) }
     ensures unchanged { result ≢ ok → timing.new ≡ timing.old }
 {
-    let Some(read) = Timing::parse(data) else {
+    let Some(read) = Timing::parse(bytes) else {
         return BAD_FIELD;
     };
     *timing = view_of(&read);

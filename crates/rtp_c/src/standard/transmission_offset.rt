@@ -14,13 +14,13 @@ use rtp_values::standard::{parse_transmission_offset, transmission_offset_bytes}
 /// Reads a transmission time offset, in ticks of the stream's clock (RFC 5450, 3). `OK`, or
 /// `BAD_FIELD` where there aren't three bytes, and then nothing is written.
 #[unsafe(no_mangle)]
-pub extern "C" fn rtpw_read_transmission_offset(data: &[u8], offset: &mut i32) -> i32
-    ensures read { result ≡ ok → offset.new ≡ signed_24 (big_endian data.now) }
-    ensures ok { (result ≡ ok) ↔ (length data.now ≡ 3) }
+pub extern "C" fn rtpw_read_transmission_offset(bytes: &[u8], offset: &mut i32) -> i32
+    ensures read { result ≡ ok → offset.new ≡ signed_24 (big_endian bytes.now) }
+    ensures ok { (result ≡ ok) ↔ (length bytes.now ≡ 3) }
     ensures statuses { (result ≡ ok) ⊎ (result ≡ bad_field) }
     ensures unchanged { result ≢ ok → offset.new ≡ offset.old }
 {
-    let Some(read) = parse_transmission_offset(data) else {
+    let Some(read) = parse_transmission_offset(bytes) else {
         return BAD_FIELD;
     };
     *offset = read;

@@ -85,13 +85,13 @@ fn put_number(view: &TransportView, bytes: &mut [u8; 4]) -> Option<usize>
 /// is none. `OK`, or `BAD_FIELD` where there are neither two bytes nor four, and then nothing is
 /// written.
 #[unsafe(no_mangle)]
-pub extern "C" fn rtpw_read_transport_number(data: &[u8], number: &mut TransportView) -> i32
-    ensures read { result ≡ ok → IsViewOfTransport (transport_in data.now) number.new }
-    ensures ok { (result ≡ ok) ↔ (length data.now ≡ 2) ⊎ (length data.now ≡ 4) }
+pub extern "C" fn rtpw_read_transport_number(bytes: &[u8], number: &mut TransportView) -> i32
+    ensures read { result ≡ ok → IsViewOfTransport (transport_in bytes.now) number.new }
+    ensures ok { (result ≡ ok) ↔ (length bytes.now ≡ 2) ⊎ (length bytes.now ≡ 4) }
     ensures statuses { (result ≡ ok) ⊎ (result ≡ bad_field) }
     ensures unchanged { result ≢ ok → number.new ≡ number.old }
 {
-    let Some(read) = TransportNumber::parse(data) else {
+    let Some(read) = TransportNumber::parse(bytes) else {
         return BAD_FIELD;
     };
     *number = view_of(&read);
