@@ -11,7 +11,8 @@ static uint8_t before[512];
 static uint8_t *some_bytes(memory *it, size_t *len) {
     static const size_t often[] = {1, 2, 3, 4, 7, 8, 12, 13, 28};
     uint64_t x = random_u64();
-    *len = x % 4 < 2 ? often[random_below(sizeof often / sizeof *often)] : random_below(x % 4 == 2 ? 40 : sizeof before);
+    size_t bound = x % 4 == 2 ? 40 : sizeof before;
+    *len = x % 4 < 2 ? often[random_below(sizeof often / sizeof *often)] : random_below(bound);
     uint8_t *bytes = block_in(it, *len);
     fill(bytes, *len);
     if (*len > 0) {
@@ -232,7 +233,11 @@ static void timing(void) {
 
 static void transport_number(void) {
     size_t len;
-    const uint8_t *data = data_to_read(&len);
+    uint8_t *data = some_bytes(&inputs, &len);
+    if (len == 4 && random_u64() % 8 == 0) { /* a request for no packets */
+        data[2] = before[2] &= 128;
+        data[3] = before[3] = 0;
+    }
     rtpw_transport_number same, *read = some_struct(&outputs, &same, sizeof same);
     int32_t status = rtpw_read_transport_number(data, len, read);
     CHECK(status == (len == 2 || len == 4 ? RTPW_OK : RTPW_BAD_FIELD) && are_unread(data, len));
@@ -424,7 +429,8 @@ static void dependency_descriptor(void) {
     make_flag(&sent->end_of_frame);
     sent->template_id = sent->template_id < 240 ? sent->template_id % 65 : sent->template_id;
     memcpy(&same, sent, sizeof same);
-    uint8_t bytes[3] = {(uint8_t)((same.start_of_frame != 0) * 128 + (same.end_of_frame != 0) * 64 + same.template_id % 64)};
+    uint8_t bytes[3];
+    bytes[0] = (uint8_t)((same.start_of_frame != 0) * 128 + (same.end_of_frame != 0) * 64 + same.template_id % 64);
     put_number(bytes, 1, same.frame_number);
     status = rtpw_write_dependency_descriptor(sent, it.buf, it.size, it.len);
     CHECK(was_written(it, status, same.template_id <= 63, bytes, 3) && memcmp(sent, &same, sizeof same) == 0);

@@ -258,8 +258,9 @@ static void ntp_times(void) {
  * 1,000 cd/m^2. */
 static void color_spaces(void) {
     static const uint8_t plain[4] = {1, 1, 1, 0x24};
-    static const uint8_t data[28] = {9,    16,   9,    0x15, 0x03, 0xE8, 0x00, 0x32, 0x84, 0xD0, 0x3E, 0x80, 0x33, 0xC2,
-                                     0x86, 0xC4, 0x1D, 0x4C, 0x0B, 0xB8, 0x3D, 0x13, 0x40, 0x42, 0x03, 0xE7, 0x01, 0x90};
+    static const uint8_t data[28] = {9,    16,   9,    0x15, 0x03, 0xE8, 0x00, 0x32, 0x84, 0xD0, 0x3E, 0x80, 0x33,
+                                     0xC2, 0x86, 0xC4, 0x1D, 0x4C, 0x0B, 0xB8, 0x3D, 0x13, 0x40, 0x42, 0x03, 0xE7,
+                                     0x01, 0x90};
     uint8_t changed[4] = {1, 1, 1, 0xE4};
     rtpw_color_space it;
     memset(&it, 0xEE, sizeof it);
@@ -297,7 +298,8 @@ static void color_spaces(void) {
 
 /* Start, end and the template in a byte, the number in two; then the flag of a structure. */
 static void dependency_descriptors(void) {
-    static const uint8_t data[4] = {0x83, 0x01, 0x02, 0x80}, end[3] = {0x7F, 0xFF, 0xFE}, none[4] = {0xFF, 0xFF, 0xFF, 0x7F};
+    static const uint8_t data[4] = {0x83, 0x01, 0x02, 0x80}, end[3] = {0x7F, 0xFF, 0xFE};
+    static const uint8_t none[4] = {0xFF, 0xFF, 0xFF, 0x7F};
     rtpw_dependency_descriptor it;
     CHECK(rtpw_read_dependency_descriptor(data, 4, &it) == RTPW_OK);
     CHECK(it.start_of_frame == 1 && it.end_of_frame == 0 && it.template_id == 3 && it.frame_number == 0x0102);
@@ -322,12 +324,14 @@ static void in_a_packet(void) {
     int32_t offset = 0;
     rtpw_packet parts;
     rtpw_element element;
+    const uint8_t *data;
     CHECK(rtpw_write_transmission_offset(-90, buf, room_of(3), &len) == RTPW_OK);
     CHECK(rtpw_put_element(packet, sizeof packet, &packet_len, 5, buf, len, RTPW_ANY_FORM) == RTPW_OK);
     CHECK(packet_len == 20 && memcmp(packet + 12, block, 8) == 0);
     CHECK(rtpw_packet_parse(packet, packet_len, &parts) == RTPW_OK);
     CHECK(rtpw_last_element(packet + parts.body_at, parts.body_len, parts.block_form, 5, &element) == RTPW_OK);
-    CHECK(rtpw_read_transmission_offset(packet + parts.body_at + element.data_at, element.data_len, &offset) == RTPW_OK);
+    data = packet + parts.body_at + element.data_at;
+    CHECK(rtpw_read_transmission_offset(data, element.data_len, &offset) == RTPW_OK);
     CHECK(offset == -90 && parts.timestamp + (uint32_t)offset == 9910);
 }
 
