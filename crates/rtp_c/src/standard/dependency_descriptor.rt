@@ -65,8 +65,8 @@ pub extern "C" fn rtpw_read_dependency_descriptor(
 
 /// Writes the first three bytes of a dependency descriptor, which are a whole one, to the front of
 /// the buffer (AV1's RTP payload format, A.8). `OK`, and how many bytes they are is written too;
-/// `BAD_FIELD` where the template is above 63; `SHORT_BUFFER` where only the room is short. Where it
-/// isn't `OK` nothing is written.
+/// `BAD_FIELD` where the template is above 63; `SHORT_BUFFER` where only the room is short. Where
+/// it isn't `OK` nothing is written.
 #[unsafe(no_mangle)]
 pub extern "C" fn rtpw_write_dependency_descriptor(
     descriptor: &DescriptorView,

@@ -9,9 +9,9 @@ ghost use Rattle.rtp_c.specs.StandardLevels.{AreLevelsData};
 use crate::status::{BAD_FIELD, OK, SHORT_BUFFER};
 use rtp_values::standard::{mixer_audio_level, write_mixer_audio_levels};
 
-/// Reads the audio level of the CSRC at this index of the packet's list of `csrc_count`, in decibels
-/// relative to the overload point (RFC 6465, 4). `OK`, or `BAD_FIELD` where the packet hasn't that
-/// CSRC or the data no byte for it, and then nothing is written.
+/// Reads the audio level of the CSRC at this index of the packet's list of `csrc_count`, in
+/// decibels relative to the overload point (RFC 6465, 4). `OK`, or `BAD_FIELD` where the packet
+/// hasn't that CSRC or the data no byte for it, and then nothing is written.
 #[unsafe(no_mangle)]
 pub extern "C" fn rtpw_read_mixer_level(
     bytes: &[u8],
@@ -40,8 +40,8 @@ fn are_levels(levels: &[i8]) -> bool
 
 /// Writes the audio levels of a packet's CSRCs, in their order, to the front of the buffer, a byte
 /// for each (RFC 6465, 4). `OK`, and how many they are is written too; `BAD_FIELD` where a level is
-/// above 0 or below -127; `SHORT_BUFFER` where only the room is short. Where it isn't `OK` nothing is
-/// written.
+/// above 0 or below -127; `SHORT_BUFFER` where only the room is short. Where it isn't `OK` nothing
+/// is written.
 #[unsafe(no_mangle)]
 pub extern "C" fn rtpw_write_mixer_levels(levels: &[i8], buf: &mut [u8], len: &mut usize) -> i32
     ensures written { result ≡ ok →

@@ -79,8 +79,8 @@ pub extern "C" fn rtpw_extend_ntp_56(near: u64, low: u64) -> u64
     ensures near { apart near result ≤ 2 ^ 55 }
 
     // Any other time with these low bits is as far away, or farther.
-    ensures only { (time : ℕ) → time < 2 ^ 64 → time % 2 ^ 56 ≡ low % 2 ^ 56 → apart near time < 2 ^ 55 →
-        result ≡ time }
+    ensures only { (time : ℕ) → time < 2 ^ 64 → time % 2 ^ 56 ≡ low % 2 ^ 56 →
+        apart near time < 2 ^ 55 → result ≡ time }
 {
     extend_ntp_56(near, low)
 }

@@ -19,7 +19,7 @@ use rtp_values::standard::{FeedbackRequest, TransportNumber};
 pub struct TransportView {
     /// The packet's number, over all streams of the transport.
     pub number: u16,
-    /// For how many packets the feedback is to be, 1 to 32,767; 0 as read where there is no request.
+    /// For how many packets the feedback is to be, 1 to 32,767; 0 as read without a request.
     pub packets: u16,
     /// Whether the sender asks for feedback with this packet: 0 or 1.
     pub has_request: u8,
