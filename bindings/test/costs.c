@@ -36,6 +36,18 @@ static uint64_t words[16], wide_number;
 static rtpw_restarting_receiver restarting;
 static uint64_t restarting_number;
 static rtpw_fields fields;
+/* Data of each value that a standard lays out: of a color space with HDR metadata, and of the others their first bytes. */
+static const uint8_t data[28] = {1, 1, 1, 0x24, 5, 6, 7, 8, 9, 10, 11, 12, 13};
+static const int8_t levels[2] = {-10, -127};
+static rtpw_frame_marking marking;
+static rtpw_orientation orientation;
+static rtpw_timing timing;
+static rtpw_transport_number transport_number;
+static rtpw_color_space color_space;
+static rtpw_dependency_descriptor descriptor;
+static uint64_t ntp;
+static int32_t offset;
+static int8_t level;
 
 /* The status of a call that is timed may be any. */
 static volatile int64_t sink;
@@ -78,6 +90,29 @@ enum { BODY_AT = 16, BODY_LEN = 16 };
     X(rtpw_map_standard, (rtpw_map_standard(&other_map), 0))                                                          \
     X(rtpw_id_of, rtpw_id_of(&map, RTPW_KIND_VIDEO_ORIENTATION))                                                      \
     X(rtpw_data_of, rtpw_data_of(RTPW_KIND_AUDIO_LEVEL, &written.values, buf, sizeof buf, &len))                      \
+    X(rtpw_read_transmission_offset, rtpw_read_transmission_offset(data, 3, &offset))                                 \
+    X(rtpw_write_transmission_offset, rtpw_write_transmission_offset(-90, buf, sizeof buf, &len))                     \
+    X(rtpw_read_frame_marking, rtpw_read_frame_marking(data, 3, &marking))                                            \
+    X(rtpw_write_frame_marking, rtpw_write_frame_marking(&marking, buf, sizeof buf, &len))                            \
+    X(rtpw_read_orientation, rtpw_read_orientation(data, 1, &orientation))                                            \
+    X(rtpw_write_orientation, rtpw_write_orientation(&orientation, buf, sizeof buf, &len))                            \
+    X(rtpw_is_token, rtpw_is_token(packet + 26, 3))                                                                   \
+    X(rtpw_read_timing, rtpw_read_timing(data, 13, &timing))                                                          \
+    X(rtpw_write_timing, rtpw_write_timing(&timing, buf, sizeof buf, &len))                                           \
+    X(rtpw_read_transport_number, rtpw_read_transport_number(data, 4, &transport_number))                             \
+    X(rtpw_write_transport_number, rtpw_write_transport_number(&transport_number, buf, sizeof buf, &len))             \
+    X(rtpw_read_mixer_level, rtpw_read_mixer_level(data, 2, 2, 1, &level))                                            \
+    X(rtpw_write_mixer_levels, rtpw_write_mixer_levels(levels, 2, buf, sizeof buf, &len))                             \
+    X(rtpw_read_ntp_64, rtpw_read_ntp_64(data, 8, &ntp))                                                              \
+    X(rtpw_write_ntp_64, rtpw_write_ntp_64(number, buf, sizeof buf, &len))                                            \
+    X(rtpw_read_ntp_56, rtpw_read_ntp_56(data, 7, &ntp))                                                              \
+    X(rtpw_write_ntp_56, rtpw_write_ntp_56(number, buf, sizeof buf, &len))                                            \
+    X(rtpw_extend_ntp_56, rtpw_extend_ntp_56(number, ntp))                                                            \
+    X(rtpw_read_color_space, rtpw_read_color_space(data, sizeof data, &color_space))                                  \
+    X(rtpw_write_color_space, rtpw_write_color_space(&color_space, buf, sizeof buf, &len))                            \
+    X(rtpw_read_dependency_descriptor, rtpw_read_dependency_descriptor(data, 3, &descriptor))                         \
+    X(rtpw_write_dependency_descriptor, rtpw_write_dependency_descriptor(&descriptor, buf, sizeof buf, &len))         \
+    X(rtpw_has_structure, rtpw_has_structure(data, sizeof data))                                                      \
     X(rtpw_new_ids_between, (rtpw_new_ids_between(&map, &map, &ids), 0))                                              \
     X(rtpw_new_ids_to_retransmission, (rtpw_new_ids_to_retransmission(&map, &repaired_ids), 0))                       \
     X(rtpw_new_ids_from_retransmission, (rtpw_new_ids_from_retransmission(&map, &repaired_ids), 0))                   \

@@ -47,6 +47,7 @@ void writing_round(void);
 void layers_round(void);
 void written_elements_round(void);
 void payload_round(void);
+void standard_round(void);
 
 static inline void every_round(void) {
     packets_round();
@@ -63,6 +64,7 @@ static inline void every_round(void) {
     layers_round();
     written_elements_round();
     payload_round();
+    standard_round();
 }
 
 #endif

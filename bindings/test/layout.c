@@ -140,6 +140,69 @@ HOLDS(offsetof(rtpw_map, kind) == 0);
 HOLDS(sizeof(rtpw_new_ids) == 256);
 HOLDS(offsetof(rtpw_new_ids, id) == 0);
 
+HOLDS(sizeof(rtpw_frame_marking) == 10);
+HOLDS(offsetof(rtpw_frame_marking, start) == 0);
+HOLDS(offsetof(rtpw_frame_marking, end) == 1);
+HOLDS(offsetof(rtpw_frame_marking, independent) == 2);
+HOLDS(offsetof(rtpw_frame_marking, discardable) == 3);
+HOLDS(offsetof(rtpw_frame_marking, has_layers) == 4);
+HOLDS(offsetof(rtpw_frame_marking, base_layer_sync) == 5);
+HOLDS(offsetof(rtpw_frame_marking, temporal_id) == 6);
+HOLDS(offsetof(rtpw_frame_marking, layer_id) == 7);
+HOLDS(offsetof(rtpw_frame_marking, has_tl0_pic_idx) == 8);
+HOLDS(offsetof(rtpw_frame_marking, tl0_pic_idx) == 9);
+
+HOLDS(sizeof(rtpw_orientation) == 4);
+HOLDS(offsetof(rtpw_orientation, turn) == 0);
+HOLDS(offsetof(rtpw_orientation, camera) == 2);
+HOLDS(offsetof(rtpw_orientation, flip) == 3);
+
+HOLDS(sizeof(rtpw_timing) == 14);
+HOLDS(offsetof(rtpw_timing, encode_start) == 0);
+HOLDS(offsetof(rtpw_timing, encode_finish) == 2);
+HOLDS(offsetof(rtpw_timing, packetize_complete) == 4);
+HOLDS(offsetof(rtpw_timing, last_left_pacer) == 6);
+HOLDS(offsetof(rtpw_timing, network) == 8);
+HOLDS(offsetof(rtpw_timing, network2) == 10);
+HOLDS(offsetof(rtpw_timing, flags) == 12);
+HOLDS(offsetof(rtpw_timing, has_flags) == 13);
+
+HOLDS(sizeof(rtpw_transport_number) == 6);
+HOLDS(offsetof(rtpw_transport_number, number) == 0);
+HOLDS(offsetof(rtpw_transport_number, packets) == 2);
+HOLDS(offsetof(rtpw_transport_number, has_request) == 4);
+HOLDS(offsetof(rtpw_transport_number, timestamps) == 5);
+
+HOLDS(sizeof(rtpw_chromaticity) == 4);
+HOLDS(offsetof(rtpw_chromaticity, x) == 0);
+HOLDS(offsetof(rtpw_chromaticity, y) == 2);
+
+HOLDS(sizeof(rtpw_hdr_metadata) == 24);
+HOLDS(offsetof(rtpw_hdr_metadata, luminance_max) == 0);
+HOLDS(offsetof(rtpw_hdr_metadata, luminance_min) == 2);
+HOLDS(offsetof(rtpw_hdr_metadata, red) == 4);
+HOLDS(offsetof(rtpw_hdr_metadata, green) == 8);
+HOLDS(offsetof(rtpw_hdr_metadata, blue) == 12);
+HOLDS(offsetof(rtpw_hdr_metadata, white) == 16);
+HOLDS(offsetof(rtpw_hdr_metadata, max_content_light_level) == 20);
+HOLDS(offsetof(rtpw_hdr_metadata, max_frame_average_light_level) == 22);
+
+HOLDS(sizeof(rtpw_color_space) == 32);
+HOLDS(offsetof(rtpw_color_space, hdr) == 0);
+HOLDS(offsetof(rtpw_color_space, primaries) == 24);
+HOLDS(offsetof(rtpw_color_space, transfer) == 25);
+HOLDS(offsetof(rtpw_color_space, matrix) == 26);
+HOLDS(offsetof(rtpw_color_space, range) == 27);
+HOLDS(offsetof(rtpw_color_space, horizontal) == 28);
+HOLDS(offsetof(rtpw_color_space, vertical) == 29);
+HOLDS(offsetof(rtpw_color_space, has_hdr) == 30);
+
+HOLDS(sizeof(rtpw_dependency_descriptor) == 6);
+HOLDS(offsetof(rtpw_dependency_descriptor, frame_number) == 0);
+HOLDS(offsetof(rtpw_dependency_descriptor, start_of_frame) == 2);
+HOLDS(offsetof(rtpw_dependency_descriptor, end_of_frame) == 3);
+HOLDS(offsetof(rtpw_dependency_descriptor, template_id) == 4);
+
 HOLDS(RTPW_VERSION_NUMBER == 256);
 HOLDS(RTPW_OK == 0);
 HOLDS(RTPW_CUT_FIXED_PART == 1);
@@ -174,3 +237,12 @@ HOLDS(RTPW_KIND_MID == 12);
 HOLDS(RTPW_KIND_FRAME_MARKING == 13);
 HOLDS(RTPW_KIND_COLOR_SPACE == 14);
 HOLDS(RTPW_KIND_LAYERS == 15);
+HOLDS(RTPW_CAMERA_FRONT == 0);
+HOLDS(RTPW_CAMERA_BACK == 1);
+HOLDS(RTPW_RANGE_UNKNOWN == 0);
+HOLDS(RTPW_RANGE_LIMITED == 1);
+HOLDS(RTPW_RANGE_FULL == 2);
+HOLDS(RTPW_RANGE_DERIVED == 3);
+HOLDS(RTPW_SITING_UNSPECIFIED == 0);
+HOLDS(RTPW_SITING_COLLOCATED == 1);
+HOLDS(RTPW_SITING_HALF == 2);

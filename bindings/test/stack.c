@@ -37,6 +37,17 @@ static uint16_t original;
 static size_t count;
 static int32_t status; /* looked at by nobody */
 static const uint8_t data[1] = {7};
+static rtpw_frame_marking marking = {1, 1, 1, 1, 1, 1, 7, 9, 1, 9};
+static rtpw_orientation orientation = {270, RTPW_CAMERA_BACK, 1};
+static rtpw_timing timing = {1, 2, 3, 4, 5, 6, 1, 1};
+static rtpw_transport_number transport_number = {1, 2, 1, 1};
+static rtpw_color_space color_space = {{1, 2, {3, 4}, {5, 6}, {7, 8}, {9, 10}, 11, 12}, 9, 16, 9, 1, 1, 1, 1};
+static rtpw_dependency_descriptor descriptor = {1, 1, 1, 63};
+static const int8_t levels[15] = {-1, -2, -3, -4, -5, -6, -7, -8, -9, -10, -11, -12, -13, -14, -15};
+static const uint8_t bytes[28] = {1, 1, 1, 0x24};
+static uint8_t written[28];
+static int32_t offset;
+static int8_t level;
 static const char LAST_URI[] = "http://www.webrtc.org/experiments/rtp-hdrext/video-layers-allocation00";
 
 /* Four streams of a layer each, of 5 kbit/s, two of which have a resolution. */
@@ -154,6 +165,33 @@ static void from_retransmission(void) {
     status = rtpw_from_retransmission(datagram, sizeof datagram, &count, 7, 8, &ids);
 }
 static void version(void) { number = rtpw_version(); }
+static void read_transmission_offset(void) { status = rtpw_read_transmission_offset(bytes, 3, &offset); }
+static void write_transmission_offset(void) { status = rtpw_write_transmission_offset(-90, written, 3, &count); }
+static void read_frame_marking(void) { status = rtpw_read_frame_marking(bytes, 3, &marking); }
+static void write_frame_marking(void) { status = rtpw_write_frame_marking(&marking, written, 3, &count); }
+static void read_orientation(void) { status = rtpw_read_orientation(bytes, 1, &orientation); }
+static void write_orientation(void) { status = rtpw_write_orientation(&orientation, written, 1, &count); }
+static void is_token(void) { number = rtpw_is_token((const uint8_t *)LAST_URI, sizeof LAST_URI - 1); }
+static void read_timing(void) { status = rtpw_read_timing(bytes, 13, &timing); }
+static void write_timing(void) { status = rtpw_write_timing(&timing, written, 13, &count); }
+static void read_transport_number(void) { status = rtpw_read_transport_number(bytes, 4, &transport_number); }
+static void write_transport_number(void) {
+    status = rtpw_write_transport_number(&transport_number, written, 4, &count);
+}
+static void read_mixer_level(void) { status = rtpw_read_mixer_level(bytes, 28, 15, 14, &level); }
+static void write_mixer_levels(void) { status = rtpw_write_mixer_levels(levels, 15, written, 15, &count); }
+static void read_ntp_64(void) { status = rtpw_read_ntp_64(bytes, 8, &number); }
+static void write_ntp_64(void) { status = rtpw_write_ntp_64(7, written, 8, &count); }
+static void read_ntp_56(void) { status = rtpw_read_ntp_56(bytes, 7, &number); }
+static void write_ntp_56(void) { status = rtpw_write_ntp_56(7, written, 7, &count); }
+static void extend_ntp_56(void) { number = rtpw_extend_ntp_56((uint64_t)1 << 63, 7); }
+static void read_color_space(void) { status = rtpw_read_color_space(bytes, 28, &color_space); }
+static void write_color_space(void) { status = rtpw_write_color_space(&color_space, written, 28, &count); }
+static void read_dependency_descriptor(void) { status = rtpw_read_dependency_descriptor(bytes, 4, &descriptor); }
+static void write_dependency_descriptor(void) {
+    status = rtpw_write_dependency_descriptor(&descriptor, written, 3, &count);
+}
+static void has_structure(void) { number = rtpw_has_structure(bytes, 4); }
 static void extend_u8(void) { number = rtpw_extend_u8(70000, 99); }
 static void extend_u15(void) { number = rtpw_extend_u15(70000, 99); }
 static void extend_u16(void) { number = rtpw_extend_u16(70000, 99); }
@@ -200,6 +238,12 @@ int main(void) {
         CALL(new_ids_between), CALL(renumber), CALL(pad), CALL(read_original), CALL(write_original), CALL(version),
         CALL(new_ids_to_retransmission), CALL(new_ids_from_retransmission), CALL(to_retransmission),
         CALL(from_retransmission),
+        CALL(read_transmission_offset), CALL(write_transmission_offset), CALL(read_frame_marking), CALL(write_frame_marking),
+        CALL(read_orientation), CALL(write_orientation), CALL(is_token), CALL(read_timing), CALL(write_timing),
+        CALL(read_transport_number), CALL(write_transport_number), CALL(read_mixer_level), CALL(write_mixer_levels),
+        CALL(read_ntp_64), CALL(write_ntp_64), CALL(read_ntp_56), CALL(write_ntp_56), CALL(extend_ntp_56),
+        CALL(read_color_space), CALL(write_color_space), CALL(read_dependency_descriptor),
+        CALL(write_dependency_descriptor), CALL(has_structure),
     };
     memory stacks = memory_of(ROOM);
     for (int i = 0; i < 256; i++) {

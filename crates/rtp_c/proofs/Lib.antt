@@ -24,3 +24,4 @@ mod StoredWideLemmas
 mod RestartingLemmas
 mod RetransmissionLemmas
 mod SettingLemmas
+mod StandardLemmas

@@ -22,3 +22,12 @@ pub mod ElementData
 pub mod SetFields
 pub mod WrittenElements
 pub mod WrittenHeader
+pub mod StandardData
+pub mod StandardOffset
+pub mod StandardMarking
+pub mod StandardOrientation
+pub mod StandardTiming
+pub mod StandardTransport
+pub mod StandardLevels
+pub mod StandardColor
+pub mod StandardDescriptor

@@ -25,7 +25,7 @@ pub fn given<T: Drop>(has: u8, value: T) -> Option<T>
 }
 
 // The orientation of these degrees.
-fn orientation_of(degrees: u16) -> Option<VideoOrientation>
+pub fn orientation_of(degrees: u16) -> Option<VideoOrientation>
     ensures found { IfSome result (λ turn. degrees_of turn ≡ degrees) }
     ensures none { IfNone result ((turn : Orientation) → degrees_of turn ≢ degrees) }
 {

@@ -25,6 +25,7 @@ mod restarting;
 mod retransmission;
 mod rtcp;
 mod set_values;
+mod standard;
 mod status;
 mod values;
 mod wide_receiver;

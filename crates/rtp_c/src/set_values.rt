@@ -20,7 +20,7 @@ fn view_of_time(time: MediaTime) -> Time
 }
 
 // The degrees of an orientation.
-fn degrees(orientation: VideoOrientation) -> u16
+pub fn degrees(orientation: VideoOrientation) -> u16
     ensures { result ≡ degrees_of orientation }
 {
     match orientation {

@@ -297,7 +297,7 @@ enum {
     RTPW_KIND_RID = 10,
     RTPW_KIND_REPAIRED_RID = 11,
     RTPW_KIND_MID = 12,
-    RTPW_KIND_FRAME_MARKING = 13, /* of four bytes; not that of RFC 9626, whose elements have one or three: read these yourself */
+    RTPW_KIND_FRAME_MARKING = 13, /* of four bytes; that of RFC 9626 has one to three: rtpw_read_frame_marking */
     RTPW_KIND_COLOR_SPACE = 14,
     RTPW_KIND_LAYERS = 15,
     RTPW_KIND_OWN = 128
@@ -351,8 +351,8 @@ typedef struct {
     int64_t capture_offset;       /* the capturer's clock is ahead by these seconds, 32.32 */
     rtpw_time playout_delay_min;   /* the receiver may hold the frame for so long at least */
     rtpw_time playout_delay_max;   /* and for so long at most */
-    uint32_t transmission_offset; /* ticks of the stream's clock; an element of four bytes */
-    uint32_t frame_marking;       /* the first four bytes */
+    uint32_t transmission_offset; /* ticks of the stream's clock; an element of four bytes, where RFC 5450 has three */
+    uint32_t frame_marking;       /* the first four bytes, where RFC 9626 has one to three */
     uint16_t transport_number;    /* over all streams of the transport */
     uint16_t video_orientation;   /* how the receiver has to turn the picture, counter-clockwise: 0, 90, 180 or 270 */
     uint16_t encode_start;        /* video timing, in milliseconds after the frame's capture: its encoding began, */
@@ -547,6 +547,217 @@ RTPW_CHECKED int32_t rtpw_write_with_form(const rtpw_header *header, const uint8
  * RTPW_SHORT_BUFFER where the buffer alone is at fault. */
 RTPW_CHECKED int32_t rtpw_write_elements(const uint8_t *data, size_t data_len, const rtpw_element *elements, size_t count,
                                          uint8_t form, uint8_t *buf, size_t size, size_t *len);
+
+/* ---- Values as the standards lay them out ---- */
+
+/* The data of one element, as its standard has them, read and written: of kinds for which rtpw_values reads something
+ * else, or nothing. What is read is where rtpw_element tells that an element's data lie, and what is written is for
+ * rtpw_put_element, rtpw_set_element and rtpw_write_elements. An extension without a kind here gets a number of your
+ * own (RTPW_KIND_OWN), or its id is kept beside the map. Numbers in the data are big-endian.
+ *
+ * rtpw_read_..: RTPW_OK; RTPW_BAD_FIELD where the data aren't well-formed for the value, and then nothing is written.
+ * What an absent part leaves is 0.
+ *
+ * rtpw_write_..: writes the data to the front of the buffer, and how many bytes they are; what lies behind them stays.
+ * RTPW_OK; RTPW_BAD_FIELD where a field is out of its range, whatever the room is; RTPW_SHORT_BUFFER where only the
+ * room is too short. Where it isn't RTPW_OK nothing is written. Flags count as set where they aren't 0, and what stands
+ * beside a has_ of 0 isn't looked at.
+ *
+ *     uint8_t data[3];
+ *     size_t data_len;
+ *     int32_t status = rtpw_write_transmission_offset(-90, data, sizeof data, &data_len);
+ *     if (status == RTPW_OK) {
+ *         status = rtpw_put_element(datagram, size, &len, toffset_id, data, data_len, RTPW_ANY_FORM);
+ *     }
+ *     ...
+ *     rtpw_element element;
+ *     const uint8_t *body = datagram + packet.body_at;
+ *     int32_t offset;
+ *     if (rtpw_last_element(body, packet.body_len, packet.block_form, toffset_id, &element) == RTPW_OK
+ *         && rtpw_read_transmission_offset(body + element.data_at, element.data_len, &offset) == RTPW_OK) {
+ *         sent_at(packet.timestamp + (uint32_t)offset);
+ *     }
+ */
+
+/* The transmission time offset (RFC 5450, 3): how long after the time of its timestamp the packet was sent, in ticks of
+ * the stream's clock, -8,388,608 to 8,388,607; another is RTPW_BAD_FIELD. Three bytes, with a sign.
+ * rtpw_values has str0m's, four bytes without a sign, which only str0m takes: for any other peer take these calls. */
+RTPW_CHECKED int32_t rtpw_read_transmission_offset(const uint8_t *data, size_t data_len, int32_t *offset);
+RTPW_CHECKED int32_t rtpw_write_transmission_offset(int32_t offset, uint8_t *buf, size_t size, size_t *len);
+
+/* What a packet is to its frame, and the frame to its stream (RFC 9626, 3). 10 bytes. */
+typedef struct {
+    uint8_t start;           /* the packet is the first of its frame: 0 or 1, as each of these flags */
+    uint8_t end;             /* it is the last of its frame */
+    uint8_t independent;     /* the frame can be decoded without any frame before it */
+    uint8_t discardable;     /* no other frame needs this one */
+    uint8_t has_layers;      /* the stream has layers; the next three are of it */
+    uint8_t base_layer_sync; /* the frame depends on the base temporal layer alone */
+    uint8_t temporal_id;     /* the temporal layer, 0 to 7; 0 is the base layer */
+    uint8_t layer_id;        /* the spatial and quality layer, by the numbers of its codec */
+    uint8_t has_tl0_pic_idx; /* the next one is sent; without layers it isn't looked at */
+    uint8_t tl0_pic_idx;     /* the running number of the frame of the base temporal layer */
+} rtpw_frame_marking;
+
+/* One byte without layers, whose low four bits aren't looked at as they are read; two with layers, and three with
+ * tl0_pic_idx. RTPW_BAD_FIELD where there are none or more than three, and of a temporal_id above 7 that is written.
+ * rtpw_values has str0m's number of four bytes, which is no RFC 9626 marking: for any other peer take these calls. */
+RTPW_CHECKED int32_t rtpw_read_frame_marking(const uint8_t *data, size_t data_len, rtpw_frame_marking *marking);
+RTPW_CHECKED int32_t rtpw_write_frame_marking(const rtpw_frame_marking *marking, uint8_t *buf, size_t size,
+                                              size_t *len);
+
+/* Which way a camera faces. */
+enum {
+    RTPW_CAMERA_FRONT = 0, /* towards the user */
+    RTPW_CAMERA_BACK = 1   /* away from the user */
+};
+
+/* How a picture was taken, and is to be shown (3GPP TS 26.114, 7.4.5). 4 bytes. */
+typedef struct {
+    uint16_t turn;  /* how the receiver has to turn the picture, counter-clockwise: 0, 90, 180 or 270 */
+    uint8_t camera; /* RTPW_CAMERA_FRONT or RTPW_CAMERA_BACK */
+    uint8_t flip;   /* the picture is mirrored, left for right: 0 or 1 */
+} rtpw_orientation;
+
+/* One byte; its high four bits aren't looked at, and are written as 0. RTPW_BAD_FIELD of any other number of bytes, and
+ * of another turn or camera that is written.
+ * rtpw_values has the turn alone, and writes zeros for camera and flip: whoever shows the picture takes these calls. */
+RTPW_CHECKED int32_t rtpw_read_orientation(const uint8_t *data, size_t data_len, rtpw_orientation *orientation);
+RTPW_CHECKED int32_t rtpw_write_orientation(const rtpw_orientation *orientation, uint8_t *buf, size_t size,
+                                            size_t *len);
+
+/* Whether the data are a token of SDP (RFC 8866, 9) of 1 to 255 characters, as a mid and a stream id are (RFC 5888, 4;
+ * RFC 8852, 3): then they are the text itself, to be compared with the SDP's byte by byte, and written as they are.
+ * The texts of rtpw_values have an underscore for each other character than letters and digits, and are cut: for ids
+ * that the peer chose take the data. */
+bool rtpw_is_token(const uint8_t *data, size_t data_len);
+
+/* When a frame passed each step on its way, in milliseconds after its capture (WebRTC's video-timing). 14 bytes. */
+typedef struct {
+    uint16_t encode_start;       /* its encoding began */
+    uint16_t encode_finish;      /* its encoding ended */
+    uint16_t packetize_complete; /* its last packet was made */
+    uint16_t last_left_pacer;    /* its last packet left the pacer */
+    uint16_t network;            /* a time that a server on the way fills in; what it means is the application's */
+    uint16_t network2;           /* another such time */
+    uint8_t flags;               /* why the times were sent: bit 0 a timer, bit 1 a large frame */
+    uint8_t has_flags;           /* 0 in the older form, which has no flags */
+} rtpw_timing;
+
+/* 13 bytes, or 12 without flags; of any other number RTPW_BAD_FIELD. No field is out of range as it is written.
+ * rtpw_values takes the first of 12 bytes for flags, and has neither network time (it writes zeros): where a peer sends
+ * the older form, or a server fills these in, take these calls. */
+RTPW_CHECKED int32_t rtpw_read_timing(const uint8_t *data, size_t data_len, rtpw_timing *timing);
+RTPW_CHECKED int32_t rtpw_write_timing(const rtpw_timing *timing, uint8_t *buf, size_t size, size_t *len);
+
+/* The packet's number on its transport, and what feedback it asks for
+ * (http://www.webrtc.org/experiments/rtp-hdrext/transport-wide-cc-02). 6 bytes. */
+typedef struct {
+    uint16_t number;     /* the packet's number, over all streams of the transport */
+    uint16_t packets;    /* for how many packets the feedback is to be, of which this one is the last: 1 to 32,767 */
+    uint8_t has_request; /* the sender asks for feedback with this packet; `packets` and `timestamps` are of it */
+    uint8_t timestamps;  /* the feedback is to have the times at which the packets arrived: 0 or 1 */
+} rtpw_transport_number;
+
+/* Two bytes, or four with a request; of any other number RTPW_BAD_FIELD. As read a request for 0 packets is none; as
+ * written one for 0 or more than 32,767 is RTPW_BAD_FIELD.
+ * rtpw_values has the number alone, of the draft's older URI, where feedback is on all packets: for feedback on request
+ * take these calls. */
+RTPW_CHECKED int32_t rtpw_read_transport_number(const uint8_t *data, size_t data_len, rtpw_transport_number *number);
+RTPW_CHECKED int32_t rtpw_write_transport_number(const rtpw_transport_number *number, uint8_t *buf, size_t size,
+                                                 size_t *len);
+
+/* The audio level of the contributing source at this index of the packet's list of csrc_count, in decibels relative to
+ * the overload point, -127 (silence) to 0 (RFC 6465, 4: mixer to client). A byte for each, whose high bit isn't looked
+ * at. RTPW_BAD_FIELD where the packet hasn't that source, or the data no byte for it. rtpw_values has none of these. */
+RTPW_CHECKED int32_t rtpw_read_mixer_level(const uint8_t *data, size_t data_len, size_t csrc_count, size_t index,
+                                           int8_t *level);
+/* The levels of a packet's sources, in their order. RTPW_BAD_FIELD of a level above 0 or below -127. */
+RTPW_CHECKED int32_t rtpw_write_mixer_levels(const int8_t *levels, size_t count, uint8_t *buf, size_t size,
+                                             size_t *len);
+
+/* NTP timestamps (RFC 6051, 3.3), in units of 2^-32 seconds: of 64 bits in eight bytes, since 1900, and the low 56 of
+ * them in seven. RTPW_BAD_FIELD of any other number of bytes; each time can be written, and of 56 the high eight bits
+ * aren't looked at. rtpw_values has none of these: its capture_time is the value of another extension. */
+RTPW_CHECKED int32_t rtpw_read_ntp_64(const uint8_t *data, size_t data_len, uint64_t *time);
+RTPW_CHECKED int32_t rtpw_write_ntp_64(uint64_t time, uint8_t *buf, size_t size, size_t *len);
+RTPW_CHECKED int32_t rtpw_read_ntp_56(const uint8_t *data, size_t data_len, uint64_t *time);
+RTPW_CHECKED int32_t rtpw_write_ntp_56(uint64_t time, uint8_t *buf, size_t size, size_t *len);
+/* The timestamp of 64 bits that ends in the low 56 bits of `low` and is nearest to `near`, modulo 2^64; of two that are
+ * equally near the later one. Where `near` is less than 97 days off, as the time at which the packet arrived, it is the
+ * time that the sender meant. */
+uint64_t rtpw_extend_ntp_56(uint64_t near, uint64_t low);
+
+/* Which numbers stand for the colors of a video. */
+enum {
+    RTPW_RANGE_UNKNOWN = 0,
+    RTPW_RANGE_LIMITED = 1, /* as in broadcasting, 16 to 235 where there are 8 bits */
+    RTPW_RANGE_FULL = 2,    /* all numbers */
+    RTPW_RANGE_DERIVED = 3  /* by the transfer and matrix code points */
+};
+
+/* Where the chroma samples lie in one direction. */
+enum {
+    RTPW_SITING_UNSPECIFIED = 0,
+    RTPW_SITING_COLLOCATED = 1, /* on the luma samples */
+    RTPW_SITING_HALF = 2        /* half way between two of them */
+};
+
+/* A point of the CIE 1931 chromaticity diagram, in 0.00002. 4 bytes. */
+typedef struct {
+    uint16_t x;
+    uint16_t y;
+} rtpw_chromaticity;
+
+/* The screen on which a video of high dynamic range was made, and its light (SMPTE ST 2086, CTA-861.3). 24 bytes. */
+typedef struct {
+    uint16_t luminance_max;                 /* of the screen, in cd/m^2 */
+    uint16_t luminance_min;                 /* in 0.0001 cd/m^2 */
+    rtpw_chromaticity red;
+    rtpw_chromaticity green;
+    rtpw_chromaticity blue;
+    rtpw_chromaticity white;
+    uint16_t max_content_light_level;       /* of a pixel, in cd/m^2 */
+    uint16_t max_frame_average_light_level; /* the greatest mean of a frame, in cd/m^2 */
+} rtpw_hdr_metadata;
+
+/* The color space of a video (WebRTC's color-space). 32 bytes. */
+typedef struct {
+    rtpw_hdr_metadata hdr; /* all zeros as read where has_hdr is 0 */
+    uint8_t primaries;     /* the color primaries, a code point of H.273, 8.1 */
+    uint8_t transfer;      /* the transfer characteristics, a code point of H.273, 8.2 */
+    uint8_t matrix;        /* the matrix coefficients, a code point of H.273, 8.3 */
+    uint8_t range;         /* RTPW_RANGE_UNKNOWN to RTPW_RANGE_DERIVED */
+    uint8_t horizontal;    /* from left to right: RTPW_SITING_UNSPECIFIED to RTPW_SITING_HALF */
+    uint8_t vertical;      /* from top to bottom, the same */
+    uint8_t has_hdr;       /* 0 or 1 */
+} rtpw_color_space;
+
+/* Four bytes, or 28 with HDR metadata, for which an element needs the two-byte form. RTPW_BAD_FIELD of any other number
+ * of bytes, and of a siting of 3; the high two bits of the fourth byte aren't looked at, and are written as 0. As
+ * written RTPW_BAD_FIELD of another range or siting than those above. rtpw_values has none: RTPW_KIND_COLOR_SPACE can
+ * be mapped, and is neither read nor written with the values. */
+RTPW_CHECKED int32_t rtpw_read_color_space(const uint8_t *data, size_t data_len, rtpw_color_space *space);
+RTPW_CHECKED int32_t rtpw_write_color_space(const rtpw_color_space *space, uint8_t *buf, size_t size, size_t *len);
+
+/* The fields of a dependency descriptor that each packet has (AV1's RTP payload format, A.8). 6 bytes. */
+typedef struct {
+    uint16_t frame_number;  /* the number of the frame, which rolls over */
+    uint8_t start_of_frame; /* the packet is the first of its frame: 0 or 1 */
+    uint8_t end_of_frame;   /* it is the last of its frame: 0 or 1 */
+    uint8_t template_id;    /* the template that the frame's dependencies are like, 0 to 63 */
+} rtpw_dependency_descriptor;
+
+/* The first three bytes; RTPW_BAD_FIELD of fewer. What follows them needs the structure that the sender sent before,
+ * and isn't looked at: hand it on as it is. Written are the three bytes alone, which are a whole descriptor;
+ * RTPW_BAD_FIELD of a template_id above 63. rtpw_values has none of these. */
+RTPW_CHECKED int32_t rtpw_read_dependency_descriptor(const uint8_t *data, size_t data_len,
+                                                     rtpw_dependency_descriptor *descriptor);
+RTPW_CHECKED int32_t rtpw_write_dependency_descriptor(const rtpw_dependency_descriptor *descriptor, uint8_t *buf,
+                                                      size_t size, size_t *len);
+/* Whether a descriptor brings a template dependency structure, as that of the first packet of a key frame does: the
+ * first bit of its fourth byte is set, if it has one. */
+bool rtpw_has_structure(const uint8_t *data, size_t data_len);
 
 /* ---- From one map to another ---- */
 

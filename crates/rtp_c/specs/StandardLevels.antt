@@ -1,0 +1,8 @@
+-- Audio levels of the CSRCs of a packet (RFC 6465, 4), as C gives them.
+use Rattle.std.specs.Prelude.{◌≡◌, List, ℕ, ℤ, All, map, unsigned_abs}
+use Rattle.rtp_values.specs.StandardLevels.{IsLevel}
+
+-- the data of levels
+pub record AreLevelsData (levels : List ℤ) (bytes : List ℕ) : Type 0 where
+  pub are_levels : All IsLevel levels
+  pub bytes_are : bytes ≡ map unsigned_abs levels

@@ -1,0 +1,67 @@
+//! Mixer-to-client audio levels (RFC 6465, 4): a byte for each CSRC.
+
+ghost use Rattle.std.specs.Prelude.{◌≡◌, ◌≢◌, ◌↔◌, ◌⊎◌, ◌<◌, length, slice_index, All, IsTrue};
+ghost use Rattle.rtp_values.specs.StandardLevels.{IsLevel, level_in};
+ghost use Rattle.rtp_c.specs.Status.{ok, bad_field, short_buffer};
+ghost use Rattle.rtp_c.specs.StandardData.{AreWritten, AreTooLong, AreNone};
+ghost use Rattle.rtp_c.specs.StandardLevels.{AreLevelsData};
+
+use crate::status::{BAD_FIELD, OK, SHORT_BUFFER};
+use rtp_values::standard::{mixer_audio_level, write_mixer_audio_levels};
+
+/// Reads the audio level of the CSRC at this index of the packet's list of `csrc_count`, in
+/// decibels relative to the overload point (RFC 6465, 4). `OK`, or `BAD_FIELD` where the packet
+/// hasn't that CSRC or the data no byte for it, and then nothing is written.
+#[unsafe(no_mangle)]
+pub extern "C" fn rtpw_read_mixer_level(
+    bytes: &[u8],
+    csrc_count: usize,
+    index: usize,
+    level: &mut i8,
+) -> i32
+    ensures read { result ≡ ok → level.new ≡ level_in (slice_index bytes.now index) }
+    ensures ok { (result ≡ ok) ↔ (index < csrc_count) × (index < length bytes.now) }
+    ensures statuses { (result ≡ ok) ⊎ (result ≡ bad_field) }
+    ensures unchanged { result ≢ ok → level.new ≡ level.old }
+{
+    let Some(read) = mixer_audio_level(bytes, csrc_count, index) else {
+        return BAD_FIELD;
+    };
+    *level = read;
+    OK
+}
+
+// Whether each level can be written.
+fn are_levels(levels: &[i8]) -> bool
+    ensures { IsTrue result ↔ All IsLevel levels.now }
+{
+    levels.iter().all(|level| (-127..=0).contains(level))
+}
+
+/// Writes the audio levels of a packet's CSRCs, in their order, to the front of the buffer, a byte
+/// for each (RFC 6465, 4). `OK`, and how many they are is written too; `BAD_FIELD` where a level is
+/// above 0 or below -127; `SHORT_BUFFER` where only the room is short. Where it isn't `OK` nothing
+/// is written.
+#[unsafe(no_mangle)]
+pub extern "C" fn rtpw_write_mixer_levels(levels: &[i8], buf: &mut [u8], len: &mut usize) -> i32
+    ensures written { result ≡ ok →
+        AreWritten (AreLevelsData levels.now) buf.old buf.new len.new }
+    ensures short { result ≡ short_buffer →
+        AreTooLong (AreLevelsData levels.now) (length buf.old) }
+    ensures bad_field { (result ≡ bad_field) ↔ AreNone (AreLevelsData levels.now) }
+    ensures statuses { (result ≡ ok) ⊎ ((result ≡ short_buffer) ⊎ (result ≡ bad_field)) }
+    ensures unchanged { result ≢ ok → (buf.new ≡ buf.old) × (len.new ≡ len.old) }
+{
+    if buf.len() < levels.len() {
+        return if are_levels(levels) {
+            SHORT_BUFFER
+        } else {
+            BAD_FIELD
+        };
+    }
+    let Some(count) = write_mixer_audio_levels(levels, buf) else {
+        return BAD_FIELD;
+    };
+    *len = count;
+    OK
+}

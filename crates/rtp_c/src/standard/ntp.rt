@@ -1,0 +1,86 @@
+//! NTP timestamps in header extensions (RFC 6051, 3.3): of 64 bits, and of the low 56.
+
+ghost use Rattle.std.specs.Prelude.{◌≡◌, ◌≢◌, ◌↔◌, ◌⊎◌, ℕ, ◌^◌, ◌%◌, ◌<◌, ◌≤◌, length};
+ghost use Rattle.rtp_values.specs.Values.{big_endian};
+ghost use Rattle.rtp_values.specs.Spelling.{bytes_of_number};
+ghost use Rattle.rtp_values.specs.StandardNtp.{apart};
+ghost use Rattle.rtp_c.specs.Status.{ok, bad_field, short_buffer};
+ghost use Rattle.rtp_c.specs.StandardData.{StandAtFront};
+
+use super::putting::put_data;
+use crate::status::{BAD_FIELD, OK};
+use rtp_values::standard::{extend_ntp_56, ntp_56_bytes, ntp_64_bytes, parse_ntp_56, parse_ntp_64};
+
+/// Reads an NTP timestamp of 64 bits (RFC 6051, 3.3). `OK`, or `BAD_FIELD` where there aren't eight
+/// bytes, and then nothing is written.
+#[unsafe(no_mangle)]
+pub extern "C" fn rtpw_read_ntp_64(bytes: &[u8], time: &mut u64) -> i32
+    ensures read { result ≡ ok → time.new ≡ big_endian bytes.now }
+    ensures ok { (result ≡ ok) ↔ (length bytes.now ≡ 8) }
+    ensures statuses { (result ≡ ok) ⊎ (result ≡ bad_field) }
+    ensures unchanged { result ≢ ok → time.new ≡ time.old }
+{
+    let Some(read) = parse_ntp_64(bytes) else {
+        return BAD_FIELD;
+    };
+    *time = read;
+    OK
+}
+
+/// Writes an NTP timestamp of 64 bits to the front of the buffer, and that it has eight bytes (RFC
+/// 6051, 3.3). `OK`, or `SHORT_BUFFER` where there are fewer, and then nothing is written.
+#[unsafe(no_mangle)]
+pub extern "C" fn rtpw_write_ntp_64(time: u64, buf: &mut [u8], len: &mut usize) -> i32
+    ensures written { result ≡ ok →
+        StandAtFront (bytes_of_number 8 time) buf.old buf.new len.new }
+    ensures short { (result ≡ short_buffer) ↔ (length buf.old < 8) }
+    ensures statuses { (result ≡ ok) ⊎ (result ≡ short_buffer) }
+    ensures unchanged { result ≢ ok → (buf.new ≡ buf.old) × (len.new ≡ len.old) }
+{
+    put_data(&ntp_64_bytes(time), buf, len)
+}
+
+/// Reads an NTP timestamp of 56 bits, the low 24 of the seconds and 32 of fraction (RFC 6051, 3.3);
+/// [`rtpw_extend_ntp_56`] finds the high eight bits. `OK`, or `BAD_FIELD` where there aren't seven
+/// bytes, and then nothing is written.
+#[unsafe(no_mangle)]
+pub extern "C" fn rtpw_read_ntp_56(bytes: &[u8], time: &mut u64) -> i32
+    ensures read { result ≡ ok → time.new ≡ big_endian bytes.now }
+    ensures ok { (result ≡ ok) ↔ (length bytes.now ≡ 7) }
+    ensures statuses { (result ≡ ok) ⊎ (result ≡ bad_field) }
+    ensures unchanged { result ≢ ok → time.new ≡ time.old }
+{
+    let Some(read) = parse_ntp_56(bytes) else {
+        return BAD_FIELD;
+    };
+    *time = read;
+    OK
+}
+
+/// Writes the low 56 bits of an NTP timestamp to the front of the buffer, and that they have seven
+/// bytes (RFC 6051, 3.3). `OK`, or `SHORT_BUFFER` where there are fewer, and then nothing is
+/// written.
+#[unsafe(no_mangle)]
+pub extern "C" fn rtpw_write_ntp_56(time: u64, buf: &mut [u8], len: &mut usize) -> i32
+    ensures written { result ≡ ok →
+        StandAtFront (bytes_of_number 7 time) buf.old buf.new len.new }
+    ensures short { (result ≡ short_buffer) ↔ (length buf.old < 7) }
+    ensures statuses { (result ≡ ok) ⊎ (result ≡ short_buffer) }
+    ensures unchanged { result ≢ ok → (buf.new ≡ buf.old) × (len.new ≡ len.old) }
+{
+    put_data(&ntp_56_bytes(time), buf, len)
+}
+
+/// The NTP timestamp of 64 bits that ends in the low 56 bits of `low` and is nearest to `near`,
+/// modulo 2^64; of two that are equally near, the later one.
+#[unsafe(no_mangle)]
+pub extern "C" fn rtpw_extend_ntp_56(near: u64, low: u64) -> u64
+    ensures ends { result % 2 ^ 56 ≡ low % 2 ^ 56 }
+    ensures near { apart near result ≤ 2 ^ 55 }
+
+    // Any other time with these low bits is as far away, or farther.
+    ensures only { (time : ℕ) → time < 2 ^ 64 → time % 2 ^ 56 ≡ low % 2 ^ 56 →
+        apart near time < 2 ^ 55 → result ≡ time }
+{
+    extend_ntp_56(near, low)
+}

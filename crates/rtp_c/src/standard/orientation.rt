@@ -1,0 +1,106 @@
+//! Coordination of video orientation (3GPP TS 26.114, 7.4.5).
+
+ghost use Rattle.std.specs.Prelude.{◌≡◌, ◌≢◌, ◌↔◌, ◌⊎◌, length, slice_index, IfSome, IfNone};
+ghost use Rattle.rtp_values.specs.StandardOrientation.{camera_bit, orientation_in};
+ghost use Rattle.rtp_values.specs.declared.standard.orientation.Camera.{Camera as Facing};
+ghost use Rattle.rtp_values.specs.declared.standard.orientation.Orientation.{Orientation as Taken};
+ghost use Rattle.rtp_c.specs.Status.{ok, bad_field, short_buffer};
+ghost use Rattle.rtp_c.specs.StandardData.{AreWritten, AreTooLong, AreNone};
+ghost use Rattle.rtp_c.specs.StandardOrientation.{IsViewOfOrientation, IsGivenOrientation, AreOrientationData};
+
+use super::putting::put_data;
+use crate::given::orientation_of;
+use crate::set_values::degrees;
+use crate::status::{BAD_FIELD, OK};
+use crate::values::flag_number;
+use rtp_values::standard::{Camera, Orientation};
+
+/// How a picture was taken, and is to be shown: `rtpw_orientation` in C, 4 bytes.
+#[repr(C)]
+#[derive(Clone, Copy)]
+pub struct OrientationView {
+    /// How the receiver has to turn the picture, in degrees counter-clockwise: 0, 90, 180 or 270.
+    pub turn: u16,
+    /// Which way the camera faces: 0 towards the user, 1 away from the user.
+    pub camera: u8,
+    /// Whether the picture is mirrored, left for right: 0 or 1.
+    pub flip: u8,
+}
+
+// The number of a camera.
+fn camera_number(camera: Camera) -> u8
+    ensures { result ≡ camera_bit camera }
+{
+    match camera {
+        Camera::Front => 0,
+        Camera::Back => 1,
+    }
+}
+
+// The camera of this number.
+fn camera_of(number: u8) -> Option<Camera>
+    ensures found { IfSome result (λ camera. camera_bit camera ≡ number) }
+    ensures none { IfNone result ((camera : Facing) → camera_bit camera ≢ number) }
+{
+    match number {
+        0 => Some(Camera::Front),
+        1 => Some(Camera::Back),
+        _ => None,
+    }
+}
+
+// The orientation that is given.
+fn given_orientation(view: &OrientationView) -> Option<Orientation>
+    ensures found { IfSome result (IsGivenOrientation view.now) }
+    ensures none { IfNone result ((taken : Taken) → IsGivenOrientation view.now taken → ⊥) }
+{
+    Some(Orientation {
+        camera: camera_of(view.camera)?,
+        flip: view.flip != 0,
+        turn: orientation_of(view.turn)?,
+    })
+}
+
+/// Reads how a picture was taken, and is to be shown (3GPP TS 26.114, 7.4.5). `OK`, or `BAD_FIELD`
+/// where there isn't one byte, and then nothing is written.
+#[unsafe(no_mangle)]
+pub extern "C" fn rtpw_read_orientation(bytes: &[u8], orientation: &mut OrientationView) -> i32
+    ensures read { result ≡ ok →
+        IsViewOfOrientation (orientation_in (slice_index bytes.now 0)) orientation.new }
+    ensures ok { (result ≡ ok) ↔ (length bytes.now ≡ 1) }
+    ensures statuses { (result ≡ ok) ⊎ (result ≡ bad_field) }
+    ensures unchanged { result ≢ ok → orientation.new ≡ orientation.old }
+{
+    let Some(read) = Orientation::parse(bytes) else {
+        return BAD_FIELD;
+    };
+    *orientation = OrientationView {
+        turn: degrees(read.turn),
+        camera: camera_number(read.camera),
+        flip: flag_number(read.flip),
+    };
+    OK
+}
+
+/// Writes how a picture was taken, and is to be shown, to the front of the buffer (3GPP TS 26.114,
+/// 7.4.5). `OK`, and that it is one byte is written too; `BAD_FIELD` where there is no such turn or
+/// camera; `SHORT_BUFFER` where only the room is short. Where it isn't `OK` nothing is written.
+#[unsafe(no_mangle)]
+pub extern "C" fn rtpw_write_orientation(
+    orientation: &OrientationView,
+    buf: &mut [u8],
+    len: &mut usize,
+) -> i32
+    ensures written { result ≡ ok →
+        AreWritten (AreOrientationData orientation.now) buf.old buf.new len.new }
+    ensures short { result ≡ short_buffer →
+        AreTooLong (AreOrientationData orientation.now) (length buf.old) }
+    ensures bad_field { (result ≡ bad_field) ↔ AreNone (AreOrientationData orientation.now) }
+    ensures statuses { (result ≡ ok) ⊎ ((result ≡ short_buffer) ⊎ (result ≡ bad_field)) }
+    ensures unchanged { result ≢ ok → (buf.new ≡ buf.old) × (len.new ≡ len.old) }
+{
+    let Some(given) = given_orientation(orientation) else {
+        return BAD_FIELD;
+    };
+    put_data(&given.to_bytes(), buf, len)
+}

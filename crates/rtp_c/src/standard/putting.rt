@@ -1,0 +1,24 @@
+//! Data that are put into the caller's buffer.
+
+ghost use Rattle.std.specs.Prelude.{◌≡◌, ◌≢◌, ◌↔◌, ◌<◌, ◌⊎◌, length};
+ghost use Rattle.rtp_c.specs.Status.{ok, short_buffer};
+ghost use Rattle.rtp_c.specs.StandardData.{StandAtFront};
+
+use crate::status::{OK, SHORT_BUFFER};
+use rtp_base::put;
+
+// Puts the bytes to the front of the buffer, and how many they are to `len`. `OK`, or
+// `SHORT_BUFFER` where there isn't room for them, and then nothing is put.
+#[inline(always)]
+pub(super) fn put_data(bytes: &[u8], buf: &mut [u8], len: &mut usize) -> i32
+    ensures written { result ≡ ok → StandAtFront bytes.now buf.old buf.new len.new }
+    ensures short { (result ≡ short_buffer) ↔ (length buf.old < length bytes.now) }
+    ensures statuses { (result ≡ ok) ⊎ (result ≡ short_buffer) }
+    ensures unchanged { result ≢ ok → (buf.new ≡ buf.old) × (len.new ≡ len.old) }
+{
+    if buf.len() < bytes.len() {
+        return SHORT_BUFFER;
+    }
+    *len = put(buf, 0, bytes);
+    OK
+}

@@ -1,0 +1,50 @@
+//! Transmission time offset (RFC 5450, 3).
+
+ghost use Rattle.std.specs.Prelude.{◌≡◌, ◌≢◌, ◌↔◌, ◌⊎◌, length};
+ghost use Rattle.rtp_values.specs.Values.{big_endian};
+ghost use Rattle.rtp_values.specs.StandardNumbers.{signed_24};
+ghost use Rattle.rtp_c.specs.Status.{ok, bad_field, short_buffer};
+ghost use Rattle.rtp_c.specs.StandardData.{AreWritten, AreTooLong, AreNone};
+ghost use Rattle.rtp_c.specs.StandardOffset.{AreOffsetData};
+
+use super::putting::put_data;
+use crate::status::{BAD_FIELD, OK};
+use rtp_values::standard::{parse_transmission_offset, transmission_offset_bytes};
+
+/// Reads a transmission time offset, in ticks of the stream's clock (RFC 5450, 3). `OK`, or
+/// `BAD_FIELD` where there aren't three bytes, and then nothing is written.
+#[unsafe(no_mangle)]
+pub extern "C" fn rtpw_read_transmission_offset(bytes: &[u8], offset: &mut i32) -> i32
+    ensures read { result ≡ ok → offset.new ≡ signed_24 (big_endian bytes.now) }
+    ensures ok { (result ≡ ok) ↔ (length bytes.now ≡ 3) }
+    ensures statuses { (result ≡ ok) ⊎ (result ≡ bad_field) }
+    ensures unchanged { result ≢ ok → offset.new ≡ offset.old }
+{
+    let Some(read) = parse_transmission_offset(bytes) else {
+        return BAD_FIELD;
+    };
+    *offset = read;
+    OK
+}
+
+/// Writes the three bytes of a transmission time offset to the front of the buffer (RFC 5450, 3).
+/// `OK`, and how many bytes they are is written too; `BAD_FIELD` where the offset doesn't fit into
+/// 24 signed bits; `SHORT_BUFFER` where only the room is short. Where it isn't `OK` nothing is
+/// written.
+#[unsafe(no_mangle)]
+pub extern "C" fn rtpw_write_transmission_offset(
+    offset: i32,
+    buf: &mut [u8],
+    len: &mut usize,
+) -> i32
+    ensures written { result ≡ ok → AreWritten (AreOffsetData offset) buf.old buf.new len.new }
+    ensures short { result ≡ short_buffer → AreTooLong (AreOffsetData offset) (length buf.old) }
+    ensures bad_field { (result ≡ bad_field) ↔ AreNone (AreOffsetData offset) }
+    ensures statuses { (result ≡ ok) ⊎ ((result ≡ short_buffer) ⊎ (result ≡ bad_field)) }
+    ensures unchanged { result ≢ ok → (buf.new ≡ buf.old) × (len.new ≡ len.old) }
+{
+    let Some(data) = transmission_offset_bytes(offset) else {
+        return BAD_FIELD;
+    };
+    put_data(&data, buf, len)
+}
