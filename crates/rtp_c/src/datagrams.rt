@@ -1,9 +1,9 @@
 //! Several datagrams of one buffer, read in one call.
 
-ghost use Rattle.std.specs.Prelude.{◌≡◌, ◌+◌, ◌≤◌, ◌<◌, length, IfSome, IfNone};
+ghost use Rattle.std.specs.Prelude.{◌≡◌, IfSome, IfNone};
 ghost use Rattle.std.specs.List.{AllZip};
 ghost use Rattle.rtp_c.specs.PacketView.{slice_at};
-ghost use Rattle.rtp_c.specs.Datagrams.{IsWithin, IsDatagramRead, IsDatagramHeaderRead};
+ghost use Rattle.rtp_c.specs.Datagrams.{IsWithin, IsRtcpNumber, IsDatagramRead, IsDatagramHeaderRead};
 
 use super::header::{HeaderView, rtpw_parse};
 use super::kinds::StoredMap;
@@ -59,6 +59,13 @@ fn datagram_in(buf: &[u8], at: usize, len: usize) -> Option<&[u8]>
     Some(&buf[at..end])
 }
 
+// 1 where the bytes are RTCP, and else 0.
+fn rtcp_number(bytes: &[u8]) -> u8
+    ensures { IsRtcpNumber bytes.now result }
+{
+    flag_number(is_rtcp(bytes))
+}
+
 // Reads the packet that the datagram is.
 fn read_packet(buf: &[u8], datagram: &mut Datagram)
     ensures { IsDatagramRead buf.now datagram.old datagram.new }
@@ -69,7 +76,7 @@ fn read_packet(buf: &[u8], datagram: &mut Datagram)
         return;
     };
     datagram.status = rtpw_packet_parse(bytes, &mut datagram.packet);
-    datagram.is_rtcp = flag_number(is_rtcp(bytes));
+    datagram.is_rtcp = rtcp_number(bytes);
 }
 
 // Reads the header that the datagram begins with.
@@ -82,7 +89,7 @@ fn read_header(buf: &[u8], map: &StoredMap, datagram: &mut DatagramHeader)
         return;
     };
     datagram.status = rtpw_parse(bytes, map, &mut datagram.header);
-    datagram.is_rtcp = flag_number(is_rtcp(bytes));
+    datagram.is_rtcp = rtcp_number(bytes);
 }
 
 /// Reads each of these datagrams of the buffer as [`rtpw_packet_parse`] and `rtpw_is_rtcp` do. They
