@@ -1,5 +1,5 @@
 -- The statuses of a header that isn't read.
-use Rattle.std.proofs.Common.{◌≡◌, ℕ, List, ℤ, Option, Some, None, true, refl, sym, ◌∙◌}
+use Rattle.std.proofs.Common.{◌≡◌, ℕ, List, ℤ, Option, Some, None, true, refl}
 use Rattle.std.specs.Prelude.{is_some}
 use Rattle.std.proofs.lemmas.Bool.{false≢true}
 use Rattle.rtp_wire.specs.declared.header.not_a_header.NotAHeader.{NotAHeader as Cause}
@@ -7,8 +7,7 @@ use Rattle.rtp_wire.specs.declared.header.not_a_header.NotAHeader.TheVariants.{N
 use Rattle.rtp_wire.specs.NoHeaderCause.{AppliesToHeader}
 use Rattle.rtp_wire.specs.NotAHeader.{HasNoHeader, no_packet, unknown_form}
 use Rattle.rtp_wire.specs.Packet.{PacketParts, IsPacket}
-use Rattle.rtp_c.specs.Status.{ok, unknown_form as unknown_form_status, header_status, IsHeaderStatus}
-use Rattle.rtp_c.proofs.StatusLemmas.{ok≢cause}
+use Rattle.rtp_c.specs.Status.{unknown_form as unknown_form_status, IsHeaderStatus}
 use Rattle.rtp_wire.proofs.NotAPacketLemmas.{IsNoPacket-applies}
 use Rattle.rtp_wire.proofs.NoHeaderLemmas.{IsFirstHeaderCause-other_form}
 
@@ -26,11 +25,3 @@ pub IsHeaderStatus-other : (bytes : List ℕ) (parts : PacketParts) (other : Opt
 IsHeaderStatus-other bytes parts None is other-is some = absurd (false≢true some)
 IsHeaderStatus-other bytes parts (Some other) is other-is some =
     record { cause = UnknownForm; is_first = IsFirstHeaderCause-other_form bytes parts other is other-is; status_is = refl }
-
-ok≢header : (cause : Cause) → ok ≡ header_status cause → ⊥
-ok≢header (NotAPacket cause) same = ok≢cause cause same
-ok≢header UnknownForm same = cc
-
--- a header whose status is that of a cause isn't read
-pub IsHeaderStatus-refused : (bytes : List ℕ) (status : ℤ) → IsHeaderStatus bytes status → status ≡ ok → ⊥
-IsHeaderStatus-refused bytes status is same = ok≢header is.cause (sym same ∙ is.status_is)

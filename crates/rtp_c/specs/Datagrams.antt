@@ -1,14 +1,11 @@
 -- What C is told of each of several datagrams in a buffer.
-use Rattle.std.specs.Prelude.{◌≡◌, ℕ, ◌+◌, ◌≤◌, ◌⊎◌, List, length, ℤ}
-use Rattle.rtp_wire.specs.Packet.{PacketParts, IsPacket}
+use Rattle.std.specs.Prelude.{◌≡◌, ℕ, ◌+◌, ◌≤◌, ◌⊎◌, List, length}
 use Rattle.rtp_wire.specs.Rtcp.{IsRtcp}
-use Rattle.rtp_c.specs.declared.packet.PacketView.{PacketView}
-use Rattle.rtp_c.specs.declared.header.HeaderView.{HeaderView}
 use Rattle.rtp_c.specs.declared.datagrams.Datagram.{Datagram}
 use Rattle.rtp_c.specs.declared.datagrams.DatagramHeader.{DatagramHeader}
-use Rattle.rtp_c.specs.PacketView.{IsViewOf, slice_at}
-use Rattle.rtp_c.specs.HeaderView.{IsParsedAs}
-use Rattle.rtp_c.specs.Status.{ok, bad_field, IsCauseStatus, IsHeaderStatus}
+use Rattle.rtp_c.specs.PacketView.{slice_at, IsPacketRead}
+use Rattle.rtp_c.specs.HeaderView.{IsHeaderRead}
+use Rattle.rtp_c.specs.Status.{bad_field}
 
 -- the bytes at this place, of this length, are bytes of the buffer
 abbrev pub IsWithin : List ℕ → ℕ → ℕ → Type 0
@@ -17,16 +14,6 @@ IsWithin buf at len = at + len ≤ length buf
 -- 1 where these bytes are RTCP, and else 0
 abbrev pub IsRtcpNumber : List ℕ → ℕ → Type 0
 IsRtcpNumber bytes number = ((number ≡ 1) × IsRtcp bytes) ⊎ ((number ≡ 0) × (IsRtcp bytes → ⊥))
-
--- what is told of the packet that these bytes are, or the first cause for which they are none, and then what was there stays
-abbrev pub IsPacketRead : List ℕ → ℤ → PacketView → PacketView → Type 0
-IsPacketRead bytes status old new =
-    ((status ≡ ok) × ((parts : PacketParts) × IsPacket bytes parts × IsViewOf bytes parts new)) ⊎ (IsCauseStatus bytes status × (new ≡ old))
-
--- what is told of the header that these bytes begin with under the map of these numbers, or the first cause for which none begins there, and then what was there stays
-abbrev pub IsHeaderRead : List ℕ → List ℕ → ℤ → HeaderView → HeaderView → Type 0
-IsHeaderRead numbers bytes status old new =
-    ((status ≡ ok) × IsParsedAs numbers bytes new) ⊎ (IsHeaderStatus bytes status × (new ≡ old))
 
 -- what is told of a datagram in the buffer: of its packet, and whether it is RTCP; of one that isn't within the buffer only that
 pub record IsDatagramRead (buf : List ℕ) (old new : Datagram) : Type 0 where

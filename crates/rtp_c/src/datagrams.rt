@@ -5,9 +5,9 @@ ghost use Rattle.std.specs.List.{AllZip};
 ghost use Rattle.rtp_c.specs.PacketView.{slice_at};
 ghost use Rattle.rtp_c.specs.Datagrams.{IsWithin, IsRtcpNumber, IsDatagramRead, IsDatagramHeaderRead};
 
-use super::header::{HeaderView, rtpw_parse};
+use super::header::{HeaderView, read_header};
 use super::kinds::StoredMap;
-use super::packet::{PacketView, rtpw_packet_parse};
+use super::packet::{PacketView, read_packet};
 use super::status::BAD_FIELD;
 use super::values::flag_number;
 use rtp_wire::is_rtcp;
@@ -21,10 +21,10 @@ pub struct Datagram {
     pub at: usize,
     /// Given: how many bytes it has.
     pub len: usize,
-    /// What [`rtpw_packet_parse`] writes of it, counted from its own first byte, and else as it
+    /// What `rtpw_packet_parse` writes of it, counted from its own first byte, and else as it
     /// was.
     pub packet: PacketView,
-    /// What [`rtpw_packet_parse`] returns of it, and `BAD_FIELD` where it isn't within the buffer.
+    /// What `rtpw_packet_parse` returns of it, and `BAD_FIELD` where it isn't within the buffer.
     pub status: i32,
     /// What `rtpw_is_rtcp` returns of it, 0 or 1, and 0 where it isn't within the buffer.
     pub is_rtcp: u8,
@@ -38,9 +38,9 @@ pub struct DatagramHeader {
     pub at: usize,
     /// Given: how many bytes it has.
     pub len: usize,
-    /// What [`rtpw_parse`] writes of it, and else as it was.
+    /// What `rtpw_parse` writes of it, and else as it was.
     pub header: HeaderView,
-    /// What [`rtpw_parse`] returns of it, and `BAD_FIELD` where it isn't within the buffer.
+    /// What `rtpw_parse` returns of it, and `BAD_FIELD` where it isn't within the buffer.
     pub status: i32,
     /// What `rtpw_is_rtcp` returns of it, 0 or 1, and 0 where it isn't within the buffer.
     pub is_rtcp: u8,
@@ -66,8 +66,8 @@ fn rtcp_number(bytes: &[u8]) -> u8
     flag_number(is_rtcp(bytes))
 }
 
-// Reads the packet that the datagram is.
-fn read_packet(buf: &[u8], datagram: &mut Datagram)
+// Tells what the packet is that the datagram is, and whether it is RTCP.
+fn read_datagram(buf: &[u8], datagram: &mut Datagram)
     ensures { IsDatagramRead buf.now datagram.old datagram.new }
 {
     let Some(bytes) = datagram_in(buf, datagram.at, datagram.len) else {
@@ -75,12 +75,12 @@ fn read_packet(buf: &[u8], datagram: &mut Datagram)
         datagram.is_rtcp = 0;
         return;
     };
-    datagram.status = rtpw_packet_parse(bytes, &mut datagram.packet);
+    datagram.status = read_packet(bytes, &mut datagram.packet);
     datagram.is_rtcp = rtcp_number(bytes);
 }
 
-// Reads the header that the datagram begins with.
-fn read_header(buf: &[u8], map: &StoredMap, datagram: &mut DatagramHeader)
+// Tells the header that the datagram begins with, and whether it is RTCP.
+fn read_datagram_header(buf: &[u8], map: &StoredMap, datagram: &mut DatagramHeader)
     ensures { IsDatagramHeaderRead map.now.kind buf.now datagram.old datagram.new }
 {
     let Some(bytes) = datagram_in(buf, datagram.at, datagram.len) else {
@@ -88,28 +88,28 @@ fn read_header(buf: &[u8], map: &StoredMap, datagram: &mut DatagramHeader)
         datagram.is_rtcp = 0;
         return;
     };
-    datagram.status = rtpw_parse(bytes, map, &mut datagram.header);
+    datagram.status = read_header(bytes, map, &mut datagram.header);
     datagram.is_rtcp = rtcp_number(bytes);
 }
 
-/// Reads each of these datagrams of the buffer as [`rtpw_packet_parse`] and `rtpw_is_rtcp` do. They
+/// Reads each of these datagrams of the buffer as `rtpw_packet_parse` and `rtpw_is_rtcp` do. They
 /// may be in any order, and overlap one another.
 #[unsafe(no_mangle)]
 pub extern "C" fn rtpw_packet_parse_many(buf: &[u8], datagrams: &mut [Datagram])
     ensures { AllZip (IsDatagramRead buf.now) datagrams.old datagrams.new }
 {
     for datagram in datagrams {
-        read_packet(buf, datagram);
+        read_datagram(buf, datagram);
     }
 }
 
-/// Reads each of these datagrams of the buffer as [`rtpw_parse`] and `rtpw_is_rtcp` do. They may be
+/// Reads each of these datagrams of the buffer as `rtpw_parse` and `rtpw_is_rtcp` do. They may be
 /// in any order, and overlap one another.
 #[unsafe(no_mangle)]
 pub extern "C" fn rtpw_parse_many(buf: &[u8], map: &StoredMap, datagrams: &mut [DatagramHeader])
     ensures { AllZip (IsDatagramHeaderRead map.now.kind buf.now) datagrams.old datagrams.new }
 {
     for datagram in datagrams {
-        read_header(buf, map, datagram);
+        read_datagram_header(buf, map, datagram);
     }
 }
