@@ -31,7 +31,7 @@
  * A buffer is a pointer and then its size in bytes. Numbers are in the byte order of the machine:
  * what stands in a packet in network byte order is turned. Outputs are written whole where the
  * status is RTPW_OK, and else not at all; but rtpw_restarting_receive writes the number at RTPW_RESTARTED too, and
- * its state at each status.
+ * its state at each status. The calls for many at once return nothing, and write a status beside each.
  *
  * Where a call has several faults, the status is that of the first of these:
  *   1. an argument is out of its range whatever the buffers hold, or data lie in the buffer: RTPW_BAD_FIELD;
@@ -809,8 +809,9 @@ typedef struct {
 } rtpw_arrival;
 
 /* Takes each of the sequence numbers in the receiver at its place, the first one first: each is judged by what its
- * receiver has taken before, also in this call. One that is refused stops none after it. The receivers and the
- * arrivals are two arrays apart. */
+ * receiver has taken before, also in this call. One that is refused, or has no receiver, stops none after it. The
+ * receivers and the arrivals are two arrays that don't overlap. As rtpw_receiver_receive it is for streams that aren't
+ * authenticated, or whose packets are known to be authentic. */
 void rtpw_receive_many(rtpw_receiver *receivers, size_t receiver_count, rtpw_arrival *arrivals, size_t count);
 
 #ifdef __cplusplus

@@ -19,15 +19,24 @@ static int failed = 0;
 #define REST 1, 2, 3, 4, 10, 11, 12, 13
 
 static const uint8_t BYTES[] = {
-    0xEE,                                                                       /* 0: none of a datagram */
-    0x80, 0x60, 0x12, 0x34, REST, 'p', 'q',                                     /* 1: PT 96, two bytes of payload */
-    0x90, 0xEF, 0x00, 0x07, REST, 0xBE, 0xDE, 0, 1, 0x10, 0xAA, 0, 0, 'r',      /* 15: M, PT 111; level -42, with voice */
-    0x80, 0xC9, 0x00, 0x01, 0, 0, 0, 44,                                        /* 36: RTCP, too short for RTP */
-    0x81, 0xC9, 0x00, 0x02, REST,                                               /* 44: RTCP, as RTP it has a source */
-    0x40, 0x60, 0x00, 0x01, REST,                                               /* 56: version 1 */
-    0x90, 0x60, 0x00, 0x02, REST, 0xAB, 0xAC, 0, 0,                             /* 68: a block of another form */
-    0x90, 0x60, 0x00, 0x03, REST, 0xBE, 0xDE, 0, 2, 0x10, 0xAA, 0, 0,           /* 84: a block of two words, of which one is there */
-    0x80, 0x61, 0x00, 0x04, REST};                                              /* 104: PT 97, nothing after the header */
+    /* 0: none of a datagram */
+    0xEE,
+    /* 1: payload type 96, two bytes of payload */
+    0x80, 0x60, 0x12, 0x34, REST, 'p', 'q',
+    /* 15: M, payload type 111; level -42, with voice */
+    0x90, 0xEF, 0x00, 0x07, REST, 0xBE, 0xDE, 0, 1, 0x10, 0xAA, 0, 0, 'r',
+    /* 36: RTCP, too short for RTP */
+    0x80, 0xC9, 0x00, 0x01, 0, 0, 0, 44,
+    /* 44: RTCP, which as RTP has a source */
+    0x81, 0xC9, 0x00, 0x02, REST,
+    /* 56: version 1 */
+    0x40, 0x60, 0x00, 0x01, REST,
+    /* 68: a block of another form */
+    0x90, 0x60, 0x00, 0x02, REST, 0xAB, 0xAC, 0, 0,
+    /* 84: a block of two words, of which one is there */
+    0x90, 0x60, 0x00, 0x03, REST, 0xBE, 0xDE, 0, 2, 0x10, 0xAA, 0, 0,
+    /* 104: payload type 97, nothing after the header */
+    0x80, 0x61, 0x00, 0x04, REST};
 enum { SIZE = 116 };
 
 /* Where a datagram lies, and what is told of it: the statuses of rtpw_packet_parse and rtpw_parse, and the payload. */
@@ -46,14 +55,17 @@ static const struct {
     {15, 15, RTPW_CUT_BLOCK_HEADER, RTPW_CUT_BLOCK_HEADER, 0, 0, 0, 0},
     {68, 16, RTPW_OK, RTPW_UNKNOWN_FORM, 0, 2, 16, 0},
     {84, 20, RTPW_CUT_BLOCK, RTPW_CUT_BLOCK, 0, 0, 0, 0},
-    {105, 12, RTPW_BAD_FIELD, RTPW_BAD_FIELD, 0, 0, 0, 0},  /* a byte past the end */
-    {117, 0, RTPW_BAD_FIELD, RTPW_BAD_FIELD, 0, 0, 0, 0},   /* no byte, past the end */
-    {116, 0, RTPW_CUT_FIXED_PART, RTPW_CUT_FIXED_PART, 0, 0, 0, 0}, /* no byte, at the end */
-    {37, (size_t)-36, RTPW_BAD_FIELD, RTPW_BAD_FIELD, 0, 0, 0, 0}, /* at + len is 1 in 64 bits */
+    /* a byte past the end; no byte, past the end; no byte, at the end */
+    {105, 12, RTPW_BAD_FIELD, RTPW_BAD_FIELD, 0, 0, 0, 0},
+    {117, 0, RTPW_BAD_FIELD, RTPW_BAD_FIELD, 0, 0, 0, 0},
+    {116, 0, RTPW_CUT_FIXED_PART, RTPW_CUT_FIXED_PART, 0, 0, 0, 0},
+    /* at + len is 1 in 64 bits */
+    {37, (size_t)-36, RTPW_BAD_FIELD, RTPW_BAD_FIELD, 0, 0, 0, 0},
     {(size_t)-1, 2, RTPW_BAD_FIELD, RTPW_BAD_FIELD, 0, 0, 0, 0},
-    {44, 16, RTPW_OK, RTPW_OK, 1, 2, 16, 0},       /* over the end of the next one, which is its source */
-    {1, 115, RTPW_OK, RTPW_OK, 0, 0x1234, 12, 103}, /* over all others */
-    {1, 14, RTPW_OK, RTPW_OK, 0, 0x1234, 12, 2},    /* once more */
+    /* with the front of the next one, which is its source; over all others; once more */
+    {44, 16, RTPW_OK, RTPW_OK, 1, 2, 16, 0},
+    {1, 115, RTPW_OK, RTPW_OK, 0, 0x1234, 12, 103},
+    {1, 14, RTPW_OK, RTPW_OK, 0, 0x1234, 12, 2},
     {104, 12, RTPW_OK, RTPW_OK, 0, 4, 12, 0}};
 enum { COUNT = sizeof ROWS / sizeof *ROWS };
 

@@ -79,7 +79,7 @@ AreReceivedTo-next receivers olds news between index d new after so_far within i
       received = subst_both (λ os ns. AreReceived receivers os ns after) (sym (take_more olds index d (AreLeft-within olds news index so_far.left within)))
           (sym (take_more_set news index new within))
           (AreReceived-push receivers (take index olds) (take index news) between (get_or olds index d) new after so_far.received
-              (subst (λ old. IsReceived between old new after) (AreLeft-at olds news index d so_far.left) is));
+          (subst (λ old. IsReceived between old new after) (AreLeft-at olds news index d so_far.left) is));
       left = AreLeft-next olds news index new so_far.left;
     }
 

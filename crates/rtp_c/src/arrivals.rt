@@ -36,7 +36,8 @@ fn receive_arrival(receivers: &mut [StoredReceiver], arrival: &mut Arrival)
 }
 
 /// Takes each of these sequence numbers in the receiver at its place as [`rtpw_receiver_receive`]
-/// does, the first one first.
+/// does, the first one first: each is judged by what its receiver has taken before, also in this
+/// call. One that is refused, or has no receiver, stops none after it.
 #[unsafe(no_mangle)]
 pub extern "C" fn rtpw_receive_many(receivers: &mut [StoredReceiver], arrivals: &mut [Arrival])
     ensures { AreReceived receivers.old arrivals.old arrivals.new receivers.new }

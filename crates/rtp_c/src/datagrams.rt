@@ -92,8 +92,9 @@ fn read_datagram_header(buf: &[u8], map: &StoredMap, datagram: &mut DatagramHead
     datagram.is_rtcp = rtcp_number(bytes);
 }
 
-/// Reads each of these datagrams of the buffer as `rtpw_packet_parse` and `rtpw_is_rtcp` do. They
-/// may be in any order, and overlap one another.
+/// Reads each of these datagrams of the buffer as `rtpw_packet_parse` and `rtpw_is_rtcp` do: one
+/// that is no packet, or isn't within the buffer, spoils no other. They may be in any order, and
+/// overlap one another.
 #[unsafe(no_mangle)]
 pub extern "C" fn rtpw_packet_parse_many(buf: &[u8], datagrams: &mut [Datagram])
     ensures { AllZip (IsDatagramRead buf.now) datagrams.old datagrams.new }
@@ -103,8 +104,9 @@ pub extern "C" fn rtpw_packet_parse_many(buf: &[u8], datagrams: &mut [Datagram])
     }
 }
 
-/// Reads each of these datagrams of the buffer as `rtpw_parse` and `rtpw_is_rtcp` do. They may be
-/// in any order, and overlap one another.
+/// Reads each of these datagrams of the buffer as `rtpw_parse` and `rtpw_is_rtcp` do: one that
+/// begins with no header, or isn't within the buffer, spoils no other. They may be in any order,
+/// and overlap one another.
 #[unsafe(no_mangle)]
 pub extern "C" fn rtpw_parse_many(buf: &[u8], map: &StoredMap, datagrams: &mut [DatagramHeader])
     ensures { AllZip (IsDatagramHeaderRead map.now.kind buf.now) datagrams.old datagrams.new }
