@@ -2,7 +2,7 @@
  * What a call of each function costs: costs.sh prints the table of docs/COSTS.md from what this program prints, the
  * nanoseconds of each by the least of some rounds, and from the instructions that callgrind counts in it.
  *
- * usage: costs CALLS
+ * usage: costs CALLS [COUNT]      with COUNT: of the functions for many alone, with so many at once, at most 32
  */
 #define _POSIX_C_SOURCE 199309L
 #include <rtp_wire.h>
@@ -49,10 +49,24 @@ static uint64_t ntp;
 static int32_t offset;
 static int8_t level;
 
+/* Many at once: datagrams that are the packet, and the next numbers of a receiver that is put back before each call. */
+enum { MOST = 32 };
+static size_t at_once = MOST;
+static uint8_t packets[MOST][sizeof packet];
+static rtpw_datagram datagrams[MOST];
+static rtpw_datagram_header datagram_headers[MOST];
+static rtpw_arrival arrivals[MOST];
+static rtpw_receiver before, after;
+
 /* The status of a call that is timed may be any. */
 static volatile int64_t sink;
 
 enum { BODY_AT = 16, BODY_LEN = 16 };
+
+#define MANY(X)                                                                                                       \
+    X(rtpw_packet_parse_many, (rtpw_packet_parse_many(packets[0], sizeof packets, datagrams, at_once), 0))            \
+    X(rtpw_parse_many, (rtpw_parse_many(packets[0], sizeof packets, &map, datagram_headers, at_once), 0))             \
+    X(rtpw_receive_many, (after = before, rtpw_receive_many(&after, 1, arrivals, at_once), 0))
 
 #define CALLS(X)                                                                                                      \
     X(rtpw_version, rtpw_version())                                                                                   \
@@ -134,6 +148,7 @@ enum { BODY_AT = 16, BODY_LEN = 16 };
     X(rtpw_wide_receiver_record, rtpw_wide_receiver_record(&wide, words, 16, ++wide_number))                          \
     X(rtpw_wide_receiver_receive, rtpw_wide_receiver_receive(&wide, words, 16, (uint16_t)(wide_number + 1), &wide_number))\
     X(rtpw_restarting_receive, rtpw_restarting_receive(&restarting, (uint16_t)(restarting_number + 1), &restarting_number))\
+    MANY(X)                                                                                                           \
     X(rtpw_extend_u8, rtpw_extend_u8(number, 7))                                                                      \
     X(rtpw_extend_u15, rtpw_extend_u15(number, 7))                                                                    \
     X(rtpw_extend_u16, rtpw_extend_u16(number, 7))                                                                    \
@@ -165,11 +180,12 @@ static double nanoseconds(void (*run)(long), long calls) {
 }
 
 int main(int argc, char **argv) {
-    long calls = argc == 2 ? atol(argv[1]) : 0;
+    long calls = argc == 2 || argc == 3 ? atol(argv[1]) : 0;
     double nothing;
-    int stream;
-    if (calls < 1) {
-        fputs("usage: costs CALLS\n", stderr);
+    int stream, i;
+    if (argc == 3) at_once = (size_t)atol(argv[2]);
+    if (calls < 1 || at_once < 1 || at_once > MOST) {
+        fputs("usage: costs CALLS [COUNT]\n", stderr);
         return 2;
     }
     rtpw_map_standard(&map);
@@ -188,10 +204,22 @@ int main(int argc, char **argv) {
         layer->kbps[1] = 500;
         layer->kbps[2] = 700;
     }
+    before.highest = 99;
+    before.recorded_low = before.started = 1;
+    for (i = 0; i < MOST; i++) {
+        memcpy(packets[i], packet, sizeof packet);
+        datagrams[i].at = datagram_headers[i].at = (size_t)i * sizeof packet;
+        datagrams[i].len = datagram_headers[i].len = sizeof packet;
+        arrivals[i].sequence_number = (uint16_t)(100 + i);
+    }
     element.id = 3;
     element.data_len = 2;
     nothing = nanoseconds(run_nothing, calls);
 #define PRINT(name, call) printf(#name " %.1f\n", nanoseconds(run_##name, calls) - nothing);
+    if (argc == 3) {
+        MANY(PRINT)
+        return 0;
+    }
     CALLS(PRINT)
     return 0;
 }

@@ -1,6 +1,7 @@
 #!/usr/bin/env bash
-# Prints the table of docs/COSTS.md of what each call of the library for C costs: nanoseconds, and instructions, which
-# valgrind's callgrind counts. Each function of the header file has to be in it.
+# Prints the tables of docs/COSTS.md of what each call of the library for C costs: nanoseconds, and instructions, which
+# valgrind's callgrind counts. Each function of the header file has to be in the first one, those for many with 32 at
+# once; the second one has what these take for each of 1, 8 and 32.
 #
 # usage: bindings/test/costs.sh [CALLS]      of each function in each of nine rounds, by default a million
 set -euo pipefail
@@ -9,20 +10,32 @@ scratch=$(mktemp -d)
 trap 'rm -rf -- "$scratch"' EXIT
 cc -std=c99 -O2 -Wall -Wextra -Wno-unused-result -I bindings/c bindings/test/costs.c "generated/rtp_wire-$(uname -m).s" \
     -o "$scratch/costs"
-"$scratch/costs" "${1:-1000000}" >"$scratch/nanoseconds"
-valgrind --tool=callgrind --callgrind-out-file="$scratch/counted" "$scratch/costs" 100 >/dev/null 2>&1
-callgrind_annotate --inclusive=yes --threshold=100 "$scratch/counted" | tr -d , |
-    sed -nE 's/^ *([0-9]+) .*:(rtpw_[a-z0-9_]+).*/\2 \1/p' >"$scratch/instructions"
+calls=${1:-1000000}
+# What the program prints, and beside each the instructions of a call, of which callgrind sees 900, and of those that
+# the program prepares things by a few more.
+measure() { # arguments of the program
+    "$scratch/costs" "$calls" "$@" >"$scratch/nanoseconds"
+    valgrind --tool=callgrind --callgrind-out-file="$scratch/counted" "$scratch/costs" 100 "$@" >/dev/null 2>&1
+    callgrind_annotate --inclusive=yes --threshold=100 "$scratch/counted" | tr -d , |
+        sed -nE 's/^ *([0-9]+) .*:(rtpw_[a-z0-9_]+).*/\2 \1/p' >"$scratch/instructions"
+    while read -r name nanoseconds; do
+        echo "$name $nanoseconds $(awk -v name="$name" '$1 == name { print $2 / 900; exit }' "$scratch/instructions")"
+    done <"$scratch/nanoseconds"
+}
+measure >"$scratch/all"
 sed -nE 's/^function .*\<(rtpw_[a-z0-9_]+)\(.*/\1/p' bindings/test/abi-0.txt | sort >"$scratch/declared"
-cut -d' ' -f1 "$scratch/nanoseconds" | sort | diff "$scratch/declared" - >&2 || {
+cut -d' ' -f1 "$scratch/all" | sort | diff "$scratch/declared" - >&2 || {
     echo 'costs.sh: not the functions of the header file' >&2
     exit 1
 }
 echo '```'
 printf '%-30s %7s %13s\n' '' ns instructions
-# A function is called 900 times under callgrind, and those that the program prepares things by a little more often.
-while read -r name nanoseconds; do
-    counted=$(awk -v name="$name" '$1 == name { print int($2 / 900 + 0.5); exit }' "$scratch/instructions")
-    printf '%-30s %7s %13s\n' "$name" "$nanoseconds" "${counted:-?}"
-done <"$scratch/nanoseconds"
+awk '{ printf "%-30s %7s %13s\n", $1, $2, $3 == "" ? "?" : int($3 + 0.5) }' "$scratch/all"
+echo '```'
+for count in 1 8 32; do
+    measure "$count" | awk -v count="$count" '{ print $1, count, $2 / count, $3 / count }'
+done >"$scratch/many"
+printf '\n%s\n\n```\n' 'For each datagram or number of 1, 8 and 32 in one call:'
+printf '%-24s %5s %7s %13s\n' 'for each' of ns instructions
+sort -s -k1,1 "$scratch/many" | awk '{ printf "%-24s %5s %7.1f %13d\n", $1, $2, $3, $4 + 0.5 }'
 echo '```'

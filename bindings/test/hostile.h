@@ -5,6 +5,7 @@
 #include "memory.h"
 
 #include "../c/rtp_wire.h"
+#include "walk.h"
 
 /* The longest datagram that is tried: the longest header and a little. */
 #define LONGEST 262300
@@ -33,11 +34,18 @@ size_t write_fixed(const rtpw_header *header, bool has_extension, uint8_t *bytes
 size_t write_block(const rtpw_map *map, const rtpw_values *values, const uint8_t *allocation, size_t len,
                    uint8_t *bytes);
 
+/* What has to be told of the packet that the bytes are, as the walk found it. */
+void packet_told(const uint8_t *bytes, size_t len, const walked *it, rtpw_packet *packet);
+/* The bytes after the last field of a packet that is told may be anything. */
+#define PACKET_BYTES (offsetof(rtpw_packet, block_profile) + 2)
+
 void packets_round(void);
+void datagrams_round(void);
 void changes_round(void);
 void growing_round(void);
 void elements_round(void);
 void receivers_round(void);
+void arrivals_round(void);
 void wide_receivers_round(void);
 void restarting_round(void);
 void values_round(void);
@@ -51,10 +59,12 @@ void standard_round(void);
 
 static inline void every_round(void) {
     packets_round();
+    datagrams_round();
     changes_round();
     growing_round();
     elements_round();
     receivers_round();
+    arrivals_round();
     wide_receivers_round();
     restarting_round();
     values_round();

@@ -4,8 +4,7 @@
 #include "../c/rtp_wire.h"
 #include "walk.h"
 
-/* What has to be told of the packet. */
-static void expected_of(const uint8_t *bytes, size_t len, const walked *it, rtpw_packet *packet) {
+void packet_told(const uint8_t *bytes, size_t len, const walked *it, rtpw_packet *packet) {
     size_t payload_len = len - it->header_len;
     size_t padding = 0;
     packet->has_padding = bytes[0] / 32 % 2;
@@ -46,11 +45,10 @@ void packets_round(void) {
 
     walked it = walk(copy, len);
     if (it.cause == 0) {
-        expected_of(copy, len, &it, &expected);
+        packet_told(copy, len, &it, &expected);
     }
     CHECK(rtpw_is_rtcp(bytes, len) == (len >= 2 && copy[0] / 64 == 2 && copy[1] >= 192 && copy[1] < 224));
     CHECK(rtpw_packet_parse(bytes, len, packet) == it.cause);
-    /* the bytes after the last field of a packet that is told may be anything */
-    CHECK(memcmp(packet, &expected, it.cause == 0 ? offsetof(rtpw_packet, block_profile) + 2 : sizeof expected) == 0);
+    CHECK(memcmp(packet, &expected, it.cause == 0 ? PACKET_BYTES : sizeof expected) == 0);
     CHECK(memcmp(bytes, copy, len) == 0);
 }

@@ -1,5 +1,5 @@
 /* rtpw_receiver_start, rtpw_receiver_number_of, rtpw_receiver_accepts, rtpw_receiver_record,
- * rtpw_receiver_receive, rtpw_extend_u8, rtpw_extend_u15, rtpw_extend_u16, rtpw_extend_u32 */
+ * rtpw_receiver_receive, rtpw_receive_many, rtpw_extend_u8, rtpw_extend_u15, rtpw_extend_u16, rtpw_extend_u32 */
 #include "hostile.h"
 
 #include "../c/rtp_wire.h"
@@ -153,5 +153,67 @@ void receivers_round(void) {
         CHECK(receiver->recorded_low == 0 && receiver->recorded_high == 0);
     } else {
         CHECK(memcmp(receiver, &before, sizeof before) == 0);
+    }
+}
+
+enum { RECEIVERS = 4, ARRIVALS = 12 };
+
+/* What has to be told of the next arrival, by the models of all receivers. */
+static void arrived(model *models, size_t receiver_count, rtpw_arrival *arrival) {
+    if (arrival->receiver >= receiver_count) {
+        arrival->status = RTPW_BAD_FIELD;
+        return;
+    }
+    model *it = &models[arrival->receiver];
+    uint64_t number = number_of(it, arrival->sequence_number);
+    arrival->status = RTPW_REFUSED;
+    if (accepts(it, number)) {
+        record(it, number);
+        arrival->status = RTPW_OK;
+        arrival->number = number;
+    }
+}
+
+void arrivals_round(void) {
+    static memory all_receivers, all_arrivals;
+    if (all_receivers.size == 0) {
+        all_receivers = memory_of(RECEIVERS * sizeof(rtpw_receiver));
+        all_arrivals = memory_of(ARRIVALS * sizeof(rtpw_arrival));
+    }
+    size_t receiver_count = random_below(RECEIVERS + 1), count = random_below(ARRIVALS + 1);
+    rtpw_receiver *receivers = block_in(&all_receivers, receiver_count * sizeof *receivers), before[RECEIVERS];
+    rtpw_arrival *arrivals = block_in(&all_arrivals, count * sizeof *arrivals), expected[ARRIVALS];
+    model models[RECEIVERS], after;
+    bool takes[RECEIVERS] = {false};
+    for (size_t i = 0; i < receiver_count; i++) {
+        random_receiver(&receivers[i]);
+        models[i] = model_of(&receivers[i]);
+        memcpy(&before[i], &receivers[i], sizeof before[i]);
+    }
+    for (size_t i = 0; i < count; i++) {
+        rtpw_arrival *it = &arrivals[i];
+        fill(it, sizeof *it);
+        if (random_u64() % 8 != 0) {
+            it->receiver = random_below(receiver_count + 1);
+        }
+        if (it->receiver < receiver_count) {
+            it->sequence_number = (uint16_t)random_number(models[it->receiver].highest);
+        }
+        memcpy(&expected[i], it, sizeof expected[i]);
+        arrived(models, receiver_count, &expected[i]);
+        takes[it->receiver % RECEIVERS] |= expected[i].status == RTPW_OK;
+    }
+
+    rtpw_receive_many(receivers, receiver_count, arrivals, count);
+    for (size_t i = 0; i < count; i++) {
+        CHECK(arrivals[i].receiver == expected[i].receiver);
+        CHECK(arrivals[i].sequence_number == expected[i].sequence_number);
+        CHECK(arrivals[i].status == expected[i].status);
+        CHECK(arrivals[i].number == expected[i].number);
+    }
+    for (size_t i = 0; i < receiver_count; i++) {
+        after = model_of(&receivers[i]);
+        CHECK(are_same(&after, &models[i]));
+        CHECK(takes[i] || memcmp(&receivers[i], &before[i], sizeof before[i]) == 0);
     }
 }

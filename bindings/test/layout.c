@@ -42,6 +42,26 @@ HOLDS(offsetof(rtpw_element, data_len) == 8);
 HOLDS(offsetof(rtpw_element, end) == 16);
 HOLDS(offsetof(rtpw_element, id) == 24);
 
+HOLDS(sizeof(rtpw_datagram) == 88);
+HOLDS(offsetof(rtpw_datagram, at) == 0);
+HOLDS(offsetof(rtpw_datagram, len) == 8);
+HOLDS(offsetof(rtpw_datagram, packet) == 16);
+HOLDS(offsetof(rtpw_datagram, status) == 80);
+HOLDS(offsetof(rtpw_datagram, is_rtcp) == 84);
+
+HOLDS(sizeof(rtpw_datagram_header) == 248);
+HOLDS(offsetof(rtpw_datagram_header, at) == 0);
+HOLDS(offsetof(rtpw_datagram_header, len) == 8);
+HOLDS(offsetof(rtpw_datagram_header, header) == 16);
+HOLDS(offsetof(rtpw_datagram_header, status) == 240);
+HOLDS(offsetof(rtpw_datagram_header, is_rtcp) == 244);
+
+HOLDS(sizeof(rtpw_arrival) == 24);
+HOLDS(offsetof(rtpw_arrival, receiver) == 0);
+HOLDS(offsetof(rtpw_arrival, number) == 8);
+HOLDS(offsetof(rtpw_arrival, sequence_number) == 16);
+HOLDS(offsetof(rtpw_arrival, status) == 20);
+
 HOLDS(sizeof(rtpw_receiver) == 32);
 HOLDS(offsetof(rtpw_receiver, highest) == 0);
 HOLDS(offsetof(rtpw_receiver, recorded_low) == 8);

@@ -25,6 +25,10 @@ static rtpw_receiver receiver;
 static rtpw_wide_receiver wide;
 static uint64_t words[512];
 static rtpw_restarting_receiver restarting;
+/* the longest packet, and one that isn't within the buffer */
+static rtpw_datagram datagrams[2] = {{.len = sizeof datagram}, {.at = 1, .len = SIZE_MAX}};
+static rtpw_datagram_header datagram_headers[2] = {{.len = sizeof datagram}, {.at = 1, .len = SIZE_MAX}};
+static rtpw_arrival arrivals[3] = {{.sequence_number = 99}, {.sequence_number = 98}, {.receiver = 1}};
 static rtpw_map map;
 static rtpw_values values;
 static rtpw_header header, given;
@@ -125,6 +129,9 @@ static void wide_receiver_record(void) { status = rtpw_wide_receiver_record(&wid
 static void wide_receiver_receive(void) { status = rtpw_wide_receiver_receive(&wide, words, 512, 99, &number); }
 static void restarting_receive(void) { status = rtpw_restarting_receive(&restarting, 99, &number); }
 static void receiver_receive(void) { status = rtpw_receiver_receive(&receiver, 99, &number); }
+static void receive_many(void) { rtpw_receive_many(&receiver, 1, arrivals, 3); }
+static void packet_parse_many(void) { rtpw_packet_parse_many(datagram, sizeof datagram, datagrams, 2); }
+static void parse_many(void) { rtpw_parse_many(datagram, sizeof datagram, &map, datagram_headers, 2); }
 static void values_read(void) { status = rtpw_values_read(datagram + 76, 262140, RTPW_ONE_BYTE_FORM, &map, &values); }
 static void kind_of_uri(void) { number = rtpw_kind_of_uri((const uint8_t *)LAST_URI, sizeof LAST_URI - 1); }
 static void map_set(void) { status = rtpw_map_set(&usual, 255, RTPW_KIND_MID); }
@@ -237,7 +244,7 @@ int main(void) {
         CALL(write_elements),
         CALL(new_ids_between), CALL(renumber), CALL(pad), CALL(read_original), CALL(write_original), CALL(version),
         CALL(new_ids_to_retransmission), CALL(new_ids_from_retransmission), CALL(to_retransmission),
-        CALL(from_retransmission),
+        CALL(from_retransmission), CALL(packet_parse_many), CALL(parse_many), CALL(receive_many),
         CALL(read_transmission_offset), CALL(write_transmission_offset), CALL(read_frame_marking), CALL(write_frame_marking),
         CALL(read_orientation), CALL(write_orientation), CALL(is_token), CALL(read_timing), CALL(write_timing),
         CALL(read_transport_number), CALL(write_transport_number), CALL(read_mixer_level), CALL(write_mixer_levels),

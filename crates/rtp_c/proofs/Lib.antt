@@ -1,3 +1,4 @@
+mod InTurnLemmas
 mod StatusLemmas
 mod HeaderStatusLemmas
 mod PacketLemmas

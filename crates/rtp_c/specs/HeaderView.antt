@@ -1,5 +1,5 @@
 -- What C is told of a whole header (RFC 3550, 5.1).
-use Rattle.std.specs.Prelude.{◌≡◌, ℕ, List, unwrap_or}
+use Rattle.std.specs.Prelude.{◌≡◌, ℕ, ◌⊎◌, List, unwrap_or, ℤ}
 use Rattle.rtp_base.specs.Flag.{bit}
 use Rattle.rtp_vla.specs.Allocation.{nothing_sent}
 use Rattle.rtp_ext.specs.ExtensionMap.{Slots}
@@ -7,6 +7,7 @@ use Rattle.rtp_wire.specs.declared.header.rtp_header.RtpHeader.{RtpHeader}
 use Rattle.rtp_wire.specs.Header.{IsWire}
 use Rattle.rtp_c.specs.declared.header.HeaderView.{HeaderView}
 use Rattle.rtp_c.specs.declared.layers.Layers.{Layers}
+use Rattle.rtp_c.specs.Status.{ok, IsHeaderStatus}
 use Rattle.rtp_c.specs.StoredMap.{HasKinds}
 use Rattle.rtp_c.specs.ValuesView.{IsViewOfValues}
 use Rattle.rtp_c.specs.LayersView.{IsViewOfLayers}
@@ -36,6 +37,11 @@ pub record IsParsedAs (numbers bytes : List ℕ) (view : HeaderView) : Type 0 wh
   pub header : RtpHeader
   pub begins : BeginsWithHeader numbers bytes header
   pub is_view : IsViewOfHeader header view
+
+-- the same, or C is told the first cause for which no header begins there, and then nothing is written
+abbrev pub IsHeaderRead : List ℕ → List ℕ → ℤ → HeaderView → HeaderView → Type 0
+IsHeaderRead numbers bytes status old new =
+    ((status ≡ ok) × IsParsedAs numbers bytes new) ⊎ (IsHeaderStatus bytes status × (new ≡ old))
 
 -- C is told that header with its layer allocation: of a header without one, as where nothing is sent
 pub record IsParsedWithLayersAs (numbers bytes : List ℕ) (view : HeaderView) (layers : Layers) : Type 0 where

@@ -6,6 +6,7 @@ pub mod PutStatus
 pub mod StoredWindow
 pub mod StoredReceiver
 pub mod Judging
+pub mod Arrivals
 pub mod StoredWideReceiver
 pub mod StoredRestarting
 pub mod ElementView
@@ -16,6 +17,7 @@ pub mod Told
 pub mod ValuesView
 pub mod LayersView
 pub mod HeaderView
+pub mod Datagrams
 pub mod Given
 pub mod GivenLayers
 pub mod ElementData

@@ -1,13 +1,14 @@
 -- What C is told of a packet where it lies (RFC 3550, 5.1; RFC 8285, 4).
-use Rattle.std.specs.Prelude.{◌≡◌, ℕ, ◌+◌, ◌<◌, ◌⊎◌, List, length, slice_range, Option, Some, None, unwrap_or, true}
+use Rattle.std.specs.Prelude.{◌≡◌, ℕ, ◌+◌, ◌<◌, ◌⊎◌, List, length, slice_range, Option, Some, None, unwrap_or, true, ℤ}
 use Rattle.rtp_ext.specs.declared.form.ExtensionsForm.{ExtensionsForm}
 use Rattle.rtp_ext.specs.declared.form.ExtensionsForm.TheVariants.{OneByte, TwoByte}
 use Rattle.rtp_base.specs.Flag.{bit}
-use Rattle.rtp_wire.specs.Packet.{PacketParts, IsWithoutPadding}
+use Rattle.rtp_wire.specs.Packet.{PacketParts, IsPacket, IsWithoutPadding}
 use Rattle.rtp_wire.specs.Padding.{padding_count}
 use Rattle.rtp_wire.specs.PartsAt.{profile_in}
 use Rattle.rtp_wire.specs.PutIntoPacket.{form_of_block, body_of_block}
 use Rattle.rtp_c.specs.declared.packet.PacketView.{PacketView}
+use Rattle.rtp_c.specs.Status.{ok, IsCauseStatus}
 
 -- the number of a block's form, and of none
 abbrev pub form_number : Option ExtensionsForm → ℕ
@@ -52,3 +53,8 @@ pub record IsViewOf (bytes : List ℕ) (parts : PacketParts) (view : PacketView)
   pub payload_is : slice_at bytes view.payload_at view.payload_len ≡ parts.payload
   pub payload_ends : view.payload_at + view.payload_len ≡ length bytes
   pub unpadded_is : IsUnpaddedLen parts view.padding_fits view.unpadded_len
+
+-- C is told the packet that these bytes are, or the first cause for which they are none, and then nothing is written
+abbrev pub IsPacketRead : List ℕ → ℤ → PacketView → PacketView → Type 0
+IsPacketRead bytes status old new =
+    ((status ≡ ok) × ((parts : PacketParts) × IsPacket bytes parts × IsViewOf bytes parts new)) ⊎ (IsCauseStatus bytes status × (new ≡ old))

@@ -11,7 +11,7 @@ ghost use Rattle.rtp_wire.specs.PartsOf.{parts_of};
 ghost use Rattle.rtp_vla.specs.Allocation.{nothing_sent};
 ghost use Rattle.rtp_c.specs.LayersView.{IsViewOfLayers};
 ghost use Rattle.rtp_c.specs.ValuesView.{IsViewOfValues};
-ghost use Rattle.rtp_c.specs.HeaderView.{IsViewOfHeader, IsParsedAs, IsParsedWithLayersAs};
+ghost use Rattle.rtp_c.specs.HeaderView.{IsViewOfHeader, IsParsedAs, IsHeaderRead, IsParsedWithLayersAs};
 ghost use Rattle.rtp_c.specs.Status.{ok, IsHeaderStatus};
 
 use super::kinds::StoredMap;
@@ -146,6 +146,20 @@ fn packet_in(buf: &[u8]) -> Result<RtpPacket<'_>, i32>
     Ok(packet)
 }
 
+// Tells the header that the bytes begin with, and returns the status.
+#[inline(always)]
+pub fn read_header(buf: &[u8], map: &StoredMap, header: &mut HeaderView) -> i32
+    ensures { IsHeaderRead map.now.kind buf.now result header.old header.new }
+{
+    match packet_in(buf) {
+        Ok(packet) => {
+            put_header(&packet, map, header);
+            OK
+        }
+        Err(status) => status,
+    }
+}
+
 /// Reads the header that the bytes begin with, with the values that its block gives under the map
 /// (RFC 3550, 5.1 and 5.3.1; RFC 8285, 4.2 and 4.3). Whatever follows the header isn't looked at.
 /// `OK`, or the status of the first cause for which no header begins there, and then nothing is
@@ -159,13 +173,7 @@ pub extern "C" fn rtpw_parse(buf: &[u8], map: &StoredMap, header: &mut HeaderVie
     ensures statuses { (result ≡ ok) ⊎ IsHeaderStatus buf.now result }
     ensures unchanged { result ≢ ok → header.new ≡ header.old }
 {
-    match packet_in(buf) {
-        Ok(packet) => {
-            put_header(&packet, map, header);
-            OK
-        }
-        Err(status) => status,
-    }
+    read_header(buf, map, header)
 }
 
 /// Reads the header as [`rtpw_parse`] does, and with it the layer allocation of its block. Where

@@ -6,8 +6,10 @@
 
 ghost use Rattle.std.specs.Prelude.{◌≡◌};
 
+mod arrivals;
 mod changing;
 mod data;
+mod datagrams;
 mod given;
 mod given_layers;
 mod growing;

@@ -10,7 +10,7 @@ ghost use Rattle.rtp_wire.specs.NotAHeader.{IsNoPacket};
 ghost use Rattle.rtp_wire.specs.PartsAt.{profile_in};
 ghost use Rattle.rtp_wire.specs.PartsOf.{parts_of, datagram_of};
 ghost use Rattle.rtp_c.specs.ElementView.{IsNextElement, IsLastElement, LiesAsLast};
-ghost use Rattle.rtp_c.specs.PacketView.{IsViewOf, IsUnpaddedLen, form_number, block_number, body_of_any};
+ghost use Rattle.rtp_c.specs.PacketView.{IsViewOf, IsPacketRead, IsUnpaddedLen, form_number, block_number, body_of_any};
 ghost use Rattle.rtp_c.specs.Status.{ok, none, bad_field, IsCauseStatus};
 
 use super::status::{BAD_FIELD, NONE, OK, status_of};
@@ -163,6 +163,20 @@ fn view_of(packet: &RtpPacket<'_>) -> PacketView
     }
 }
 
+// Tells what the packet is that the datagram is, and returns the status.
+#[inline(always)]
+pub fn read_packet(datagram: &[u8], packet: &mut PacketView) -> i32
+    ensures { IsPacketRead datagram.now result packet.old packet.new }
+{
+    match RtpPacket::parse(datagram) {
+        Ok(found) => {
+            *packet = view_of(&found);
+            OK
+        }
+        Err(cause) => status_of(cause),
+    }
+}
+
 /// Reads the header of the packet that the datagram is, with a block of any form; where RTCP comes
 /// to the same port, after `rtpw_is_rtcp`. `OK`, or the status of the first cause for which it is
 /// none, and then nothing is written.
@@ -177,13 +191,7 @@ pub extern "C" fn rtpw_packet_parse(datagram: &[u8], packet: &mut PacketView) ->
     ensures refused { result ≢ ok ↔ IsNoPacket datagram.now }
     ensures unchanged { result ≢ ok → packet.new ≡ packet.old }
 {
-    match RtpPacket::parse(datagram) {
-        Ok(found) => {
-            *packet = view_of(&found);
-            OK
-        }
-        Err(cause) => status_of(cause),
-    }
+    read_packet(datagram, packet)
 }
 
 /// Finds the first element of a block's body from an offset on (RFC 8285, 4.2 and 4.3). A walk

@@ -31,7 +31,7 @@
  * A buffer is a pointer and then its size in bytes. Numbers are in the byte order of the machine:
  * what stands in a packet in network byte order is turned. Outputs are written whole where the
  * status is RTPW_OK, and else not at all; but rtpw_restarting_receive writes the number at RTPW_RESTARTED too, and
- * its state at each status.
+ * its state at each status. The calls for many at once return nothing, and write a status beside each.
  *
  * Where a call has several faults, the status is that of the first of these:
  *   1. an argument is out of its range whatever the buffers hold, or data lie in the buffer: RTPW_BAD_FIELD;
@@ -957,6 +957,73 @@ uint64_t rtpw_extend_u8(uint64_t previous, uint8_t number);
 uint64_t rtpw_extend_u15(uint64_t previous, uint16_t number);
 uint64_t rtpw_extend_u16(uint64_t previous, uint16_t number);
 uint64_t rtpw_extend_u32(uint64_t previous, uint32_t number);
+
+/* ---- Many at once ---- */
+
+/* Several datagrams in one call, as they lie in one buffer: one that recvmmsg filled, a ring, a capture. Each is
+ * named by its place and its length, and what is told of it is what the calls for one tell of it alone: one that is
+ * no packet, or isn't within the buffer, spoils no other. They may be in any order, overlap one another, and be named
+ * twice: they are only read. The array of structs is written, and lies neither in the buffer nor in the map. A count
+ * of 0 does nothing, and how many there are isn't limited.
+ *
+ *     enum { COUNT = 32, ROOM = 1500 };
+ *     static uint8_t buf[COUNT * ROOM]; // msgs[i].msg_hdr.msg_iov is buf + i * ROOM and ROOM
+ *     rtpw_datagram datagrams[COUNT];
+ *     int count = recvmmsg(socket, msgs, COUNT, MSG_WAITFORONE, NULL);
+ *     for (int i = 0; i < count; i++) {
+ *         datagrams[i].at = (size_t)i * ROOM;
+ *         datagrams[i].len = msgs[i].msg_len;
+ *     }
+ *     rtpw_packet_parse_many(buf, sizeof buf, datagrams, (size_t)(count < 0 ? 0 : count));
+ *     for (int i = 0; i < count; i++) {
+ *         const rtpw_datagram *it = &datagrams[i];
+ *         if (it->is_rtcp) {
+ *             control(buf + it->at, it->len);
+ *         } else if (it->status == RTPW_OK) {
+ *             deliver(it->packet.ssrc, buf + it->at + it->packet.payload_at, it->packet.unpadded_len);
+ *         }
+ *     }
+ */
+
+/* One of several datagrams in a buffer: where it lies is given, what it says is written. 88 bytes. */
+typedef struct {
+    size_t at;          /* given: where it begins in the buffer, in bytes */
+    size_t len;         /* given: how many bytes it has */
+    rtpw_packet packet; /* what rtpw_packet_parse writes of it, counted from its own first byte; else as it was */
+    int32_t status;     /* what rtpw_packet_parse returns of it; RTPW_BAD_FIELD where it isn't within the buffer */
+    uint8_t is_rtcp;    /* what rtpw_is_rtcp returns of it: 0 or 1; 0 where it isn't within the buffer */
+} rtpw_datagram;
+
+/* The same with a whole header and its values. 248 bytes. */
+typedef struct {
+    size_t at;
+    size_t len;
+    rtpw_header header; /* what rtpw_parse writes of it; else as it was. The payload begins header.header_len bytes
+                         * behind `at` */
+    int32_t status;     /* what rtpw_parse returns of it; RTPW_BAD_FIELD where it isn't within the buffer */
+    uint8_t is_rtcp;
+} rtpw_datagram_header;
+
+/* Reads each of the datagrams. It is within the buffer where `at` is at most size, and len at most size - at: no sum
+ * is cut. RTCP is read too, as rtpw_packet_parse reads it: look at is_rtcp first where it comes to the same port. */
+void rtpw_packet_parse_many(const uint8_t *buf, size_t size, rtpw_datagram *datagrams, size_t count);
+void rtpw_parse_many(const uint8_t *buf, size_t size, const rtpw_map *map, rtpw_datagram_header *datagrams,
+                     size_t count);
+
+/* A sequence number for one of several receivers. 24 bytes. */
+typedef struct {
+    size_t receiver;          /* given: its place in the receivers */
+    uint64_t number;          /* what rtpw_receiver_receive writes: the extended sequence number; else as it was */
+    uint16_t sequence_number; /* given */
+    int32_t status;           /* what rtpw_receiver_receive returns: RTPW_OK or RTPW_REFUSED; RTPW_BAD_FIELD where there
+                               * is no such receiver */
+} rtpw_arrival;
+
+/* Takes each of the sequence numbers in the receiver at its place, the first one first: each is judged by what its
+ * receiver has taken before, also in this call. One that is refused, or has no receiver, stops none after it. The
+ * receivers and the arrivals are two arrays that don't overlap. As rtpw_receiver_receive it is for streams that aren't
+ * authenticated, or whose packets are known to be authentic. */
+void rtpw_receive_many(rtpw_receiver *receivers, size_t receiver_count, rtpw_arrival *arrivals, size_t count);
 
 #ifdef __cplusplus
 }

@@ -1,16 +1,35 @@
-use Rattle.std.proofs.Common.{ℕ, List, refl, subst}
-use Rattle.rtp_wire.specs.Packet.{PacketParts}
-use Rattle.rtp_wire.specs.PartsOf.{datagram_of}
-use Rattle.rtp_c.specs.PacketView.{IsViewOf}
+use Rattle.std.proofs.Common.{◌≡◌, ◌≢◌, ◌↔◌, ℤ, List, ℕ, sym, ◌∙◌, subst, inl, inr, rules, w32, FitsSigned}
+use Rattle.std.proofs.lemmas.Int.{to_z-of_z}
+use Rattle.rtp_wire.specs.Packet.{PacketParts, IsPacket}
+use Rattle.rtp_wire.specs.NotAHeader.{IsNoPacket}
+use Rattle.rtp_wire.proofs.NotAPacketLemmas.{IsNoPacket-applies, no_packet-refused}
+use Rattle.rtp_wire.proofs.PacketLemmas.{one_packet, no_packet}
+use Rattle.rtp_c.specs.declared.packet.PacketView.{PacketView}
+use Rattle.rtp_c.specs.PacketView.{IsViewOf, IsPacketRead}
+use Rattle.rtp_c.specs.Status.{ok}
+use Rattle.rtp_c.proofs.StatusLemmas.{ok≢cause}
 use Rattle.rtp_c.proofs.packet.rtpw_packet_parse.Goals as goal
 
-pub returns-in-Ok-clause-parts : goal.returns-in-Ok-clause-parts
-returns-in-Ok-clause-parts c parts is =
-    let view = c.view_of.result in (
-      refl,
-      subst (λ (bytes : List ℕ). IsViewOf bytes parts view) c.in-Ok.ensures.bytes
-          (subst (λ (p : PacketParts). IsViewOf (datagram_of c.in-Ok.found) p view) (c.in-Ok.ensures.only parts is) c.view_of.ensures),
-    )
+parts_told : (bytes : List ℕ) (status : ℤ) (old new : PacketView) (parts : PacketParts) → IsPacketRead bytes status old new → IsPacket bytes parts
+    → (status ≡ ok) × IsViewOf bytes parts new
+parts_told bytes status old new parts (inl is) packet =
+    (is.0, subst (λ (p : PacketParts). IsViewOf bytes p new) (sym (one_packet bytes is.1.0 is.1.1) ∙ one_packet bytes parts packet) is.1.2)
+parts_told bytes status old new parts (inr is) packet = absurd (no_packet bytes is.0.cause parts is.0.is_first.applies packet)
 
-pub returns-in-Err-clause-parts : goal.returns-in-Err-clause-parts
-returns-in-Err-clause-parts c parts is = absurd (c.in-Err.ensures.only parts is)
+refused : (bytes : List ℕ) (status : ℤ) (old new : PacketView) → IsPacketRead bytes status old new → (status ≢ ok) ↔ IsNoPacket bytes
+refused bytes status old new (inl is) = (λ not_ok. absurd (not_ok is.0), λ none. absurd (no_packet-refused bytes is.1.0 none is.1.1))
+refused bytes status old new (inr is) = (λ _. IsNoPacket-applies bytes is.0.cause is.0.is_first.applies, λ _ same. ok≢cause is.0.cause (sym same ∙ is.0.status_is))
+
+pub returns-clause-parts : goal.returns-clause-parts
+returns-clause-parts c parts is =
+    let call = c.read_packet in
+    let fits : FitsSigned w32 call.result = search rules in
+    subst (λ (status : ℤ). (status ≡ ok) × IsViewOf c.args.datagram.now parts call.new.packet) (sym (to_z-of_z w32 call.result fits))
+    (parts_told c.args.datagram.now call.result c.args.packet.now call.new.packet parts call.ensures is)
+
+pub returns-clause-refused : goal.returns-clause-refused
+returns-clause-refused c =
+    let call = c.read_packet in
+    let fits : FitsSigned w32 call.result = search rules in
+    subst (λ (status : ℤ). (status ≢ ok) ↔ IsNoPacket c.args.datagram.now) (sym (to_z-of_z w32 call.result fits))
+    (refused c.args.datagram.now call.result c.args.packet.now call.new.packet call.ensures)

@@ -1,0 +1,32 @@
+use Rattle.std.proofs.Common.{refl, inl}
+use Rattle.rtp_wire.specs.Header.{header_of}
+use Rattle.rtp_wire.specs.PartsOf.{parts_of}
+use Rattle.rtp_c.specs.StoredMap.{numbered_slots}
+use Rattle.rtp_c.proofs.NumberedLemmas.{HasKinds-numbered}
+use Rattle.rtp_c.proofs.HeaderViewLemmas.{few_sources}
+use Rattle.rtp_c.proofs.header.read_header.Goals as goal
+
+pub put_header-requires : goal.put_header-requires
+put_header-requires c = record { sources = few_sources c.args.buf.now _ c.in-Ok.ensures.found }
+
+pub returns-in-Ok : goal.returns-in-Ok
+returns-in-Ok c =
+    let told = c.put_header.ensures in
+    let parts = parts_of c.in-Ok.packet in
+    inl (
+      refl,
+      record {
+        header = header_of parts told.0;
+        begins = record {
+          slots = numbered_slots c.args.map.now.kind;
+          has_kinds = HasKinds-numbered c.args.map.now.kind;
+          is_wire = record {
+            parts = parts;
+            is_packet = c.in-Ok.ensures.found;
+            no_other = c.in-Ok.ensures.known;
+            is_header = record { fields_are = refl; values_are = told.1 };
+          };
+        };
+        is_view = told.2;
+      },
+    )

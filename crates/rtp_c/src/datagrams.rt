@@ -1,0 +1,117 @@
+//! Several datagrams of one buffer, read in one call.
+
+ghost use Rattle.std.specs.Prelude.{◌≡◌, IfSome, IfNone};
+ghost use Rattle.std.specs.List.{AllZip};
+ghost use Rattle.rtp_c.specs.PacketView.{slice_at};
+ghost use Rattle.rtp_c.specs.Datagrams.{IsWithin, IsRtcpNumber, IsDatagramRead, IsDatagramHeaderRead};
+
+use super::header::{HeaderView, read_header};
+use super::kinds::StoredMap;
+use super::packet::{PacketView, read_packet};
+use super::status::BAD_FIELD;
+use super::values::flag_number;
+use rtp_wire::is_rtcp;
+
+/// One of several datagrams in a buffer: where it lies is given, and what it says is written.
+/// `rtpw_datagram` in C, 88 bytes.
+#[repr(C)]
+#[derive(Clone, Copy)]
+pub struct Datagram {
+    /// Given: where it begins in the buffer, in bytes.
+    pub at: usize,
+    /// Given: how many bytes it has.
+    pub len: usize,
+    /// What `rtpw_packet_parse` writes of it, counted from its own first byte, and else as it
+    /// was.
+    pub packet: PacketView,
+    /// What `rtpw_packet_parse` returns of it, and `BAD_FIELD` where it isn't within the buffer.
+    pub status: i32,
+    /// What `rtpw_is_rtcp` returns of it, 0 or 1, and 0 where it isn't within the buffer.
+    pub is_rtcp: u8,
+}
+
+/// The same with a whole header and its values: `rtpw_datagram_header` in C, 248 bytes.
+#[repr(C)]
+#[derive(Clone, Copy)]
+pub struct DatagramHeader {
+    /// Given: where it begins in the buffer, in bytes.
+    pub at: usize,
+    /// Given: how many bytes it has.
+    pub len: usize,
+    /// What `rtpw_parse` writes of it, and else as it was.
+    pub header: HeaderView,
+    /// What `rtpw_parse` returns of it, and `BAD_FIELD` where it isn't within the buffer.
+    pub status: i32,
+    /// What `rtpw_is_rtcp` returns of it, 0 or 1, and 0 where it isn't within the buffer.
+    pub is_rtcp: u8,
+}
+
+// The bytes of the datagram at this place, of this length, where it is within the buffer.
+fn datagram_in(buf: &[u8], at: usize, len: usize) -> Option<&[u8]>
+    ensures found { IfSome result (λ datagram.
+        IsWithin buf.now at len × (datagram.now ≡ slice_at buf.now at len)) }
+    ensures none { IfNone result (IsWithin buf.now at len → ⊥) }
+{
+    if at > buf.len() || len > buf.len() - at {
+        return None;
+    }
+    let end = at + len;
+    Some(&buf[at..end])
+}
+
+// 1 where the bytes are RTCP, and else 0.
+fn rtcp_number(bytes: &[u8]) -> u8
+    ensures { IsRtcpNumber bytes.now result }
+{
+    flag_number(is_rtcp(bytes))
+}
+
+// Tells what the packet is that the datagram is, and whether it is RTCP.
+fn read_datagram(buf: &[u8], datagram: &mut Datagram)
+    ensures { IsDatagramRead buf.now datagram.old datagram.new }
+{
+    let Some(bytes) = datagram_in(buf, datagram.at, datagram.len) else {
+        datagram.status = BAD_FIELD;
+        datagram.is_rtcp = 0;
+        return;
+    };
+    datagram.status = read_packet(bytes, &mut datagram.packet);
+    datagram.is_rtcp = rtcp_number(bytes);
+}
+
+// Tells the header that the datagram begins with, and whether it is RTCP.
+fn read_datagram_header(buf: &[u8], map: &StoredMap, datagram: &mut DatagramHeader)
+    ensures { IsDatagramHeaderRead map.now.kind buf.now datagram.old datagram.new }
+{
+    let Some(bytes) = datagram_in(buf, datagram.at, datagram.len) else {
+        datagram.status = BAD_FIELD;
+        datagram.is_rtcp = 0;
+        return;
+    };
+    datagram.status = read_header(bytes, map, &mut datagram.header);
+    datagram.is_rtcp = rtcp_number(bytes);
+}
+
+/// Reads each of these datagrams of the buffer as `rtpw_packet_parse` and `rtpw_is_rtcp` do: one
+/// that is no packet, or isn't within the buffer, spoils no other. They may be in any order, and
+/// overlap one another.
+#[unsafe(no_mangle)]
+pub extern "C" fn rtpw_packet_parse_many(buf: &[u8], datagrams: &mut [Datagram])
+    ensures { AllZip (IsDatagramRead buf.now) datagrams.old datagrams.new }
+{
+    for datagram in datagrams {
+        read_datagram(buf, datagram);
+    }
+}
+
+/// Reads each of these datagrams of the buffer as `rtpw_parse` and `rtpw_is_rtcp` do: one that
+/// begins with no header, or isn't within the buffer, spoils no other. They may be in any order,
+/// and overlap one another.
+#[unsafe(no_mangle)]
+pub extern "C" fn rtpw_parse_many(buf: &[u8], map: &StoredMap, datagrams: &mut [DatagramHeader])
+    ensures { AllZip (IsDatagramHeaderRead map.now.kind buf.now) datagrams.old datagrams.new }
+{
+    for datagram in datagrams {
+        read_datagram_header(buf, map, datagram);
+    }
+}
