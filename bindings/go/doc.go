@@ -11,7 +11,7 @@
 // What is a look at these needs no call: the fields, the values, [Packet.Payload], [Header.CSRC].
 //
 // Where many datagrams lie in one buffer one call reads them all ([HeaderBatch], [PacketBatch]), and another judges
-// them ([ArrivalBatch]): of 32 at once each then takes a third of that time, or less.
+// them ([ArrivalBatch]): of 32 at once each then takes less than half of that time.
 //
 // [WideReceiver] has a window of another size, and [RestartingReceiver], which is not for SRTP, tells that a sender has
 // started again.
