@@ -132,7 +132,7 @@ func TestPlacesPastTheBuffer(t *testing.T) {
 	places := []struct{ at, length, wanted int }{
 		{0, 14, 14}, {0, 15, -1}, {1, 14, -1}, {14, 0, 0}, {14, 1, -1}, {15, 0, -1}, {-1, 2, -1}, {-1, 15, -1}, {1, -1, -1},
 		{0, -1, -1}, {0, math.MinInt, -1}, {math.MinInt, math.MinInt, -1}, {math.MaxInt, 1, -1}, {math.MaxInt, math.MaxInt, -1},
-		{2, math.MaxInt, -1}, {-14, 14, -1}, {0, 14, 14}, {0, 12, 12}, {2, 12, 12},
+		{2, math.MaxInt, -1}, {-14, 14, -1}, {1 << 32, 14, -1}, {0, 14 + 1<<32, -1}, {0, 14, 14}, {0, 12, 12}, {2, 12, 12},
 	}
 	var headers rtpwire.HeaderBatch
 	var packets rtpwire.PacketBatch

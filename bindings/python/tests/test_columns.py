@@ -245,7 +245,7 @@ class Reading(unittest.TestCase):
     def test_places_past_the_buffer(self) -> None:
         top = (1 << 63) - 1
         rows = [(0, 14, 0), (0, 15, 9), (1, 14, 9), (14, 0, 1), (14, 1, 9), (15, 0, 9), (-1, 2, 9), (-1, 15, 9), (1, -1, 9)]
-        rows += [(0, -1, 9), (-14, 14, 9), (top, 1, 9), (top, top, 9), (2, top, 9), (-top - 1, -top - 1, 9), (0, 14, 0)]
+        rows += [(0, -1, 9), (-14, 14, 9), (1 << 32, 14, 9), (top, 1, 9), (top, top, 9), (2, top, 9), (-top - 1, -top - 1, 9), (0, 14, 0)]
         at, lengths, statuses = zip(*rows)
         columns = Columns.parse(PLAIN, at, lengths, Map.standard(), ["mid"])
         self.assertEqual(list(columns.status), list(statuses))
