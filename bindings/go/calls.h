@@ -57,6 +57,22 @@ static inline int32_t call_parse(const uint8_t *datagram, size_t len, const rtpw
     return status;
 }
 
+/* Each is what call_parse gives: also where its block has another form. */
+static inline void call_parse_many(const uint8_t *buf, size_t size, const rtpw_map *map,
+                                   rtpw_datagram_header *datagrams, size_t count) {
+    rtpw_parse_many(buf, size, map, datagrams, count);
+    for (size_t i = 0; i < count; i++) {
+        rtpw_datagram_header *it = &datagrams[i];
+        if (it->status == RTPW_UNKNOWN_FORM) {
+            rtpw_packet packet;
+            it->status = rtpw_packet_parse(buf + it->at, it->len, &packet);
+            if (it->status == RTPW_OK) {
+                call_fields(buf + it->at, &packet, &it->header);
+            }
+        }
+    }
+}
+
 static inline call_number call_receive(rtpw_receiver *receiver, uint16_t sequence_number) {
     call_number it = {0};
     it.status = rtpw_receiver_receive(receiver, sequence_number, &it.number);

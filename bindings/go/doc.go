@@ -10,11 +10,15 @@
 // [Packet.Parse] reads all fields, values and places, and [Receiver.ReceivePacket] judges the packet too.
 // What is a look at these needs no call: the fields, the values, [Packet.Payload], [Header.CSRC].
 //
+// Where many datagrams lie in one buffer one call reads them all ([HeaderBatch], [PacketBatch]), and another judges
+// them ([ArrivalBatch]): of 32 at once each then takes less than half of that time.
+//
 // [WideReceiver] has a window of another size, and [RestartingReceiver], which is not for SRTP, tells that a sender has
 // started again.
 //
-// No function keeps a pointer to what it is given, but a Packet the datagram that it was read from. Calls from
-// several goroutines at once are safe as long as nothing that one of them changes is used by another.
+// No function keeps a pointer to what it is given, but a Packet the datagram that it was read from, and a batch the
+// buffer. Calls from several goroutines at once are safe as long as nothing that one of them changes is used by
+// another.
 //
 // On a port that RTP and RTCP share [IsRTCP] comes before [Packet.Parse], which would take a receiver report
 // for RTP.

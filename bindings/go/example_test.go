@@ -128,3 +128,79 @@ func ExampleCause() {
 	fmt.Println(errors.Is(err, rtpwire.ErrNotAPacket), errors.Is(err, rtpwire.CutFixedPart), err)
 	// Output: true true rtpwire: fewer than twelve bytes
 }
+
+// This reads many datagrams of one buffer in one call, and has each judged by the receiver of its SSRC in another.
+func ExampleHeaderBatch() {
+	const slot = 32
+	buf, lengths := make([]byte, 4*slot), make([]int, 4)
+	for i, datagram := range [][]byte{
+		{0x90, 96, 0, 5, 0, 0, 0, 160, 0, 0, 0, 7, 0xBE, 0xDE, 0, 1, 0x10, 0x8A, 0, 0, 'h', 'i'},
+		{0x80, 96, 0, 5, 0, 0, 0, 160, 0, 0, 0, 8},
+		{0x80, 96, 0, 6},
+		{0x90, 96, 0, 5, 0, 0, 0, 160, 0, 0, 0, 7, 0xBE, 0xDE, 0, 1, 0x10, 0x8A, 0, 0, 'h', 'i'},
+	} {
+		lengths[i] = copy(buf[i*slot:], datagram)
+	}
+	m := rtpwire.StandardMap() // 1 is the audio level
+	receivers := make([]rtpwire.Receiver, 0, 8)
+	indices := make(map[uint32]int) // of each SSRC
+
+	var batch rtpwire.HeaderBatch // both used again for each buffer
+	var arrivals rtpwire.ArrivalBatch
+	batch.Reset()
+	for i, length := range lengths {
+		batch.Add(i*slot, length)
+	}
+	batch.Parse(buf, m)
+	arrivals.Reset()
+	for i := 0; i < batch.Len(); i++ {
+		header, err := batch.At(i)
+		if err != nil {
+			fmt.Println(err)
+			continue
+		}
+		index, ok := indices[header.SSRC]
+		if !ok {
+			index = len(receivers)
+			indices[header.SSRC], receivers = index, append(receivers, rtpwire.Receiver{})
+		}
+		arrivals.Add(index, header.SequenceNumber)
+		level, _, ok := header.Values.AudioLevel()
+		fmt.Printf("SSRC %d, audio at %d dB: %v, %q\n", header.SSRC, level, ok, batch.Payload(i))
+	}
+	arrivals.Receive(receivers)
+	for i := 0; i < arrivals.Len(); i++ {
+		number, err := arrivals.At(i)
+		fmt.Println(number, err)
+	}
+	// Output:
+	// SSRC 7, audio at -10 dB: true, "hi"
+	// SSRC 8, audio at 0 dB: false, ""
+	// rtpwire: fewer than twelve bytes
+	// SSRC 7, audio at -10 dB: true, "hi"
+	// 5 <nil>
+	// 5 <nil>
+	// 0 rtpwire: a replay, or too old to tell
+}
+
+// The fields alone take less time.
+func ExamplePacketBatch() {
+	buf := []byte{0x80, 0x21, 0xB7, 0x98, 0, 0, 0x27, 0x10, 0, 0, 0, 0x2C, 0x80, 0x21, 0xB7, 0x99, 0}
+	var batch rtpwire.PacketBatch
+	batch.Add(0, 12)
+	batch.Add(12, 5)
+	batch.Add(12, 6)
+	batch.Parse(buf)
+	for i := 0; i < batch.Len(); i++ {
+		fields, err := batch.At(i)
+		if err != nil {
+			fmt.Println(err)
+			continue
+		}
+		fmt.Println(fields.SequenceNumber, fields.Timestamp, fields.SSRC)
+	}
+	// Output:
+	// 47000 10000 44
+	// rtpwire: fewer than twelve bytes
+	// rtpwire: an argument is out of its range
+}

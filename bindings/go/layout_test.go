@@ -9,7 +9,7 @@ import (
 // machine of 64 bits.
 func TestStructsLieAsThoseOfC(t *testing.T) {
 	var (
-		p  parts
+		p  PacketFields
 		f  Fields
 		e  Place
 		r  Receiver
@@ -20,6 +20,9 @@ func TestStructsLieAsThoseOfC(t *testing.T) {
 		la Layer
 		s  Stream
 		l  Layers
+		d  datagram
+		dh datagramHeader
+		a  arrival
 	)
 	rows := []struct {
 		name        string
@@ -30,13 +33,13 @@ func TestStructsLieAsThoseOfC(t *testing.T) {
 		{"packet.unpadded_len", unsafe.Offsetof(p.unpaddedLen), 16},
 		{"packet.body_at", unsafe.Offsetof(p.bodyAt), 24},
 		{"packet.body_len", unsafe.Offsetof(p.bodyLen), 32},
-		{"packet.timestamp", unsafe.Offsetof(p.timestamp), 40},
-		{"packet.ssrc", unsafe.Offsetof(p.ssrc), 44},
-		{"packet.sequence_number", unsafe.Offsetof(p.sequenceNumber), 48},
-		{"packet.payload_type", unsafe.Offsetof(p.payloadType), 50},
+		{"packet.timestamp", unsafe.Offsetof(p.Timestamp), 40},
+		{"packet.ssrc", unsafe.Offsetof(p.SSRC), 44},
+		{"packet.sequence_number", unsafe.Offsetof(p.SequenceNumber), 48},
+		{"packet.payload_type", unsafe.Offsetof(p.PayloadType), 50},
 		{"packet.csrc_count", unsafe.Offsetof(p.csrcCount), 51},
-		{"packet.marker", unsafe.Offsetof(p.marker), 52},
-		{"packet.has_padding", unsafe.Offsetof(p.hasPadding), 53},
+		{"packet.marker", unsafe.Offsetof(p.Marker), 52},
+		{"packet.has_padding", unsafe.Offsetof(p.HasPadding), 53},
 		{"packet.padding_fits", unsafe.Offsetof(p.paddingFits), 54},
 		{"packet.block_form", unsafe.Offsetof(p.form), 55},
 		{"packet.block_profile", unsafe.Offsetof(p.profile), 56},
@@ -130,6 +133,20 @@ func TestStructsLieAsThoseOfC(t *testing.T) {
 		{"layers.current", unsafe.Offsetof(l.current), 673},
 		{"map", unsafe.Sizeof(Map{}), 256},
 		{"new_ids", unsafe.Sizeof(NewIDs{}), 256},
+		{"datagram", unsafe.Sizeof(d), 88},
+		{"datagram.len", unsafe.Offsetof(d.len), 8},
+		{"datagram.packet", unsafe.Offsetof(d.packet), 16},
+		{"datagram.status", unsafe.Offsetof(d.status), 80},
+		{"datagram.is_rtcp", unsafe.Offsetof(d.isRTCP), 84},
+		{"datagram_header", unsafe.Sizeof(dh), 248},
+		{"datagram_header.len", unsafe.Offsetof(dh.len), 8},
+		{"datagram_header.header", unsafe.Offsetof(dh.header), 16},
+		{"datagram_header.status", unsafe.Offsetof(dh.status), 240},
+		{"datagram_header.is_rtcp", unsafe.Offsetof(dh.isRTCP), 244},
+		{"arrival", unsafe.Sizeof(a), 24},
+		{"arrival.number", unsafe.Offsetof(a.number), 8},
+		{"arrival.sequence_number", unsafe.Offsetof(a.sequenceNumber), 16},
+		{"arrival.status", unsafe.Offsetof(a.status), 20},
 	}
 	for _, row := range rows {
 		if row.got != row.wanted {

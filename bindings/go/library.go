@@ -39,6 +39,34 @@ func firstPlace(places []Place) *C.rtpw_element {
 	return (*C.rtpw_element)(unsafe.Pointer(&places[0]))
 }
 
+func firstDatagram(datagrams []datagram) *C.rtpw_datagram {
+	if len(datagrams) == 0 {
+		return nil
+	}
+	return (*C.rtpw_datagram)(unsafe.Pointer(&datagrams[0]))
+}
+
+func firstHeader(datagrams []datagramHeader) *C.rtpw_datagram_header {
+	if len(datagrams) == 0 {
+		return nil
+	}
+	return (*C.rtpw_datagram_header)(unsafe.Pointer(&datagrams[0]))
+}
+
+func firstArrival(arrivals []arrival) *C.rtpw_arrival {
+	if len(arrivals) == 0 {
+		return nil
+	}
+	return (*C.rtpw_arrival)(unsafe.Pointer(&arrivals[0]))
+}
+
+func firstReceiver(receivers []Receiver) *C.rtpw_receiver {
+	if len(receivers) == 0 {
+		return nil
+	}
+	return receivers[0].c()
+}
+
 // noKinds is the map in which no id means anything.
 var noKinds Map
 
@@ -53,7 +81,7 @@ func (h *Header) c() *C.rtpw_header {
 	return (*C.rtpw_header)(unsafe.Pointer(&h.headerLen))
 }
 
-func (p *parts) c() *C.rtpw_packet {
+func (p *PacketFields) c() *C.rtpw_packet {
 	return (*C.rtpw_packet)(unsafe.Pointer(p))
 }
 
@@ -343,6 +371,19 @@ func toRetransmission(buf []byte, length int, ssrc uint32, payloadType uint8, nu
 func fromRetransmission(buf []byte, length int, ssrc uint32, payloadType uint8, n *NewIDs) (int, error) {
 	return lenOr(C.call_from_retransmission(first(buf), size(buf), C.size_t(length), C.uint32_t(ssrc),
 		C.uint8_t(payloadType), n.c()))
+}
+
+func parsePackets(buf []byte, datagrams []datagram) {
+	C.rtpw_packet_parse_many(first(buf), size(buf), firstDatagram(datagrams), C.size_t(len(datagrams)))
+}
+
+func parseHeaders(buf []byte, m *Map, datagrams []datagramHeader) {
+	C.call_parse_many(first(buf), size(buf), m.c(), firstHeader(datagrams), C.size_t(len(datagrams)))
+}
+
+func receiveMany(receivers []Receiver, arrivals []arrival) {
+	count := C.size_t(len(receivers))
+	C.rtpw_receive_many(firstReceiver(receivers), count, firstArrival(arrivals), C.size_t(len(arrivals)))
 }
 
 func libraryVersion() uint32 {

@@ -5,20 +5,31 @@ package rtpwire
 // the packet. Use one again for the next packet: what it lent stays as it is.
 type Packet struct {
 	Header
-	parts    parts
+	parts    PacketFields
 	datagram []byte
 }
 
-// parts is where the parts of a packet lie: rtpw_packet in C.
-type parts struct {
+// PacketFields are what the header of a packet says without its values, and where the parts of the packet lie:
+// rtpw_packet in C. [PacketBatch] reads them.
+type PacketFields struct {
 	payloadAt, payloadLen, unpaddedLen int
 	bodyAt, bodyLen                    int
-	timestamp, ssrc                    uint32
-	sequenceNumber                     uint16
-	payloadType, csrcCount             uint8
-	marker, hasPadding, paddingFits    bool
-	form                               Form
-	profile                            uint16
+	// Timestamp is the moment of the payload's first byte, in ticks of the payload's own clock.
+	Timestamp uint32
+	// SSRC is the stream's source.
+	SSRC uint32
+	// SequenceNumber is the low 16 bits of the packet's number.
+	SequenceNumber uint16
+	// PayloadType says what the payload is, 0 to 127.
+	PayloadType uint8
+	csrcCount   uint8
+	// Marker is M.
+	Marker bool
+	// HasPadding is P: whether there is padding at the end of the payload.
+	HasPadding  bool
+	paddingFits bool
+	form        Form
+	profile     uint16
 }
 
 // Parse reads the packet that the datagram is, in one call of the library: the fields, the values of its block under

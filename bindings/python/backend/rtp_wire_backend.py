@@ -111,13 +111,13 @@ def compiler() -> List[str]:
 
 
 def library(machine: str) -> bytes:
-    """The shared library for a machine. Only the functions of rtp_wire.h and src/whole_packet.c can be seen."""
+    """The shared library for a machine. Only the functions of rtp_wire.h and those of src can be seen."""
     with tempfile.TemporaryDirectory() as folder:
         names, made = Path(folder, "names"), Path(folder, "librtp_wire.so")
-        names.write_text("{ global: rtpw_*; whole_packet_parse; local: *; };", "utf-8")
+        names.write_text("{ global: rtpw_*; whole_packet_parse; columns_*; local: *; };", "utf-8")
         found = texts()
         command = [*compiler(), "-shared", "-fPIC", "-std=c99", "-O2", "-s", "-o", str(made)]
-        command += [f"-I{found['rtp_wire.h'].parent}", str(HERE / "src/whole_packet.c")]
+        command += [f"-I{found['rtp_wire.h'].parent}", *map(str, sorted(HERE.glob("src/*.c")))]
         command += [str(found[f"rtp_wire-{machine}.s"])]
         command += [f"-Wl,--version-script={names}", "-Wl,-soname,librtp_wire.so", "-Wl,--no-undefined"]
         command += ["-Wl,-z,noexecstack", "-Wl,-z,relro", "-Wl,-z,now"]

@@ -103,7 +103,8 @@ class Build(unittest.TestCase):
         def names_of(folder: str) -> List[str]:
             return sorted(f"{folder}/{name}" for name in os.listdir(HERE / folder) if name.endswith(".py"))
 
-        wanted = ["PKG-INFO", "pyproject.toml", "README.md", "backend/rtp_wire_backend.py", "src/whole_packet.c"]
+        wanted = ["PKG-INFO", "pyproject.toml", "README.md", "backend/rtp_wire_backend.py"]
+        wanted += ["src/columns.c", "src/whole_packet.c"]
         wanted += [*names_of("src/rtp_wire"), "src/rtp_wire/py.typed"]
         wanted += [*names_of("examples"), *names_of("tests")]
         wanted += [f"texts/{name}" for name in self.backend.TEXTS]
@@ -185,8 +186,9 @@ class Build(unittest.TestCase):
         self.assertEqual((packed[:4], packed[4:8]), (b"\x1f\x8b\x08\0", bytes(4)))
         # PEP 517: in the format of POSIX, whose magic and version these are
         self.assertEqual(gzip.decompress(packed)[257:265], b"ustar\x0000")
-        parts = ["PKG-INFO", "pyproject.toml", "README.md", "backend/rtp_wire_backend.py", "src/whole_packet.c"]
-        parts += ["src/rtp_wire/py.typed", "examples/lines.py", "examples/times.py"]
+        parts = ["PKG-INFO", "pyproject.toml", "README.md", "backend/rtp_wire_backend.py"]
+        parts += ["src/columns.c", "src/whole_packet.c", "src/rtp_wire/py.typed"]
+        parts += ["examples/lines.py", "examples/pcap.py", "examples/times.py"]
         for inner in ("src/rtp_wire", "tests"):
             parts += [str(it.relative_to(HERE)) for it in (HERE / inner).glob("*.py")]
         parts += [f"texts/{name}" for name in self.backend.TEXTS]
@@ -198,7 +200,7 @@ class Build(unittest.TestCase):
         for item in items:
             self.assertTrue(item.isreg())
             self.assertEqual((item.mode, item.mtime, item.uid, item.gid), (0o644, 0, 0, 0))
-        for name in ("README.md", "tests/test_build.py", "src/rtp_wire/_packet.py", "src/whole_packet.c"):
+        for name in ("README.md", "tests/test_build.py", "src/rtp_wire/_packet.py", "src/columns.c", "src/whole_packet.c"):
             self.assertEqual(read[f"{folder}/{name}"], (HERE / name).read_bytes())
         for name, place in self.backend.texts().items():
             self.assertEqual(read[f"{folder}/texts/{name}"], place.read_bytes())
@@ -300,7 +302,8 @@ class Build(unittest.TestCase):
         said = subprocess.run(command, stdout=subprocess.PIPE, check=True, text=True).stdout
         rows = [line.split() for line in said.splitlines()]
         seen = {row[-1] for row in rows if len(row) == 8 and row[4] in ("GLOBAL", "WEAK") and row[6] != "UND"}
-        self.assertEqual({it for it in seen if not it.startswith("rtpw_")}, {"whole_packet_parse"})
+        own = {"whole_packet_parse", "columns_parse", "columns_receive"}
+        self.assertEqual({it for it in seen if not it.startswith("rtpw_")}, own)
         self.assertGreater(len(seen), 40)
         self.assertIn("Library soname: [librtp_wire.so]", said)
         # no stack that can be run, and no table that can be written once the library is loaded

@@ -8,10 +8,12 @@ import re
 import runpy
 import subprocess
 import sys
+import tempfile
 import time
 import unittest
 import unittest.mock
 from pathlib import Path
+from struct import pack
 from typing import Any, List
 
 import rtp_wire
@@ -111,7 +113,14 @@ class Captures(unittest.TestCase):
         said = io.StringIO()
         with unittest.mock.patch("timeit.repeat", lambda *_, **__: [0.00025]), contextlib.redirect_stdout(said):
             runpy.run_path(str(HERE / "examples/times.py"), run_name="__main__")
+        many = {name: eval(call, names) for name, call in times["MANY_ROWS"].items()}
+        plain, columns, verdicts = many.values()
+        self.assertEqual((len(plain), plain.values, list(verdicts.verdict[:3])), (100_000, {}, [1, 2, 2]))
+        self.assertEqual((columns.values["audio_level"][99_999], columns.texts["mid"][50_000]), (-10, "0"))
+        self.assertEqual((columns.values["send_time"][7], columns.values["transport_number"][8]), (251_964, 12))
         lines = [f"  1000 ns  {name}: {call}\n" for name, call in times["ROWS"].items()]
+        # 0.00025 seconds for 100,000 packets
+        lines += [f"     2 ns  {name}: {call}\n" for name, call in times["MANY_ROWS"].items()]
         self.assertEqual(said.getvalue(), "".join(lines))
 
     def test_the_table_of_the_readme(self) -> None:
@@ -126,6 +135,98 @@ class Captures(unittest.TestCase):
         )
         shown = next(it for it in blocks("") if it.startswith("$ python3 table.py\n"))
         self.assertEqual(said.stdout, shown.partition("\n")[2])
+
+
+def packet(number: int, ssrc: int, level: int = -1) -> bytes:
+    """A packet with this audio level below 0, under the id 1, where it is one."""
+    block = b"" if level < 0 else bytes([0xBE, 0xDE, 0, 1, 0x10, level, 0, 0])
+    return bytes([0x90 if block else 0x80, 111]) + pack(">HII", number, 0, ssrc) + block + b"payload"
+
+
+def udp(payload: bytes) -> bytes:
+    return pack(">HHHH", 5004, 5006, 8 + len(payload), 0) + payload
+
+
+def ipv4(payload: bytes, protocol: int = 17, fragment: int = 0, options: bytes = b"") -> bytes:
+    words, length = 5 + len(options) // 4, 20 + len(options) + len(payload)
+    header = pack(">BBHHHBBH4s4s", 0x40 | words, 0, length, 0, fragment, 64, protocol, 0, b"\x0A\0\0\1", b"\x0A\0\0\2")
+    return b"\x08\0" + header + options + payload
+
+
+def ipv6(payload: bytes, next_header: int = 17) -> bytes:
+    return b"\x86\xDD" + pack(">IHBB16s16s", 0x60000000, len(payload), next_header, 64, bytes(16), bytes(16)) + payload
+
+
+def pcap(order: str, magic: int, frames: List[Any], link: int = 1) -> bytes:
+    """A file of tcpdump's: of each frame the seconds, their fraction, and what follows the two addresses of Ethernet."""
+    file = pack(order + "IHHiIII", magic, 2, 4, 0, 0, 65535, link)
+    for seconds, part, rest in frames:
+        frame = bytes(12) + rest
+        file += pack(order + "IIII", seconds, part, len(frame), len(frame)) + frame
+    return file
+
+
+class Pcap(unittest.TestCase):
+    HEADING = "      ssrc packets  lost  refused  seconds  level\n"
+
+    def told(self, data: bytes, *ids: str) -> str:
+        with tempfile.NamedTemporaryFile() as file:
+            file.write(data)
+            file.flush()
+            command = [sys.executable, str(HERE / "examples/pcap.py"), file.name, *ids]
+            said = subprocess.run(command, stdout=subprocess.PIPE, check=False, text=True)
+            self.assertEqual(said.returncode, 2 if file.name in said.stdout else 0)
+            return said.stdout.replace(file.name, "it")
+
+    def test_a_capture(self) -> None:
+        # of 7 the numbers 65534 to 2 without 0, 1 twice, and the levels 10, 20 and 40 below; of 9 two packets
+        padded = ipv4(udp(packet(65535, 7, 20))) + bytes(7)  # Ethernet's padding
+        frames = [
+            (100, 0, ipv4(udp(packet(65534, 7, 10)))),
+            (100, 5, b"\x08\x06" + bytes(46)),  # ARP
+            (101, 0, padded),
+            (101, 1, ipv6(udp(packet(3, 9)))),
+            (101, 2, ipv4(udp(bytes.fromhex("80C90001 00000007 00000000")))),  # a receiver report
+            (102, 0, b"\x81\0\0\5" + ipv4(udp(packet(1, 7, 40)), options=bytes(4))),
+            (102, 1, ipv4(udp(packet(1, 7, 40)))),
+            (102, 2, ipv4(udp(packet(9, 7)), protocol=6)),
+            (102, 3, ipv6(udp(packet(9, 7)), next_header=0)),
+            (102, 4, ipv4(udp(packet(9, 7)), fragment=0x2000)),
+            (102, 5, ipv4(udp(packet(9, 7)), fragment=1)),
+            (102, 6, ipv4(udp(b"\0\1 no RTP"))),
+            (103, 400_000, ipv4(udp(packet(2, 7)), fragment=0x4000)),
+            (103, 1, ipv6(udp(packet(4, 9)))),
+        ]
+        rows = "         7       4     1        1    3.{:03}  -23.3\n         9       2     0        0    2.{:03}      -\n"
+        for order in "<>":
+            for magic, milliseconds in ((0xA1B2C3D4, 400), (0xA1B23C4D, 0)):  # 400,000 nanoseconds are 0.4
+                wanted = self.HEADING + rows.format(milliseconds, 0)
+                self.assertEqual(self.told(pcap(order, magic, frames)), wanted)
+        whole = pcap("<", 0xA1B2C3D4, frames)
+        level = "=urn:ietf:params:rtp-hdrext:ssrc-audio-level"
+        rows = rows.format(400, 0)
+        self.assertEqual(self.told(whole, "2=urn:x", "1" + level), self.HEADING + rows)
+        self.assertEqual(self.told(whole, "2" + level), self.HEADING + rows.replace("-23.3", "    -"))
+        # a capture that is cut is read up to there
+        sources_of = runpy.run_path(str(HERE / "examples/pcap.py"))["sources_of"]
+        counts = []
+        for length in range(24, len(whole) + 1):
+            sources = sources_of(whole[:length], rtp_wire.Map.standard()).values()
+            counts.append(sum(len(it.numbers) for it in sources))
+        self.assertEqual((counts, set(counts)), (sorted(counts), set(range(7))))
+
+    def test_datagrams_that_are_cut(self) -> None:
+        # by the length of UDP, or since fewer bytes were captured: what is there is read
+        one = ipv4(pack(">HHHH", 1, 2, 20, 0) + packet(5, 7))
+        none = ipv4(pack(">HHHH", 1, 2, 4, 0) + packet(6, 7)), ipv4(udp(packet(7, 7)))[:20], ipv4(b"")
+        data = pcap("<", 0xA1B2C3D4, [(0, 0, it) for it in (one, *none)])
+        self.assertEqual(self.told(data), self.HEADING + "         7       1     0        0    0.000      -\n")
+
+    def test_what_is_none(self) -> None:
+        for data in (b"", b"\x0A\x0D\x0D\x0A" + bytes(40), pcap("<", 0xA1B2C3D4, [])[:23]):
+            self.assertEqual(self.told(data), "it: no pcap file\n")
+        self.assertEqual(self.told(pcap(">", 0xA1B2C3D4, [], link=113)), "it: not of Ethernet\n")
+        self.assertEqual(self.told(pcap(">", 0xA1B2C3D4, [])), self.HEADING)
 
 
 def blocks(language: str) -> List[str]:

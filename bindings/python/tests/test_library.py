@@ -28,6 +28,9 @@ STRUCTS = {
     "rtpw_time": _library.RawTime,
     "rtpw_values": _library.RawValues,
     "rtpw_header": _library.RawHeader,
+    "rtpw_datagram": _library.RawDatagram,
+    "rtpw_datagram_header": _library.RawDatagramHeader,
+    "rtpw_arrival": _library.RawArrival,
     "rtpw_layer": _library.RawLayer,
     "rtpw_stream": _library.RawStream,
     "rtpw_layers": _library.RawLayers,
@@ -35,7 +38,9 @@ STRUCTS = {
     "rtpw_wide_receiver": _library.RawWideReceiver,
     "rtpw_restarting_receiver": _library.RawRestartingReceiver,
     "whole_packet": _library.WholePacket,
+    "column": _library.RawColumn,
 }
+SOURCES = [it.read_text("utf-8") for it in sorted(HERE.glob("src/*.c"))]
 NUMBERS: Dict[str, Any] = {
     "void": None,
     "bool": ctypes.c_bool,
@@ -94,17 +99,12 @@ class Library(unittest.TestCase):
             for it in (HERE / "src/rtp_wire").glob("_[a-z]*.py")
             if it.stem != "_library"
         )
-        used += (HERE / "src/rtp_wire/__init__.py").read_text("utf-8") + (
-            HERE / "src/whole_packet.c"
-        ).read_text("utf-8")
+        used += "".join([(HERE / "src/rtp_wire/__init__.py").read_text("utf-8"), *SOURCES])
         for name in _library.FUNCTIONS:
             self.assertRegex(used, rf"_library\.{name[5:]}\b|\b{name}\(")
 
     def test_each_field_lies_where_it_does_in_c(self) -> None:
-        lines = [
-            (HERE / "src/whole_packet.c").read_text("utf-8"),
-            *(f'_Static_assert({it}, "");' for it in facts()),
-        ]
+        lines = [*SOURCES, *(f'_Static_assert({it}, "");' for it in facts())]
         options = [
             "-std=c11",
             "-Wall",

@@ -160,6 +160,32 @@ class RawHeader(Structure):
     ]
 
 
+class RawDatagram(Structure):
+    _fields_ = [
+        ("at", c_size_t),
+        ("len", c_size_t),
+        ("packet", RawPacket),
+        ("status", c_int32),
+        ("is_rtcp", c_uint8),
+    ]
+
+
+class RawDatagramHeader(Structure):
+    _fields_ = [
+        ("at", c_size_t),
+        ("len", c_size_t),
+        ("header", RawHeader),
+        ("status", c_int32),
+        ("is_rtcp", c_uint8),
+    ]
+
+
+class RawColumn(Structure):
+    """A column of src/columns.c."""
+
+    _fields_ = [("offset", c_size_t), ("size", c_size_t), ("to", c_void_p)]
+
+
 class RawLayer(Structure):
     _fields_ = [
         ("kbps", c_uint64 * 4),
@@ -185,6 +211,15 @@ class RawReceiver(Structure):
         ("recorded_low", c_uint64),
         ("recorded_high", c_uint64),
         ("started", c_uint8),
+    ]
+
+
+class RawArrival(Structure):
+    _fields_ = [
+        ("receiver", c_size_t),
+        ("number", c_uint64),
+        ("sequence_number", c_uint16),
+        ("status", c_int32),
     ]
 
 
@@ -224,6 +259,25 @@ def _declare(result: Any, name: str, *arguments: Any) -> Function:
 
 whole_packet_parse = _declare(
     _STATUS, "whole_packet_parse", _BYTES, _SIZE, POINTER(RawMap), POINTER(WholePacket)
+)
+
+columns_parse = _declare(
+    None,
+    "columns_parse",
+    _BYTES,
+    _SIZE,
+    POINTER(RawMap),
+    _BYTES,
+    _BYTES,
+    _SIZE,
+    POINTER(RawColumn),
+    _SIZE,
+    POINTER(RawColumn),
+    _SIZE,
+    _BYTES,
+)
+columns_receive = _declare(
+    None, "columns_receive", POINTER(RawReceiver), _SIZE, _BYTES, _BYTES, _BYTES, _SIZE, _BYTES, _BYTES
 )
 
 version = _declare(c_uint32, "rtpw_version")
@@ -384,6 +438,14 @@ wide_receiver_receive = _declare(
 
 restarting_receive = _declare(
     _STATUS, "rtpw_restarting_receive", POINTER(RawRestartingReceiver), c_uint16, POINTER(c_uint64)
+)
+
+packet_parse_many = _declare(None, "rtpw_packet_parse_many", _BYTES, _SIZE, POINTER(RawDatagram), _SIZE)
+parse_many = _declare(
+    None, "rtpw_parse_many", _BYTES, _SIZE, POINTER(RawMap), POINTER(RawDatagramHeader), _SIZE
+)
+receive_many = _declare(
+    None, "rtpw_receive_many", POINTER(RawReceiver), _SIZE, POINTER(RawArrival), _SIZE
 )
 
 extend_u8 = _declare(c_uint64, "rtpw_extend_u8", c_uint64, c_uint8)

@@ -95,6 +95,69 @@ impl From<NotAPacket> for NotAHeader {
     }
 }
 
+/// Why a datagram of several wasn't read.
+#[derive(Clone, Copy, Debug, PartialEq, Eq, Hash)]
+#[non_exhaustive]
+pub enum NotRead {
+    /// The bytes are no packet: [`source`](Error::source) says why.
+    NotAPacket(NotAPacket),
+    /// No header was read: the block's form is neither 0xBEDE nor 0x1000 to 0x100F, as with
+    /// [`NotAHeader::UnknownForm`].
+    UnknownForm,
+    /// The datagram doesn't lie within the buffer.
+    OutsideOfTheBuffer,
+}
+
+impl NotRead {
+    pub(crate) fn of_status(status: i32) -> Result<(), NotRead> {
+        match status {
+            sys::UNKNOWN_FORM => Err(NotRead::UnknownForm),
+            sys::BAD_FIELD => Err(NotRead::OutsideOfTheBuffer),
+            other => NotAPacket::of_status(other).map_err(NotRead::NotAPacket),
+        }
+    }
+}
+
+impl fmt::Display for NotRead {
+    fn fmt(&self, f: &mut fmt::Formatter<'_>) -> fmt::Result {
+        f.write_str(match self {
+            NotRead::NotAPacket(_) => "no RTP packet",
+            NotRead::UnknownForm => UNKNOWN_FORM,
+            NotRead::OutsideOfTheBuffer => "the datagram doesn't lie within the buffer",
+        })
+    }
+}
+
+impl Error for NotRead {
+    fn source(&self) -> Option<&(dyn Error + 'static)> {
+        match self {
+            NotRead::NotAPacket(cause) => Some(cause),
+            _ => None,
+        }
+    }
+}
+
+/// Why one of several receivers didn't take a sequence number.
+#[derive(Clone, Copy, Debug, PartialEq, Eq, Hash)]
+#[non_exhaustive]
+pub enum NotTaken {
+    /// A replay, or too old to tell.
+    Refused,
+    /// There is no such receiver, or none was asked yet.
+    NoReceiver,
+}
+
+impl fmt::Display for NotTaken {
+    fn fmt(&self, f: &mut fmt::Formatter<'_>) -> fmt::Result {
+        f.write_str(match self {
+            NotTaken::Refused => "a replay, or too old to tell",
+            NotTaken::NoReceiver => "no such receiver",
+        })
+    }
+}
+
+impl Error for NotTaken {}
+
 /// Why nothing was written.
 #[derive(Clone, Copy, Debug, PartialEq, Eq, Hash)]
 #[non_exhaustive]

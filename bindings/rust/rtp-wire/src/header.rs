@@ -224,7 +224,7 @@ impl Header {
         Ok(len)
     }
 
-    fn of(view: &HeaderView) -> Header {
+    pub(crate) fn of(view: &HeaderView) -> Header {
         Header {
             marker: view.marker != 0,
             payload_type: view.payload_type,

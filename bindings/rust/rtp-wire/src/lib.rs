@@ -4,11 +4,12 @@
 //!
 //! - To receive: [`is_rtcp`], [`Packet`] and its [`Elements`], [`Header`] and its [`Values`] under a [`Map`],
 //!   [`Receiver`].
+//! - To receive many at once: [`parse_packets`], [`parse_headers`], [`receive_many`].
 //! - To send: [`Header::write_to`], [`Header::write_with`], [`Header::write_with_layers`], [`write_elements`], [`pad`].
 //! - To send on: [`PacketMut`], [`put_element`], [`compact`], [`Fields`], [`Values::data_of`], [`NewIds`].
 //! - To send again: [`to_retransmission`], [`from_retransmission`], [`read_original`], [`write_original`].
-//! - What went wrong: [`NotAPacket`], [`NotAHeader`], [`NotWritten`], [`NotChanged`], [`NotPut`],
-//!   [`NotRetransmitted`], [`NotAText`], [`BadId`], [`BadRolloverCount`], [`TooManyLayers`].
+//! - What went wrong: [`NotAPacket`], [`NotAHeader`], [`NotRead`], [`NotTaken`], [`NotWritten`], [`NotChanged`],
+//!   [`NotPut`], [`NotRetransmitted`], [`NotAText`], [`BadId`], [`BadRolloverCount`], [`TooManyLayers`].
 #![no_std]
 #![deny(unsafe_code)]
 #![warn(missing_docs, missing_debug_implementations)]
@@ -19,6 +20,7 @@ mod error;
 mod growing;
 mod header;
 mod layers;
+mod many;
 mod map;
 mod new_ids;
 mod packet;
@@ -34,12 +36,16 @@ mod wide_receiver;
 
 pub use elements::{write_elements, Element, Elements, Place, Places};
 pub use error::{
-    BadId, BadRolloverCount, NotAHeader, NotAPacket, NotChanged, NotPut, NotRetransmitted,
-    NotWritten, TooManyLayers,
+    BadId, BadRolloverCount, NotAHeader, NotAPacket, NotChanged, NotPut, NotRead, NotRetransmitted,
+    NotTaken, NotWritten, TooManyLayers,
 };
 pub use growing::{compact, put_element};
 pub use header::Header;
 pub use layers::{Layer, Layers, Resolution, Stream};
+pub use many::{
+    parse_headers, parse_packets, receive_many, ArrivalSlot, Datagram, Datagrams, HeaderSlot,
+    PacketSlot,
+};
 pub use map::{Kind, Map, OwnKind};
 pub use new_ids::NewIds;
 pub use packet::{is_rtcp, Csrcs, Form, Packet};

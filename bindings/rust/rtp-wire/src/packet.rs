@@ -44,6 +44,11 @@ impl<'a> Packet<'a> {
         Ok(Packet { datagram, parts })
     }
 
+    /// The packet that was read of the datagram.
+    pub(crate) fn of(datagram: &'a [u8], parts: PacketParts) -> Packet<'a> {
+        Packet { datagram, parts }
+    }
+
     /// The whole datagram.
     #[must_use]
     pub fn datagram(&self) -> &'a [u8] {

@@ -15,6 +15,7 @@ use crate::views::ReceiverState;
 /// assert_eq!(receiver.receive(0), Some(65_536)); // a rollover
 /// assert_eq!(receiver.receive(65_535), None); // a replay
 /// ```
+#[repr(transparent)]
 #[derive(Clone, Copy, Debug, Default, PartialEq, Eq, Hash)]
 pub struct Receiver {
     state: ReceiverState,

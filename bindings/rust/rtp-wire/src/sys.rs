@@ -7,9 +7,10 @@
 //! each call below.
 #![allow(unsafe_code)]
 
+use crate::receiver::Receiver;
 use crate::views::{
-    FieldsView, HeaderView, Layers, PacketParts, Place, ReceiverState, RestartingState, StoredMap,
-    StoredNewIds, ValuesView, WideState,
+    ArrivalSlot, FieldsView, HeaderSlot, HeaderView, Layers, PacketParts, PacketSlot, Place,
+    ReceiverState, RestartingState, StoredMap, StoredNewIds, ValuesView, WideState,
 };
 
 pub const OK: i32 = 0;
@@ -21,6 +22,7 @@ pub const UNKNOWN_FORM: i32 = 5;
 pub const CUT_BLOCK: i32 = 6;
 pub const SHORT_BUFFER: i32 = 8;
 pub const BAD_FIELD: i32 = 9;
+pub const REFUSED: i32 = 10;
 pub const NONE: i32 = 11;
 pub const RESTARTED: i32 = 12;
 
@@ -32,8 +34,8 @@ pub const KIND_OWN: u8 = 128;
 
 mod c {
     use super::{
-        FieldsView, HeaderView, Layers, PacketParts, Place, ReceiverState, RestartingState,
-        StoredMap, StoredNewIds, ValuesView, WideState,
+        ArrivalSlot, FieldsView, HeaderSlot, HeaderView, Layers, PacketParts, PacketSlot, Place,
+        ReceiverState, RestartingState, StoredMap, StoredNewIds, ValuesView, WideState,
     };
 
     extern "C" {
@@ -243,6 +245,25 @@ mod c {
             payload_type: u8,
             ids: *const StoredNewIds,
         ) -> i32;
+        pub fn rtpw_packet_parse_many(
+            buf: *const u8,
+            size: usize,
+            datagrams: *mut PacketSlot,
+            count: usize,
+        );
+        pub fn rtpw_parse_many(
+            buf: *const u8,
+            size: usize,
+            map: *const StoredMap,
+            datagrams: *mut HeaderSlot,
+            count: usize,
+        );
+        pub fn rtpw_receive_many(
+            receivers: *mut ReceiverState,
+            receiver_count: usize,
+            arrivals: *mut ArrivalSlot,
+            count: usize,
+        );
         pub fn rtpw_version() -> u32;
         pub fn rtpw_extend_u8(previous: u64, number: u8) -> u64;
         pub fn rtpw_extend_u15(previous: u64, number: u16) -> u64;
@@ -406,6 +427,37 @@ pub fn parse_layers(
 ) -> i32 {
     // SAFETY: a slice and a reference that are read, and two exclusive references.
     unsafe { c::rtpw_parse_layers(datagram.as_ptr(), datagram.len(), map, header, layers) }
+}
+
+pub fn packet_parse_many(buf: &[u8], slots: &mut [PacketSlot]) {
+    // SAFETY: a slice that is read, and an exclusive one.
+    unsafe { c::rtpw_packet_parse_many(buf.as_ptr(), buf.len(), slots.as_mut_ptr(), slots.len()) }
+}
+
+pub fn parse_many(buf: &[u8], map: &StoredMap, slots: &mut [HeaderSlot]) {
+    // SAFETY: a slice and a reference that are read, and an exclusive slice.
+    unsafe {
+        c::rtpw_parse_many(
+            buf.as_ptr(),
+            buf.len(),
+            map,
+            slots.as_mut_ptr(),
+            slots.len(),
+        );
+    }
+}
+
+pub fn receive_many(receivers: &mut [Receiver], arrivals: &mut [ArrivalSlot]) {
+    let states: *mut ReceiverState = receivers.as_mut_ptr().cast(); // a receiver is its state, and nothing else
+                                                                    // SAFETY: two exclusive slices.
+    unsafe {
+        c::rtpw_receive_many(
+            states,
+            receivers.len(),
+            arrivals.as_mut_ptr(),
+            arrivals.len(),
+        );
+    }
 }
 
 pub fn wire_len(map: &StoredMap, header: &HeaderView, len: &mut usize) -> i32 {

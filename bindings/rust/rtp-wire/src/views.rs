@@ -162,6 +162,40 @@ pub struct HeaderView {
     pub values: ValuesView,
 }
 
+/// Room for one of several datagrams that lie in a buffer, for [`parse_packets`](crate::parse_packets): where it lies,
+/// and what is read of it. Keep some in an array or a `Vec`, and use them again. 88 bytes: `rtpw_datagram` in C.
+#[repr(C)]
+#[derive(Clone, Copy, Debug, Default)]
+pub struct PacketSlot {
+    pub(crate) at: usize,
+    pub(crate) len: usize,
+    pub(crate) packet: PacketParts,
+    pub(crate) status: i32,
+    pub(crate) is_rtcp: u8,
+}
+
+/// The same for [`parse_headers`](crate::parse_headers). 248 bytes: `rtpw_datagram_header` in C.
+#[repr(C)]
+#[derive(Clone, Copy, Debug, Default)]
+pub struct HeaderSlot {
+    pub(crate) at: usize,
+    pub(crate) len: usize,
+    pub(crate) header: HeaderView,
+    pub(crate) status: i32,
+    pub(crate) is_rtcp: u8,
+}
+
+/// A sequence number for one of several receivers, for [`receive_many`](crate::receive_many), and then what became
+/// of it. 24 bytes: `rtpw_arrival` in C.
+#[repr(C)]
+#[derive(Clone, Copy, Debug)]
+pub struct ArrivalSlot {
+    pub(crate) receiver: usize,
+    pub(crate) number: u64,
+    pub(crate) sequence_number: u16,
+    pub(crate) status: i32,
+}
+
 /// A spatial layer of a [`Stream`].
 #[repr(C)]
 #[derive(Clone, Copy, Debug, Default, PartialEq, Eq, Hash)]
@@ -218,6 +252,9 @@ mod tests {
         lies!(Time, 16, ticks 0, hertz 8);
         lies!(HeaderView, 224, header_len 0, timestamp 8, ssrc 12, csrc 16, sequence_number 76,
             payload_type 78, csrc_count 79, marker 80, has_padding 81, has_extension 82, values 88);
+        lies!(PacketSlot, 88, at 0, len 8, packet 16, status 80, is_rtcp 84);
+        lies!(HeaderSlot, 248, at 0, len 8, header 16, status 240, is_rtcp 244);
+        lies!(ArrivalSlot, 24, receiver 0, number 8, sequence_number 16, status 20);
         lies!(Layer, 40, kbps 0, width 32, height 34, framerate 36, has_resolution 37, rates 38);
         lies!(Stream, 168, layers 0, count 160);
         lies!(Layers, 680, streams 0, count 672, current 673);

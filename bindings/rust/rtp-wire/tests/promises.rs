@@ -13,11 +13,13 @@ use std::str::FromStr;
 
 use rtp_wire::{
     compact, extend_u15, extend_u16, extend_u32, extend_u8, from_retransmission, is_rtcp, pad,
-    put_element, read_original, to_retransmission, version, write_elements, write_original,
-    Arrival, BadId, BadRolloverCount, Csrcs, Element, Elements, Fields, Form, Header, Kind, Layer,
-    Layers, Map, Mid, NewIds, NotAHeader, NotAPacket, NotAText, NotChanged, NotPut,
-    NotRetransmitted, NotWritten, OwnKind, Packet, PacketMut, Place, Places, Receiver, Resolution,
-    RestartingReceiver, Rid, Stream, Text, TooManyLayers, Values, VideoTiming, WideReceiver,
+    parse_headers, parse_packets, put_element, read_original, receive_many, to_retransmission,
+    version, write_elements, write_original, Arrival, ArrivalSlot, BadId, BadRolloverCount, Csrcs,
+    Datagram, Datagrams, Element, Elements, Fields, Form, Header, HeaderSlot, Kind, Layer, Layers,
+    Map, Mid, NewIds, NotAHeader, NotAPacket, NotAText, NotChanged, NotPut, NotRead,
+    NotRetransmitted, NotTaken, NotWritten, OwnKind, Packet, PacketMut, PacketSlot, Place, Places,
+    Receiver, Resolution, RestartingReceiver, Rid, Stream, Text, TooManyLayers, Values,
+    VideoTiming, WideReceiver,
 };
 
 /// What every type has: it goes to another thread, and may be moved and logged.
@@ -72,16 +74,17 @@ fn each_type_has_its_traits() {
     let lacking = lack! {
         Value: Element<'_>, Place, Form, Header, Resolution, Layer, Stream, Layers, Kind, OwnKind, Map, NewIds,
             Fields, Receiver, Values, VideoTiming, Mid, Rid, Text<3>;
+        Copied: PacketSlot, HeaderSlot, ArrivalSlot, Datagram<'_, '_, PacketSlot>, Datagram<'_, '_, HeaderSlot>;
         Copied: Packet<'_>, Arrival, RestartingReceiver, WideReceiver<1>, WideReceiver<512>;
         Eq: Packet<'_>, Arrival;
-        Default: Place, Header, Layer, Stream, Layers, Map, NewIds, Fields, Receiver, RestartingReceiver,
+        Default: PacketSlot, HeaderSlot, Place, Header, Layer, Stream, Layers, Map, NewIds, Fields, Receiver, RestartingReceiver,
             WideReceiver<3>, Values, VideoTiming;
         Ord: Kind, OwnKind, Mid, Rid, Text<3>;
         Failure: NotAPacket, NotAHeader, NotWritten, NotChanged, NotPut, NotRetransmitted, NotAText, BadId,
-            BadRolloverCount, TooManyLayers;
-        Listed: Csrcs<'_>, Elements<'_>, Places<'_>;
-        DoubleEndedIterator: Csrcs<'_>;
-        ExactSizeIterator: Csrcs<'_>;
+            BadRolloverCount, TooManyLayers, NotRead, NotTaken;
+        Listed: Csrcs<'_>, Elements<'_>, Places<'_>, Datagrams<'_, '_, PacketSlot>, Datagrams<'_, '_, HeaderSlot>;
+        DoubleEndedIterator: Csrcs<'_>, Datagrams<'_, '_, PacketSlot>, Datagrams<'_, '_, HeaderSlot>;
+        ExactSizeIterator: Csrcs<'_>, Datagrams<'_, '_, PacketSlot>, Datagrams<'_, '_, HeaderSlot>;
         Display: Mid, Rid, Text<3>;
         Logged: PacketMut<'_>;
     };
@@ -288,6 +291,21 @@ mod may_grow {
         }
     }
 
+    pub fn read(it: NotRead) -> bool {
+        match it {
+            NotRead::NotAPacket(cause) => a_packet(cause),
+            NotRead::UnknownForm | NotRead::OutsideOfTheBuffer => true,
+            _ => false,
+        }
+    }
+
+    pub fn taken(it: NotTaken) -> bool {
+        match it {
+            NotTaken::Refused | NotTaken::NoReceiver => true,
+            _ => false,
+        }
+    }
+
     pub fn written(it: NotWritten) -> bool {
         match it {
             NotWritten::BadField | NotWritten::ShortBuffer => true,
@@ -358,6 +376,7 @@ fn some_enums_may_grow_and_others_do_not() {
     assert!(may_grow::written(NotWritten::BadField) && may_grow::put(cut.into()));
     assert!(may_grow::changed(NotChanged::NoSource) && may_grow::retransmitted(cut.into()));
     assert!(may_grow::a_kind(Kind::Mid));
+    assert!(may_grow::read(NotRead::NotAPacket(cut)) && may_grow::taken(NotTaken::Refused));
     // a program that has an arm for each of these is compiled
     let bits = |it| match it {
         Form::OneByte => 4,
@@ -384,6 +403,11 @@ fn each_function_has_its_type() {
     let _: [fn(u64, u16) -> u64; 2] = [extend_u15, extend_u16];
     let _: fn(u64, u32) -> u64 = extend_u32;
     let _: fn(&[u8]) -> bool = is_rtcp;
+    let _: for<'s, 'a> fn(&'a [u8], &'s mut [PacketSlot]) -> Datagrams<'s, 'a, PacketSlot> =
+        parse_packets;
+    let _: for<'s, 'a> fn(&'a [u8], &Map, &'s mut [HeaderSlot]) -> Datagrams<'s, 'a, HeaderSlot> =
+        parse_headers;
+    let _: fn(&mut [Receiver], &mut [ArrivalSlot]) = receive_many;
     let _: fn(&mut [u8], usize, u8, usize) -> Written = pad;
     let _: fn(&mut [u8], usize, u8, &[u8], Option<Form>) -> Put = put_element;
     let _: fn(&[u8]) -> Option<(u16, &[u8])> = read_original;
@@ -403,6 +427,11 @@ fn states_and_tables_are_plain_memory() {
         (256, 32)
     );
     assert_eq!(size_of::<WideReceiver<16>>(), 16 + 8 * 16);
+    assert_eq!(
+        (size_of::<PacketSlot>(), size_of::<HeaderSlot>()),
+        (88, 248)
+    );
+    assert_eq!(size_of::<ArrivalSlot>(), 24);
     assert_eq!((size_of::<Mid>(), size_of::<Rid>()), (17, 9));
 }
 

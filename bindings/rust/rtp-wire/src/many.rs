@@ -1,0 +1,256 @@
+use core::fmt;
+use core::iter::FusedIterator;
+use core::slice;
+
+use crate::error::{NotRead, NotTaken};
+use crate::header::Header;
+use crate::map::Map;
+use crate::packet::Packet;
+use crate::receiver::Receiver;
+use crate::sys;
+pub use crate::views::{ArrivalSlot, HeaderSlot, PacketSlot};
+
+/// Reads many datagrams that lie in one buffer, as after `recvmmsg`, each as [`Packet::parse`] reads it: one that is no
+/// packet spoils no other. The slots say where each lies; they may overlap.
+///
+/// ```
+/// use rtp_wire::{parse_packets, NotAPacket, NotRead, PacketSlot};
+///
+/// let buf = [0x80, 0x21, 0xB7, 0x98, 0, 0, 0x27, 0x10, 0, 0, 0, 0x2C, b'h', b'i', 0x80, 0x21, 0xB7];
+/// let mut slots = [PacketSlot::default(); 32]; // used again for each buffer
+/// slots[0].set_place(0, 14);
+/// slots[1].set_place(14, 3);
+/// slots[2].set_place(14, 4);
+///
+/// let mut datagrams = parse_packets(&buf, &mut slots[..3]);
+/// let packet = datagrams.next().expect("the first of three").packet()?;
+/// assert_eq!((packet.ssrc(), packet.sequence_number(), packet.payload()), (44, 47_000, &b"hi"[..]));
+/// let failures: Vec<_> = datagrams.map(|it| it.packet().expect_err("no packet")).collect();
+/// assert_eq!(failures, [NotRead::NotAPacket(NotAPacket::CutFixedPart), NotRead::OutsideOfTheBuffer]);
+/// # Ok::<(), NotRead>(())
+/// ```
+pub fn parse_packets<'s, 'a>(
+    buf: &'a [u8],
+    slots: &'s mut [PacketSlot],
+) -> Datagrams<'s, 'a, PacketSlot> {
+    sys::packet_parse_many(buf, slots);
+    let slots = slots.iter();
+    Datagrams { buf, slots }
+}
+
+/// Reads many datagrams as [`parse_packets`] does, each as [`Header::parse`] reads it under the map: its header, with
+/// the values of its block.
+///
+/// ```
+/// use rtp_wire::{parse_headers, HeaderSlot, Map};
+///
+/// let buf = [0x90, 96, 0, 5, 0, 0, 0, 160, 0, 0, 0, 7, 0xBE, 0xDE, 0, 1, 0x10, 0x8A, 0, 0, b'h', b'i'];
+/// let mut slots = [HeaderSlot::default(); 2];
+/// slots[0].set_place(0, 22);
+/// slots[1].set_place(0, 19);
+/// let map = Map::standard(); // 1 is the audio level
+/// let levels: Vec<_> = parse_headers(&buf, &map, &mut slots)
+///     .map(|it| Some((it.header().ok()?.values.audio_level?, it.payload()?)))
+///     .collect();
+/// assert_eq!(levels, [Some((-10, &b"hi"[..])), None]);
+/// ```
+pub fn parse_headers<'s, 'a>(
+    buf: &'a [u8],
+    map: &Map,
+    slots: &'s mut [HeaderSlot],
+) -> Datagrams<'s, 'a, HeaderSlot> {
+    sys::parse_many(buf, &map.kinds, slots);
+    let slots = slots.iter();
+    Datagrams { buf, slots }
+}
+
+/// Has many packets that needn't be authenticated judged in order, each by the receiver at its index, as
+/// [`Receiver::receive`] does.
+///
+/// ```
+/// use rtp_wire::{receive_many, ArrivalSlot, NotTaken, Receiver};
+///
+/// let mut receivers = [Receiver::starting_at(1)?, Receiver::new()];
+/// let mut arrivals = [(0, 5), (1, 5), (0, 5), (2, 5)].map(|(index, number)| ArrivalSlot::new(index, number));
+/// receive_many(&mut receivers, &mut arrivals);
+/// let numbers = arrivals.map(|it| it.number());
+/// assert_eq!(numbers, [Ok(65_541), Ok(5), Err(NotTaken::Refused), Err(NotTaken::NoReceiver)]);
+/// # Ok::<(), rtp_wire::BadRolloverCount>(())
+/// ```
+pub fn receive_many(receivers: &mut [Receiver], arrivals: &mut [ArrivalSlot]) {
+    sys::receive_many(receivers, arrivals);
+}
+
+/// The datagrams that [`parse_packets`] or [`parse_headers`] read, in the order of their slots.
+#[derive(Clone)]
+pub struct Datagrams<'s, 'a, Slot> {
+    buf: &'a [u8],
+    slots: slice::Iter<'s, Slot>,
+}
+
+/// One of several datagrams that were read. Nothing of it is copied: it borrows its slot, and what it lends lies in the
+/// buffer.
+#[derive(Clone, Copy)]
+pub struct Datagram<'s, 'a, Slot> {
+    buf: &'a [u8],
+    slot: &'s Slot,
+}
+
+impl<Slot: fmt::Debug> fmt::Debug for Datagrams<'_, '_, Slot> {
+    fn fmt(&self, f: &mut fmt::Formatter<'_>) -> fmt::Result {
+        let mut told = f.debug_struct("Datagrams");
+        told.field("slots", &self.slots).finish_non_exhaustive()
+    }
+}
+
+impl<Slot: fmt::Debug> fmt::Debug for Datagram<'_, '_, Slot> {
+    fn fmt(&self, f: &mut fmt::Formatter<'_>) -> fmt::Result {
+        let mut told = f.debug_struct("Datagram");
+        told.field("slot", self.slot).finish_non_exhaustive()
+    }
+}
+
+impl<'s, 'a, Slot> Iterator for Datagrams<'s, 'a, Slot> {
+    type Item = Datagram<'s, 'a, Slot>;
+
+    fn next(&mut self) -> Option<Datagram<'s, 'a, Slot>> {
+        let (buf, slot) = (self.buf, self.slots.next()?);
+        Some(Datagram { buf, slot })
+    }
+
+    fn size_hint(&self) -> (usize, Option<usize>) {
+        self.slots.size_hint()
+    }
+}
+
+impl<Slot> DoubleEndedIterator for Datagrams<'_, '_, Slot> {
+    fn next_back(&mut self) -> Option<Self::Item> {
+        let (buf, slot) = (self.buf, self.slots.next_back()?);
+        Some(Datagram { buf, slot })
+    }
+}
+
+impl<Slot> ExactSizeIterator for Datagrams<'_, '_, Slot> {}
+impl<Slot> FusedIterator for Datagrams<'_, '_, Slot> {}
+
+/// The bytes at the place; `None` where that isn't within the buffer.
+fn bytes_at(buf: &[u8], at: usize, len: usize) -> Option<&[u8]> {
+    buf.get(at..)?.get(..len)
+}
+
+impl<'a> Datagram<'_, 'a, PacketSlot> {
+    /// All of its bytes; `None` where it doesn't lie within the buffer.
+    #[must_use]
+    pub fn bytes(&self) -> Option<&'a [u8]> {
+        bytes_at(self.buf, self.slot.at, self.slot.len)
+    }
+
+    /// Whether it is RTCP, as [`is_rtcp`](crate::is_rtcp) says. On a port that RTP and RTCP share it comes before
+    /// [`packet`](Datagram::packet).
+    #[must_use]
+    pub fn is_rtcp(&self) -> bool {
+        self.slot.is_rtcp != 0
+    }
+
+    /// The packet that it is.
+    ///
+    /// # Errors
+    ///
+    /// The first cause for which it is none, or [`NotRead::OutsideOfTheBuffer`].
+    pub fn packet(&self) -> Result<Packet<'a>, NotRead> {
+        NotRead::of_status(self.slot.status)?;
+        let bytes = self.bytes().ok_or(NotRead::OutsideOfTheBuffer)?;
+        Ok(Packet::of(bytes, self.slot.packet))
+    }
+}
+
+impl<'a> Datagram<'_, 'a, HeaderSlot> {
+    /// All of its bytes; `None` where it doesn't lie within the buffer.
+    #[must_use]
+    pub fn bytes(&self) -> Option<&'a [u8]> {
+        bytes_at(self.buf, self.slot.at, self.slot.len)
+    }
+
+    /// Whether it is RTCP, as [`is_rtcp`](crate::is_rtcp) says. On a port that RTP and RTCP share it comes before
+    /// [`header`](Datagram::header).
+    #[must_use]
+    pub fn is_rtcp(&self) -> bool {
+        self.slot.is_rtcp != 0
+    }
+
+    /// The header that it begins with, and the values of its block.
+    ///
+    /// # Errors
+    ///
+    /// The first cause for which there is none, or [`NotRead::OutsideOfTheBuffer`].
+    pub fn header(&self) -> Result<Header, NotRead> {
+        NotRead::of_status(self.slot.status)?;
+        Ok(Header::of(&self.slot.header))
+    }
+
+    /// The payload with any padding; `None` where there is no [`header`](Datagram::header).
+    #[must_use]
+    pub fn payload(&self) -> Option<&'a [u8]> {
+        if self.slot.status != sys::OK {
+            return None;
+        }
+        self.bytes()?.get(self.slot.header.header_len..)
+    }
+}
+
+impl PacketSlot {
+    /// A slot for the datagram of so many bytes that begins there in the buffer.
+    #[must_use]
+    pub fn new(at: usize, len: usize) -> PacketSlot {
+        let mut slot = PacketSlot::default();
+        slot.set_place(at, len);
+        slot
+    }
+
+    /// Uses the slot for the datagram of so many bytes that begins there in the buffer.
+    pub fn set_place(&mut self, at: usize, len: usize) {
+        (self.at, self.len) = (at, len);
+    }
+}
+
+impl HeaderSlot {
+    /// A slot for the datagram of so many bytes that begins there in the buffer.
+    #[must_use]
+    pub fn new(at: usize, len: usize) -> HeaderSlot {
+        let mut slot = HeaderSlot::default();
+        slot.set_place(at, len);
+        slot
+    }
+
+    /// Uses the slot for the datagram of so many bytes that begins there in the buffer.
+    pub fn set_place(&mut self, at: usize, len: usize) {
+        (self.at, self.len) = (at, len);
+    }
+}
+
+impl ArrivalSlot {
+    /// A packet with this sequence number, for the receiver at this index.
+    #[must_use]
+    pub fn new(receiver: usize, sequence_number: u16) -> ArrivalSlot {
+        ArrivalSlot {
+            receiver,
+            number: 0,
+            sequence_number,
+            status: sys::BAD_FIELD,
+        }
+    }
+
+    /// The extended sequence number of the packet, where it was taken.
+    ///
+    /// # Errors
+    ///
+    /// [`NotTaken::Refused`] where it is a replay or too old to tell; [`NotTaken::NoReceiver`] where there is no receiver
+    /// at its index, or [`receive_many`] wasn't called yet.
+    pub fn number(&self) -> Result<u64, NotTaken> {
+        match self.status {
+            sys::OK => Ok(self.number),
+            sys::REFUSED => Err(NotTaken::Refused),
+            _ => Err(NotTaken::NoReceiver),
+        }
+    }
+}
