@@ -10,6 +10,11 @@
 // [Packet.Parse] reads all fields, values and places, and [Receiver.ReceivePacket] judges the packet too.
 // What is a look at these needs no call: the fields, the values, [Packet.Payload], [Header.CSRC].
 //
+// [Values] have some elements as str0m reads and writes them, and others not at all. The data that [Packet.Element]
+// lends are read as the standards have them, for any peer, by [ParseTransmissionOffset], [ParseFrameMarking],
+// [ParseOrientation], [ParseTiming], [ParseTransportNumber], [ParseColorSpace], [ParseDependencyDescriptor],
+// [ParseMixerLevel], [ParseNTP64] and [ParseNTP56], each with what writes them. [Packet.Token] has a mid as it lies.
+//
 // [WideReceiver] has a window of another size, and [RestartingReceiver], which is not for SRTP, tells that a sender has
 // started again.
 //
