@@ -7,8 +7,9 @@
 //! - To send: [`Header::write_to`], [`Header::write_with`], [`Header::write_with_layers`], [`write_elements`], [`pad`].
 //! - To send on: [`PacketMut`], [`put_element`], [`compact`], [`Fields`], [`Values::data_of`], [`NewIds`].
 //! - To send again: [`to_retransmission`], [`from_retransmission`], [`read_original`], [`write_original`].
-//! - What went wrong: [`NotAPacket`], [`NotAHeader`], [`NotWritten`], [`NotChanged`], [`NotPut`],
-//!   [`NotRetransmitted`], [`NotAText`], [`BadId`], [`BadRolloverCount`], [`TooManyLayers`].
+//! - Elements as their standards have them, for any peer: [`standard`], [`Packet::token`].
+//! - What went wrong: [`NotAPacket`], [`NotAHeader`], [`NotAValue`], [`NotWritten`], [`OutOfRange`], [`NotChanged`],
+//!   [`NotPut`], [`NotRetransmitted`], [`NotAText`], [`BadId`], [`BadRolloverCount`], [`TooManyLayers`].
 #![no_std]
 #![deny(unsafe_code)]
 #![warn(missing_docs, missing_debug_implementations)]
@@ -26,6 +27,7 @@ mod packet_mut;
 mod payload;
 mod receiver;
 mod restarting;
+pub mod standard;
 mod sys;
 mod text;
 mod values;
@@ -34,8 +36,8 @@ mod wide_receiver;
 
 pub use elements::{write_elements, Element, Elements, Place, Places};
 pub use error::{
-    BadId, BadRolloverCount, NotAHeader, NotAPacket, NotChanged, NotPut, NotRetransmitted,
-    NotWritten, TooManyLayers,
+    BadId, BadRolloverCount, NotAHeader, NotAPacket, NotAValue, NotChanged, NotPut,
+    NotRetransmitted, NotWritten, OutOfRange, TooManyLayers,
 };
 pub use growing::{compact, put_element};
 pub use header::Header;
