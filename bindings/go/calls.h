@@ -271,4 +271,92 @@ static inline call_len call_from_retransmission(uint8_t *buf, size_t size, size_
     return it;
 }
 
+/* The data that are written of a value: at most those of a color space. */
+typedef struct {
+    uint8_t data[28];
+    size_t len;
+    int32_t status;
+} call_data;
+
+/* What reads and writes the data of an element as its standard has them, for each struct of rtp_wire.h that is one of
+ * these values. */
+#define CALL_VALUE(name)                                                                                               \
+    typedef struct {                                                                                                   \
+        rtpw_##name value;                                                                                             \
+        int32_t status;                                                                                                \
+    } call_##name;                                                                                                     \
+    static inline call_##name call_read_##name(const uint8_t *data, size_t len) {                                      \
+        call_##name it;                                                                                                \
+        memset(&it, 0, sizeof it);                                                                                     \
+        it.status = rtpw_read_##name(data, len, &it.value);                                                            \
+        return it;                                                                                                     \
+    }                                                                                                                  \
+    static inline call_data call_write_##name(rtpw_##name value) {                                                     \
+        call_data it = {{0}, 0, RTPW_OK};                                                                              \
+        it.status = rtpw_write_##name(&value, it.data, sizeof it.data, &it.len);                                       \
+        return it;                                                                                                     \
+    }
+
+CALL_VALUE(frame_marking)
+CALL_VALUE(orientation)
+CALL_VALUE(timing)
+CALL_VALUE(transport_number)
+CALL_VALUE(color_space)
+CALL_VALUE(dependency_descriptor)
+
+typedef struct {
+    int32_t number;
+    int32_t status;
+} call_signed;
+
+static inline call_signed call_read_transmission_offset(const uint8_t *data, size_t len) {
+    call_signed it = {0, RTPW_OK};
+    it.status = rtpw_read_transmission_offset(data, len, &it.number);
+    return it;
+}
+
+static inline call_data call_write_transmission_offset(int32_t offset) {
+    call_data it = {{0}, 0, RTPW_OK};
+    it.status = rtpw_write_transmission_offset(offset, it.data, sizeof it.data, &it.len);
+    return it;
+}
+
+static inline call_signed call_read_mixer_level(const uint8_t *data, size_t len, size_t csrc_count, size_t index) {
+    int8_t level = 0;
+    call_signed it = {0, RTPW_OK};
+    it.status = rtpw_read_mixer_level(data, len, csrc_count, index, &level);
+    it.number = level;
+    return it;
+}
+
+static inline call_len call_write_mixer_levels(const int8_t *levels, size_t count, uint8_t *buf, size_t size) {
+    call_len it = {0};
+    it.status = rtpw_write_mixer_levels(levels, count, buf, size, &it.len);
+    return it;
+}
+
+static inline call_number call_read_ntp_64(const uint8_t *data, size_t len) {
+    call_number it = {0};
+    it.status = rtpw_read_ntp_64(data, len, &it.number);
+    return it;
+}
+
+static inline call_data call_write_ntp_64(uint64_t time) {
+    call_data it = {{0}, 0, RTPW_OK};
+    it.status = rtpw_write_ntp_64(time, it.data, sizeof it.data, &it.len);
+    return it;
+}
+
+static inline call_number call_read_ntp_56(const uint8_t *data, size_t len) {
+    call_number it = {0};
+    it.status = rtpw_read_ntp_56(data, len, &it.number);
+    return it;
+}
+
+static inline call_data call_write_ntp_56(uint64_t time) {
+    call_data it = {{0}, 0, RTPW_OK};
+    it.status = rtpw_write_ntp_56(time, it.data, sizeof it.data, &it.len);
+    return it;
+}
+
 #endif

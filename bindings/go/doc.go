@@ -13,6 +13,11 @@
 // Where many datagrams lie in one buffer one call reads them all ([HeaderBatch], [PacketBatch]), and another judges
 // them ([ArrivalBatch]): of 32 at once each then takes less than half of that time.
 //
+// [Values] have some elements as str0m reads and writes them, and others not at all. The data that [Packet.Element]
+// lends are read as the standards have them, for any peer, by [ParseTransmissionOffset], [ParseFrameMarking],
+// [ParseOrientation], [ParseTiming], [ParseTransportNumber], [ParseColorSpace], [ParseDependencyDescriptor],
+// [ParseMixerLevel], [ParseNTP64] and [ParseNTP56], each with what writes them. [Packet.Token] has a mid as it lies.
+//
 // [WideReceiver] has a window of another size, and [RestartingReceiver], which is not for SRTP, tells that a sender has
 // started again.
 //

@@ -204,3 +204,96 @@ func ExamplePacketBatch() {
 	// rtpwire: fewer than twelve bytes
 	// rtpwire: an argument is out of its range
 }
+
+// Two mids that the peer chose are one text to Values: the bytes of the element tell them apart.
+func ExamplePacket_Token() {
+	m := new(rtpwire.Map)
+	if err := m.Set(4, rtpwire.KindMID); err != nil {
+		log.Fatal(err)
+	}
+	header := []byte{0x90, 96, 0, 5, 0, 0, 0, 160, 0, 0, 0, 7, 0xBE, 0xDE, 0, 2, 0x44}
+	for _, text := range []string{"cam-1", "cam.1", "cam_1"} {
+		datagram := append(append(header[:17:17], text...), 0, 0)
+		var packet rtpwire.Packet
+		if err := packet.Parse(datagram, m); err != nil {
+			log.Fatal(err)
+		}
+		mid, _ := packet.Values.MID()
+		token, ok := packet.Token(m.IDOf(rtpwire.KindMID))
+		fmt.Println(mid, token, ok, rtpwire.KindMID.Keeps(token))
+	}
+	// Output:
+	// cam_1 cam-1 true false
+	// cam_1 cam.1 true false
+	// cam_1 cam_1 true true
+}
+
+// The offset of RFC 5450 has three bytes and a sign, and is put into a packet and read as any element.
+func ExampleAppendTransmissionOffset() {
+	const id = 3
+	buf := make([]byte, 100)
+	copy(buf, []byte{0x80, 96, 0, 5, 0, 0, 0, 160, 0, 0, 0, 7})
+	data, err := rtpwire.AppendTransmissionOffset(nil, -90)
+	if err != nil {
+		log.Fatal(err)
+	}
+	datagram, err := rtpwire.PutElement(buf, 12, id, data, rtpwire.AnyForm)
+	if err != nil {
+		log.Fatal(err)
+	}
+	fmt.Printf("% X\n", datagram[12:])
+
+	var packet rtpwire.Packet
+	if err := packet.Parse(datagram, nil); err != nil {
+		log.Fatal(err)
+	}
+	data, _ = packet.Element(id)
+	fmt.Println(rtpwire.ParseTransmissionOffset(data))
+	// Output:
+	// BE DE 00 01 32 FF FF A6
+	// -90 <nil>
+}
+
+func ExampleParseFrameMarking() {
+	marking, err := rtpwire.ParseFrameMarking([]byte{0xA9, 2, 7})
+	if err != nil {
+		log.Fatal(err)
+	}
+	fmt.Println(marking.Start, marking.End, marking.Independent, marking.Discardable)
+	if marking.HasLayers {
+		fmt.Println(marking.BaseLayerSync, marking.TemporalID, marking.LayerID, marking.TL0PicIdx)
+	}
+	marking.TemporalID = 8
+	data, err := marking.Append(nil)
+	fmt.Println(data, errors.Is(err, rtpwire.ErrBadField), err)
+	// Output:
+	// true false true false
+	// true 1 2 7
+	// [] true rtpwire: TemporalID is 8, and not 0 to 7
+}
+
+func ExampleOrientation_Append() {
+	orientation := rtpwire.Orientation{Turn: 270, Camera: rtpwire.BackCamera, Flip: true}
+	data, err := orientation.Append(nil)
+	fmt.Printf("% X %v\n", data, err)
+	// Output: 0D <nil>
+}
+
+func ExampleParseTransportNumber() {
+	number, err := rtpwire.ParseTransportNumber([]byte{0x12, 0x34, 0x80, 5})
+	if err != nil {
+		log.Fatal(err)
+	}
+	fmt.Printf("%#x: feedback on %d packets, with times %v\n", number.Number, number.Packets, number.Timestamps)
+	// Output: 0x1234: feedback on 5 packets, with times true
+}
+
+func ExampleExtendNTP56() {
+	low, err := rtpwire.ParseNTP56([]byte{0, 0, 0, 0x80, 0, 0, 0})
+	if err != nil {
+		log.Fatal(err)
+	}
+	// Half a second before the 24 bits of the seconds begin again, and half a second after.
+	fmt.Printf("%#x\n", rtpwire.ExtendNTP56(0x00FFFFFF_80000000, low))
+	// Output: 0x100000080000000
+}

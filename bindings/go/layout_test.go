@@ -20,9 +20,15 @@ func TestStructsLieAsThoseOfC(t *testing.T) {
 		la Layer
 		s  Stream
 		l  Layers
-		d  datagram
+		dg datagram
 		dh datagramHeader
 		a  arrival
+		fm FrameMarking
+		o  Orientation
+		ti Timing
+		n  TransportNumber
+		c  ColorSpace
+		d  DependencyDescriptor
 	)
 	rows := []struct {
 		name        string
@@ -131,13 +137,68 @@ func TestStructsLieAsThoseOfC(t *testing.T) {
 		{"layers", unsafe.Sizeof(l), 680},
 		{"layers.count", unsafe.Offsetof(l.count), 672},
 		{"layers.current", unsafe.Offsetof(l.current), 673},
+		{"frame_marking", unsafe.Sizeof(fm), 10},
+		{"frame_marking.start", unsafe.Offsetof(fm.Start), 0},
+		{"frame_marking.end", unsafe.Offsetof(fm.End), 1},
+		{"frame_marking.independent", unsafe.Offsetof(fm.Independent), 2},
+		{"frame_marking.discardable", unsafe.Offsetof(fm.Discardable), 3},
+		{"frame_marking.has_layers", unsafe.Offsetof(fm.HasLayers), 4},
+		{"frame_marking.base_layer_sync", unsafe.Offsetof(fm.BaseLayerSync), 5},
+		{"frame_marking.temporal_id", unsafe.Offsetof(fm.TemporalID), 6},
+		{"frame_marking.layer_id", unsafe.Offsetof(fm.LayerID), 7},
+		{"frame_marking.has_tl0_pic_idx", unsafe.Offsetof(fm.HasTL0PicIdx), 8},
+		{"frame_marking.tl0_pic_idx", unsafe.Offsetof(fm.TL0PicIdx), 9},
+		{"orientation", unsafe.Sizeof(o), 4},
+		{"orientation.turn", unsafe.Offsetof(o.Turn), 0},
+		{"orientation.camera", unsafe.Offsetof(o.Camera), 2},
+		{"orientation.flip", unsafe.Offsetof(o.Flip), 3},
+		{"timing", unsafe.Sizeof(ti), 14},
+		{"timing.encode_start", unsafe.Offsetof(ti.EncodeStart), 0},
+		{"timing.encode_finish", unsafe.Offsetof(ti.EncodeFinish), 2},
+		{"timing.packetize_complete", unsafe.Offsetof(ti.PacketizeComplete), 4},
+		{"timing.last_left_pacer", unsafe.Offsetof(ti.LastLeftPacer), 6},
+		{"timing.network", unsafe.Offsetof(ti.Network), 8},
+		{"timing.network2", unsafe.Offsetof(ti.Network2), 10},
+		{"timing.flags", unsafe.Offsetof(ti.Flags), 12},
+		{"timing.has_flags", unsafe.Offsetof(ti.HasFlags), 13},
+		{"transport_number", unsafe.Sizeof(n), 6},
+		{"transport_number.number", unsafe.Offsetof(n.Number), 0},
+		{"transport_number.packets", unsafe.Offsetof(n.Packets), 2},
+		{"transport_number.has_request", unsafe.Offsetof(n.HasRequest), 4},
+		{"transport_number.timestamps", unsafe.Offsetof(n.Timestamps), 5},
+		{"color_space", unsafe.Sizeof(c), 32},
+		{"color_space.hdr", unsafe.Offsetof(c.HDR), 0},
+		{"color_space.primaries", unsafe.Offsetof(c.Primaries), 24},
+		{"color_space.transfer", unsafe.Offsetof(c.Transfer), 25},
+		{"color_space.matrix", unsafe.Offsetof(c.Matrix), 26},
+		{"color_space.range", unsafe.Offsetof(c.Range), 27},
+		{"color_space.horizontal", unsafe.Offsetof(c.Horizontal), 28},
+		{"color_space.vertical", unsafe.Offsetof(c.Vertical), 29},
+		{"color_space.has_hdr", unsafe.Offsetof(c.HasHDR), 30},
+		{"hdr_metadata", unsafe.Sizeof(c.HDR), 24},
+		{"hdr_metadata.luminance_max", unsafe.Offsetof(c.HDR.LuminanceMax), 0},
+		{"hdr_metadata.luminance_min", unsafe.Offsetof(c.HDR.LuminanceMin), 2},
+		{"hdr_metadata.red", unsafe.Offsetof(c.HDR.Red), 4},
+		{"hdr_metadata.green", unsafe.Offsetof(c.HDR.Green), 8},
+		{"hdr_metadata.blue", unsafe.Offsetof(c.HDR.Blue), 12},
+		{"hdr_metadata.white", unsafe.Offsetof(c.HDR.White), 16},
+		{"hdr_metadata.max_content_light_level", unsafe.Offsetof(c.HDR.MaxContentLightLevel), 20},
+		{"hdr_metadata.max_frame_average_light_level", unsafe.Offsetof(c.HDR.MaxFrameAverageLightLevel), 22},
+		{"chromaticity", unsafe.Sizeof(c.HDR.White), 4},
+		{"chromaticity.x", unsafe.Offsetof(c.HDR.White.X), 0},
+		{"chromaticity.y", unsafe.Offsetof(c.HDR.White.Y), 2},
+		{"dependency_descriptor", unsafe.Sizeof(d), 6},
+		{"dependency_descriptor.frame_number", unsafe.Offsetof(d.FrameNumber), 0},
+		{"dependency_descriptor.start_of_frame", unsafe.Offsetof(d.StartOfFrame), 2},
+		{"dependency_descriptor.end_of_frame", unsafe.Offsetof(d.EndOfFrame), 3},
+		{"dependency_descriptor.template_id", unsafe.Offsetof(d.TemplateID), 4},
 		{"map", unsafe.Sizeof(Map{}), 256},
 		{"new_ids", unsafe.Sizeof(NewIDs{}), 256},
-		{"datagram", unsafe.Sizeof(d), 88},
-		{"datagram.len", unsafe.Offsetof(d.len), 8},
-		{"datagram.packet", unsafe.Offsetof(d.packet), 16},
-		{"datagram.status", unsafe.Offsetof(d.status), 80},
-		{"datagram.is_rtcp", unsafe.Offsetof(d.isRTCP), 84},
+		{"datagram", unsafe.Sizeof(dg), 88},
+		{"datagram.len", unsafe.Offsetof(dg.len), 8},
+		{"datagram.packet", unsafe.Offsetof(dg.packet), 16},
+		{"datagram.status", unsafe.Offsetof(dg.status), 80},
+		{"datagram.is_rtcp", unsafe.Offsetof(dg.isRTCP), 84},
 		{"datagram_header", unsafe.Sizeof(dh), 248},
 		{"datagram_header.len", unsafe.Offsetof(dh.len), 8},
 		{"datagram_header.header", unsafe.Offsetof(dh.header), 16},

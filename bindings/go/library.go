@@ -389,3 +389,113 @@ func receiveMany(receivers []Receiver, arrivals []arrival) {
 func libraryVersion() uint32 {
 	return uint32(C.rtpw_version())
 }
+
+// appended is the data, and after them those that were written of a value; the data alone where it can't be written.
+func appended(data []byte, it C.call_data) ([]byte, error) {
+	written := (*[unsafe.Sizeof(it.data)]byte)(unsafe.Pointer(&it.data))
+	return append(data, written[:it.len]...), errorOf(int32(it.status))
+}
+
+func parseFrameMarking(data []byte) (FrameMarking, error) {
+	it := C.call_read_frame_marking(first(data), size(data))
+	return *(*FrameMarking)(unsafe.Pointer(&it.value)), errorOf(int32(it.status))
+}
+
+func (m FrameMarking) append(data []byte) ([]byte, error) {
+	return appended(data, C.call_write_frame_marking(*(*C.rtpw_frame_marking)(unsafe.Pointer(&m))))
+}
+
+func parseOrientation(data []byte) (Orientation, error) {
+	it := C.call_read_orientation(first(data), size(data))
+	return *(*Orientation)(unsafe.Pointer(&it.value)), errorOf(int32(it.status))
+}
+
+func (o Orientation) append(data []byte) ([]byte, error) {
+	return appended(data, C.call_write_orientation(*(*C.rtpw_orientation)(unsafe.Pointer(&o))))
+}
+
+func parseTiming(data []byte) (Timing, error) {
+	it := C.call_read_timing(first(data), size(data))
+	return *(*Timing)(unsafe.Pointer(&it.value)), errorOf(int32(it.status))
+}
+
+func (t Timing) append(data []byte) ([]byte, error) {
+	return appended(data, C.call_write_timing(*(*C.rtpw_timing)(unsafe.Pointer(&t))))
+}
+
+func parseTransportNumber(data []byte) (TransportNumber, error) {
+	it := C.call_read_transport_number(first(data), size(data))
+	return *(*TransportNumber)(unsafe.Pointer(&it.value)), errorOf(int32(it.status))
+}
+
+func (n TransportNumber) append(data []byte) ([]byte, error) {
+	return appended(data, C.call_write_transport_number(*(*C.rtpw_transport_number)(unsafe.Pointer(&n))))
+}
+
+func parseColorSpace(data []byte) (ColorSpace, error) {
+	it := C.call_read_color_space(first(data), size(data))
+	return *(*ColorSpace)(unsafe.Pointer(&it.value)), errorOf(int32(it.status))
+}
+
+func (c ColorSpace) append(data []byte) ([]byte, error) {
+	return appended(data, C.call_write_color_space(*(*C.rtpw_color_space)(unsafe.Pointer(&c))))
+}
+
+func parseDependencyDescriptor(data []byte) (DependencyDescriptor, error) {
+	it := C.call_read_dependency_descriptor(first(data), size(data))
+	return *(*DependencyDescriptor)(unsafe.Pointer(&it.value)), errorOf(int32(it.status))
+}
+
+func (d DependencyDescriptor) append(data []byte) ([]byte, error) {
+	return appended(data, C.call_write_dependency_descriptor(*(*C.rtpw_dependency_descriptor)(unsafe.Pointer(&d))))
+}
+
+func hasDependencyStructure(data []byte) bool {
+	return bool(C.rtpw_has_structure(first(data), size(data)))
+}
+
+func isToken(data []byte) bool {
+	return bool(C.rtpw_is_token(first(data), size(data)))
+}
+
+func parseTransmissionOffset(data []byte) (int32, error) {
+	it := C.call_read_transmission_offset(first(data), size(data))
+	return int32(it.number), errorOf(int32(it.status))
+}
+
+func appendTransmissionOffset(data []byte, ticks int32) ([]byte, error) {
+	return appended(data, C.call_write_transmission_offset(C.int32_t(ticks)))
+}
+
+func parseMixerLevel(data []byte, csrcCount, index int) (int8, error) {
+	it := C.call_read_mixer_level(first(data), size(data), C.size_t(csrcCount), C.size_t(index))
+	return int8(it.number), errorOf(int32(it.status))
+}
+
+func writeMixerLevels(levels []int8, buf []byte) (int, error) {
+	if len(levels) == 0 {
+		return 0, nil
+	}
+	at := (*C.int8_t)(unsafe.Pointer(&levels[0]))
+	return lenOr(C.call_write_mixer_levels(at, C.size_t(len(levels)), first(buf), size(buf)))
+}
+
+func parseNTP64(data []byte) (uint64, error) {
+	return numberOr(C.call_read_ntp_64(first(data), size(data)))
+}
+
+func appendNTP64(data []byte, time uint64) ([]byte, error) {
+	return appended(data, C.call_write_ntp_64(C.uint64_t(time)))
+}
+
+func parseNTP56(data []byte) (uint64, error) {
+	return numberOr(C.call_read_ntp_56(first(data), size(data)))
+}
+
+func appendNTP56(data []byte, time uint64) ([]byte, error) {
+	return appended(data, C.call_write_ntp_56(C.uint64_t(time)))
+}
+
+func extendNTP56(near, low uint64) uint64 {
+	return uint64(C.rtpw_extend_ntp_56(C.uint64_t(near), C.uint64_t(low)))
+}

@@ -3,7 +3,8 @@ package rtpwire
 import "strconv"
 
 // A Kind is what a header extension says of its packet. Its numbers are this library's own, and from KindOwn to 255
-// yours: extensions that have no value here, as a dependency descriptor, whose elements you read and write.
+// yours: extensions that have no value here, as a dependency descriptor, whose elements you read and write
+// ([ParseDependencyDescriptor]).
 type Kind uint8
 
 // The kinds of extension; KindNone is that of an id that means nothing, and of a URI that is that of none.

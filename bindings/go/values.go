@@ -7,7 +7,8 @@ import (
 
 // Values are what the elements of a packet say under a map: for each kind the last element whose id means it and whose
 // data are well-formed for it. Each is told with whether it is there, and set to be written. They may be copied, and
-// those that were read may be compared with ==.
+// those that were read may be compared with ==. Some are read as str0m does and not as the standard of the extension
+// has them: what says so names the call that does.
 type Values struct {
 	sendTime              uint64
 	captureTime           uint64
@@ -122,27 +123,31 @@ func ticksOf(d time.Duration) ticks {
 	return ticks{uint64(d), uint32(time.Second)}
 }
 
-// TransmissionOffset is in ticks of the stream's clock; an element of four bytes.
+// TransmissionOffset is str0m's, in ticks of the stream's clock: an element of four bytes without a sign. RFC 5450 has
+// three, which this never reads: [ParseTransmissionOffset] does.
 func (v *Values) TransmissionOffset() (ticks uint32, ok bool) {
 	return v.transmissionOffset, v.hasTransmissionOffset
 }
 
-// SetTransmissionOffset sets the transmission offset.
+// SetTransmissionOffset sets the transmission offset, of which four bytes are written. Only str0m takes those: for any
+// other peer [AppendTransmissionOffset].
 func (v *Values) SetTransmissionOffset(ticks uint32) {
 	v.transmissionOffset, v.hasTransmissionOffset = ticks, true
 }
 
-// FrameMarking is the first four bytes of the frame marking.
+// FrameMarking is the first four bytes of the frame marking, which is str0m's reading and not that of RFC 9626:
+// [ParseFrameMarking].
 func (v *Values) FrameMarking() (marking uint32, ok bool) {
 	return v.frameMarking, v.hasFrameMarking
 }
 
-// SetFrameMarking sets the four bytes of the frame marking.
+// SetFrameMarking sets the four bytes of the frame marking, which are none of RFC 9626: [FrameMarking.Append].
 func (v *Values) SetFrameMarking(marking uint32) {
 	v.frameMarking, v.hasFrameMarking = marking, true
 }
 
-// TransportNumber is the packet's number over all streams of the transport.
+// TransportNumber is the packet's number over all streams of the transport, without the request for feedback of
+// transport-wide-cc-02: [ParseTransportNumber].
 func (v *Values) TransportNumber() (number uint16, ok bool) {
 	return v.transportNumber, v.hasTransportNumber
 }
@@ -152,23 +157,26 @@ func (v *Values) SetTransportNumber(number uint16) {
 	v.transportNumber, v.hasTransportNumber = number, true
 }
 
-// VideoOrientation is how the picture is to be turned, in degrees counter-clockwise: 0, 90, 180 or 270.
+// VideoOrientation is how the picture is to be turned, in degrees counter-clockwise: 0, 90, 180 or 270. The element
+// also says which camera it is of and whether it is mirrored, which is lost here: [ParseOrientation].
 func (v *Values) VideoOrientation() (degrees uint16, ok bool) {
 	return v.videoOrientation, v.hasVideoOrientation
 }
 
-// SetVideoOrientation sets the orientation: Write returns ErrBadField where it is none of the four.
+// SetVideoOrientation sets the orientation: Write returns ErrBadField where it is none of the four. A front camera and
+// no flip are written: [Orientation.Append].
 func (v *Values) SetVideoOrientation(degrees uint16) {
 	v.videoOrientation, v.hasVideoOrientation = degrees, true
 }
 
-// VideoTiming is when the frame was encoded and sent.
+// VideoTiming is when the frame was encoded and sent. Of 12 bytes, the older form, it takes the first for flags, and it
+// has neither network time: [ParseTiming].
 func (v *Values) VideoTiming() (timing VideoTiming, ok bool) {
 	t := v.videoTiming
 	return VideoTiming{v.timingFlags, t.encodeStart, t.encodeFinish, t.packetizeComplete, t.lastLeftPacer}, v.hasVideoTiming
 }
 
-// SetVideoTiming sets the video timing.
+// SetVideoTiming sets the video timing, of which 13 bytes are written, with network times of 0: [Timing.Append].
 func (v *Values) SetVideoTiming(t VideoTiming) {
 	v.videoTiming = times{t.EncodeStart, t.EncodeFinish, t.PacketizeComplete, t.LastLeftPacer}
 	v.timingFlags, v.hasVideoTiming = t.Flags, true
@@ -195,7 +203,9 @@ func (v *Values) SetAudioLevel(level int8, voice bool) {
 	v.voiceActivity, v.hasVoiceActivity = voice, true
 }
 
-// MID is the media section that the packet is of (RFC 9143), up to 16 characters.
+// MID is the media section that the packet is of (RFC 9143), up to 16 characters. Each other character than a letter or a
+// digit is read as an underscore, and what is longer is cut: "cam-1", "cam_1" and "cam.1" are one. [Packet.Token] has
+// the text as it lies, for a mid that the peer chose.
 func (v *Values) MID() (mid string, ok bool) {
 	return textOf(v.mid[:]), v.hasMID
 }
@@ -206,7 +216,7 @@ func (v *Values) SetMID(mid string) error {
 	return setText(v.mid[:], mid, &v.hasMID)
 }
 
-// RID is the stream that the packet is of (RFC 8852), up to 8 characters.
+// RID is the stream that the packet is of (RFC 8852), up to 8 characters, changed and cut as MID is: [Packet.Token].
 func (v *Values) RID() (rid string, ok bool) {
 	return textOf(v.rid[:]), v.hasRID
 }
@@ -216,7 +226,8 @@ func (v *Values) SetRID(rid string) error {
 	return setText(v.rid[:], rid, &v.hasRID)
 }
 
-// RepairedRID is the stream that this one repairs (RFC 8852), up to 8 characters.
+// RepairedRID is the stream that this one repairs (RFC 8852), up to 8 characters, changed and cut as MID is:
+// [Packet.Token].
 func (v *Values) RepairedRID() (rid string, ok bool) {
 	return textOf(v.repairedRID[:]), v.hasRepairedRID
 }
@@ -294,18 +305,23 @@ func textOf(room []byte) string {
 }
 
 func setText(room []byte, text string, has *bool) error {
-	if len(text) >= len(room) {
+	if !fits(text, len(room)) {
 		return ErrBadField
-	}
-	for _, c := range []byte(text) {
-		isLetter := 'a' <= c|0x20 && c|0x20 <= 'z'
-		if !isLetter && (c < '0' || c > '9') && c != '_' {
-			return ErrBadField
-		}
 	}
 	for i := copy(room, text); i < len(room); i++ {
 		room[i] = 0
 	}
 	*has = true
 	return nil
+}
+
+// fits is whether the text is letters, digits and underscores, of which a zero ends so much room.
+func fits(text string, room int) bool {
+	for _, c := range []byte(text) {
+		isLetter := 'a' <= c|0x20 && c|0x20 <= 'z'
+		if !isLetter && (c < '0' || c > '9') && c != '_' {
+			return false
+		}
+	}
+	return len(text) < room
 }

@@ -68,6 +68,22 @@ FIELDS: Dict[Any, Tuple[str, ...]] = {
     VideoTiming: ("encode_start", "encode_finish", "packetize_complete", "last_left_pacer", "flags"),
     Element: ("id", "data"),
     Taken: ("number", "restarted"),
+    rtp_wire.FrameMarking: ("start", "end", "independent", "discardable", "layers"),
+    rtp_wire.FrameLayers: ("base_layer_sync", "temporal_id", "layer_id", "tl0_pic_idx"),
+    rtp_wire.Orientation: ("camera", "flip", "turn"),
+    rtp_wire.Timing: (
+        *("encode_start", "encode_finish", "packetize_complete", "last_left_pacer", "network", "network2"),
+        "flags",
+    ),
+    rtp_wire.TransportNumber: ("number", "request"),
+    rtp_wire.FeedbackRequest: ("timestamps", "packets"),
+    rtp_wire.Chromaticity: ("x", "y"),
+    rtp_wire.HdrMetadata: (
+        *("luminance_max", "luminance_min", "red", "green", "blue", "white", "max_content_light_level"),
+        "max_frame_average_light_level",
+    ),
+    rtp_wire.ColorSpace: ("primaries", "transfer", "matrix", "range", "horizontal", "vertical", "hdr"),
+    rtp_wire.DependencyDescriptor: ("start_of_frame", "end_of_frame", "template_id", "frame_number"),
 }
 # The parameters of each call, as inspect tells them but for the types.
 CALLS: Dict[Any, str] = {
@@ -121,6 +137,25 @@ CALLS: Dict[Any, str] = {
     Taken: "(number, restarted)",
     Time: "(ticks, hertz)",
     RtpError: "(status, text=None)",
+    rtp_wire.FrameMarking: "(start, end, independent, discardable, layers=None)",
+    rtp_wire.FrameLayers: "(base_layer_sync, temporal_id, layer_id, tl0_pic_idx=None)",
+    rtp_wire.Orientation: "(camera, flip, turn)",
+    rtp_wire.TransportNumber: "(number, request=None)",
+    rtp_wire.ColorSpace: "(primaries, transfer, matrix, range, horizontal, vertical, hdr=None)",
+    rtp_wire.DependencyDescriptor: "(start_of_frame, end_of_frame, template_id, frame_number)",
+    rtp_wire.FrameMarking.from_data: "(data)",
+    rtp_wire.ColorSpace.to_data: "(self)",
+    rtp_wire.read_transmission_offset: "(data)",
+    rtp_wire.transmission_offset_data: "(ticks)",
+    rtp_wire.read_token: "(data)",
+    rtp_wire.read_mixer_level: "(data, csrc_count, index)",
+    rtp_wire.mixer_levels_data: "(levels)",
+    rtp_wire.read_ntp_64: "(data)",
+    rtp_wire.ntp_56_data: "(time)",
+    rtp_wire.extend_ntp_56: "(near, low)",
+    rtp_wire.has_dependency_structure: "(data)",
+    Packet.token: "(self, id)",
+    Kind.keeps: "(self, text)",
 }
 
 
@@ -372,9 +407,29 @@ SIZES = {
     _library.RawReceiver: 32,
     _library.RawWideReceiver: 16,
     _library.RawRestartingReceiver: 32,
+    _library.RawFrameMarking: 10,
+    _library.RawOrientation: 4,
+    _library.RawTiming: 14,
+    _library.RawTransportNumber: 6,
+    _library.RawChromaticity: 4,
+    _library.RawHdrMetadata: 24,
+    _library.RawColorSpace: 32,
+    _library.RawDependencyDescriptor: 6,
     _library.WholePacket: 64 + 136 + 8,
 }
-SMALL = {_library.RawFields: 4, _library.RawMap: 1, _library.RawNewIds: 1}
+SMALL = {
+    _library.RawFields: 4,
+    _library.RawMap: 1,
+    _library.RawNewIds: 1,
+    _library.RawFrameMarking: 1,
+    _library.RawOrientation: 2,
+    _library.RawTiming: 2,
+    _library.RawTransportNumber: 2,
+    _library.RawChromaticity: 2,
+    _library.RawHdrMetadata: 2,
+    _library.RawColorSpace: 2,
+    _library.RawDependencyDescriptor: 2,
+}
 
 
 class Structs(unittest.TestCase):

@@ -37,6 +37,14 @@ STRUCTS = {
     "rtpw_receiver": _library.RawReceiver,
     "rtpw_wide_receiver": _library.RawWideReceiver,
     "rtpw_restarting_receiver": _library.RawRestartingReceiver,
+    "rtpw_frame_marking": _library.RawFrameMarking,
+    "rtpw_orientation": _library.RawOrientation,
+    "rtpw_timing": _library.RawTiming,
+    "rtpw_transport_number": _library.RawTransportNumber,
+    "rtpw_chromaticity": _library.RawChromaticity,
+    "rtpw_hdr_metadata": _library.RawHdrMetadata,
+    "rtpw_color_space": _library.RawColorSpace,
+    "rtpw_dependency_descriptor": _library.RawDependencyDescriptor,
     "whole_packet": _library.WholePacket,
     "column": _library.RawColumn,
 }
@@ -45,7 +53,7 @@ NUMBERS: Dict[str, Any] = {
     "void": None,
     "bool": ctypes.c_bool,
     "size_t": ctypes.c_size_t,
-    **{f"{it}_t": getattr(ctypes, f"c_{it}") for it in ("uint8", "uint16", "uint32", "uint64", "int32")},
+    **{f"{it}_t": getattr(ctypes, f"c_{it}") for it in ("uint8", "uint16", "uint32", "uint64", "int8", "int32")},
 }
 
 

@@ -6,6 +6,7 @@ work is done by the functions of librtp_wire, each of which is proved.
 """
 
 from . import _library
+from ._color_space import ChromaSiting, Chromaticity, ColorRange, ColorSpace, HdrMetadata
 from ._columns import Column, Columns, TextColumn, Verdict, Verdicts
 from ._errors import BadField, Cause, NoElement, NotAPacket, OtherForm, RtpError, ShortBuffer, Status
 from ._growing import compact, put_element
@@ -24,15 +25,46 @@ from ._receiver import (
     extend_u16,
     extend_u32,
 )
+from ._standard import (
+    Camera,
+    DependencyDescriptor,
+    FeedbackRequest,
+    FrameLayers,
+    FrameMarking,
+    Orientation,
+    Timing,
+    TransportNumber,
+    extend_ntp_56,
+    has_dependency_structure,
+    mixer_levels_data,
+    ntp_56_data,
+    ntp_64_data,
+    read_mixer_level,
+    read_ntp_56,
+    read_ntp_64,
+    read_token,
+    read_transmission_offset,
+    transmission_offset_data,
+)
 from ._values import Time, Values, VideoTiming
 
 __all__ = [
     "BadField",
+    "Camera",
     "Cause",
+    "ChromaSiting",
+    "Chromaticity",
+    "ColorRange",
+    "ColorSpace",
     "Column",
     "Columns",
+    "DependencyDescriptor",
     "Element",
+    "FeedbackRequest",
     "Form",
+    "FrameLayers",
+    "FrameMarking",
+    "HdrMetadata",
     "Header",
     "Kind",
     "Layer",
@@ -41,6 +73,7 @@ __all__ = [
     "NewIds",
     "NoElement",
     "NotAPacket",
+    "Orientation",
     "OtherForm",
     "Packet",
     "Receiver",
@@ -52,6 +85,8 @@ __all__ = [
     "Taken",
     "TextColumn",
     "Time",
+    "Timing",
+    "TransportNumber",
     "Values",
     "Verdict",
     "Verdicts",
@@ -59,20 +94,27 @@ __all__ = [
     "WideReceiver",
     "compact",
     "elements",
+    "extend_ntp_56",
     "extend_u15",
     "extend_u16",
     "extend_u32",
     "extend_u8",
     "from_retransmission",
+    "has_dependency_structure",
     "is_rtcp",
+    "mixer_levels_data",
+    "ntp_56_data",
+    "ntp_64_data",
     "pad",
     "put_element",
+    "read_mixer_level",
+    "read_ntp_56",
+    "read_ntp_64",
     "read_original",
+    "read_token",
+    "read_transmission_offset",
     "to_retransmission",
+    "transmission_offset_data",
     "write_elements",
     "write_original",
 ]
-
-_version: int = _library.version()
-__version__ = f"{_version >> 16}.{_version >> 8 & 0xFF}.{_version & 0xFF}"
-"""The version of the library."""

@@ -19,7 +19,7 @@ from ctypes import (
     c_void_p,
 )
 from pathlib import Path
-from typing import TYPE_CHECKING, Any, Callable, Dict, cast
+from typing import TYPE_CHECKING, Any, Callable, Dict, Tuple, cast
 
 
 class RawPacket(Structure):
@@ -239,6 +239,81 @@ class RawRestartingReceiver(Structure):
     ]
 
 
+class RawFrameMarking(Structure):
+    _fields_ = [
+        ("start", c_uint8),
+        ("end", c_uint8),
+        ("independent", c_uint8),
+        ("discardable", c_uint8),
+        ("has_layers", c_uint8),
+        ("base_layer_sync", c_uint8),
+        ("temporal_id", c_uint8),
+        ("layer_id", c_uint8),
+        ("has_tl0_pic_idx", c_uint8),
+        ("tl0_pic_idx", c_uint8),
+    ]
+
+
+class RawOrientation(Structure):
+    _fields_ = [("turn", c_uint16), ("camera", c_uint8), ("flip", c_uint8)]
+
+
+class RawTiming(Structure):
+    _fields_ = [
+        ("encode_start", c_uint16),
+        ("encode_finish", c_uint16),
+        ("packetize_complete", c_uint16),
+        ("last_left_pacer", c_uint16),
+        ("network", c_uint16),
+        ("network2", c_uint16),
+        ("flags", c_uint8),
+        ("has_flags", c_uint8),
+    ]
+
+
+class RawTransportNumber(Structure):
+    _fields_ = [("number", c_uint16), ("packets", c_uint16), ("has_request", c_uint8), ("timestamps", c_uint8)]
+
+
+class RawChromaticity(Structure):
+    _fields_ = [("x", c_uint16), ("y", c_uint16)]
+
+
+class RawHdrMetadata(Structure):
+    _fields_ = [
+        ("luminance_max", c_uint16),
+        ("luminance_min", c_uint16),
+        ("red", RawChromaticity),
+        ("green", RawChromaticity),
+        ("blue", RawChromaticity),
+        ("white", RawChromaticity),
+        ("max_content_light_level", c_uint16),
+        ("max_frame_average_light_level", c_uint16),
+    ]
+
+
+class RawColorSpace(Structure):
+    _fields_ = [
+        ("hdr", RawHdrMetadata),
+        ("primaries", c_uint8),
+        ("transfer", c_uint8),
+        ("matrix", c_uint8),
+        ("range", c_uint8),
+        ("horizontal", c_uint8),
+        ("vertical", c_uint8),
+        ("has_hdr", c_uint8),
+    ]
+
+
+class RawDependencyDescriptor(Structure):
+    _fields_ = [
+        ("frame_number", c_uint16),
+        ("start_of_frame", c_uint8),
+        ("end_of_frame", c_uint8),
+        ("template_id", c_uint8),
+    ]
+
+
 # The interpreter's lock is kept during a call: to give it away would take as long as most calls do.
 _LIBRARY = PyDLL(str(Path(__file__).with_name("librtp_wire.so")))
 if TYPE_CHECKING:
@@ -375,6 +450,35 @@ write_elements = _declare(
     _BYTES,
     _SIZE,
     POINTER(c_size_t),
+)
+
+is_token = _declare(c_bool, "rtpw_is_token", _BYTES, _SIZE)
+has_structure = _declare(c_bool, "rtpw_has_structure", _BYTES, _SIZE)
+extend_ntp_56 = _declare(c_uint64, "rtpw_extend_ntp_56", c_uint64, c_uint64)
+
+
+def _declare_value(name: str, read: Any, written: Any = None) -> Tuple[Function, Function]:
+    """What reads and what writes the data of a value, which is a struct unless it is said what is written."""
+    return (
+        _declare(_STATUS, f"rtpw_read_{name}", _BYTES, _SIZE, POINTER(read)),
+        _declare(_STATUS, f"rtpw_write_{name}", written or POINTER(read), _BYTES, _SIZE, POINTER(c_size_t)),
+    )
+
+
+read_transmission_offset, write_transmission_offset = _declare_value("transmission_offset", c_int32, c_int32)
+read_frame_marking, write_frame_marking = _declare_value("frame_marking", RawFrameMarking)
+read_orientation, write_orientation = _declare_value("orientation", RawOrientation)
+read_timing, write_timing = _declare_value("timing", RawTiming)
+read_transport_number, write_transport_number = _declare_value("transport_number", RawTransportNumber)
+read_ntp_64, write_ntp_64 = _declare_value("ntp_64", c_uint64, c_uint64)
+read_ntp_56, write_ntp_56 = _declare_value("ntp_56", c_uint64, c_uint64)
+read_color_space, write_color_space = _declare_value("color_space", RawColorSpace)
+read_dependency_descriptor, write_dependency_descriptor = _declare_value(
+    "dependency_descriptor", RawDependencyDescriptor
+)
+read_mixer_level = _declare(_STATUS, "rtpw_read_mixer_level", _BYTES, _SIZE, _SIZE, _SIZE, POINTER(c_int8))
+write_mixer_levels = _declare(
+    _STATUS, "rtpw_write_mixer_levels", POINTER(c_int8), _SIZE, _BYTES, _SIZE, POINTER(c_size_t)
 )
 
 new_ids_between = _declare(None, "rtpw_new_ids_between", POINTER(RawMap), POINTER(RawMap), POINTER(RawNewIds))

@@ -2,6 +2,7 @@
 
 from __future__ import annotations
 
+import re
 from enum import IntEnum
 from typing import Any, Iterable, Iterator, Mapping, MutableMapping, Optional, Tuple, TypeVar, Union
 
@@ -11,7 +12,8 @@ from ._errors import check, unsigned, within
 
 class Kind(IntEnum):
     """The kinds of header extension, by numbers of this library, and from Kind(128), which is Kind.OWN, to Kind(255) by
-    yours: extensions that have no value here, as a dependency descriptor, whose elements you read and write.
+    yours: extensions that have no value here, as a dependency descriptor (`DependencyDescriptor`), whose elements you
+    read and write.
     """
 
     NONE = 0
@@ -48,6 +50,20 @@ class Kind(IntEnum):
         """The kind whose URI this is, letter for letter; NONE where it is that of none, as of your own kinds."""
         data = uri.encode()
         return cls(_library.kind_of_uri(data, len(data)))
+
+    def keeps(self, text: str) -> bool:
+        """Whether `Values` have this text of an element of the kind as it is: MID up to 16 ASCII letters, digits and
+        underscores, and RID and REPAIRED_RID up to 8. They have "cam_1" of "cam_1", "cam-1" and "cam.1", and the first
+        16 of 17 letters. A peer whose SDP has texts that aren't kept is understood by `Packet.token`.
+
+        >>> [text for text in ("cam_1", "cam-1", "cam.1") if Kind.MID.keeps(text)]
+        ['cam_1']
+        """
+        return len(text) <= _MOST.get(self, -1) and re.fullmatch("[A-Za-z0-9_]*", text) is not None
+
+
+# How many characters of a text there may be.
+_MOST = {Kind.MID: 16, Kind.RID: 8, Kind.REPAIRED_RID: 8}
 
 
 Entry = TypeVar("Entry", bound=int)

@@ -13,6 +13,7 @@ from ._errors import Status, check, error_of, unsigned
 from ._header import read_layers
 from ._library import whole_packet_parse
 from ._map import Map, NewIds
+from ._standard import token_of
 from ._values import Values, values_of
 
 if TYPE_CHECKING:
@@ -283,6 +284,19 @@ class Packet:
         form = self._raw.block_form
         status = _library.last_element(address_of(body), len(body), form, unsigned("an id", id, 8), found)
         return body[found.data_at : found.end] if status == 0 else None
+
+    def token(self, id: int) -> Optional[str]:
+        """The text of the last element of this id as it lies, as `read_token` has it: that of `map.id_of(Kind.MID)`,
+        say. None where there is no element of the id, or its data are no token. Where the kind doesn't keep it
+        (`Kind.keeps`) the text of the values is another one.
+
+        >>> datagram = bytes.fromhex("90000000 00000000 00000000 BEDE0002 14") + b"cam-1" + bytes(2)
+        >>> packet = Packet.parse(datagram, Map.from_uris([(1, "urn:ietf:params:rtp-hdrext:sdes:mid")]))
+        >>> packet.values.mid, packet.token(1)
+        ('cam_1', 'cam-1')
+        """
+        data = self.element(id)
+        return None if data is None else token_of(data)
 
     def set_element(self, id: int, data: Buffer) -> None:
         """Gives the last element of this id these data. NoElement where the packet has none, or its last one has

@@ -44,14 +44,17 @@ class VideoTiming(NamedTuple):
 
 @dataclass(repr=False)
 class Values:
-    """What the elements of a block say under a map. A value is None where it isn't there."""
+    """What the elements of a block say under a map. A value is None where it isn't there. Some are read as str0m does
+    and not as the standard of the extension has them: what says so names the call that does."""
 
     mid: Optional[str] = None
-    """The media section, up to 16 letters, digits and underscores (RFC 9143)."""
+    """The media section, up to 16 letters, digits and underscores (RFC 9143). As read each other character is an
+    underscore, and what is longer is cut: "cam-1", "cam_1" and "cam.1" are one. `Packet.token` has the text as it lies,
+    for a mid that the peer chose."""
     rid: Optional[str] = None
-    """The stream, up to 8 of them (RFC 8852)."""
+    """The stream, up to 8 of them (RFC 8852), changed and cut as the mid is: `Packet.token`."""
     repaired_rid: Optional[str] = None
-    """The stream that this one repairs, up to 8 of them (RFC 8852)."""
+    """The stream that this one repairs, up to 8 of them (RFC 8852), changed and cut as the mid is: `Packet.token`."""
     audio_level: Optional[int] = None
     """Decibels relative to the overload point, -127 to 0. It is written together with the voice activity, or not."""
     voice_activity: Optional[bool] = None
@@ -59,16 +62,19 @@ class Values:
     send_time: Optional[int] = None
     """When the packet left its sender, in microseconds: as read modulo 64 seconds."""
     transport_number: Optional[int] = None
-    """The packet's number over all streams of the transport, 16 bits."""
+    """The packet's number over all streams of the transport, 16 bits, without the request for feedback of
+    transport-wide-cc-02: `TransportNumber`."""
     video_orientation: Optional[int] = None
-    """How the picture is to be turned, in degrees counter-clockwise: 0, 90, 180 or 270."""
+    """How the picture is to be turned, in degrees counter-clockwise: 0, 90, 180 or 270. Which camera it is of and
+    whether it is mirrored is lost, and written as a front camera and no flip: `Orientation`."""
     capture_time: Optional[int] = None
     """When the frame was captured, an NTP timestamp with 32 bits of fraction."""
     capture_offset: Optional[int] = None
     """How far the capturer's clock is ahead of the sender's, in seconds with 32 bits of fraction. It is written with a
     capture time alone."""
     transmission_offset: Optional[int] = None
-    """Ticks of the stream's clock, 32 bits."""
+    """str0m's, in ticks of the stream's clock: four bytes without a sign. RFC 5450 has three, which are never read so,
+    and no other peer takes the four that are written: `read_transmission_offset`, `transmission_offset_data`."""
     playout_delay_min: Optional[Time] = None
     """For how long the receiver may hold the frame at least. Of the two delays both are written, or none."""
     playout_delay_max: Optional[Time] = None
@@ -76,9 +82,10 @@ class Values:
     video_content_type: Optional[int] = None
     """0 unspecified, 1 a screen."""
     video_timing: Optional[VideoTiming] = None
-    """When the frame was encoded and sent."""
+    """When the frame was encoded and sent. Of 12 bytes, the older form, the first is taken for flags, and neither
+    network time is read or written: `Timing`."""
     frame_marking: Optional[int] = None
-    """The first four bytes of the frame marking."""
+    """The first four bytes of the frame marking, which is str0m's reading and not that of RFC 9626: `FrameMarking`."""
     layers: Optional[Layers] = None
     """Which simulcast streams and layers the sender keeps active."""
 

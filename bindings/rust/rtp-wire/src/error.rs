@@ -1,5 +1,6 @@
 use core::error::Error;
 use core::fmt;
+use core::ops::RangeInclusive;
 
 use crate::sys;
 
@@ -164,6 +165,8 @@ impl Error for NotTaken {}
 pub enum NotWritten {
     /// No packet can carry what was given.
     BadField,
+    /// This field of a value of [`standard`](crate::standard) can't be written.
+    OutOfRange(OutOfRange),
     /// The buffer has too few bytes, and nothing else is amiss.
     ShortBuffer,
 }
@@ -180,14 +183,80 @@ impl NotWritten {
 
 impl fmt::Display for NotWritten {
     fn fmt(&self, f: &mut fmt::Formatter<'_>) -> fmt::Result {
-        f.write_str(match self {
-            NotWritten::BadField => "an argument is out of its range",
-            NotWritten::ShortBuffer => "a buffer is too short",
-        })
+        match self {
+            NotWritten::BadField => f.write_str("an argument is out of its range"),
+            NotWritten::OutOfRange(field) => field.fmt(f),
+            NotWritten::ShortBuffer => f.write_str("a buffer is too short"),
+        }
     }
 }
 
 impl Error for NotWritten {}
+
+impl From<OutOfRange> for NotWritten {
+    fn from(field: OutOfRange) -> NotWritten {
+        NotWritten::OutOfRange(field)
+    }
+}
+
+/// A field is out of its range.
+#[derive(Clone, Copy, Debug, PartialEq, Eq, Hash)]
+pub struct OutOfRange {
+    /// The name of the field.
+    pub field: &'static str,
+    /// What was given.
+    pub value: i32,
+    /// The least that can be written.
+    pub least: i32,
+    /// The most that can be written.
+    pub most: i32,
+}
+
+impl OutOfRange {
+    /// Nothing where the value of the field is in this range.
+    pub(crate) fn check(
+        field: &'static str,
+        value: i32,
+        range: RangeInclusive<i32>,
+    ) -> Result<(), OutOfRange> {
+        if range.contains(&value) {
+            return Ok(());
+        }
+        let (least, most) = range.into_inner();
+        Err(OutOfRange {
+            field,
+            value,
+            least,
+            most,
+        })
+    }
+}
+
+impl fmt::Display for OutOfRange {
+    fn fmt(&self, f: &mut fmt::Formatter<'_>) -> fmt::Result {
+        let OutOfRange {
+            field,
+            value,
+            least,
+            most,
+        } = self;
+        write!(f, "{field} is {value}, and not {least} to {most}")
+    }
+}
+
+impl Error for OutOfRange {}
+
+/// The data of an element are not well-formed for a value of [`standard`](crate::standard).
+#[derive(Clone, Copy, Debug, PartialEq, Eq, Hash)]
+pub struct NotAValue;
+
+impl fmt::Display for NotAValue {
+    fn fmt(&self, f: &mut fmt::Formatter<'_>) -> fmt::Result {
+        f.write_str("data that are not well-formed for the value")
+    }
+}
+
+impl Error for NotAValue {}
 
 /// More than four streams, layers or temporal layers were given.
 #[derive(Clone, Copy, Debug, PartialEq, Eq, Hash)]

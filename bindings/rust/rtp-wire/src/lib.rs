@@ -8,7 +8,8 @@
 //! - To send: [`Header::write_to`], [`Header::write_with`], [`Header::write_with_layers`], [`write_elements`], [`pad`].
 //! - To send on: [`PacketMut`], [`put_element`], [`compact`], [`Fields`], [`Values::data_of`], [`NewIds`].
 //! - To send again: [`to_retransmission`], [`from_retransmission`], [`read_original`], [`write_original`].
-//! - What went wrong: [`NotAPacket`], [`NotAHeader`], [`NotRead`], [`NotTaken`], [`NotWritten`], [`NotChanged`],
+//! - Elements as their standards have them, for any peer: [`standard`], [`Packet::token`].
+//! - What went wrong: [`NotAPacket`], [`NotAHeader`], [`NotAValue`], [`NotRead`], [`NotTaken`], [`NotWritten`], [`OutOfRange`], [`NotChanged`],
 //!   [`NotPut`], [`NotRetransmitted`], [`NotAText`], [`BadId`], [`BadRolloverCount`], [`TooManyLayers`].
 #![no_std]
 #![deny(unsafe_code)]
@@ -28,6 +29,7 @@ mod packet_mut;
 mod payload;
 mod receiver;
 mod restarting;
+pub mod standard;
 mod sys;
 mod text;
 mod values;
@@ -36,8 +38,8 @@ mod wide_receiver;
 
 pub use elements::{write_elements, Element, Elements, Place, Places};
 pub use error::{
-    BadId, BadRolloverCount, NotAHeader, NotAPacket, NotChanged, NotPut, NotRead, NotRetransmitted,
-    NotTaken, NotWritten, TooManyLayers,
+    BadId, BadRolloverCount, NotAHeader, NotAPacket, NotAValue, NotChanged, NotPut, NotRead,
+    NotRetransmitted, NotTaken, NotWritten, OutOfRange, TooManyLayers,
 };
 pub use growing::{compact, put_element};
 pub use header::Header;

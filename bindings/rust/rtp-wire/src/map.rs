@@ -2,6 +2,7 @@ use core::fmt;
 
 use crate::error::BadId;
 use crate::sys;
+use crate::text::{Mid, Rid};
 use crate::views::StoredMap;
 
 /// The number of an extension of the caller's own, 128 to 255.
@@ -37,7 +38,8 @@ pub enum Kind {
     ColorSpace,
     Layers,
     /// One of the caller's own, by the number that it gave it ([`Kind::own`]): an extension that has no
-    /// value here, as a dependency descriptor. What reads and writes values passes over its ids.
+    /// value here, as a dependency descriptor ([`standard`](crate::standard)). What reads and writes values
+    /// passes over its ids.
     Own(OwnKind),
 }
 
@@ -91,6 +93,26 @@ impl Kind {
     #[must_use]
     pub fn from_uri(uri: &str) -> Option<Kind> {
         Kind::of_number(sys::kind_of_uri(uri.as_bytes()))
+    }
+
+    /// Whether [`Values`](crate::Values) have this text of an element of the kind as it is: [`Kind::Mid`] up to
+    /// 16 ASCII letters, digits and underscores, and [`Kind::Rid`] and [`Kind::RepairedRid`] up to 8. They have
+    /// `cam_1` of `cam_1`, `cam-1` and `cam.1`, and the first 16 of 17 letters. A peer whose SDP has texts that
+    /// aren't kept is understood by [`Packet::token`](crate::Packet::token).
+    ///
+    /// ```
+    /// use rtp_wire::Kind;
+    ///
+    /// assert!(Kind::Mid.keeps("cam_1") && !Kind::Mid.keeps("cam-1"));
+    /// assert!(Kind::Mid.keeps("123456789") && !Kind::Rid.keeps("123456789"));
+    /// ```
+    #[must_use]
+    pub fn keeps(self, text: &str) -> bool {
+        match self {
+            Kind::Mid => text.parse::<Mid>().is_ok(),
+            Kind::Rid | Kind::RepairedRid => text.parse::<Rid>().is_ok(),
+            _ => false,
+        }
     }
 
     fn of_number(number: u8) -> Option<Kind> {

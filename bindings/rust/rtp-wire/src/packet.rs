@@ -3,6 +3,7 @@ use core::iter::FusedIterator;
 
 use crate::elements::Elements;
 use crate::error::NotAPacket;
+use crate::standard::parse_token;
 use crate::sys;
 use crate::views::PacketParts;
 
@@ -176,6 +177,25 @@ impl<'a> Packet<'a> {
         let (form, body) = self.block()?;
         let place = sys::last_element(body, form.number(), id)?;
         Some(&body[place.data()])
+    }
+
+    /// The text of the last element of this id as it lies, as [`parse_token`] has it: that of
+    /// [`Map::id_of`](crate::Map::id_of) of [`Kind::Mid`](crate::Kind::Mid), say. `None` where there is no element
+    /// of the id, or its data are no token. Where the kind doesn't keep it ([`Kind::keeps`](crate::Kind::keeps))
+    /// the text of [`Values`](crate::Values) is another one.
+    ///
+    /// ```
+    /// use rtp_wire::{Kind, Map, Packet};
+    ///
+    /// const MAP: Map = Map::new().with(1, Kind::Mid);
+    /// let packet = Packet::parse(b"\x90\0\0\0\0\0\0\0\0\0\0\0\xBE\xDE\0\x02\x14cam-1\0\0")?;
+    /// assert_eq!(packet.values(&MAP).mid.as_deref(), Some("cam_1"));
+    /// assert_eq!(packet.token(1), Some("cam-1"));
+    /// # Ok::<(), rtp_wire::NotAPacket>(())
+    /// ```
+    #[must_use]
+    pub fn token(&self, id: u8) -> Option<&'a str> {
+        parse_token(self.element(id)?).ok()
     }
 }
 

@@ -9,8 +9,10 @@
 
 use crate::receiver::Receiver;
 use crate::views::{
-    ArrivalSlot, FieldsView, HeaderSlot, HeaderView, Layers, PacketParts, PacketSlot, Place,
-    ReceiverState, RestartingState, StoredMap, StoredNewIds, ValuesView, WideState,
+    ArrivalSlot, ColorSpaceView, DependencyDescriptorView, FieldsView, FrameMarkingView,
+    HeaderSlot, HeaderView, Layers, OrientationView, PacketParts, PacketSlot, Place, ReceiverState,
+    RestartingState, StoredMap, StoredNewIds, TimingView, TransportNumberView, ValuesView,
+    WideState,
 };
 
 pub const OK: i32 = 0;
@@ -31,11 +33,15 @@ pub const ONE_BYTE_FORM: u8 = 1;
 pub const TWO_BYTE_FORM: u8 = 2;
 pub const CSRC_AT: usize = 12;
 pub const KIND_OWN: u8 = 128;
+pub const CAMERA_FRONT: u8 = 0;
+pub const CAMERA_BACK: u8 = 1;
 
 mod c {
     use super::{
-        ArrivalSlot, FieldsView, HeaderSlot, HeaderView, Layers, PacketParts, PacketSlot, Place,
-        ReceiverState, RestartingState, StoredMap, StoredNewIds, ValuesView, WideState,
+        ArrivalSlot, ColorSpaceView, DependencyDescriptorView, FieldsView, FrameMarkingView,
+        HeaderSlot, HeaderView, Layers, OrientationView, PacketParts, PacketSlot, Place,
+        ReceiverState, RestartingState, StoredMap, StoredNewIds, TimingView, TransportNumberView,
+        ValuesView, WideState,
     };
 
     extern "C" {
@@ -210,6 +216,100 @@ mod c {
             size: usize,
             len: *mut usize,
         ) -> i32;
+        pub fn rtpw_read_frame_marking(
+            data: *const u8,
+            data_len: usize,
+            value: *mut FrameMarkingView,
+        ) -> i32;
+        pub fn rtpw_write_frame_marking(
+            value: *const FrameMarkingView,
+            buf: *mut u8,
+            size: usize,
+            len: *mut usize,
+        ) -> i32;
+        pub fn rtpw_read_orientation(
+            data: *const u8,
+            data_len: usize,
+            value: *mut OrientationView,
+        ) -> i32;
+        pub fn rtpw_write_orientation(
+            value: *const OrientationView,
+            buf: *mut u8,
+            size: usize,
+            len: *mut usize,
+        ) -> i32;
+        pub fn rtpw_read_timing(data: *const u8, data_len: usize, value: *mut TimingView) -> i32;
+        pub fn rtpw_write_timing(
+            value: *const TimingView,
+            buf: *mut u8,
+            size: usize,
+            len: *mut usize,
+        ) -> i32;
+        pub fn rtpw_read_transport_number(
+            data: *const u8,
+            data_len: usize,
+            value: *mut TransportNumberView,
+        ) -> i32;
+        pub fn rtpw_write_transport_number(
+            value: *const TransportNumberView,
+            buf: *mut u8,
+            size: usize,
+            len: *mut usize,
+        ) -> i32;
+        pub fn rtpw_read_color_space(
+            data: *const u8,
+            data_len: usize,
+            value: *mut ColorSpaceView,
+        ) -> i32;
+        pub fn rtpw_write_color_space(
+            value: *const ColorSpaceView,
+            buf: *mut u8,
+            size: usize,
+            len: *mut usize,
+        ) -> i32;
+        pub fn rtpw_read_dependency_descriptor(
+            data: *const u8,
+            data_len: usize,
+            value: *mut DependencyDescriptorView,
+        ) -> i32;
+        pub fn rtpw_write_dependency_descriptor(
+            value: *const DependencyDescriptorView,
+            buf: *mut u8,
+            size: usize,
+            len: *mut usize,
+        ) -> i32;
+        pub fn rtpw_read_transmission_offset(
+            data: *const u8,
+            data_len: usize,
+            offset: *mut i32,
+        ) -> i32;
+        pub fn rtpw_write_transmission_offset(
+            offset: i32,
+            buf: *mut u8,
+            size: usize,
+            len: *mut usize,
+        ) -> i32;
+        pub fn rtpw_read_mixer_level(
+            data: *const u8,
+            data_len: usize,
+            csrc_count: usize,
+            index: usize,
+            level: *mut i8,
+        ) -> i32;
+        pub fn rtpw_write_mixer_levels(
+            levels: *const i8,
+            count: usize,
+            buf: *mut u8,
+            size: usize,
+            len: *mut usize,
+        ) -> i32;
+        pub fn rtpw_read_ntp_64(data: *const u8, data_len: usize, time: *mut u64) -> i32;
+        pub fn rtpw_write_ntp_64(time: u64, buf: *mut u8, size: usize, len: *mut usize) -> i32;
+        pub fn rtpw_read_ntp_56(data: *const u8, data_len: usize, time: *mut u64) -> i32;
+        pub fn rtpw_write_ntp_56(time: u64, buf: *mut u8, size: usize, len: *mut usize) -> i32;
+        pub fn rtpw_extend_ntp_56(near: u64, low: u64) -> u64;
+        pub fn rtpw_is_token(data: *const u8, data_len: usize) -> bool;
+        pub fn rtpw_has_structure(data: *const u8, data_len: usize) -> bool;
         pub fn rtpw_new_ids_between(
             from: *const StoredMap,
             to: *const StoredMap,
@@ -557,6 +657,157 @@ pub fn write_elements(
             len,
         )
     }
+}
+
+pub fn read_frame_marking(data: &[u8]) -> Option<FrameMarkingView> {
+    let mut value = FrameMarkingView::default();
+    // SAFETY: a slice that is read, and an exclusive reference.
+    let status = unsafe { c::rtpw_read_frame_marking(data.as_ptr(), data.len(), &mut value) };
+    (status == OK).then_some(value)
+}
+
+pub fn write_frame_marking(value: &FrameMarkingView, buf: &mut [u8], len: &mut usize) -> i32 {
+    // SAFETY: a reference that is read, an exclusive slice, and an exclusive reference.
+    unsafe { c::rtpw_write_frame_marking(value, buf.as_mut_ptr(), buf.len(), len) }
+}
+
+pub fn read_orientation(data: &[u8]) -> Option<OrientationView> {
+    let mut value = OrientationView::default();
+    // SAFETY: a slice that is read, and an exclusive reference.
+    let status = unsafe { c::rtpw_read_orientation(data.as_ptr(), data.len(), &mut value) };
+    (status == OK).then_some(value)
+}
+
+pub fn write_orientation(value: &OrientationView, buf: &mut [u8], len: &mut usize) -> i32 {
+    // SAFETY: a reference that is read, an exclusive slice, and an exclusive reference.
+    unsafe { c::rtpw_write_orientation(value, buf.as_mut_ptr(), buf.len(), len) }
+}
+
+pub fn read_timing(data: &[u8]) -> Option<TimingView> {
+    let mut value = TimingView::default();
+    // SAFETY: a slice that is read, and an exclusive reference.
+    let status = unsafe { c::rtpw_read_timing(data.as_ptr(), data.len(), &mut value) };
+    (status == OK).then_some(value)
+}
+
+pub fn write_timing(value: &TimingView, buf: &mut [u8], len: &mut usize) -> i32 {
+    // SAFETY: a reference that is read, an exclusive slice, and an exclusive reference.
+    unsafe { c::rtpw_write_timing(value, buf.as_mut_ptr(), buf.len(), len) }
+}
+
+pub fn read_transport_number(data: &[u8]) -> Option<TransportNumberView> {
+    let mut value = TransportNumberView::default();
+    // SAFETY: a slice that is read, and an exclusive reference.
+    let status = unsafe { c::rtpw_read_transport_number(data.as_ptr(), data.len(), &mut value) };
+    (status == OK).then_some(value)
+}
+
+pub fn write_transport_number(value: &TransportNumberView, buf: &mut [u8], len: &mut usize) -> i32 {
+    // SAFETY: a reference that is read, an exclusive slice, and an exclusive reference.
+    unsafe { c::rtpw_write_transport_number(value, buf.as_mut_ptr(), buf.len(), len) }
+}
+
+pub fn read_color_space(data: &[u8]) -> Option<ColorSpaceView> {
+    let mut value = ColorSpaceView::default();
+    // SAFETY: a slice that is read, and an exclusive reference.
+    let status = unsafe { c::rtpw_read_color_space(data.as_ptr(), data.len(), &mut value) };
+    (status == OK).then_some(value)
+}
+
+pub fn write_color_space(value: &ColorSpaceView, buf: &mut [u8], len: &mut usize) -> i32 {
+    // SAFETY: a reference that is read, an exclusive slice, and an exclusive reference.
+    unsafe { c::rtpw_write_color_space(value, buf.as_mut_ptr(), buf.len(), len) }
+}
+
+pub fn read_dependency_descriptor(data: &[u8]) -> Option<DependencyDescriptorView> {
+    let mut value = DependencyDescriptorView::default();
+    // SAFETY: a slice that is read, and an exclusive reference.
+    let status =
+        unsafe { c::rtpw_read_dependency_descriptor(data.as_ptr(), data.len(), &mut value) };
+    (status == OK).then_some(value)
+}
+
+pub fn write_dependency_descriptor(
+    value: &DependencyDescriptorView,
+    buf: &mut [u8],
+    len: &mut usize,
+) -> i32 {
+    // SAFETY: a reference that is read, an exclusive slice, and an exclusive reference.
+    unsafe { c::rtpw_write_dependency_descriptor(value, buf.as_mut_ptr(), buf.len(), len) }
+}
+
+pub fn read_transmission_offset(data: &[u8]) -> Option<i32> {
+    let mut offset = 0;
+    // SAFETY: a slice that is read, and an exclusive reference.
+    let status =
+        unsafe { c::rtpw_read_transmission_offset(data.as_ptr(), data.len(), &mut offset) };
+    (status == OK).then_some(offset)
+}
+
+pub fn write_transmission_offset(offset: i32, buf: &mut [u8], len: &mut usize) -> i32 {
+    // SAFETY: an exclusive slice, and an exclusive reference.
+    unsafe { c::rtpw_write_transmission_offset(offset, buf.as_mut_ptr(), buf.len(), len) }
+}
+
+pub fn read_ntp_64(data: &[u8]) -> Option<u64> {
+    let mut time = 0;
+    // SAFETY: a slice that is read, and an exclusive reference.
+    let status = unsafe { c::rtpw_read_ntp_64(data.as_ptr(), data.len(), &mut time) };
+    (status == OK).then_some(time)
+}
+
+pub fn write_ntp_64(time: u64, buf: &mut [u8], len: &mut usize) -> i32 {
+    // SAFETY: an exclusive slice, and an exclusive reference.
+    unsafe { c::rtpw_write_ntp_64(time, buf.as_mut_ptr(), buf.len(), len) }
+}
+
+pub fn read_ntp_56(data: &[u8]) -> Option<u64> {
+    let mut time = 0;
+    // SAFETY: a slice that is read, and an exclusive reference.
+    let status = unsafe { c::rtpw_read_ntp_56(data.as_ptr(), data.len(), &mut time) };
+    (status == OK).then_some(time)
+}
+
+pub fn write_ntp_56(time: u64, buf: &mut [u8], len: &mut usize) -> i32 {
+    // SAFETY: an exclusive slice, and an exclusive reference.
+    unsafe { c::rtpw_write_ntp_56(time, buf.as_mut_ptr(), buf.len(), len) }
+}
+
+pub fn read_mixer_level(data: &[u8], csrc_count: usize, index: usize) -> Option<i8> {
+    let mut level = 0;
+    // SAFETY: a slice that is read, and an exclusive reference.
+    let status = unsafe {
+        c::rtpw_read_mixer_level(data.as_ptr(), data.len(), csrc_count, index, &mut level)
+    };
+    (status == OK).then_some(level)
+}
+
+pub fn write_mixer_levels(levels: &[i8], buf: &mut [u8], len: &mut usize) -> i32 {
+    // SAFETY: a slice that is read, an exclusive slice, and an exclusive reference.
+    unsafe {
+        c::rtpw_write_mixer_levels(
+            levels.as_ptr(),
+            levels.len(),
+            buf.as_mut_ptr(),
+            buf.len(),
+            len,
+        )
+    }
+}
+
+pub fn extend_ntp_56(near: u64, low: u64) -> u64 {
+    // SAFETY: no memory is passed.
+    unsafe { c::rtpw_extend_ntp_56(near, low) }
+}
+
+pub fn is_token(data: &[u8]) -> bool {
+    // SAFETY: a slice that is read.
+    unsafe { c::rtpw_is_token(data.as_ptr(), data.len()) }
+}
+
+pub fn has_structure(data: &[u8]) -> bool {
+    // SAFETY: a slice that is read.
+    unsafe { c::rtpw_has_structure(data.as_ptr(), data.len()) }
 }
 
 pub fn new_ids_between(from: &StoredMap, to: &StoredMap, ids: &mut StoredNewIds) {

@@ -23,7 +23,8 @@ pub struct VideoTiming {
 }
 
 /// What the elements of a packet say under a map, all but a layer allocation
-/// ([`Header::parse_with_layers`](crate::Header::parse_with_layers)).
+/// ([`Header::parse_with_layers`](crate::Header::parse_with_layers)). Some are read as str0m does and not as the
+/// standard of the extension has them: what says so names the call of [`standard`](crate::standard) that does.
 #[derive(Clone, Copy, Debug, Default, PartialEq, Eq, Hash)]
 #[non_exhaustive]
 pub struct Values {
@@ -39,15 +40,22 @@ pub struct Values {
     pub playout_delay_min: Option<Duration>,
     /// And for how long at most.
     pub playout_delay_max: Option<Duration>,
-    /// Ticks of the stream's clock; an element of four bytes.
+    /// str0m's, in ticks of the stream's clock: an element of four bytes without a sign. RFC 5450 has three, which
+    /// are never read so, and no other peer takes the four that are written:
+    /// [`parse_transmission_offset`](crate::standard::parse_transmission_offset).
     pub transmission_offset: Option<u32>,
-    /// The first four bytes of the frame marking.
+    /// The first four bytes of the frame marking, which is str0m's reading and not that of RFC 9626:
+    /// [`FrameMarking`](crate::standard::FrameMarking).
     pub frame_marking: Option<u32>,
-    /// The packet's number over all streams of the transport.
+    /// The packet's number over all streams of the transport, without the request for feedback of
+    /// `transport-wide-cc-02`: [`TransportNumber`](crate::standard::TransportNumber).
     pub transport_number: Option<u16>,
-    /// How the picture is to be turned, in degrees counter-clockwise: 0, 90, 180 or 270.
+    /// How the picture is to be turned, in degrees counter-clockwise: 0, 90, 180 or 270. Which camera it is of and
+    /// whether it is mirrored is lost, and written as a front camera and no flip:
+    /// [`Orientation`](crate::standard::Orientation).
     pub video_orientation: Option<u16>,
-    /// When the frame was encoded and sent.
+    /// When the frame was encoded and sent. Of 12 bytes, the older form, the first is taken for flags, and neither
+    /// network time is read or written: [`Timing`](crate::standard::Timing).
     pub video_timing: Option<VideoTiming>,
     /// 0 unspecified, 1 a screen.
     pub video_content_type: Option<u8>,
@@ -56,11 +64,13 @@ pub struct Values {
     pub audio_level: Option<i8>,
     /// Whether the audio has voice.
     pub voice_activity: Option<bool>,
-    /// The media section that the packet is of.
+    /// The media section that the packet is of. As read each other character than a letter or a digit is an
+    /// underscore, and what is longer is cut: `cam-1`, `cam_1` and `cam.1` are one. [`Packet::token`] has the text
+    /// as it lies, for a mid that the peer chose.
     pub mid: Option<Mid>,
-    /// The stream that the packet is of.
+    /// The stream that the packet is of, changed and cut as the mid is: [`Packet::token`].
     pub rid: Option<Rid>,
-    /// The stream that this one repairs.
+    /// The stream that this one repairs, changed and cut as the mid is: [`Packet::token`].
     pub repaired_rid: Option<Rid>,
 }
 

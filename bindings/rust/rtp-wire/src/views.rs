@@ -225,6 +225,111 @@ pub struct Layers {
     pub(crate) current: u8,
 }
 
+/// `rtpw_frame_marking`
+#[repr(C)]
+#[derive(Clone, Copy, Debug, Default)]
+pub struct FrameMarkingView {
+    pub start: u8,
+    pub end: u8,
+    pub independent: u8,
+    pub discardable: u8,
+    pub has_layers: u8,
+    pub base_layer_sync: u8,
+    pub temporal_id: u8,
+    pub layer_id: u8,
+    pub has_tl0_pic_idx: u8,
+    pub tl0_pic_idx: u8,
+}
+
+/// `rtpw_orientation`
+#[repr(C)]
+#[derive(Clone, Copy, Debug, Default)]
+pub struct OrientationView {
+    pub turn: u16,
+    pub camera: u8,
+    pub flip: u8,
+}
+
+/// `rtpw_timing`
+#[repr(C)]
+#[derive(Clone, Copy, Debug, Default)]
+pub struct TimingView {
+    pub encode_start: u16,
+    pub encode_finish: u16,
+    pub packetize_complete: u16,
+    pub last_left_pacer: u16,
+    pub network: u16,
+    pub network2: u16,
+    pub flags: u8,
+    pub has_flags: u8,
+}
+
+/// `rtpw_transport_number`
+#[repr(C)]
+#[derive(Clone, Copy, Debug, Default)]
+pub struct TransportNumberView {
+    pub number: u16,
+    pub packets: u16,
+    pub has_request: u8,
+    pub timestamps: u8,
+}
+
+/// A point of the CIE 1931 chromaticity diagram, in 0.00002.
+#[repr(C)]
+#[derive(Clone, Copy, Debug, Default, PartialEq, Eq, Hash)]
+pub struct Chromaticity {
+    /// From left to right.
+    pub x: u16,
+    /// Upwards.
+    pub y: u16,
+}
+
+/// The screen on which a video of high dynamic range was made, and its light (SMPTE ST 2086, CTA-861.3).
+#[repr(C)]
+#[derive(Clone, Copy, Debug, Default, PartialEq, Eq, Hash)]
+pub struct HdrMetadata {
+    /// The greatest luminance of the screen, in cd/m^2.
+    pub luminance_max: u16,
+    /// Its least luminance, in 0.0001 cd/m^2.
+    pub luminance_min: u16,
+    /// Its red.
+    pub red: Chromaticity,
+    /// Its green.
+    pub green: Chromaticity,
+    /// Its blue.
+    pub blue: Chromaticity,
+    /// Its white.
+    pub white: Chromaticity,
+    /// The greatest light level of a pixel, in cd/m^2.
+    pub max_content_light_level: u16,
+    /// The greatest mean light level of a frame, in cd/m^2.
+    pub max_frame_average_light_level: u16,
+}
+
+/// `rtpw_color_space`
+#[repr(C)]
+#[derive(Clone, Copy, Debug, Default)]
+pub struct ColorSpaceView {
+    pub hdr: HdrMetadata,
+    pub primaries: u8,
+    pub transfer: u8,
+    pub matrix: u8,
+    pub range: u8,
+    pub horizontal: u8,
+    pub vertical: u8,
+    pub has_hdr: u8,
+}
+
+/// `rtpw_dependency_descriptor`
+#[repr(C)]
+#[derive(Clone, Copy, Debug, Default)]
+pub struct DependencyDescriptorView {
+    pub frame_number: u16,
+    pub start_of_frame: u8,
+    pub end_of_frame: u8,
+    pub template_id: u8,
+}
+
 #[cfg(test)]
 mod tests {
     use super::*;
@@ -232,10 +337,13 @@ mod tests {
 
     /// The struct's size, and where each field lies.
     macro_rules! lies {
-        ($it:ty, $size:expr, $($field:ident $at:expr),* $(,)?) => {
+        ($it:ty, $size:expr, aligned $align:expr, $($field:ident $at:expr),* $(,)?) => {
             assert_eq!(size_of::<$it>(), $size);
-            assert_eq!(align_of::<$it>(), 8);
+            assert_eq!(align_of::<$it>(), $align);
             $(assert_eq!(offset_of!($it, $field), $at, stringify!($field));)*
+        };
+        ($it:ty, $size:expr, $($field:ident $at:expr),* $(,)?) => {
+            lies!($it, $size, aligned 8, $($field $at),*);
         };
     }
 
@@ -262,6 +370,23 @@ mod tests {
             (size_of::<StoredMap>(), size_of::<StoredNewIds>()),
             (256, 256)
         );
+    }
+
+    #[test]
+    fn values_of_the_standards_are_those_of_the_header_file() {
+        lies!(FrameMarkingView, 10, aligned 1, start 0, end 1, independent 2, discardable 3, has_layers 4,
+            base_layer_sync 5, temporal_id 6, layer_id 7, has_tl0_pic_idx 8, tl0_pic_idx 9);
+        lies!(OrientationView, 4, aligned 2, turn 0, camera 2, flip 3);
+        lies!(TimingView, 14, aligned 2, encode_start 0, encode_finish 2, packetize_complete 4,
+            last_left_pacer 6, network 8, network2 10, flags 12, has_flags 13);
+        lies!(TransportNumberView, 6, aligned 2, number 0, packets 2, has_request 4, timestamps 5);
+        lies!(Chromaticity, 4, aligned 2, x 0, y 2);
+        lies!(HdrMetadata, 24, aligned 2, luminance_max 0, luminance_min 2, red 4, green 8, blue 12,
+            white 16, max_content_light_level 20, max_frame_average_light_level 22);
+        lies!(ColorSpaceView, 32, aligned 2, hdr 0, primaries 24, transfer 25, matrix 26, range 27,
+            horizontal 28, vertical 29, has_hdr 30);
+        lies!(DependencyDescriptorView, 6, aligned 2, frame_number 0, start_of_frame 2, end_of_frame 3,
+            template_id 4);
     }
 
     #[test]
