@@ -49,7 +49,7 @@ is_bad_at_the_end() { # the program, of a line that ends with the input, behind 
     [ $status -eq 2 ] && cmp "$scratch/said" "$scratch/first" >&2 || fail "$*, a carriage return at the end"
 }
 # Three numbers for each 65,536, and at last one: 2^32.
-awk 'BEGIN { for (i = 0; i <= 3 * 65536; i++) printf "8000%04X000000000000002C\n", i % 3 * 21845 }' >"$scratch/far.lines"
+far() { awk 'BEGIN { for (i = 0; i <= 3 * 65536; i++) printf "8000%04X000000000000002C\n", i % 3 * 21845 }'; }
 reads_a_folder() { # the program: its status is 1
     local status=0
     "$@" <"$scratch" >"$scratch/said" 2>"$scratch/told" || status=$?
@@ -158,7 +158,7 @@ compare() {
     is_bad later 'map 3 urn:x\n8G' "$@"
     tells_a_full_device 80 "$@"
     tells_a_full_device_of_a_bad_line "$@"
-    "$@" <"$scratch/far.lines" | tail -n 1 >"$scratch/said"
+    far | "$@" | tail -n 1 >"$scratch/said"
     echo 'verdict 196609: taken 4294967296' | cmp - "$scratch/said" >&2 || fail "$*, a number past 2^32"
     # A carriage return or a zero byte within a URI is a part of it: no kind is known, and the mid isn't told.
     for it in '\r' '\x00'; do
@@ -288,7 +288,7 @@ echo 'taken 3 replays 0 late 0 rtcp 0 unreadable 0 strangers 0 sent 9 unsent 0' 
 # One datagram more than a transport has numbers, 20 ms apart. The last one has the 16 bits of the first: 0, and with
 # what is added 40,000 (0x9C40) and 65,535. It goes after 1,310.72 s, which modulo 64 s are 30.72 s, and so
 # 8,053,063.68 units of 2^-18 s (0x7AE147). Its transport number, 65,536, is 0 too.
-printf '806F%04X000000A00000002C\n' {0..65535} 0 >"$scratch/many.lines"
+numbered() { printf '806F%04X000000A00000002C\n' "$@"; }
 cat >"$scratch/many.expected" <<END
 1 906F0000000000A0000003E8BEDE0003216D30510000727AE1470000
 2 906F9C40000000A0000007D0100000081415${second}30C8020000FF037AE147
@@ -337,12 +337,13 @@ printf '80000005000000A0%s\n' {00000001,00000101,00010001,01000001,80000001,7FFF
 echo 'taken 8 replays 8 late 0 rtcp 0 unreadable 0 strangers 0 sent 24 unsent 0' >"$scratch/sources.expected"
 # The 214,750th datagram goes at 4,294.98 s, which are 2^32 microseconds and 12,704 more: modulo 64 s 6.98 s, which are
 # 1,829,765.12 units (0x1BEB85).
-awk 'BEGIN { for (i = 0; i < 214749; i++) print "80"; print "80000001000000010000002C" }' >"$scratch/hour.lines"
+hour() { awk 'BEGIN { for (i = 0; i < 214749; i++) print "80"; print "80000001000000010000002C" }'; }
 echo 1\ 9000000100000001000003E8BEDE0003216D30510000721BEB850000 >"$scratch/hour.expected"
 sends_on() {
-    for it in spelled camera payload hour; do
+    for it in spelled camera payload; do
         "$@" <"$scratch/$it.lines" | grep '^1 ' | diff "$scratch/$it.expected" - >&2 || fail "$*, what is sent on, $it"
     done
+    hour | "$@" | grep '^1 ' | diff "$scratch/hour.expected" - >&2 || fail "$*, what is sent on, hour"
     "$@" <"$scratch/payload.lines" | tail -n 1 >"$scratch/said"
     echo 'taken 1 replays 0 late 0 rtcp 0 unreadable 3 strangers 0 sent 3 unsent 0' | cmp - "$scratch/said" >&2 ||
         fail "$*, what is counted, payload"
@@ -380,7 +381,7 @@ sends_on() {
     for bad in "${bad_hex[@]}" "${bad_maps[@]}"; do is_bad first "$bad" "$@"; done
     for bad in "${bad_uris[@]}"; do is_bad_uri "$bad" "$@"; done
     is_bad_at_the_end "$@"
-    "$@" <"$scratch/many.lines" | tail -n 4 | diff "$scratch/many.expected" - >&2 || fail "$*, many datagrams"
+    numbered {0..65535} 0 | "$@" | tail -n 4 | diff "$scratch/many.expected" - >&2 || fail "$*, many datagrams"
     # All print the same.
     for lines in captures/*.lines bindings/test/by_hand.lines "$scratch/full.lines"; do
         "$@" <"$lines" >"$scratch/said"
@@ -421,7 +422,7 @@ if [ -e "$folder/sfu_c" ]; then
     # 65,535 comes 999, and ten times is a decimal number.
     again() { # the numbers, how often, what is counted
         # shellcheck disable=SC2086
-        printf '806F%04X000000A00000002C\n' $1 | "$folder/sfu_c" "$2" >"$scratch/took"
+        numbered $1 | "$folder/sfu_c" "$2" >"$scratch/took"
         echo "$3 rtcp 0 unreadable 0 strangers 0" | cmp - <(tail -n 1 "$scratch/took" | sed 's/ sent.*//') >&2 ||
             fail "the SFU, the numbers $1, $2 times"
     }
@@ -434,7 +435,7 @@ if [ -e "$folder/sfu_c" ]; then
     "$folder/sfu_c" 0 <"$scratch/sfu.lines" | diff "$scratch/sfu.expected" - >&2 || fail 'the SFU, not again'
     # 1,000 datagrams are taken again, and not one more. Of each the receivers get 28, 48 and 40 bytes. A million takes
     # less than ten thousand seconds.
-    head -n 1000 "$scratch/many.lines" >"$scratch/thousand.lines"
+    numbered {0..999} >"$scratch/thousand.lines"
     "$folder/sfu_c" 1 <"$scratch/thousand.lines" >"$scratch/took"
     grep -qE ' receivers, [0-9]{1,4}\.[0-9]{2} seconds of ' "$scratch/took" || fail 'the SFU, the time that it took'
     sed <"$scratch/took" 's/receivers, .*/receivers/' >"$scratch/said"
@@ -454,7 +455,7 @@ if [ -e "$folder/sfu_c" ]; then
         awk 'NR == 1 { it = $1 / 10000 } NR == 2 { all = $1 + $2 } END { exit !(it <= all / 4) }' ||
         fail "the SFU, the time of long lines: $(cat "$scratch/took" "$scratch/took_all")"
     status=0
-    head -n 1001 "$scratch/many.lines" | "$folder/sfu_c" 1 >"$scratch/said" || status=$?
+    numbered {0..1000} | "$folder/sfu_c" 1 >"$scratch/said" || status=$?
     [ $status -eq 3 ] && [ ! -s "$scratch/said" ] || fail 'the SFU, 1,001 datagrams again'
 fi
 # What goes over sockets, on 127.0.0.1.

@@ -5,10 +5,14 @@
 # usage: bindings/test/sanitized.sh FOLDER INCLUDE LIBRARY [FILE [PROGRAM]]
 #        FOLDER is made, INCLUDE has rtp_wire.h, and LIBRARY is what to link, also an assembly text. Of FILE, a name
 #        in bindings/examples, only the programs that it is a part of, and of these only PROGRAM where it is named.
+#        SANITIZERS are those of the compiler's -fsanitize=, address and undefined where it isn't set; none, where it
+#        is empty, takes the least time.
 set -euo pipefail
 folder=$1 include=$2 library=$3 file=${4-} program=${5-}
 examples=$(cd -- "$(dirname -- "$0")/../examples" && pwd)
-built=(-O1 -g -Wall -Wextra -Wpedantic -Werror -fsanitize=address,undefined -fno-sanitize-recover=all -I "$include")
+sanitizers=${SANITIZERS-address,undefined}
+built=(-Wall -Wextra -Wpedantic -Werror -I "$include")
+[ -z "$sanitizers" ] || built+=(-O1 -g "-fsanitize=$sanitizers" -fno-sanitize-recover=all)
 mkdir -p -- "$folder"
 build() { # program, standard, files
     [ -z "$file" ] || [[ " ${*:3} " = *" $file "* ]] || return 0
