@@ -29,7 +29,7 @@ var (
 	ErrOtherForm = errors.New("rtpwire: a header extension of an unknown form")
 	// ErrShortBuffer: the buffer has too few bytes, and nothing else is amiss.
 	ErrShortBuffer = errors.New("rtpwire: a buffer is too short")
-	// ErrBadField: what was given is out of its range, or no packet can carry it.
+	// ErrBadField: what was given is out of its range, no packet can carry it, or data are not those of a value.
 	ErrBadField = errors.New("rtpwire: an argument is out of its range")
 	// ErrRefused: a replay, or too old to tell.
 	ErrRefused = errors.New("rtpwire: a replay, or too old to tell")

@@ -250,8 +250,8 @@ const MostData = 16
 //	}
 //
 // It returns ErrBadField where the kind is KindNone or one of 16 to 127, or a value, of this kind or not, is one that
-// can't be written; ErrNotFound where a value that the kind needs isn't there, and always for KindColorSpace,
-// KindLayers and your own kinds; ErrShortBuffer. Then nothing changes.
+// can't be written; ErrNotFound where a value that the kind needs isn't there, and always for KindColorSpace
+// ([ColorSpace.Append]), KindLayers and your own kinds; ErrShortBuffer. Then nothing changes.
 func (v *Values) DataOf(kind Kind, buf []byte) ([]byte, error) {
 	length, err := v.dataOf(kind, buf)
 	if err != nil {

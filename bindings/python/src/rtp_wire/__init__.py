@@ -13,6 +13,17 @@ from ._growing import compact, put_element
 from ._header import Header, write_elements
 from ._layers import Layer, Layers, Resolution
 from ._map import Kind, Map, NewIds
+from ._numbers import (
+    extend_ntp_56,
+    mixer_levels_data,
+    ntp_56_data,
+    ntp_64_data,
+    read_mixer_level,
+    read_ntp_56,
+    read_ntp_64,
+    read_transmission_offset,
+    transmission_offset_data,
+)
 from ._packet import Element, Form, Packet, elements, is_rtcp
 from ._payload import from_retransmission, pad, read_original, to_retransmission, write_original
 from ._receiver import (
@@ -34,17 +45,8 @@ from ._standard import (
     Orientation,
     Timing,
     TransportNumber,
-    extend_ntp_56,
     has_dependency_structure,
-    mixer_levels_data,
-    ntp_56_data,
-    ntp_64_data,
-    read_mixer_level,
-    read_ntp_56,
-    read_ntp_64,
     read_token,
-    read_transmission_offset,
-    transmission_offset_data,
 )
 from ._values import Time, Values, VideoTiming
 

@@ -101,8 +101,8 @@ class Values:
     def data_of(self, kind: Kind) -> bytes:
         """The data that an element of the kind has for these values, as `Header.write` writes them: so
         `packet.set_element(id, values.data_of(kind))` sets one value where it lies. NoElement where a value that the
-        kind needs isn't there, and always for Kind.COLOR_SPACE, Kind.LAYERS and your own kinds. BadField for Kind.NONE,
-        and where a value, of this kind or not, is out of its range."""
+        kind needs isn't there, and always for Kind.COLOR_SPACE (`ColorSpace`), Kind.LAYERS and your own kinds. BadField
+        for Kind.NONE, and where a value, of this kind or not, is out of its range."""
         raw, data, length = _library.RawValues(), bytearray(MOST_DATA), c_size_t()
         put_values(raw, self)
         view = memoryview(data)

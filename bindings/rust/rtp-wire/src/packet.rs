@@ -174,9 +174,7 @@ impl<'a> Packet<'a> {
     /// The data of the last element of this id, which is the one that counts.
     #[must_use]
     pub fn element(&self, id: u8) -> Option<&'a [u8]> {
-        let (form, body) = self.block()?;
-        let place = sys::last_element(body, form.number(), id)?;
-        Some(&body[place.data()])
+        last_data(self.block()?, id)
     }
 
     /// The text of the last element of this id as it lies, as [`parse_token`] has it: that of
@@ -195,8 +193,14 @@ impl<'a> Packet<'a> {
     /// ```
     #[must_use]
     pub fn token(&self, id: u8) -> Option<&'a str> {
-        parse_token(self.element(id)?).ok()
+        parse_token(last_data(self.block()?, id)?).ok()
     }
+}
+
+/// The data of the last element of this id in a block.
+fn last_data((form, body): (Form, &[u8]), id: u8) -> Option<&[u8]> {
+    let place = sys::last_element(body, form.number(), id)?;
+    Some(&body[place.data()])
 }
 
 impl fmt::Debug for Packet<'_> {

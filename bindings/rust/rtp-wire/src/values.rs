@@ -135,7 +135,7 @@ impl Values {
     /// Writes the data that an element of the kind has for these values to the front of the buffer, to set
     /// it where it lies ([`PacketMut::set_element`](crate::PacketMut::set_element)), and tells how many
     /// bytes they are; `None` where a value that the kind needs isn't there, as always for the layer
-    /// allocation, the color space and the caller's own kinds.
+    /// allocation, the color space ([`ColorSpace`](crate::standard::ColorSpace)) and the caller's own kinds.
     ///
     /// # Errors
     ///
