@@ -176,7 +176,7 @@ class Pcap(unittest.TestCase):
             file.flush()
             command = [sys.executable, str(HERE / "examples/pcap.py"), file.name, *ids]
             said = subprocess.run(command, stdout=subprocess.PIPE, check=False, text=True)
-            self.assertEqual(said.returncode, 2 if file.name in said.stdout else 0)
+            self.assertEqual(said.returncode, 0 if said.stdout.startswith(self.HEADING) else 2)
             return said.stdout.replace(file.name, "it")
 
     def test_a_capture(self) -> None:
@@ -229,6 +229,8 @@ class Pcap(unittest.TestCase):
             self.assertEqual(self.told(data), "it: no pcap file\n")
         self.assertEqual(self.told(pcap(">", 0xA1B2C3D4, [], link=113)), "it: not of Ethernet\n")
         self.assertEqual(self.told(pcap(">", 0xA1B2C3D4, [])), self.HEADING)
+        for ids in ("1", "=urn:x", "x=urn:x", "0=urn:x", "256=urn:x", ""):
+            self.assertEqual(self.told(b"", "1=urn:x", ids), "usage: pcap.py FILE [ID=URI ..]\n")
 
 
 def blocks(language: str) -> List[str]:
