@@ -6,7 +6,8 @@ work is done by the functions of librtp_wire, each of which is proved.
 """
 
 from . import _library
-from ._columns import Column, Columns, TextColumn, Verdict, Verdicts
+from ._column import Column, TextColumn
+from ._columns import Columns, Verdict, Verdicts
 from ._errors import BadField, Cause, NoElement, NotAPacket, OtherForm, RtpError, ShortBuffer, Status
 from ._growing import compact, put_element
 from ._header import Header, write_elements
