@@ -1,6 +1,7 @@
 package bench
 
 import (
+	"strconv"
 	"testing"
 
 	"github.com/pion/rtp"
@@ -9,6 +10,16 @@ import (
 
 // atOnce is how many datagrams lie in one buffer, each in so many bytes of it: a time is that of one of them.
 const atOnce, slot = 32, 2048
+
+// eachCount has so many of the datagrams read in a call.
+func eachCount(b *testing.B, read func(b *testing.B, count int)) {
+	for _, count := range []int{1, 8, atOnce} {
+		b.Run(strconv.Itoa(count), func(b *testing.B) {
+			b.ReportAllocs()
+			read(b, count)
+		})
+	}
+}
 
 // filled is a buffer with the datagram in each of its slots.
 func filled(datagram []byte) []byte {
@@ -20,23 +31,24 @@ func filled(datagram []byte) []byte {
 }
 
 func BenchmarkManyPlainRtpwire(b *testing.B) {
-	b.ReportAllocs()
-	buf := filled(plain)
-	var batch rtpwire.PacketBatch
-	for done := 0; done < b.N; done += atOnce {
-		batch.Reset()
-		for i := 0; i < atOnce; i++ {
-			batch.Add(i*slot, len(plain))
-		}
-		batch.Parse(buf)
-		for i := 0; i < batch.Len(); i++ {
-			fields, err := batch.At(i)
-			if err != nil {
-				b.Fatal(err)
+	eachCount(b, func(b *testing.B, count int) {
+		buf := filled(plain)
+		var batch rtpwire.PacketBatch
+		for done := 0; done < b.N; done += count {
+			batch.Reset()
+			for i := 0; i < count; i++ {
+				batch.Add(i*slot, len(plain))
 			}
-			sink += int(fields.SSRC) + len(batch.Payload(i))
+			batch.Parse(buf)
+			for i := 0; i < batch.Len(); i++ {
+				fields, err := batch.At(i)
+				if err != nil {
+					b.Fatal(err)
+				}
+				sink += int(fields.SSRC) + len(batch.Payload(i))
+			}
 		}
-	}
+	})
 }
 
 func BenchmarkManyPlainPion(b *testing.B) {
@@ -54,27 +66,28 @@ func BenchmarkManyPlainPion(b *testing.B) {
 }
 
 func BenchmarkManyFourRtpwire(b *testing.B) {
-	b.ReportAllocs()
-	buf := filled(four)
-	var batch rtpwire.HeaderBatch
-	for done := 0; done < b.N; done += atOnce {
-		batch.Reset()
-		for i := 0; i < atOnce; i++ {
-			batch.Add(i*slot, len(four))
-		}
-		batch.Parse(buf, m)
-		for i := 0; i < batch.Len(); i++ {
-			header, err := batch.At(i)
-			if err != nil {
-				b.Fatal(err)
+	eachCount(b, func(b *testing.B, count int) {
+		buf := filled(four)
+		var batch rtpwire.HeaderBatch
+		for done := 0; done < b.N; done += count {
+			batch.Reset()
+			for i := 0; i < count; i++ {
+				batch.Add(i*slot, len(four))
 			}
-			level, _, _ := header.Values.AudioLevel()
-			sent, _ := header.Values.SendTime()
-			number, _ := header.Values.TransportNumber()
-			mid, _ := header.Values.MID()
-			sink += int(header.SSRC) + int(level) + int(sent) + int(number) + len(mid) + len(batch.Payload(i))
+			batch.Parse(buf, m)
+			for i := 0; i < batch.Len(); i++ {
+				header, err := batch.At(i)
+				if err != nil {
+					b.Fatal(err)
+				}
+				level, _, _ := header.Values.AudioLevel()
+				sent, _ := header.Values.SendTime()
+				number, _ := header.Values.TransportNumber()
+				mid, _ := header.Values.MID()
+				sink += int(header.SSRC) + int(level) + int(sent) + int(number) + len(mid) + len(batch.Payload(i))
+			}
 		}
-	}
+	})
 }
 
 // BenchmarkManyFourPion finds the elements, and reads no value of them.
@@ -107,21 +120,22 @@ func BenchmarkManyFourValuesPion(b *testing.B) {
 }
 
 func BenchmarkManyReceivedRtpwire(b *testing.B) {
-	b.ReportAllocs()
-	receivers := make([]rtpwire.Receiver, 4)
-	var batch rtpwire.ArrivalBatch
-	for done := 0; done < b.N; done += atOnce {
-		batch.Reset()
-		for i := 0; i < atOnce; i++ {
-			batch.Add(i%4, uint16(done+i))
-		}
-		batch.Receive(receivers)
-		for i := 0; i < batch.Len(); i++ {
-			number, err := batch.At(i)
-			if err != nil {
-				b.Fatal(err)
+	eachCount(b, func(b *testing.B, count int) {
+		receivers := make([]rtpwire.Receiver, 4)
+		var batch rtpwire.ArrivalBatch
+		for done := 0; done < b.N; done += count {
+			batch.Reset()
+			for i := 0; i < count; i++ {
+				batch.Add(i%4, uint16(done+i))
 			}
-			sink += int(number)
+			batch.Receive(receivers)
+			for i := 0; i < batch.Len(); i++ {
+				number, err := batch.At(i)
+				if err != nil {
+					b.Fatal(err)
+				}
+				sink += int(number)
+			}
 		}
-	}
+	})
 }

@@ -9,7 +9,7 @@ The ids are those of the lines a=extmap of the SDP; without any they are the usu
 import sys
 from dataclasses import dataclass, field
 from struct import unpack_from
-from typing import Dict, Iterator, List, Optional, Tuple
+from typing import Dict, Iterable, Iterator, List, Optional, Tuple
 
 from rtp_wire import Columns, Map, Receiver, Verdict
 
@@ -93,7 +93,17 @@ def sources_of(data: bytes, map: Map) -> Dict[int, Source]:
     return sources
 
 
+def map_of(ids: Iterable[str]) -> Map:
+    """The map of words ID=URI. ValueError where one is none, or an id isn't 1 to 255."""
+    return Map.from_uris((int(id), uri) for id, uri in (it.split("=", 1) for it in ids))
+
+
 def main(name: str, *ids: str) -> int:
+    try:
+        map = map_of(ids) if ids else Map.standard()
+    except ValueError:
+        print("usage: pcap.py FILE [ID=URI ..]")
+        return 2
     with open(name, "rb") as file:
         data = file.read()
     if data[:4] not in MAGICS or len(data) < 24:
@@ -102,8 +112,6 @@ def main(name: str, *ids: str) -> int:
     if unpack_from(MAGICS[data[:4]][0] + "I", data, 20)[0] != ETHERNET:
         print(f"{name}: not of Ethernet")
         return 2
-    pairs = (it.split("=", 1) for it in ids)
-    map = Map.from_uris((int(id), uri) for id, uri in pairs) if ids else Map.standard()
     print(f"{'ssrc':>10}{'packets':>8}{'lost':>6}{'refused':>9}{'seconds':>9}{'level':>7}")
     for ssrc, source in sorted(sources_of(data, map).items()):
         print(f"{ssrc:10}{source}")

@@ -200,7 +200,8 @@ class Build(unittest.TestCase):
         for item in items:
             self.assertTrue(item.isreg())
             self.assertEqual((item.mode, item.mtime, item.uid, item.gid), (0o644, 0, 0, 0))
-        for name in ("README.md", "tests/test_build.py", "src/rtp_wire/_packet.py", "src/columns.c", "src/whole_packet.c"):
+        sources = ("src/rtp_wire/_packet.py", "src/columns.c", "src/whole_packet.c")
+        for name in ("README.md", "tests/test_build.py", *sources):
             self.assertEqual(read[f"{folder}/{name}"], (HERE / name).read_bytes())
         for name, place in self.backend.texts().items():
             self.assertEqual(read[f"{folder}/texts/{name}"], place.read_bytes())

@@ -149,16 +149,17 @@ def udp(payload: bytes) -> bytes:
 
 def ipv4(payload: bytes, protocol: int = 17, fragment: int = 0, options: bytes = b"") -> bytes:
     words, length = 5 + len(options) // 4, 20 + len(options) + len(payload)
-    header = pack(">BBHHHBBH4s4s", 0x40 | words, 0, length, 0, fragment, 64, protocol, 0, b"\x0A\0\0\1", b"\x0A\0\0\2")
+    header = pack(">BBHHHBBH8s", 0x40 | words, 0, length, 0, fragment, 64, protocol, 0, bytes(8))
     return b"\x08\0" + header + options + payload
 
 
 def ipv6(payload: bytes, next_header: int = 17) -> bytes:
-    return b"\x86\xDD" + pack(">IHBB16s16s", 0x60000000, len(payload), next_header, 64, bytes(16), bytes(16)) + payload
+    header = pack(">IHBB32s", 0x60000000, len(payload), next_header, 64, bytes(32))
+    return b"\x86\xDD" + header + payload
 
 
 def pcap(order: str, magic: int, frames: List[Any], link: int = 1) -> bytes:
-    """A file of tcpdump's: of each frame the seconds, their fraction, and what follows the two addresses of Ethernet."""
+    """A file of tcpdump's. Of each frame: the seconds, their fraction, and what follows Ethernet's two addresses."""
     file = pack(order + "IHHiIII", magic, 2, 4, 0, 0, 65535, link)
     for seconds, part, rest in frames:
         frame = bytes(12) + rest
@@ -175,7 +176,7 @@ class Pcap(unittest.TestCase):
             file.flush()
             command = [sys.executable, str(HERE / "examples/pcap.py"), file.name, *ids]
             said = subprocess.run(command, stdout=subprocess.PIPE, check=False, text=True)
-            self.assertEqual(said.returncode, 2 if file.name in said.stdout else 0)
+            self.assertEqual(said.returncode, 0 if said.stdout.startswith(self.HEADING) else 2)
             return said.stdout.replace(file.name, "it")
 
     def test_a_capture(self) -> None:
@@ -197,7 +198,8 @@ class Pcap(unittest.TestCase):
             (103, 400_000, ipv4(udp(packet(2, 7)), fragment=0x4000)),
             (103, 1, ipv6(udp(packet(4, 9)))),
         ]
-        rows = "         7       4     1        1    3.{:03}  -23.3\n         9       2     0        0    2.{:03}      -\n"
+        rows = "         7       4     1        1    3.{:03}  -23.3\n"
+        rows += "         9       2     0        0    2.{:03}      -\n"
         for order in "<>":
             for magic, milliseconds in ((0xA1B2C3D4, 400), (0xA1B23C4D, 0)):  # 400,000 nanoseconds are 0.4
                 wanted = self.HEADING + rows.format(milliseconds, 0)
@@ -227,6 +229,8 @@ class Pcap(unittest.TestCase):
             self.assertEqual(self.told(data), "it: no pcap file\n")
         self.assertEqual(self.told(pcap(">", 0xA1B2C3D4, [], link=113)), "it: not of Ethernet\n")
         self.assertEqual(self.told(pcap(">", 0xA1B2C3D4, [])), self.HEADING)
+        for ids in ("1", "=urn:x", "x=urn:x", "0=urn:x", "256=urn:x", ""):
+            self.assertEqual(self.told(b"", "1=urn:x", ids), "usage: pcap.py FILE [ID=URI ..]\n")
 
 
 def blocks(language: str) -> List[str]:

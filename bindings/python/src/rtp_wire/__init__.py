@@ -1,13 +1,14 @@
 """RTP packets (RFC 3550, 5.1), their header extensions (RFC 8285) and the receive state of a stream.
 
-`Packet` reads a packet where it lies, and changes it in place; `Columns` reads many at once; `Header` is the header as a
-value, to be read or written; `Map` says which extension each id means; `Receiver` judges the packets of a stream. The
+`Packet` reads a packet where it lies, and changes it in place; `Columns` reads many at once; `Header` is the header as
+a value, to be read or written; `Map` says which extension each id means; `Receiver` judges the packets of a stream. The
 work is done by the functions of librtp_wire, each of which is proved.
 """
 
 from . import _library
 from ._color_space import ChromaSiting, Chromaticity, ColorRange, ColorSpace, HdrMetadata
-from ._columns import Column, Columns, TextColumn, Verdict, Verdicts
+from ._column import Column, TextColumn
+from ._columns import Columns, Verdict, Verdicts
 from ._errors import BadField, Cause, NoElement, NotAPacket, OtherForm, RtpError, ShortBuffer, Status
 from ._growing import compact, put_element
 from ._header import Header, write_elements

@@ -110,8 +110,10 @@ pub enum NotRead {
 }
 
 impl NotRead {
+    #[inline]
     pub(crate) fn of_status(status: i32) -> Result<(), NotRead> {
         match status {
+            sys::OK => Ok(()),
             sys::UNKNOWN_FORM => Err(NotRead::UnknownForm),
             sys::BAD_FIELD => Err(NotRead::OutsideOfTheBuffer),
             other => NotAPacket::of_status(other).map_err(NotRead::NotAPacket),

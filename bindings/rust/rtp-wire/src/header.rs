@@ -224,6 +224,7 @@ impl Header {
         Ok(len)
     }
 
+    #[inline]
     pub(crate) fn of(view: &HeaderView) -> Header {
         Header {
             marker: view.marker != 0,

@@ -134,6 +134,7 @@ impl<Slot> ExactSizeIterator for Datagrams<'_, '_, Slot> {}
 impl<Slot> FusedIterator for Datagrams<'_, '_, Slot> {}
 
 /// The bytes at the place; `None` where that isn't within the buffer.
+#[inline]
 fn bytes_at(buf: &[u8], at: usize, len: usize) -> Option<&[u8]> {
     buf.get(at..)?.get(..len)
 }
@@ -141,6 +142,7 @@ fn bytes_at(buf: &[u8], at: usize, len: usize) -> Option<&[u8]> {
 impl<'a> Datagram<'_, 'a, PacketSlot> {
     /// All of its bytes; `None` where it doesn't lie within the buffer.
     #[must_use]
+    #[inline]
     pub fn bytes(&self) -> Option<&'a [u8]> {
         bytes_at(self.buf, self.slot.at, self.slot.len)
     }
@@ -148,6 +150,7 @@ impl<'a> Datagram<'_, 'a, PacketSlot> {
     /// Whether it is RTCP, as [`is_rtcp`](crate::is_rtcp) says. On a port that RTP and RTCP share it comes before
     /// [`packet`](Datagram::packet).
     #[must_use]
+    #[inline]
     pub fn is_rtcp(&self) -> bool {
         self.slot.is_rtcp != 0
     }
@@ -157,6 +160,7 @@ impl<'a> Datagram<'_, 'a, PacketSlot> {
     /// # Errors
     ///
     /// The first cause for which it is none, or [`NotRead::OutsideOfTheBuffer`].
+    #[inline]
     pub fn packet(&self) -> Result<Packet<'a>, NotRead> {
         NotRead::of_status(self.slot.status)?;
         let bytes = self.bytes().ok_or(NotRead::OutsideOfTheBuffer)?;
@@ -167,6 +171,7 @@ impl<'a> Datagram<'_, 'a, PacketSlot> {
 impl<'a> Datagram<'_, 'a, HeaderSlot> {
     /// All of its bytes; `None` where it doesn't lie within the buffer.
     #[must_use]
+    #[inline]
     pub fn bytes(&self) -> Option<&'a [u8]> {
         bytes_at(self.buf, self.slot.at, self.slot.len)
     }
@@ -174,6 +179,7 @@ impl<'a> Datagram<'_, 'a, HeaderSlot> {
     /// Whether it is RTCP, as [`is_rtcp`](crate::is_rtcp) says. On a port that RTP and RTCP share it comes before
     /// [`header`](Datagram::header).
     #[must_use]
+    #[inline]
     pub fn is_rtcp(&self) -> bool {
         self.slot.is_rtcp != 0
     }
@@ -183,6 +189,7 @@ impl<'a> Datagram<'_, 'a, HeaderSlot> {
     /// # Errors
     ///
     /// The first cause for which there is none, or [`NotRead::OutsideOfTheBuffer`].
+    #[inline]
     pub fn header(&self) -> Result<Header, NotRead> {
         NotRead::of_status(self.slot.status)?;
         Ok(Header::of(&self.slot.header))
@@ -190,6 +197,7 @@ impl<'a> Datagram<'_, 'a, HeaderSlot> {
 
     /// The payload with any padding; `None` where there is no [`header`](Datagram::header).
     #[must_use]
+    #[inline]
     pub fn payload(&self) -> Option<&'a [u8]> {
         if self.slot.status != sys::OK {
             return None;
@@ -208,6 +216,7 @@ impl PacketSlot {
     }
 
     /// Uses the slot for the datagram of so many bytes that begins there in the buffer.
+    #[inline]
     pub fn set_place(&mut self, at: usize, len: usize) {
         (self.at, self.len) = (at, len);
     }
@@ -223,6 +232,7 @@ impl HeaderSlot {
     }
 
     /// Uses the slot for the datagram of so many bytes that begins there in the buffer.
+    #[inline]
     pub fn set_place(&mut self, at: usize, len: usize) {
         (self.at, self.len) = (at, len);
     }
@@ -231,6 +241,7 @@ impl HeaderSlot {
 impl ArrivalSlot {
     /// A packet with this sequence number, for the receiver at this index.
     #[must_use]
+    #[inline]
     pub fn new(receiver: usize, sequence_number: u16) -> ArrivalSlot {
         ArrivalSlot {
             receiver,
@@ -246,6 +257,7 @@ impl ArrivalSlot {
     ///
     /// [`NotTaken::Refused`] where it is a replay or too old to tell; [`NotTaken::NoReceiver`] where there is no receiver
     /// at its index, or [`receive_many`] wasn't called yet.
+    #[inline]
     pub fn number(&self) -> Result<u64, NotTaken> {
         match self.status {
             sys::OK => Ok(self.number),

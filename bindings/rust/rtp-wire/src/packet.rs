@@ -46,6 +46,7 @@ impl<'a> Packet<'a> {
     }
 
     /// The packet that was read of the datagram.
+    #[inline]
     pub(crate) fn of(datagram: &'a [u8], parts: PacketParts) -> Packet<'a> {
         Packet { datagram, parts }
     }

@@ -101,6 +101,7 @@ fn time_of(duration: Duration) -> Time {
 }
 
 impl Values {
+    #[inline]
     pub(crate) fn of(view: &ValuesView) -> Values {
         let delay = |is_there, time| held(is_there, time).map(duration_of);
         Values {
