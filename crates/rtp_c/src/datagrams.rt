@@ -52,11 +52,7 @@ fn datagram_in(buf: &[u8], at: usize, len: usize) -> Option<&[u8]>
         IsWithin buf.now at len × (datagram.now ≡ slice_at buf.now at len)) }
     ensures none { IfNone result (IsWithin buf.now at len → ⊥) }
 {
-    if at > buf.len() || len > buf.len() - at {
-        return None;
-    }
-    let end = at + len;
-    Some(&buf[at..end])
+    buf.get(at..)?.get(..len)
 }
 
 // 1 where the bytes are RTCP, and else 0.
