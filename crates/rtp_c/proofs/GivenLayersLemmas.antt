@@ -1,5 +1,5 @@
 -- Items that are given place by place.
-use Rattle.std.proofs.Common.{◌≡◌, ◌≤◌, List, [], ◌∷◌, map, take, ◌∙◌, ap, subst, sym, refl, Some}
+use Rattle.std.proofs.Common.{◌≡◌, ◌≤◌, List, [], ◌∷◌, map, take, ◌∙◌, ap, sym, refl, Some}
 use Rattle.std.specs.List.{All, AllZip, AllByRecursion}
 use Rattle.rtp_vla.specs.Allocation as vla
 use Rattle.rtp_c.specs.declared.layers.Layer.{Layer}

@@ -1,6 +1,3 @@
-use Rattle.std.proofs.Common.{subst, sym, All}
-use Rattle.rtp_c.specs.declared.layers.Stream.{Stream}
-use Rattle.rtp_c.specs.GivenLayers.{HasFewLayers}
 use Rattle.rtp_c.proofs.GivenLayersLemmas.{given_in, few_of_given}
 use Rattle.rtp_c.proofs.given_layers.has_few.Goals as goal
 
