@@ -1,6 +1,6 @@
 -- Items that are given place by place.
-use Rattle.std.proofs.Common.{◌≡◌, ℕ, zero, suc, ◌+◌, ◌<◌, ◌≤◌, List, [], ◌∷◌, ◌++◌, length, get_or, take, slice_range, ◌-◌, ap, ◌∙◌, arith, subst, sym, refl, Some}
-use Rattle.std.specs.List.{AllZip}
+use Rattle.std.proofs.Common.{◌≡◌, ◌≤◌, List, [], ◌∷◌, map, take, ◌∙◌, ap, sym, refl, Some}
+use Rattle.std.specs.List.{All, AllZip, AllByRecursion}
 use Rattle.rtp_vla.specs.Allocation as vla
 use Rattle.rtp_c.specs.declared.layers.Layer.{Layer}
 use Rattle.rtp_c.specs.declared.layers.Stream.{Stream}
@@ -10,31 +10,49 @@ use Rattle.rtp_wire.specs.declared.header.rtp_header.RtpHeader.{RtpHeader}
 use Rattle.rtp_wire.specs.Written.{with_values}
 use Rattle.rtp_c.specs.declared.header.HeaderView.{HeaderView}
 use Rattle.rtp_c.specs.Given.{IsGivenHeader}
-use Rattle.rtp_c.specs.GivenLayers.{IsGivenLayer, IsGivenStream, IsGivenLayers, AreCarriedLayers, IsGivenWithLayers}
+use Rattle.rtp_c.specs.GivenLayers.{IsGivenLayer, IsGivenStream, IsGivenLayers, AreCarriedLayers, IsGivenWithLayers, HasFewLayers, layer_in, stream_in, allocation_in}
 use Rattle.rtp_c.proofs.WrittenHeaderLemmas.{type_fits, few_sources}
-use Rattle.std.proofs.lemmas.List.{take_more}
-use Rattle.std.proofs.lemmas.Slice.Zip.{all_zipped_more}
+use Rattle.std.proofs.lemmas.List.Elements.{recursion_from_All, All-from_recursion}
 
--- one more place
-pub AllZip-more : {A B : Type 0} (R : A → B → Type 0) (xs : List A) (ys : List B) (i : ℕ) (d : A) (y : B)
-    → i < length xs → AllZip R (take i xs) ys → R (get_or xs i d) y → AllZip R (take (i + 1) xs) (ys ++ y ∷ [])
-AllZip-more R xs ys i d y within all one = rw (take_more xs i d within) (all_zipped_more R (take i xs) ys (get_or xs i d) y all one)
+-- what counts is given, where no count is above four
+AllZip-in : {A B : Type 0} (R : A → B → Type 0) (f : A → B) (P : A → Type 0) → ((x : A) → P x → R x (f x)) → (xs : List A) → AllByRecursion P xs → AllZip R xs (map f xs)
+AllZip-in R f P is [] all = tt
+AllZip-in R f P is (x ∷ xs) all = (is x all.0, AllZip-in R f P is xs all.1)
 
--- a place for which there is no item
-AllZip-none : {A B : Type 0} (R : A → B → Type 0) (xs : List A) (ys : List B) (i : ℕ) (d : A)
-    → i < length xs → ((y : B) → R (get_or xs i d) y → ⊥) → AllZip R xs ys → ⊥
-AllZip-none R [] ys i d within none all = omega arith
-AllZip-none R (x ∷ xs) [] i d within none all = all
-AllZip-none R (x ∷ xs) (y ∷ ys) zero d within none all = none y all.0
-AllZip-none R (x ∷ xs) (y ∷ ys) (suc i) d within none all = AllZip-none R xs ys i d (omega arith) none all.1
+AllZip-each : {A B : Type 0} (R : A → B → Type 0) (P : A → Type 0) → ((x : A) (y : B) → R x y → P x) → (xs : List A) (ys : List B) → AllZip R xs ys → AllByRecursion P xs
+AllZip-each R P is [] ys all = tt
+AllZip-each R P is (x ∷ xs) [] all = absurd all
+AllZip-each R P is (x ∷ xs) (y ∷ ys) all = (is x y all.0, AllZip-each R P is xs ys all.1)
 
--- the same of the places at the front
-pub none_in_front : {A B : Type 0} (R : A → B → Type 0) (xs front : List A) (m n i : ℕ) (d : A) (ys : List B)
-    → front ≡ slice_range xs 0 m → m ≡ n → i < length front → ((y : B) → R (get_or front i d) y → ⊥) → AllZip R (take n xs) ys → ⊥
-none_in_front {A = A} R xs front m n i d ys is same within none all =
-    let from : n ≡ m - 0 = omega (arith, same) in
-    let whole : take n xs ≡ front = ap (λ (k : ℕ). take k xs) from ∙ sym is in
-    AllZip-none R front ys i d within none (subst (λ (zs : List A). AllZip R zs ys) whole all)
+given_layer : (view : Layer) → view.rates ≤ 4 → IsGivenLayer view (layer_in view)
+given_layer view few = record { few_rates = few; rates_are = refl; resolution_is = refl }
+
+given_stream : (view : Stream) → HasFewLayers view → IsGivenStream view (stream_in view)
+given_stream view few = record {
+  few_layers = few.0;
+  layers_are = AllZip-in IsGivenLayer layer_in (λ layer. layer.rates ≤ 4) given_layer (take view.count view.layers)
+      (recursion_from_All (λ (layer : Layer). layer.rates ≤ 4) (take view.count view.layers) few.1);
+}
+
+few_of_stream : (view : Stream) (stream : vla.Stream) → IsGivenStream view stream → HasFewLayers view
+few_of_stream view stream is = (
+  is.few_layers,
+  All-from_recursion (λ (layer : Layer). layer.rates ≤ 4) (take view.count view.layers)
+      (AllZip-each IsGivenLayer (λ layer. layer.rates ≤ 4) (λ layer given is. is.few_rates) (take view.count view.layers) stream is.layers_are),
+)
+
+pub given_in : (view : Layers) → view.count ≤ 4 → All HasFewLayers (take view.count view.streams) → IsGivenLayers view (allocation_in view)
+given_in view few all = record {
+  few_streams = few;
+  streams_are = AllZip-in IsGivenStream stream_in HasFewLayers given_stream (take view.count view.streams)
+      (recursion_from_All HasFewLayers (take view.count view.streams) all);
+  current_is = refl;
+}
+
+pub few_of_given : (view : Layers) (a : vla.Allocation) → IsGivenLayers view a → All HasFewLayers (take view.count view.streams)
+few_of_given view a is =
+    All-from_recursion HasFewLayers (take view.count view.streams)
+    (AllZip-each IsGivenStream HasFewLayers few_of_stream (take view.count view.streams) a.simulcast_streams is.streams_are)
 
 -- what is given for each place is one
 AllZip-one : {A B : Type 0} (R : A → B → Type 0) → ((x : A) (y z : B) → R x y → R x z → y ≡ z) → (xs : List A) (ys zs : List B)
@@ -56,29 +74,27 @@ one_stream : (view : Stream) (a b : vla.Stream) → IsGivenStream view a → IsG
 one_stream view a b a_is b_is = AllZip-one IsGivenLayer one_layer (take view.count view.layers) a b a_is.layers_are b_is.layers_are
 
 -- the allocation that is given is one
-pub one_given : (view : Layers) (a b : vla.Allocation) → IsGivenLayers view a → IsGivenLayers view b → a ≡ b
+one_given : (view : Layers) (a b : vla.Allocation) → IsGivenLayers view a → IsGivenLayers view b → a ≡ b
 one_given view a b a_is b_is = λ i. record {
   current_simulcast_stream_index = (a_is.current_is ∙ sym b_is.current_is) i;
   simulcast_streams = AllZip-one IsGivenStream one_stream (take view.count view.streams) a.simulcast_streams b.simulcast_streams a_is.streams_are b_is.streams_are i;
 }
 
+-- so the allocation that is given is what counts
+pub one_in : (view : Layers) (a : vla.Allocation) → IsGivenLayers view a → a ≡ allocation_in view
+one_in view a is = one_given view a (allocation_in view) is (given_in view is.few_streams (few_of_given view a is))
+
 -- the header with the layers among its values
-pub given_with : (view : HeaderView) (layers : Layers) (header : RtpHeader) (allocation : vla.Allocation)
-    → IsGivenHeader view header → AreCarriedLayers layers allocation
-    → IsGivenWithLayers view layers (with_values header (record header.ext_vals { video_layers_allocation = Some allocation }))
-given_with view layers header allocation is_given carried = record {
-  without = header;
+pub given_with : (view : HeaderView) (layers : Layers) (header : RtpHeader) (without values : ExtensionValues) (allocation : vla.Allocation)
+    → IsGivenHeader view (with_values header without) → AreCarriedLayers layers allocation
+    → values ≡ record without { video_layers_allocation = Some allocation } → IsGivenWithLayers view layers (with_values header values)
+given_with view layers header without values allocation is_given carried values_are = record {
+  without = with_values header without;
   is_given = is_given;
   allocation = allocation;
   are_carried = carried;
-  header_is = refl;
+  header_is = ap (with_values header) values_are;
 }
-
--- the same with values that are equal
-pub with_these_values : (view : HeaderView) (layers : Layers) (header : RtpHeader) (values given : ExtensionValues) → values ≡ given
-    → IsGivenWithLayers view layers (with_values header given) → IsGivenWithLayers view layers (with_values header values)
-with_these_values view layers header values given values_are is =
-    subst (λ (v : ExtensionValues). IsGivenWithLayers view layers (with_values header v)) (sym values_are) is
 
 -- its fields are those that a header can have
 pub with_layers-type_fits : (view : HeaderView) (layers : Layers) (header : RtpHeader) → IsGivenWithLayers view layers header → header.payload_type ≤ 127

@@ -99,3 +99,10 @@ shows_layer allocation stream layer view layer_view unused new more room told is
       count_is = omega (arith, is.count_is, length-append before (stream ∷ []), length-append before ((stream ++ layer ∷ []) ∷ []));
       current_is = is.current_is;
     }
+
+-- there is a last stream where there is room in it
+pub layer_room-within : (count : ℕ) (streams : List Stream) → 1 ≤ layer_room count streams → count - 1 < length streams
+layer_room-within zero streams room = omega (arith, room)
+layer_room-within (suc before) [] room = omega (arith, room)
+layer_room-within (suc zero) (stream ∷ streams) room = omega arith
+layer_room-within (suc (suc before)) (stream ∷ streams) room = omega (arith, layer_room-within (suc before) streams room)

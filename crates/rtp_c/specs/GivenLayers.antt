@@ -1,6 +1,6 @@
 -- The layer allocation that C gives to be written (video-layers-allocation00).
-use Rattle.std.specs.Prelude.{◌≡◌, ◌≤◌, length, take, Some}
-use Rattle.std.specs.List.{AllZip}
+use Rattle.std.specs.Prelude.{◌≡◌, ◌≤◌, length, map, take, Some}
+use Rattle.std.specs.List.{All, AllZip}
 use Rattle.rtp_vla.specs.Allocation as vla
 use Rattle.rtp_vla.specs.AllocationWritten.{Writable, written_of}
 use Rattle.rtp_wire.specs.declared.header.rtp_header.RtpHeader.{RtpHeader}
@@ -31,6 +31,30 @@ pub record IsGivenLayers (view : Layers) (allocation : vla.Allocation) : Type 0 
   pub few_streams : view.count ≤ 4
   pub streams_are : AllZip IsGivenStream (take view.count view.streams) allocation.simulcast_streams
   pub current_is : allocation.current_simulcast_stream_index ≡ view.current
+
+-- a stream that counts at most four layers, each of which counts at most four rates
+abbrev pub HasFewLayers : Stream → Type 0
+HasFewLayers view = (view.count ≤ 4) × All (λ layer. layer.rates ≤ 4) (take view.count view.layers)
+
+-- the layer, the stream and the allocation of what counts, of each count at most four
+abbrev pub layer_in : Layer → vla.Layer
+layer_in view = record {
+  temporal_layers = take view.rates view.kbps;
+  resolution_and_framerate = given view.has_resolution (record {
+    width = view.width;
+    height = view.height;
+    framerate = view.framerate;
+  });
+}
+
+abbrev pub stream_in : Stream → vla.Stream
+stream_in view = map layer_in (take view.count view.layers)
+
+abbrev pub allocation_in : Layers → vla.Allocation
+allocation_in view = record {
+  current_simulcast_stream_index = view.current;
+  simulcast_streams = map stream_in (take view.count view.streams);
+}
 
 -- the same where an element can carry it: it can be written, in at most 255 bytes (RFC 8285, 4.3)
 pub record AreCarriedLayers (view : Layers) (allocation : vla.Allocation) : Type 0 where

@@ -1,27 +1,21 @@
-//! The layer allocation that C gives to be written.
+//! The layer allocation that C gives to be written, lent where it lies.
 
-ghost use Rattle.std.specs.Prelude.{◌≡◌, ◌↔◌, ◌≤◌, [], length, None, IfSome, IfNone};
+ghost use Rattle.std.specs.Prelude.{◌≡◌, ◌↔◌, ◌≤◌, take, Some, IsTrue, IfSome, IfNone};
+ghost use Rattle.std.specs.List.{All};
 ghost use Rattle.rtp_vla.specs.Allocation as vla;
-ghost use Rattle.rtp_vla.specs.AllocationWritten.{Writable, written_of};
-ghost use Rattle.rtp_c.specs.Given.{given};
-ghost use Rattle.rtp_c.specs.GivenLayers.{IsGivenLayer, IsGivenStream, IsGivenLayers, AreCarriedLayers};
+ghost use Rattle.rtp_c.specs.GivenLayers.{IsGivenLayers, AreCarriedLayers, HasFewLayers, layer_in, allocation_in};
 
-use super::given::given;
 use super::layers::{Layer, Layers, Stream};
+use rtp_values::{CarriedLayers, ElementValues};
 use rtp_vla::vla::{
-    ResolutionAndFramerate, TemporalLayerAllocation, VideoLayer, VideoLayers, VideoStream,
+    Layered, Lendable, LentAllocation, LentLayer, LentLayers, ResolutionAndFramerate,
+    TemporalLayerAllocation,
 };
 
-// The longest data that an element can have (RFC 8285, 4.3).
-const MAX_LEN: usize = 255;
-
 // The resolution, where it is given.
+#[inline(always)]
 fn given_resolution(view: &Layer) -> Option<ResolutionAndFramerate>
-    ensures { result ≡ given view.now.has_resolution (record {
-      width = view.now.width;
-      height = view.now.height;
-      framerate = view.now.framerate;
-    }) }
+    ensures { result ≡ (layer_in view.now).resolution_and_framerate }
 {
     if view.has_resolution == 0 {
         return None;
@@ -33,63 +27,104 @@ fn given_resolution(view: &Layer) -> Option<ResolutionAndFramerate>
     })
 }
 
-// The layer that is given; `None` where it counts more than four rates.
-fn layer_of(view: &Layer) -> Option<VideoLayer>
-    ensures found { IfSome result (IsGivenLayer view.now) }
-    ensures none { IfNone result ((layer : vla.Layer) → IsGivenLayer view.now layer → ⊥) }
+// The rates that count.
+#[inline(always)]
+fn given_rates(view: &Layer) -> &[TemporalLayerAllocation]
+    ensures { result.now ≡ take view.now.rates view.now.kbps }
 {
-    let rates = view.kbps.get(..usize::from(view.rates))?;
-    let mut layer = VideoLayer::new(given_resolution(view));
-    for kbps in rates {
-        layer.push(TemporalLayerAllocation {
-            cumulative_kbps: *kbps,
-        });
+    match view.kbps.get(..usize::from(view.rates)) {
+        Some(rates) => rates,
+        None => &view.kbps,
     }
-    Some(layer)
 }
 
-// The stream that is given; `None` where it or one of its layers counts more than four.
-fn stream_of(view: &Stream) -> Option<VideoStream>
-    ensures found { IfSome result (IsGivenStream view.now) }
-    ensures none { IfNone result ((stream : vla.Stream) → IsGivenStream view.now stream → ⊥) }
+// The layers that count.
+#[inline(always)]
+fn given_layers(view: &Stream) -> &[Layer]
+    ensures { result.now ≡ take view.now.count view.now.layers }
 {
-    let layers = view.layers.get(..usize::from(view.count))?;
-    let mut stream = VideoStream::new();
-    for layer in layers {
-        stream.push(layer_of(layer)?);
+    match view.layers.get(..usize::from(view.count)) {
+        Some(layers) => layers,
+        None => &view.layers,
     }
-    Some(stream)
 }
 
-// Puts the streams that are given to an allocation of this index that has none; `None` exactly
-// where it, one of its streams or one of their layers counts more than four.
-fn put_streams(view: &Layers, layers: &mut VideoLayers) -> Option<()>
-    requires current { layers.old.current_simulcast_stream_index ≡ view.now.current }
-    requires streams { layers.old.simulcast_streams ≡ [] }
-    ensures found { IfSome result (λ _. IsGivenLayers view.now layers.new) }
-    ensures refused { (result ≡ None)
-        ↔ ((a : vla.Allocation) → IsGivenLayers view.now a → ⊥) }
+// The streams that count.
+#[inline(always)]
+fn given_streams(view: &Layers) -> &[Stream]
+    ensures { result.now ≡ take view.now.count view.now.streams }
 {
-    let streams = view.streams.get(..usize::from(view.count))?;
-    for stream in streams {
-        layers.push(stream_of(stream)?);
+    match view.streams.get(..usize::from(view.count)) {
+        Some(streams) => streams,
+        None => &view.streams,
     }
-    Some(())
 }
 
-// The same where an element can carry it. Returns the length of its data.
-pub fn put_carried_streams(view: &Layers, layers: &mut VideoLayers) -> Option<usize>
-    requires current { layers.old.current_simulcast_stream_index ≡ view.now.current }
-    requires streams { layers.old.simulcast_streams ≡ [] }
-    ensures found { IfSome result (λ _. AreCarriedLayers view.now layers.new) }
-    ensures measured { IfSome result (λ len. Writable layers.new
-        × (len ≡ length (written_of layers.new)) × (len ≤ 255)) }
+impl Lendable for Layer {
+    ghost use Rattle.rtp_c.specs.GivenLayers.{layer_in};
+
+    ghost layer = { layer_in };
+
+    #[inline(always)]
+    fn lend(&self) -> LentLayer<'_> {
+        LentLayer {
+            temporal_layers: given_rates(self),
+            resolution_and_framerate: given_resolution(self),
+        }
+    }
+}
+
+impl Layered for Stream {
+    ghost use Rattle.rtp_c.specs.GivenLayers.{stream_in};
+
+    type Layer = Layer;
+
+    ghost stream = { stream_in };
+
+    #[inline(always)]
+    fn layers(&self) -> LentLayers<'_, Layer> {
+        LentLayers::of(given_layers(self))
+    }
+}
+
+// Whether the stream, and each of its layers that counts, has a count of at most four.
+#[inline(always)]
+fn has_few_layers(view: &Stream) -> bool
+    ensures { IsTrue result ↔ HasFewLayers view.now }
+{
+    view.count <= 4 && given_layers(view).iter().all(|layer| layer.rates <= 4)
+}
+
+// The same of each of the streams.
+#[inline(always)]
+fn have_few_layers(streams: &[Stream]) -> bool
+    ensures { IsTrue result ↔ All HasFewLayers streams.now }
+{
+    streams.iter().all(has_few_layers)
+}
+
+// Whether no count of what counts is above four.
+fn has_few(view: &Layers) -> bool
+    ensures { IsTrue result ↔ IsGivenLayers view.now (allocation_in view.now) }
+{
+    view.count <= 4 && have_few_layers(given_streams(view))
+}
+
+// The values with the layers that are given, where an element can carry them.
+pub fn with_given_layers<'a, V: ElementValues>(
+    values: &'a V,
+    view: &'a Layers,
+) -> Option<CarriedLayers<'a, V, Stream>>
+    ensures found { IfSome result (λ with_layers. (a : vla.Allocation)
+        × AreCarriedLayers view.now a × (with_layers
+        ≡ record (V.values values.now) { video_layers_allocation = Some a })) }
     ensures none { IfNone result ((a : vla.Allocation) → AreCarriedLayers view.now a → ⊥) }
 {
-    put_streams(view, layers)?;
-    let len = layers.checked_wire_len()?;
-    if len > MAX_LEN {
+    if !has_few(view) {
         return None;
     }
-    Some(len)
+    CarriedLayers::measure(
+        values,
+        LentAllocation::new(view.current, given_streams(view)),
+    )
 }

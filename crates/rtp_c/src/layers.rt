@@ -13,7 +13,7 @@ use rtp_vla::vla::{SetLayers, TemporalLayerAllocation, VideoLayer};
 pub struct Layer {
     /// The rates of its temporal layers by rising frame rate, in kilobits per second, each with the
     /// rates of those below it. Those after the first `rates` are 0 as read.
-    pub kbps: [u64; 4],
+    pub kbps: [TemporalLayerAllocation; 4],
     /// The width in pixels, and 0 where `has_resolution` is 0.
     pub width: u16,
     /// The height in pixels.
@@ -26,10 +26,13 @@ pub struct Layer {
     pub rates: u8,
 }
 
+// The rate in a place after the last.
+const NO_RATE: TemporalLayerAllocation = TemporalLayerAllocation { cumulative_kbps: 0 };
+
 impl Layer {
     // A layer without rates and resolution.
     const BARE: Layer = Layer {
-        kbps: [0; 4],
+        kbps: [NO_RATE; 4],
         width: 0,
         height: 0,
         framerate: 0,
@@ -93,12 +96,12 @@ impl Layers {
 }
 
 // The rate of the temporal layer at this index, and 0 where there is none.
-fn rate_at(rates: &[TemporalLayerAllocation], index: usize) -> u64
+fn rate_at(rates: &[TemporalLayerAllocation], index: usize) -> TemporalLayerAllocation
     ensures { result ≡ slice_index rates.now index }
 {
     match rates.get(index) {
-        Some(rate) => rate.cumulative_kbps,
-        None => 0,
+        Some(rate) => *rate,
+        None => NO_RATE,
     }
 }
 
@@ -150,6 +153,24 @@ fn clear_stream(streams: &mut [Stream; 4], index: usize)
     streams[index].count = 0;
 }
 
+// Puts a layer after the others of the stream at this place.
+#[inline(always)]
+fn push_layer(streams: &mut [Stream; 4], index: usize, layer: Layer)
+    requires within { index < length streams.old }
+    requires room { (unused : Stream) → (slice_index_or streams.old index unused).count < 4 }
+    ensures places { length streams.old ≡ 4 }
+    ensures layers { (unused : Stream) →
+        length (slice_index_or streams.old index unused).layers ≡ 4 }
+    ensures put { (unused : Stream) → streams.new ≡ slice_set streams.old index
+        (record (slice_index_or streams.old index unused) {
+          layers = slice_set (slice_index_or streams.old index unused).layers
+              (slice_index_or streams.old index unused).count layer;
+          count = (slice_index_or streams.old index unused).count + 1;
+        }) }
+{
+    streams[index].push(layer);
+}
+
 impl SetLayers for Layers {
     ghost use Rattle.std.specs.Prelude.{◌-◌};
     ghost use Rattle.rtp_c.specs.LayersView.{IsViewOfLayers, layer_room};
@@ -175,7 +196,7 @@ impl SetLayers for Layers {
     #[inline(always)]
     fn put_layer(&mut self, layer: &VideoLayer) {
         let stream = usize::from(self.count) - 1;
-        self.streams[stream].push(view_of_layer(layer));
+        push_layer(&mut self.streams, stream, view_of_layer(layer));
     }
 }
 

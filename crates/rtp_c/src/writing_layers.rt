@@ -1,59 +1,20 @@
 //! What C gives to be written with its layer allocation, a header, from fields, values and layers
 //! to bytes.
 
-ghost use Rattle.std.specs.Prelude.{◌≡◌, ◌≢◌, ◌↔◌, ◌≤◌, ◌⊎◌, [], length, Some, IfSome, IfNone};
-ghost use Rattle.rtp_values.specs.Values.{no_values};
-ghost use Rattle.rtp_vla.specs.AllocationWritten.{Writable, written_of};
+ghost use Rattle.std.specs.Prelude.{◌≡◌, ◌≢◌, ◌↔◌, ◌≤◌, ◌⊎◌, length};
 ghost use Rattle.rtp_wire.specs.declared.header.rtp_header.RtpHeader.{RtpHeader as Header};
-ghost use Rattle.rtp_wire.specs.Written.{with_values};
 ghost use Rattle.rtp_c.specs.Status.{ok, short_buffer, bad_field};
 ghost use Rattle.rtp_c.specs.GivenLayers.{IsGivenWithLayers};
 ghost use Rattle.rtp_c.specs.WrittenHeader.{IsLengthOf, IsWrittenHeader, IsTooLong};
 
 use super::given::put_given_header;
-use super::given_layers::put_carried_streams;
+use super::given_layers::with_given_layers;
 use super::header::HeaderView;
 use super::kinds::StoredMap;
 use super::layers::Layers;
 use super::status::{BAD_FIELD, OK, SHORT_BUFFER};
-use rtp_values::CarriedLayers;
-use rtp_vla::vla::VideoLayers;
 use rtp_wire::RtpHeader;
 use std::mem::ManuallyDrop;
-
-// The values of the header, with these layers of this length as their allocation.
-fn with_layers<'a>(header: &'a RtpHeader, layers: &'a VideoLayers, len: usize) -> CarriedLayers<'a>
-    requires writable { Writable layers.now }
-    requires length { len ≡ length (written_of layers.now) }
-    requires few { len ≤ 255 }
-    ensures { result ≡ record header.now.ext_vals { video_layers_allocation = Some layers.now } }
-{
-    CarriedLayers::new(&header.ext_vals, layers, len)
-}
-
-// Puts what is given to a header without values, and to layers of this index without streams, and
-// returns the length of the layers' data; `None` where there is no such header.
-fn put_given_with_layers(
-    view: &HeaderView,
-    layers_view: &Layers,
-    header: &mut RtpHeader,
-    layers: &mut VideoLayers,
-) -> Option<usize>
-    requires values { header.old.ext_vals ≡ no_values }
-    requires current { layers.old.current_simulcast_stream_index ≡ layers_view.now.current }
-    requires streams { layers.old.simulcast_streams ≡ [] }
-    ensures found { IfSome result (λ _. IsGivenWithLayers view.now layers_view.now
-        (with_values header.new (record header.new.ext_vals {
-          video_layers_allocation = Some layers.new;
-        }))) }
-    ensures measured { IfSome result (λ len. Writable layers.new
-        × (len ≡ length (written_of layers.new)) × (len ≤ 255)) }
-    ensures none { IfNone result ((h : Header) →
-        IsGivenWithLayers view.now layers_view.now h → ⊥) }
-{
-    put_given_header(view, header)?;
-    put_carried_streams(layers_view, layers)
-}
 
 /// How many bytes [`rtpw_write_layers`] writes: a multiple of four. `OK`, and the number is
 /// written; `BAD_FIELD` for the causes of [`rtpw_write_layers`], and then nothing is written.
@@ -73,12 +34,13 @@ pub extern "C" fn rtpw_wire_len_layers(
 {
     let mut unfreed = ManuallyDrop::new(RtpHeader::default());
     let rtp_header = &mut *unfreed;
-    let mut allocation = VideoLayers::new(layers.current);
-    let Some(layers_len) = put_given_with_layers(header, layers, rtp_header, &mut allocation) else {
+    let Some(()) = put_given_header(header, rtp_header) else {
         return BAD_FIELD;
     };
     let given: &RtpHeader = rtp_header;
-    let values = with_layers(given, &allocation, layers_len);
+    let Some(values) = with_given_layers(&given.ext_vals, layers) else {
+        return BAD_FIELD;
+    };
     *len = given.values_wire_len(&values, map);
     OK
 }
@@ -110,12 +72,13 @@ pub extern "C" fn rtpw_write_layers(
 {
     let mut unfreed = ManuallyDrop::new(RtpHeader::default());
     let rtp_header = &mut *unfreed;
-    let mut allocation = VideoLayers::new(layers.current);
-    let Some(layers_len) = put_given_with_layers(header, layers, rtp_header, &mut allocation) else {
+    let Some(()) = put_given_header(header, rtp_header) else {
         return BAD_FIELD;
     };
     let given: &RtpHeader = rtp_header;
-    let values = with_layers(given, &allocation, layers_len);
+    let Some(values) = with_given_layers(&given.ext_vals, layers) else {
+        return BAD_FIELD;
+    };
     let Some(written) = given.try_write_values(buf, &values, map) else {
         return SHORT_BUFFER;
     };

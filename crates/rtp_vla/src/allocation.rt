@@ -33,7 +33,8 @@ pub struct SpatialLayerAllocation {
     pub resolution_and_framerate: Option<ResolutionAndFramerate>,
 }
 
-/// One temporal layer.
+/// One temporal layer: eight bytes, those of its rate.
+#[repr(C)]
 #[derive(Clone, Copy, Debug, Default, PartialEq, Eq)]
 pub struct TemporalLayerAllocation {
     /// The rate that it takes to receive this layer, in kilobits per second: with all temporal layers

@@ -1,4 +1,5 @@
-//! An allocation that is lent, whose streams and layers are those of lists, or of values of fixed size.
+//! The streams and layers of an allocation that is lent: those of lists, of values of fixed size, or
+//! of a caller's own types.
 
 ghost use Rattle.std.specs.Prelude.{◌≡◌, ◌∷◌, ◌++◌, [], length, map, IfSome, IfNone};
 ghost use Rattle.std.specs.List.{filter};
@@ -6,16 +7,19 @@ ghost use Rattle.rtp_vla.specs.Allocation.{is_active};
 
 use super::allocation::{
     ResolutionAndFramerate, SimulcastStreamAllocation, SpatialLayerAllocation,
-    TemporalLayerAllocation, VideoLayersAllocation,
+    TemporalLayerAllocation,
 };
-use super::video_layers::{VideoLayer, VideoLayers, VideoStream};
+use super::video_layers::{VideoLayer, VideoStream};
 use std::marker::Model;
 
-/// A layer.
+/// A spatial layer that is lent: one of a list, of a value of fixed size, or of a caller's own type. A
+/// clause sees the layer.
 #[derive(Drop)]
-pub(super) struct LentLayer<'a> {
-    pub(super) temporal_layers: &'a [TemporalLayerAllocation],
-    pub(super) resolution_and_framerate: Option<ResolutionAndFramerate>,
+pub struct LentLayer<'a> {
+    /// Its temporal layers by rising frame rate: none where the layer isn't active.
+    pub temporal_layers: &'a [TemporalLayerAllocation],
+    /// The resolution, where the sender tells it.
+    pub resolution_and_framerate: Option<ResolutionAndFramerate>,
 }
 
 impl<'a> Model for LentLayer<'a> {
@@ -53,15 +57,16 @@ impl<'a> LentLayer<'a> {
     }
 }
 
-/// A layer that can be lent: one of a list, or one in a value of fixed size.
-pub(super) trait Lendable {
+/// A spatial layer that can be lent: one of a list, one in a value of fixed size, or a type of the
+/// caller's own that has its rates as [`TemporalLayerAllocation`]s.
+pub trait Lendable {
     ghost use Rattle.std.specs.Prelude.{◌≡◌};
     ghost use Rattle.rtp_vla.specs.Allocation.{Layer};
 
     // What it is.
     ghost layer: { Self → Layer };
 
-    // It, lent.
+    /// It, lent.
     fn lend(&self) -> LentLayer<'_>
         ensures { result ≡ layer self.now };
 }
@@ -84,9 +89,9 @@ impl Lendable for VideoLayer {
     }
 }
 
-/// The layers of a stream.
+/// The layers of a stream that are lent. A clause sees them as a list.
 #[derive(Drop)]
-pub(super) struct LentLayers<'a, L: Lendable> {
+pub struct LentLayers<'a, L: Lendable> {
     left: &'a [L],
 }
 
@@ -100,9 +105,9 @@ impl<'a, L: Lendable> Model for LentLayers<'a, L> {
 }
 
 impl<'a, L: Lendable> LentLayers<'a, L> {
-    // These layers.
+    /// These layers.
     #[inline(always)]
-    fn of(left: &'a [L]) -> Self
+    pub fn of(left: &'a [L]) -> Self
         ensures { result ≡ map L.layer left.now }
     {
         LentLayers { left }
@@ -155,17 +160,20 @@ impl<'a, L: Lendable> LentLayers<'a, L> {
     }
 }
 
-/// A stream whose layers can be lent.
-pub(super) trait Layered {
+/// A simulcast stream whose layers can be lent: one of a list, one in a value of fixed size, or a type
+/// of the caller's own. A [`LentAllocation`](super::lent_allocation::LentAllocation) of such streams is
+/// measured and written where they lie.
+pub trait Layered {
     ghost use Rattle.std.specs.Prelude.{◌≡◌};
     ghost use Rattle.rtp_vla.specs.Allocation.{Stream};
 
+    /// The layers that it has.
     type Layer: Lendable;
 
     // What it is.
     ghost stream: { Self → Stream };
 
-    // Its layers, lent.
+    /// Its layers, lent.
     fn layers(&self) -> LentLayers<'_, Self::Layer>
         ensures { result ≡ stream self.now };
 }
@@ -208,6 +216,14 @@ impl<'a, S: Layered> Model for LentStreams<'a, S> {
 }
 
 impl<'a, S: Layered> LentStreams<'a, S> {
+    // These streams.
+    #[inline(always)]
+    pub(super) fn of(left: &'a [S]) -> Self
+        ensures { result ≡ map S.stream left.now }
+    {
+        LentStreams { left }
+    }
+
     // The same streams.
     #[inline(always)]
     pub(super) fn again(&self) -> Self
@@ -233,53 +249,5 @@ impl<'a, S: Layered> LentStreams<'a, S> {
         let (stream, after) = self.left.split_first()?;
         self.left = after;
         Some(stream.layers())
-    }
-}
-
-/// An allocation.
-#[derive(Drop)]
-pub(super) struct LentAllocation<'a, S: Layered> {
-    pub(super) index: u8,
-    pub(super) streams: LentStreams<'a, S>,
-}
-
-impl<'a, S: Layered> Model for LentAllocation<'a, S> {
-    ghost use Rattle.rtp_vla.specs.Allocation.{Allocation};
-
-    ghost Value = { Allocation };
-
-    ghost view = { λ allocation. record {
-      current_simulcast_stream_index = allocation.index;
-      simulcast_streams = allocation.streams;
-    } };
-}
-
-impl<'a> LentAllocation<'a, SimulcastStreamAllocation> {
-    // One in lists.
-    #[inline(always)]
-    pub(super) fn listed(v: &'a VideoLayersAllocation) -> Self
-        ensures { result ≡ v.now }
-    {
-        LentAllocation {
-            index: v.current_simulcast_stream_index,
-            streams: LentStreams {
-                left: &v.simulcast_streams,
-            },
-        }
-    }
-}
-
-impl<'a> LentAllocation<'a, VideoStream> {
-    // One in a value of fixed size.
-    #[inline(always)]
-    pub(super) fn held(v: &'a VideoLayers) -> Self
-        ensures { result ≡ v.now }
-    {
-        LentAllocation {
-            index: v.current_simulcast_stream_index(),
-            streams: LentStreams {
-                left: v.simulcast_streams(),
-            },
-        }
     }
 }

@@ -8,6 +8,7 @@ mod counts;
 mod layers;
 mod leb;
 mod lent;
+mod lent_allocation;
 mod measuring;
 mod parsing;
 mod parts;
@@ -25,6 +26,8 @@ pub mod vla {
         TemporalLayerAllocation, URI, VideoLayersAllocation,
     };
     pub use crate::leb::{encode_leb_u63, parse_leb_u63};
+    pub use crate::lent::{Layered, Lendable, LentLayer, LentLayers};
+    pub use crate::lent_allocation::LentAllocation;
     pub use crate::parsing::{is_allocation, parse, read_into};
     pub use crate::set_layers::SetLayers;
     pub use crate::video_layers::{VideoLayer, VideoLayers, VideoStream};

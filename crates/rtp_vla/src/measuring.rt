@@ -10,7 +10,8 @@ ghost use Rattle.rtp_vla.specs.Leb.{shortest_of};
 use super::active::ActiveLayers;
 use super::allocation::{ResolutionAndFramerate, TemporalLayerAllocation};
 use super::leb::checked_leb_len;
-use super::lent::{Layered, Lendable, LentAllocation, LentLayers, LentStreams};
+use super::lent::{Layered, Lendable, LentLayers, LentStreams};
+use super::lent_allocation::LentAllocation;
 
 // The mask of a stream that can be written.
 fn mask_of<L: Lendable>(mut layers: LentLayers<L>) -> Option<u8>

@@ -11,7 +11,8 @@ ghost use Rattle.rtp_vla.specs.Leb.{shortest_of};
 use super::active::ActiveLayers;
 use super::allocation::{ResolutionAndFramerate, TemporalLayerAllocation, VideoLayersAllocation};
 use super::leb::put_leb;
-use super::lent::{Layered, LentAllocation, LentStreams};
+use super::lent::{Layered, LentStreams};
+use super::lent_allocation::LentAllocation;
 use super::measuring::{put_masks_of, shared_of, writable_len};
 use super::video_layers::VideoLayers;
 use rtp_base::put;
@@ -169,7 +170,7 @@ fn put_streams<S: Layered>(buf: &mut [u8], index: u8, streams: &LentStreams<S>) 
 }
 
 // Puts an allocation, and returns how many bytes it has.
-fn put_allocation<S: Layered>(v: &LentAllocation<S>, buf: &mut [u8]) -> usize
+pub(super) fn put_allocation<S: Layered>(v: &LentAllocation<S>, buf: &mut [u8]) -> usize
     requires writable { written.can_be_written v.now ≡ true }
     requires room { length (written.written_of v.now) ≤ length buf.old }
     ensures written { buf.new ≡ written.written_of v.now ++ drop result buf.old }

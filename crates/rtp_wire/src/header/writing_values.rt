@@ -67,6 +67,10 @@ impl RtpHeader {
         if buf.len() < self.least_len() {
             return None;
         }
+        if !self.has_extension {
+            // So nothing of the map is looked at.
+            return Some(self.write_in(&KnownIds::of(exts), values, None, buf));
+        }
         let ids = KnownIds::of(exts);
         let form = self.form(&ids, values);
         if !self.fits(&ids, values, form, buf.len()) {

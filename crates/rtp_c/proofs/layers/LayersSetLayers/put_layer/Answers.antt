@@ -1,21 +1,26 @@
-use Rattle.std.proofs.Common.{arith, [], ap}
+use Rattle.std.proofs.Common.{arith, [], refl}
 use Rattle.rtp_c.specs.declared.layers.Stream.{Stream}
-use Rattle.rtp_c.proofs.SettingLemmas.{shows_layer, layer_room-last, layer_room-more}
+use Rattle.rtp_c.proofs.SettingLemmas.{shows_layer, layer_room-last, layer_room-more, layer_room-within}
 use Rattle.rtp_c.proofs.layers.LayersSetLayers.put_layer.Goals as goal
 
-pub push-requires : goal.push-requires
-push-requires c = rw c.from-stream.ensures (omega (arith, c.requires, layer_room-last c.args.self.now.count c.args.self.now.streams (record { layers = []; count = 0 }) c.requires))
+pub push_layer-requires : goal.push_layer-requires
+push_layer-requires c = rw c.from-stream.ensures (record {
+  within = layer_room-within c.args.self.now.count c.args.self.now.streams c.requires;
+  room = λ unused. omega (arith, c.requires, layer_room-last c.args.self.now.count c.args.self.now.streams unused c.requires);
+})
 
 pub returns-clause-put : goal.returns-clause-put
 returns-clause-put c a stream is =
-    let push = rw c.from-stream.ensures at c.push.ensures in
-    rw c.from-stream.ensures
-    (shows_layer a stream c.args.layer.now c.args.self.now c.view_of_layer.result (record { layers = []; count = 0 }) c.push.new.self push.put
-    (omega (arith, push.places, c.requires, layer_room-last c.args.self.now.count c.args.self.now.streams (record { layers = []; count = 0 }) c.requires))
+    let push = rw c.from-stream.ensures at c.push_layer.ensures in
+    let unused : Stream = record { layers = []; count = 0 } in
+    rw (push.put unused)
+    (shows_layer a stream c.args.layer.now c.args.self.now c.view_of_layer.result unused _ refl
+    (omega (arith, push.layers unused, c.requires, layer_room-last c.args.self.now.count c.args.self.now.streams unused c.requires))
     c.view_of_layer.ensures is)
 
 pub returns-clause-layers : goal.returns-clause-layers
 returns-clause-layers c =
-    let push = rw c.from-stream.ensures at c.push.ensures in
-    rw c.from-stream.ensures
-    (layer_room-more c.args.self.now.count c.args.self.now.streams (record { layers = []; count = 0 }) c.push.new.self c.requires (ap (λ (s : Stream). s.count) push.put))
+    let push = rw c.from-stream.ensures at c.push_layer.ensures in
+    let unused : Stream = record { layers = []; count = 0 } in
+    rw (push.put unused)
+    (layer_room-more c.args.self.now.count c.args.self.now.streams unused _ c.requires refl)

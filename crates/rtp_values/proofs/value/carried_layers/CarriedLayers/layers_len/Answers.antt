@@ -4,6 +4,6 @@ use Rattle.rtp_values.proofs.ValueLemmas.{measured-allocation}
 use Rattle.rtp_values.proofs.value.carried_layers.CarriedLayers.layers_len.Goals as goal
 
 pub returns : goal.returns
-returns c =
-    measured-allocation c.args.self.now c.self.inside.layers.now c.self.inside.len (ap (λ (values : ExtensionValues). values.video_layers_allocation) (sym c.self.view_is))
+returns g c =
+    measured-allocation c.args.self.now c.self.inside.layers c.self.inside.len (ap (λ (values : ExtensionValues). values.video_layers_allocation) (sym c.self.view_is))
     c.self.invariant.0 c.self.invariant.1 c.self.invariant.2

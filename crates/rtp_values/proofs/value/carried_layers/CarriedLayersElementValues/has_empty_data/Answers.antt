@@ -6,6 +6,6 @@ use Rattle.rtp_values.proofs.WithLayersLemmas.{no_data-other}
 use Rattle.rtp_values.proofs.value.carried_layers.CarriedLayersElementValues.has_empty_data.Goals as goal
 
 pub returns : goal.returns
-returns c =
-    c.has_empty_data.ensures ∙ no_data-other c.args.kind c.self.inside.values.now (Some c.self.inside.layers.now)
+returns g c =
+    c.has_empty_data.ensures ∙ no_data-other c.args.kind (g.V.ElementValues.values c.self.inside.values.now) (Some c.self.inside.layers)
     ∙ ap (λ (values : ExtensionValues). has_no_data (spelled_data (extension_of_kind c.args.kind) values)) c.self.view_is

@@ -6,9 +6,9 @@ use Rattle.rtp_values.proofs.WithLayersLemmas.{WritesData-other}
 use Rattle.rtp_values.proofs.value.carried_layers.CarriedLayersElementValues.write_data.Goals as goal
 
 pub returns-in_default : goal.returns-in_default
-returns-in_default c =
-    let done = c.write_to.ensures in
-    let writes = subst (λ (values : ExtensionValues). WritesData (extension_of_kind c.args.kind) values c.args.buf.now c.write_to.new.buf c.write_to.result) c.self.view_is
-    (WritesData-other c.args.kind c.self.inside.values.now (Some c.self.inside.layers.now) c.in_default.not-VideoLayersAllocation
+returns-in_default g c =
+    let done = c.write_data.ensures in
+    let writes = subst (λ (values : ExtensionValues). WritesData (extension_of_kind c.args.kind) values c.args.buf.now c.write_data.new.buf c.write_data.result) c.self.view_is
+    (WritesData-other c.args.kind (g.V.ElementValues.values c.self.inside.values.now) (Some c.self.inside.layers) c.in_default.not-VideoLayersAllocation
     (record { length_is = done.length; written = done.written; read_back = done.read_back; few = done.few })) in
     record { length = writes.length_is; written = writes.written; read_back = writes.read_back; few = writes.few }

@@ -1,0 +1,95 @@
+//! An allocation that is lent, measured and written where its streams lie.
+
+ghost use Rattle.std.specs.Prelude.{◌≡◌, ◌++◌, ◌≤◌, drop, length, map, IfSome, IfNone};
+ghost use Rattle.rtp_vla.specs.AllocationWritten as written;
+
+use super::allocation::{SimulcastStreamAllocation, VideoLayersAllocation};
+use super::lent::{Layered, LentStreams};
+use super::measuring::writable_len;
+use super::video_layers::{VideoLayers, VideoStream};
+use super::writing::put_allocation;
+use std::marker::Model;
+
+/// An allocation whose streams lie elsewhere: in lists, in a value of fixed size, or in types of the
+/// caller's own ([`Layered`]), from which it is measured and written without a copy. A clause sees
+/// the allocation.
+#[derive(Drop)]
+pub struct LentAllocation<'a, S: Layered> {
+    pub(super) index: u8,
+    pub(super) streams: LentStreams<'a, S>,
+}
+
+impl<'a, S: Layered> Model for LentAllocation<'a, S> {
+    ghost use Rattle.rtp_vla.specs.Allocation.{Allocation};
+
+    ghost Value = { Allocation };
+
+    ghost view = { λ allocation. record {
+      current_simulcast_stream_index = allocation.index;
+      simulcast_streams = allocation.streams;
+    } };
+}
+
+impl<'a> LentAllocation<'a, SimulcastStreamAllocation> {
+    /// One in lists.
+    #[inline(always)]
+    pub fn listed(v: &'a VideoLayersAllocation) -> Self
+        ensures { result ≡ v.now }
+    {
+        LentAllocation {
+            index: v.current_simulcast_stream_index,
+            streams: LentStreams::of(&v.simulcast_streams),
+        }
+    }
+}
+
+impl<'a> LentAllocation<'a, VideoStream> {
+    /// One in a value of fixed size.
+    #[inline(always)]
+    pub fn held(v: &'a VideoLayers) -> Self
+        ensures { result ≡ v.now }
+    {
+        LentAllocation {
+            index: v.current_simulcast_stream_index(),
+            streams: LentStreams::of(v.simulcast_streams()),
+        }
+    }
+}
+
+impl<'a, S: Layered> LentAllocation<'a, S> {
+    /// The allocation of these streams, of which the packet is of the one at this index, from 0.
+    #[inline(always)]
+    pub fn new(index: u8, streams: &'a [S]) -> Self
+        ensures { result ≡ record {
+          current_simulcast_stream_index = index;
+          simulcast_streams = map S.stream streams.now;
+        } }
+    {
+        LentAllocation {
+            index,
+            streams: LentStreams::of(streams),
+        }
+    }
+
+    /// How many bytes [`write_to`](Self::write_to) writes, and `None` exactly when the allocation
+    /// isn't writable, for the causes of [`is_writable`](super::writing::is_writable).
+    pub fn checked_wire_len(&self) -> Option<usize>
+        ensures found { IfSome result (λ len.
+            written.Writable self.now × (len ≡ length (written.written_of self.now))) }
+        ensures none { IfNone result (written.Writable self.now → ⊥) }
+    {
+        writable_len(self)
+    }
+
+    /// Writes the allocation to the front of the buffer, as [`write_to`](super::writing::write_to)
+    /// does, and returns how many bytes it has; the bytes after them stay. It requires an allocation
+    /// that is writable, and room for [`checked_wire_len`](Self::checked_wire_len) bytes.
+    pub fn write_to(&self, buf: &mut [u8]) -> usize
+        requires writable { written.Writable self.now }
+        requires room { length (written.written_of self.now) ≤ length buf.old }
+        ensures written { buf.new ≡ written.written_of self.now ++ drop result buf.old }
+        ensures length { result ≡ length (written.written_of self.now) }
+    {
+        put_allocation(self, buf)
+    }
+}
