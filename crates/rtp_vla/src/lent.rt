@@ -1,5 +1,5 @@
-//! The streams and layers of an allocation that is lent: those of lists, of values of fixed size, or
-//! of a caller's own types.
+//! The streams and layers of an allocation that is lent: those of lists, of values of fixed size,
+//! or of a caller's own types.
 
 ghost use Rattle.std.specs.Prelude.{◌≡◌, ◌∷◌, ◌++◌, [], length, map, IfSome, IfNone};
 ghost use Rattle.std.specs.List.{filter};
@@ -12,8 +12,8 @@ use super::allocation::{
 use super::video_layers::{VideoLayer, VideoStream};
 use std::marker::Model;
 
-/// A spatial layer that is lent: one of a list, of a value of fixed size, or of a caller's own type. A
-/// clause sees the layer.
+/// A spatial layer that is lent: one of a list, of a value of fixed size, or of a caller's own
+/// type. A clause sees the layer.
 #[derive(Drop)]
 pub struct LentLayer<'a> {
     /// Its temporal layers by rising frame rate: none where the layer isn't active.
@@ -160,9 +160,9 @@ impl<'a, L: Lendable> LentLayers<'a, L> {
     }
 }
 
-/// A simulcast stream whose layers can be lent: one of a list, one in a value of fixed size, or a type
-/// of the caller's own. A [`LentAllocation`](super::lent_allocation::LentAllocation) of such streams is
-/// measured and written where they lie.
+/// A simulcast stream whose layers can be lent: one of a list, one in a value of fixed size, or a
+/// type of the caller's own. A [`LentAllocation`](super::lent_allocation::LentAllocation) of such
+/// streams is measured and written where they lie.
 pub trait Layered {
     ghost use Rattle.std.specs.Prelude.{◌≡◌};
     ghost use Rattle.rtp_vla.specs.Allocation.{Stream};

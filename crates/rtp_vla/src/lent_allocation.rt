@@ -10,9 +10,9 @@ use super::video_layers::{VideoLayers, VideoStream};
 use super::writing::put_allocation;
 use std::marker::Model;
 
-/// An allocation whose streams lie elsewhere: in lists, in a value of fixed size, or in types of the
-/// caller's own ([`Layered`]), from which it is measured and written without a copy. A clause sees
-/// the allocation.
+/// An allocation whose streams lie elsewhere: in lists, in a value of fixed size, or in types of
+/// the caller's own ([`Layered`]), from which it is measured and written without a copy. A clause
+/// sees the allocation.
 #[derive(Drop)]
 pub struct LentAllocation<'a, S: Layered> {
     pub(super) index: u8,
@@ -82,8 +82,8 @@ impl<'a, S: Layered> LentAllocation<'a, S> {
     }
 
     /// Writes the allocation to the front of the buffer, as [`write_to`](super::writing::write_to)
-    /// does, and returns how many bytes it has; the bytes after them stay. It requires an allocation
-    /// that is writable, and room for [`checked_wire_len`](Self::checked_wire_len) bytes.
+    /// does, and returns how many bytes it has; the bytes after them stay. It requires an
+    /// allocation that is writable, and room for [`checked_wire_len`](Self::checked_wire_len) bytes.
     pub fn write_to(&self, buf: &mut [u8]) -> usize
         requires writable { written.Writable self.now }
         requires room { length (written.written_of self.now) ≤ length buf.old }

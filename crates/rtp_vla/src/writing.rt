@@ -135,15 +135,16 @@ fn put_resolutions<S: Layered>(buf: &mut [u8], at: usize, mut left: ActiveLayers
     end
 }
 
-// Puts the masks, unless the head has one for all streams.
-fn put_masks(buf: &mut [u8], at: usize, masks: &[u8]) -> usize
+// Puts the masks, unless the head has one that all streams share.
+fn put_masks(buf: &mut [u8], at: usize, masks: &[u8], shared: u8) -> usize
     requires few { length masks.now ≤ 4 }
+    requires shared { shared ≡ written.shared_of masks.now }
     requires fit { AllByRecursion (λ mask. mask ≤ 15) masks.now }
     requires room { at + length (written.mask_bytes masks.now) ≤ length buf.old }
     ensures written { buf.new ≡ overwritten buf.old at (written.mask_bytes masks.now) }
     ensures end { result ≡ at + length (written.mask_bytes masks.now) }
 {
-    if shared_of(masks) == 0 {
+    if shared == 0 {
         put_halves(buf, at, masks)
     } else {
         at
@@ -161,9 +162,10 @@ fn put_streams<S: Layered>(buf: &mut [u8], index: u8, streams: &LentStreams<S>) 
     let mut masks = [0; 4];
     let masks = &mut masks[..streams.len()];
     let _ = put_masks_of(streams, masks);
-    let head = 64 * index + 16 * (streams.len() - 1) as u8 + shared_of(masks);
+    let shared = shared_of(masks);
+    let head = 64 * index + 16 * (streams.len() - 1) as u8 + shared;
     let end = put(buf, 0, &[head]);
-    let end = put_masks(buf, end, masks);
+    let end = put_masks(buf, end, masks, shared);
     let end = put_counts(buf, end, ActiveLayers::new(streams.again()));
     let end = put_rates(buf, end, ActiveLayers::new(streams.again()));
     put_resolutions(buf, end, ActiveLayers::new(streams.again()))

@@ -13,9 +13,9 @@ use crate::KnownKind;
 use rtp_vla::vla::{Layered, LentAllocation};
 use std::marker::Model;
 
-/// Values with the layers of an allocation that is lent in place of the allocation that they have, where
-/// an element can carry the layers and it is known in how many bytes, so that they aren't measured
-/// again for each length and each writing.
+/// Values with an allocation that is lent in place of the one that they have, where an element can
+/// carry its layers and it is known in how many bytes, so that they aren't measured again for each
+/// length and each writing.
 #[derive(Drop)]
 pub struct CarriedLayers<'a, V: ElementValues, S: Layered> {
     values: &'a V,
@@ -45,8 +45,10 @@ impl<'a, V: ElementValues, S: Layered> CarriedLayers<'a, V, S> {
     pub fn measure(values: &'a V, layers: LentAllocation<'a, S>) -> Option<Self>
         ensures found { IfSome result (λ carried. carried
             ≡ record (V.values values.now) { video_layers_allocation = Some layers.entry }) }
-        ensures fits { IfSome result (λ _. Writable layers.entry × (length (written_of layers.entry) ≤ 255)) }
-        ensures none { IfNone result (Writable layers.entry → length (written_of layers.entry) ≤ 255 → ⊥) }
+        ensures fits { IfSome result (λ _. Writable layers.entry
+            × (length (written_of layers.entry) ≤ 255)) }
+        ensures none { IfNone result (Writable layers.entry
+            → length (written_of layers.entry) ≤ 255 → ⊥) }
     {
         let len = layers.checked_wire_len()?;
         if len > MAX_LEN {
