@@ -5,8 +5,7 @@ use Rattle.rtp_base.specs.Ring.{ring_bits}
 use Rattle.rtp_base.specs.Window.{Numbers}
 use Rattle.rtp_receive.specs.Receiver.{IsNothing}
 use Rattle.rtp_receive.specs.Restarting.{Bounds, IsRestartingVerdict, epoch_after}
-use Rattle.rtp_receive.specs.RestartingState.{bounds_of, Leads, Grows, RowLeads, RowGrows}
-use Rattle.rtp_receive.specs.declared.restarting.RestartingReceiver.{RestartingReceiver}
+use Rattle.rtp_receive.specs.RestartingState.{RestartingReceiver, bounds_of, Leads, Grows, RowLeads, RowGrows}
 use Rattle.rtp_receive.specs.declared.restarting_verdict.RestartingVerdict.{RestartingVerdict}
 use Rattle.rtp_c.specs.declared.restarting.StoredRestarting.{StoredRestarting}
 use Rattle.rtp_c.specs.StoredRestarting.{bounds_in, HoldsIn, IsTold, IsAnsweredIn}

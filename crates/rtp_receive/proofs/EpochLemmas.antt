@@ -11,13 +11,13 @@ use Rattle.rtp_receive.specs.declared.restarting_verdict.RestartingVerdict.TheVa
 use Rattle.rtp_receive.specs.Receiver.{IsHighest, IsJudgedOf, taken_after}
 use Rattle.rtp_receive.specs.Verdicts.{PacketId, IsVerdictOf, IsRunOf, taken_by}
 use Rattle.rtp_receive.specs.Restarting.{Bounds, IsOutside, IsFirst, announced, first_number, in_stream, IsJudgedInStream, IsRestartingRun, Arrival, epoch_after, taken_in, IsNext, IsRestartingVerdict}
-use Rattle.rtp_receive.specs.declared.restarting.RestartingReceiver.{RestartingReceiver}
-use Rattle.rtp_receive.specs.RestartingState.{bounds_of, HoldsEpoch, RowLeads, RowGrows, Remembers, Follows}
+use Rattle.rtp_receive.specs.declared.restarting.RestartingStreamReceiver.{RestartingStreamReceiver}
+use Rattle.rtp_receive.specs.RestartingState.{bounds_of_size, HoldsEpochOf, RowLeadsOf, RowGrowsOf, RemembersOf, FollowsOf}
 use Rattle.rtp_receive.specs.EpochRun.{packet_id_in, verdict_in_epoch, verdicts_in_epoch, IsRunInEpoch, AreRising}
 use Rattle.rtp_receive.specs.EpochRun as epoch
 use Rattle.rtp_receive.proofs.VerdictLemmas.{taken_by-push, or_false, IsRun-more}
 use Rattle.rtp_receive.proofs.EpochOrder.{rising}
-use Rattle.rtp_receive.proofs.RestartingLemmas.{first_not_refused, next_verdict, Remembers-after, one_epoch, taken_once}
+use Rattle.rtp_receive.proofs.RestartingLemmas.{first_not_refused, next_verdict, RemembersOf-after, one_epoch, taken_once}
 
 -- no packet has no verdict
 IsRunOf-none : (size count : ℕ) → IsRunOf size count [] []
@@ -125,18 +125,18 @@ run_in_epoch bounds (arrival ∷ before) run =
 -- ---- one packet more
 
 -- what a verdict and what is held after it say of all packets that came before
-pub follows : (words : ℕ) (old new : RestartingReceiver words) (low : ℕ) (verdict : RestartingVerdict) (before : List Arrival) → Remembers words old before
-    → IsRestartingVerdict (bounds_of words old) 1 (taken_in before) (RowLeads words old low) low verdict → HoldsEpoch words new 1 (epoch_after (taken_in before) verdict)
-    → RowGrows words old (taken_in before) low verdict new → bounds_of words new ≡ bounds_of words old → Follows words old new before (record { low = low; verdict = verdict })
-follows words old new low verdict before remembers is holds grows same =
-    let bounds : Bounds = bounds_of words old in
-    let next : IsNext bounds before (record { low = low; verdict = verdict }) = next_verdict words old new before low verdict remembers is in
+pub follows : {W : Type 0} (size : ℕ) (old new : RestartingStreamReceiver W) (low : ℕ) (verdict : RestartingVerdict) (before : List Arrival) → RemembersOf size old before
+    → IsRestartingVerdict (bounds_of_size size old) 1 (taken_in before) (RowLeadsOf old low) low verdict → HoldsEpochOf size new 1 (epoch_after (taken_in before) verdict)
+    → RowGrowsOf size old (taken_in before) low verdict new → bounds_of_size size new ≡ bounds_of_size size old → FollowsOf size old new before (record { low = low; verdict = verdict })
+follows size old new low verdict before remembers is holds grows same =
+    let bounds : Bounds = bounds_of_size size old in
+    let next : IsNext bounds before (record { low = low; verdict = verdict }) = next_verdict size old new before low verdict remembers is in
     record {
       next = next;
-      after = Remembers-after words old new before low verdict remembers is holds grows same;
+      after = RemembersOf-after size old new before low verdict remembers is holds grows same;
       in_epoch = run_in_epoch bounds (record { low = low; verdict = verdict } ∷ before) (next, remembers.run);
       one_epoch = one_epoch bounds (record { low = low; verdict = verdict } ∷ before) (next, remembers.run);
       rising = λ small. rising bounds (record { low = low; verdict = verdict } ∷ before) small (next, remembers.run);
-      once = λ number taken. taken_once bounds 1 (taken_in before) (RowLeads words old low) low number
-          (subst (λ (v : RestartingVerdict). IsRestartingVerdict bounds 1 (taken_in before) (RowLeads words old low) low v) taken is);
+      once = λ number taken. taken_once bounds 1 (taken_in before) (RowLeadsOf old low) low number
+          (subst (λ (v : RestartingVerdict). IsRestartingVerdict bounds 1 (taken_in before) (RowLeadsOf old low) low v) taken is);
     }

@@ -8,11 +8,11 @@ use Rattle.rtp_receive.specs.Widening.{IsNearest}
 use Rattle.rtp_receive.proofs.ReceiverLemmas.{not_nothing}
 use Rattle.rtp_receive.proofs.TrueNumberLemmas.{one_greatest}
 use Rattle.rtp_receive.proofs.NearestLemmas.{only_near}
-use Rattle.rtp_receive.specs.declared.restarting.RestartingReceiver.{RestartingReceiver}
+use Rattle.rtp_receive.specs.declared.restarting.RestartingStreamReceiver.{RestartingStreamReceiver}
 use Rattle.rtp_receive.specs.declared.restarting_verdict.RestartingVerdict.{RestartingVerdict}
 use Rattle.rtp_receive.specs.declared.restarting_verdict.RestartingVerdict.TheVariants.{Taken, Restarted, Refused}
 use Rattle.rtp_receive.specs.Restarting.{Bounds, announced, first_number, IsOfStream, IsOutside, leading, IsFirst, Begins, IsRestartingVerdict, Arrival, epoch_after, taken_in, LeadUp, IsNext, IsRestartingRun, HasNoPair, IsOneEpoch}
-use Rattle.rtp_receive.specs.RestartingState.{bounds_of, HoldsEpoch, RowLeads, RowGrows, Remembers}
+use Rattle.rtp_receive.specs.RestartingState.{bounds_of_size, HoldsEpochOf, RowLeadsOf, RowGrowsOf, RemembersOf}
 
 -- as many as must lead up to an epoch are few
 leading-few : (bounds : Bounds) (highest : Option ℕ) → bounds.min_sequential ≤ 255 → leading bounds highest ≤ 255
@@ -42,27 +42,27 @@ Verdict-same bounds count taken one other low verdict few same is = elim is [
 
 -- ---- one packet more
 
-module _ (words : ℕ) (old new : RestartingReceiver words) (before : List Arrival) (low : ℕ) (verdict : RestartingVerdict) (remembers : Remembers words old before) where
-  pub next_verdict : IsRestartingVerdict (bounds_of words old) 1 (taken_in before) (RowLeads words old low) low verdict
-      → IsNext (bounds_of words old) before (record { low = low; verdict = verdict })
-  next_verdict is = Verdict-same (bounds_of words old) 1 (taken_in before) (RowLeads words old low) (LeadUp (bounds_of words old) before low) low verdict remembers.few (remembers.row low) is
+module _ {W : Type 0} (size : ℕ) (old new : RestartingStreamReceiver W) (before : List Arrival) (low : ℕ) (verdict : RestartingVerdict) (remembers : RemembersOf size old before) where
+  pub next_verdict : IsRestartingVerdict (bounds_of_size size old) 1 (taken_in before) (RowLeadsOf old low) low verdict
+      → IsNext (bounds_of_size size old) before (record { low = low; verdict = verdict })
+  next_verdict is = Verdict-same (bounds_of_size size old) 1 (taken_in before) (RowLeadsOf old low) (LeadUp (bounds_of_size size old) before low) low verdict remembers.few (remembers.row low) is
 
-  row_after : RowGrows words old (taken_in before) low verdict new → (later k : ℕ) → k ≤ 255
-      → LeadUp (bounds_of words old) (record { low = low; verdict = verdict } ∷ before) later k ↔ RowLeads words new later k
+  row_after : RowGrowsOf size old (taken_in before) low verdict new → (later k : ℕ) → k ≤ 255
+      → LeadUp (bounds_of_size size old) (record { low = low; verdict = verdict } ∷ before) later k ↔ RowLeadsOf new later k
   row_after grows later zero le = (λ _. inl refl, λ _. tt)
   row_after grows later (suc k) le =
       let grown = grows later k le in
       let held = remembers.row low k (omega arith) in
       (λ lead. grown.1 (lead.0, lead.1, lead.2, held.0 lead.3), λ leads. let parts = grown.0 leads in (parts.0, parts.1, parts.2, held.1 parts.3))
 
-  pub Remembers-after : IsRestartingVerdict (bounds_of words old) 1 (taken_in before) (RowLeads words old low) low verdict
-      → HoldsEpoch words new 1 (epoch_after (taken_in before) verdict) → RowGrows words old (taken_in before) low verdict new → bounds_of words new ≡ bounds_of words old
-      → Remembers words new (record { low = low; verdict = verdict } ∷ before)
-  Remembers-after is holds grows same = record {
+  pub RemembersOf-after : IsRestartingVerdict (bounds_of_size size old) 1 (taken_in before) (RowLeadsOf old low) low verdict
+      → HoldsEpochOf size new 1 (epoch_after (taken_in before) verdict) → RowGrowsOf size old (taken_in before) low verdict new → bounds_of_size size new ≡ bounds_of_size size old
+      → RemembersOf size new (record { low = low; verdict = verdict } ∷ before)
+  RemembersOf-after is holds grows same = record {
     run = subst (λ (b : Bounds). IsRestartingRun b (record { low = low; verdict = verdict } ∷ before)) (sym same) (next_verdict is, remembers.run);
     holds = holds;
     few = subst (λ (b : Bounds). b.min_sequential ≤ 255) (sym same) remembers.few;
-    row = λ later k le. subst (λ (b : Bounds). LeadUp b (record { low = low; verdict = verdict } ∷ before) later k ↔ RowLeads words new later k) (sym same) (row_after grows later k le);
+    row = λ later k le. subst (λ (b : Bounds). LeadUp b (record { low = low; verdict = verdict } ∷ before) later k ↔ RowLeadsOf new later k) (sym same) (row_after grows later k le);
   }
 
 -- ---- whole runs

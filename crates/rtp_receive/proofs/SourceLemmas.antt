@@ -1,7 +1,6 @@
 -- Runs of packets of many sources: what one packet more changes, and each source by itself.
 use Rattle.std.proofs.Common.{◌≡◌, ◌≢◌, ℕ, Bool, true, false, if◌then◌else◌, eqb, List, [], ◌∷◌, ◌++◌, length, refl, sym, ap, ◌∙◌, subst, arith}
-use Rattle.std.specs.Prelude.{Option, Some, None, Result, Ok, Err, IfOk}
-use Rattle.std.specs.declared.alloc.AllocError.{AllocError}
+use Rattle.std.specs.Prelude.{Option, Some, None}
 use Rattle.std.specs.List.{AllZip}
 use Rattle.std.proofs.lemmas.Bool.{eq-eqb, eqb-true, false≢true}
 use Rattle.rtp_base.specs.Window.{Numbers, window_size}
@@ -58,13 +57,6 @@ pub HoldsEach-after : (count : ℕ) (before after : ReceiverStates) (taken : ℕ
     → HoldsEach after count (taken_after_each taken (Some packet_id) verdict)
 HoldsEach-after count before after taken packet_id verdict holds stays held others =
     λ source. held_at count before after taken packet_id verdict source (eqb source packet_id.source) refl holds stays held others
-
--- the same of the receivers' answer to a packet
-pub HoldsEach-received : (count : ℕ) (before after : ReceiverStates) (taken : ℕ → Numbers) (packet_id : PacketId) (answer : Result Verdict AllocError) → HoldsEach before count taken
-    → after.rollover_count ≡ before.rollover_count → IfOk answer (λ verdict. Holds (state_of after packet_id.source) count (taken_after (taken packet_id.source) verdict))
-    → ((other : ℕ) → other ≢ packet_id.source → receiver_of after other ≡ receiver_of before other) → IfOk answer (λ verdict. HoldsEach after count (taken_after_each taken (Some packet_id) verdict))
-HoldsEach-received count before after taken packet_id (Ok verdict) holds stays held others = HoldsEach-after count before after taken packet_id verdict holds stays held others
-HoldsEach-received count before after taken packet_id (Err error) holds stays held others = tt
 
 -- ---- the run so far
 

@@ -26,6 +26,11 @@ pub trait ReplayWindow: Drop {
         ensures kept { KeepsOf size (state result) (only number) }
         ensures below_zero { ShowsBelowZeroOf size (state result) false };
 
+    /// Returns whether a number so far below the greatest is still told apart: whether the distance
+    /// is less than the size.
+    fn spans(distance: u64) -> bool
+        ensures { IsTrue result ↔ distance < size };
+
     /// Returns the greatest recorded number.
     fn max_seq(&self) -> SeqNo
         ensures is { result ≡ (state self.now).greatest }
@@ -52,6 +57,12 @@ pub trait ReplayWindow: Drop {
         ensures below_zero { StaysBelowZeroOf size (state self.old) (state self.new) };
 }
 
+// How many numbers a `SeqNoWindow` tells apart, and how many have their bits in one word of a
+// `WideWindow`.
+const SEQ_NO_WINDOW_SIZE: u64 = 128;
+
+const WORD: u64 = 64;
+
 impl ReplayWindow for SeqNoWindow {
     ghost size = { window_size };
 
@@ -60,6 +71,11 @@ impl ReplayWindow for SeqNoWindow {
     #[inline(always)]
     fn new(number: SeqNo) -> Self {
         SeqNoWindow::new(number)
+    }
+
+    #[inline(always)]
+    fn spans(distance: u64) -> bool {
+        distance < SEQ_NO_WINDOW_SIZE
     }
 
     #[inline(always)]
@@ -86,6 +102,11 @@ impl<const N: usize> ReplayWindow for WideWindow<N> {
     #[inline(always)]
     fn new(number: SeqNo) -> Self {
         WideWindow::new(number)
+    }
+
+    #[inline(always)]
+    fn spans(distance: u64) -> bool {
+        distance / WORD < N as u64
     }
 
     #[inline(always)]

@@ -153,14 +153,6 @@ module _ (datagram : List ℕ) (len : ℕ) (form : Option ExtensionsForm) (heade
 
 -- ---- the first cause
 
--- an unknown form makes room for itself before a block that is cut short
-header_place : (cause : NotAPacket) → header_place_of (not_a_header.TheVariants.NotAPacket cause) ≡ place_of cause + place_of cause / 4
-header_place CutFixedPart = refl
-header_place OtherVersion = refl
-header_place CutSources = refl
-header_place CutBlockHeader = refl
-header_place CutBlock = refl
-
 pub IsFirstHeaderCause-other_form : (bytes : List ℕ) (parts : PacketParts) (other : ℕ × List ℕ) → IsPacket bytes parts → parts.other_block ≡ Some other
     → IsFirstHeaderCause bytes not_a_header.TheVariants.UnknownForm
 IsFirstHeaderCause-other_form bytes parts other is some = record { applies = HasUnknownForm-packet bytes parts other is some; none_before = none_before }
@@ -168,20 +160,6 @@ IsFirstHeaderCause-other_form bytes parts other is some = record { applies = Has
     none_before : (earlier : not_a_header.NotAHeader) → header_place_of earlier < 4 → AppliesToHeader bytes earlier → ⊥
     none_before (not_a_header.TheVariants.NotAPacket cause) before applies = not_a_packet bytes cause parts applies is
     none_before not_a_header.TheVariants.UnknownForm before applies = omega arith
-
-pub IsFirstHeaderCause-packet : (bytes : List ℕ) (cause : NotAPacket) → IsFirstCause bytes cause → (cause ≡ CutBlock → HasUnknownForm bytes → ⊥) → IsFirstHeaderCause bytes (not_a_header.TheVariants.NotAPacket cause)
-IsFirstHeaderCause-packet bytes cause first known = record { applies = first.applies; none_before = none_before }
-  where
-    none_before : (earlier : not_a_header.NotAHeader) → header_place_of earlier < header_place_of (not_a_header.TheVariants.NotAPacket cause) → AppliesToHeader bytes earlier → ⊥
-    none_before (not_a_header.TheVariants.NotAPacket earlier) before applies = first.none_before earlier (omega (arith, before, header_place earlier, header_place cause)) applies
-    none_before not_a_header.TheVariants.UnknownForm before applies = known (last cause before) applies
-      where
-        last : (cause : NotAPacket) → 4 < header_place_of (not_a_header.TheVariants.NotAPacket cause) → cause ≡ CutBlock
-        last CutFixedPart before = absurd (omega arith)
-        last OtherVersion before = absurd (omega arith)
-        last CutSources before = absurd (omega arith)
-        last CutBlockHeader before = absurd (omega arith)
-        last CutBlock before = refl
 
 -- the first four bytes of a block whose words are cut short are there
 pub block_header-there : (bytes : List ℕ) → IsFirstCause bytes CutBlock → sources_end bytes + 4 ≤ length bytes

@@ -30,7 +30,7 @@ one_id exts datagram a b first second =
     ap packet_id_of first.is_header.fields_are ∙ ap id same ∙ sym (ap packet_id_of second.is_header.fields_are)
 
 -- a datagram has one packet id, or none
-pub one_packet_id : (exts : ExtensionMap) (datagram : List ℕ) (a b : Option PacketId) → IsPacketId exts datagram a → IsPacketId exts datagram b → a ≡ b
+one_packet_id : (exts : ExtensionMap) (datagram : List ℕ) (a b : Option PacketId) → IsPacketId exts datagram a → IsPacketId exts datagram b → a ≡ b
 one_packet_id exts datagram None None first second = refl
 one_packet_id exts datagram None (Some b) first second = absurd (first second.header second.wire)
 one_packet_id exts datagram (Some a) None first second = absurd (second first.header first.wire)

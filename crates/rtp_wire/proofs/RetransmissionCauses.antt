@@ -1,5 +1,5 @@
 -- Why a packet in a buffer doesn't become a retransmission, or a retransmission the packet that it repeats.
-use Rattle.std.proofs.Common.{◌≡◌, ℕ, ◌+◌, ◌<◌, ◌≤◌, Bool, true, false, List, [], length, take, Option, sym, ap, subst, ◌∙◌, arith, length-append}
+use Rattle.std.proofs.Common.{◌≡◌, ℕ, ◌+◌, ◌<◌, ◌≤◌, ◌↔◌, Bool, true, false, List, [], length, take, Option, sym, ap, subst, ◌∙◌, arith, length-append}
 use Rattle.rtp_wire.specs.declared.packet.not_a_packet.NotAPacket as not_a_packet
 use Rattle.rtp_wire.specs.declared.packet.not_retransmitted.NotRetransmitted.{NotRetransmitted}
 use Rattle.rtp_wire.specs.declared.packet.not_retransmitted.NotRetransmitted.TheVariants.{CutPacket, NotAPacket, PaddingTooLong, NoOriginalNumber, NewIdTooHigh, NoRoom}
@@ -40,56 +40,40 @@ no_long_padding buf len layout is long =
 no_cause : (buf : List ℕ) (len : ℕ) (cause : not_a_packet.NotAPacket) (parts : PacketParts) → IsPacket (take len buf) parts → IsFirstCause (take len buf) cause → ⊥
 no_cause buf len cause parts is first = no_packet (take len buf) cause parts first.applies is
 
--- the causes that come before the others
+-- the causes that come before the others keep from both alike
+module _ (Keeps : NotRetransmitted → Type 0) (buf : List ℕ) (len : ℕ) (cut : Keeps CutPacket ↔ length buf < len)
+    (not_read : (cause : not_a_packet.NotAPacket) → Keeps (NotAPacket cause) ↔ IsFirstCause (take len buf) cause) (long : IsPacketWith HasLongPadding (take len buf) → Keeps PaddingTooLong) where
+  unread : (cause : NotRetransmitted) → HasNoLayout buf len cause → IsFirstOf Keeps cause
+  unread CutPacket past = record { applies = cut.1 past; none_before = λ earlier before applies. omega (arith, before) }
+  unread (NotAPacket cause) none = record { applies = (not_read cause).1 none.1; none_before = none_before }
+    where
+      none_before : (earlier : NotRetransmitted) → place_of earlier < 1 → Keeps earlier → ⊥
+      none_before CutPacket before past = omega (arith, none.0, cut.0 past)
+      none_before (NotAPacket other) before applies = omega (arith, before)
+      none_before PaddingTooLong before applies = omega (arith, before)
+      none_before NoOriginalNumber before applies = omega (arith, before)
+      none_before NewIdTooHigh before applies = omega (arith, before)
+      none_before NoRoom before applies = omega (arith, before)
+  unread PaddingTooLong padded = record { applies = long padded.1; none_before = none_before }
+    where
+      none_before : (earlier : NotRetransmitted) → place_of earlier < 2 → Keeps earlier → ⊥
+      none_before CutPacket before past = omega (arith, padded.0, cut.0 past)
+      none_before (NotAPacket other) before applies = no_cause buf len other padded.1.parts padded.1.is_packet ((not_read other).0 applies)
+      none_before PaddingTooLong before applies = omega (arith, before)
+      none_before NoOriginalNumber before applies = omega (arith, before)
+      none_before NewIdTooHigh before applies = omega (arith, before)
+      none_before NoRoom before applies = omega (arith, before)
+  unread NoOriginalNumber none = absurd none
+  unread NewIdTooHigh none = absurd none
+  unread NoRoom none = absurd none
+
 pub sending_unread : (ids : ℕ → Option ℕ) (buf : List ℕ) (len : ℕ) (cause : NotRetransmitted) → HasNoLayout buf len cause
     → IsFirstOf (KeepsFromSending ids buf len) cause
-sending_unread ids buf len CutPacket past = record { applies = past; none_before = λ earlier before applies. omega (arith, before) }
-sending_unread ids buf len (NotAPacket cause) none = record { applies = none.1; none_before = none_before }
-  where
-    none_before : (earlier : NotRetransmitted) → place_of earlier < 1 → KeepsFromSending ids buf len earlier → ⊥
-    none_before CutPacket before past = omega (arith, none.0, past)
-    none_before (NotAPacket other) before applies = omega (arith, before)
-    none_before PaddingTooLong before applies = omega (arith, before)
-    none_before NoOriginalNumber before applies = omega (arith, before)
-    none_before NewIdTooHigh before applies = omega (arith, before)
-    none_before NoRoom before applies = omega (arith, before)
-sending_unread ids buf len PaddingTooLong long = record { applies = long.1; none_before = none_before }
-  where
-    none_before : (earlier : NotRetransmitted) → place_of earlier < 2 → KeepsFromSending ids buf len earlier → ⊥
-    none_before CutPacket before past = omega (arith, long.0, past)
-    none_before (NotAPacket other) before applies = no_cause buf len other long.1.parts long.1.is_packet applies
-    none_before PaddingTooLong before applies = omega (arith, before)
-    none_before NoOriginalNumber before applies = omega (arith, before)
-    none_before NewIdTooHigh before applies = omega (arith, before)
-    none_before NoRoom before applies = omega (arith, before)
-sending_unread ids buf len NoOriginalNumber none = absurd none
-sending_unread ids buf len NewIdTooHigh none = absurd none
-sending_unread ids buf len NoRoom none = absurd none
+sending_unread ids buf len = unread (KeepsFromSending ids buf len) buf len (λ x. x, λ x. x) (λ cause. (λ x. x, λ x. x)) (λ x. x)
 
 pub restoring_unread : (ids : ℕ → Option ℕ) (buf : List ℕ) (len : ℕ) (cause : NotRetransmitted) → HasNoLayout buf len cause
     → IsFirstOf (KeepsFromRestoring ids buf len) cause
-restoring_unread ids buf len CutPacket past = record { applies = past; none_before = λ earlier before applies. omega (arith, before) }
-restoring_unread ids buf len (NotAPacket cause) none = record { applies = none.1; none_before = none_before }
-  where
-    none_before : (earlier : NotRetransmitted) → place_of earlier < 1 → KeepsFromRestoring ids buf len earlier → ⊥
-    none_before CutPacket before past = omega (arith, none.0, past)
-    none_before (NotAPacket other) before applies = omega (arith, before)
-    none_before PaddingTooLong before applies = omega (arith, before)
-    none_before NoOriginalNumber before applies = omega (arith, before)
-    none_before NewIdTooHigh before applies = omega (arith, before)
-    none_before NoRoom before applies = omega (arith, before)
-restoring_unread ids buf len PaddingTooLong long = record { applies = long.1; none_before = none_before }
-  where
-    none_before : (earlier : NotRetransmitted) → place_of earlier < 2 → KeepsFromRestoring ids buf len earlier → ⊥
-    none_before CutPacket before past = omega (arith, long.0, past)
-    none_before (NotAPacket other) before applies = no_cause buf len other long.1.parts long.1.is_packet applies
-    none_before PaddingTooLong before applies = omega (arith, before)
-    none_before NoOriginalNumber before applies = omega (arith, before)
-    none_before NewIdTooHigh before applies = omega (arith, before)
-    none_before NoRoom before applies = omega (arith, before)
-restoring_unread ids buf len NoOriginalNumber none = absurd none
-restoring_unread ids buf len NewIdTooHigh none = absurd none
-restoring_unread ids buf len NoRoom none = absurd none
+restoring_unread ids buf len = unread (KeepsFromRestoring ids buf len) buf len (λ x. x, λ x. x) (λ cause. (λ x. x, λ x. x)) (λ x. x)
 
 -- what is said of the packet's parts and its payload
 at_parts : (Fact : PacketParts → Type 0) (buf : List ℕ) (len : ℕ) (layout : Layout) → (is : IsLaidOut buf len layout) → IsPacketWith Fact (take len buf) → Fact is.parts

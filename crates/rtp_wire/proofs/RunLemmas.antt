@@ -1,9 +1,9 @@
 -- Runs of datagrams: the verdicts on them, all together and each source by itself.
-use Rattle.std.proofs.Common.{◌≡◌, ℕ, ◌≤◌, Bool, true, false, if◌then◌else◌, eqb, List, [], ◌∷◌, ◌++◌, length, take, refl, sym, ap, ◌∙◌, subst, arith}
+use Rattle.std.proofs.Common.{◌≡◌, ℕ, ◌+◌, ◌<◌, ◌≤◌, Bool, true, false, if◌then◌else◌, eqb, List, [], ◌∷◌, ◌++◌, length, take, get_or, refl, sym, ap, ◌∙◌, subst, arith}
 use Rattle.std.specs.Prelude.{Option, Some}
 use Rattle.std.specs.List.{AllZip, AllByRecursion}
 use Rattle.std.proofs.lemmas.Bool.{eq-eqb, false≢true}
-use Rattle.std.proofs.lemmas.List.{length-map, take_all}
+use Rattle.std.proofs.lemmas.List.{length-map, take_all, take_more}
 use Rattle.rtp_receive.specs.StreamState.{ReceiverState}
 use Rattle.rtp_receive.specs.declared.receiver.Verdict.{Verdict}
 use Rattle.rtp_receive.specs.Receivers.{ReceiverStates}
@@ -38,11 +38,13 @@ pub record ReadSoFar (datagrams : List (List ℕ)) (RunSoFar : List (Option Pack
 pub ReadSoFar-none : (RunSoFar : List (Option PacketId) → Type 0) → RunSoFar [] → ReadSoFar [] RunSoFar
 ReadSoFar-none RunSoFar so_far = record { packet_ids = []; are_packet_ids = λ exts. tt; so_far = so_far }
 
-pub ReadSoFar-more : (datagrams : List (List ℕ)) (datagram : List ℕ) (packet_id : Option PacketId) (Before After : List (Option PacketId) → Type 0) (read : ReadSoFar datagrams Before)
-    → ((exts : ExtensionMap) → IsPacketId exts datagram packet_id) → After (read.packet_ids ++ packet_id ∷ []) → ReadSoFar (datagrams ++ datagram ∷ []) After
-ReadSoFar-more datagrams datagram packet_id Before After read is so_far = record {
+-- one more of them
+pub ReadSoFar-more : (datagrams : List (List ℕ)) (done : ℕ) (packet_id : Option PacketId) (Before After : List (Option PacketId) → Type 0) → done < length datagrams → (read : ReadSoFar (take done datagrams) Before)
+    → ((exts : ExtensionMap) → IsPacketId exts (get_or datagrams done []) packet_id) → After (read.packet_ids ++ packet_id ∷ []) → ReadSoFar (take (done + 1) datagrams) After
+ReadSoFar-more datagrams done packet_id Before After below read is so_far = record {
   packet_ids = read.packet_ids ++ packet_id ∷ [];
-  are_packet_ids = λ exts. AllZip-more (IsPacketId exts) datagrams read.packet_ids datagram packet_id (read.are_packet_ids exts) (is exts);
+  are_packet_ids = λ exts. subst (λ ds. ArePacketIds exts ds (read.packet_ids ++ packet_id ∷ [])) (sym (take_more datagrams done [] below))
+      (AllZip-more (IsPacketId exts) (take done datagrams) read.packet_ids (get_or datagrams done []) packet_id (read.are_packet_ids exts) (is exts));
   so_far = so_far;
 }
 

@@ -1,5 +1,5 @@
 -- What arrives of a sender's headers has the packet ids of those headers.
-use Rattle.std.proofs.Common.{◌≡◌, ℕ, List, [], ◌∷◌, refl, ap, ◌∙◌, subst}
+use Rattle.std.proofs.Common.{◌≡◌, ℕ, List, [], ◌∷◌, map, refl, sym, subst}
 use Rattle.std.specs.Prelude.{Option, Some}
 use Rattle.std.specs.List.{AllZip}
 use Rattle.rtp_receive.specs.declared.receiver.Verdict.{Verdict}
@@ -12,28 +12,26 @@ use Rattle.rtp_wire.specs.Written.{image_of}
 use Rattle.rtp_wire.specs.PacketIds.{packet_id_of, IsPacketId, ArePacketIds}
 use Rattle.rtp_wire.specs.Runs.{AreVerdicts}
 use Rattle.rtp_wire.specs.Sending.{Arrives, packet_ids_of, AreSent}
-use Rattle.rtp_wire.proofs.PacketIdLemmas.{one_packet_id}
+use Rattle.rtp_wire.proofs.PacketIdLemmas.{one_packet_ids}
 
 packet_id-image : (exts : ExtensionMap) (h : RtpHeader) → packet_id_of (image_of exts h) ≡ packet_id_of h
 unfolding image_of
 packet_id-image exts h = refl
 
-packet_id_sent : (exts : ExtensionMap) (h : RtpHeader) (datagram : List ℕ) (packet_id : Option PacketId) → Arrives exts h datagram → IsPacketId exts datagram packet_id
-    → packet_id ≡ Some (packet_id_of h)
-packet_id_sent exts h datagram packet_id arrives read =
-    let shown : IsPacketId exts datagram (Some (packet_id_of (image_of exts h))) = record { header = image_of exts h; wire = arrives; packet_id_is = refl } in
-    one_packet_id exts datagram packet_id (Some (packet_id_of (image_of exts h))) read shown ∙ ap Some (packet_id-image exts h)
+packet_id_sent : (exts : ExtensionMap) (h : RtpHeader) (datagram : List ℕ) → Arrives exts h datagram → IsPacketId exts datagram (Some (packet_id_of h))
+packet_id_sent exts h datagram arrives = record { header = image_of exts h; wire = arrives; packet_id_is = sym (packet_id-image exts h) }
+
+AllZip-mapped : {A B C : Type 0} (R : A → B → Type 0) (S : B → C → Type 0) (f : A → C) → ((x : A) (y : B) → R x y → S y (f x)) → (xs : List A) (ys : List B) → AllZip R xs ys → AllZip S ys (map f xs)
+AllZip-mapped R S f of [] [] all = tt
+AllZip-mapped R S f of [] (y ∷ ys) all = absurd all
+AllZip-mapped R S f of (x ∷ xs) [] all = absurd all
+AllZip-mapped R S f of (x ∷ xs) (y ∷ ys) all = (of x y all.0, AllZip-mapped R S f of xs ys all.1)
 
 pub packet_ids_sent : (exts : ExtensionMap) (headers : List RtpHeader) (datagrams : List (List ℕ)) (packet_ids : List (Option PacketId)) → AllZip (Arrives exts) headers datagrams
     → ArePacketIds exts datagrams packet_ids → packet_ids ≡ packet_ids_of headers
-packet_ids_sent exts [] [] [] arrive read = refl
-packet_ids_sent exts [] [] (r ∷ packet_ids) arrive read = absurd read
-packet_ids_sent exts [] (d ∷ datagrams) packet_ids arrive read = absurd arrive
-packet_ids_sent exts (h ∷ headers) [] packet_ids arrive read = absurd arrive
-packet_ids_sent exts (h ∷ headers) (d ∷ datagrams) [] arrive read = absurd read
-packet_ids_sent exts (h ∷ headers) (d ∷ datagrams) (r ∷ packet_ids) arrive read =
-    ap (λ (z : Option PacketId). z ∷ packet_ids) (packet_id_sent exts h d r arrive.0 read.0)
-    ∙ ap (λ (zs : List (Option PacketId)). Some (packet_id_of h) ∷ zs) (packet_ids_sent exts headers datagrams packet_ids arrive.1 read.1)
+packet_ids_sent exts headers datagrams packet_ids arrive read =
+    one_packet_ids exts datagrams packet_ids (packet_ids_of headers) read
+    (AllZip-mapped (Arrives exts) (IsPacketId exts) (λ h. Some (packet_id_of h)) (packet_id_sent exts) headers datagrams arrive)
 
 -- the verdicts on what arrives are those of the sender's numbers
 pub AreTrueVerdicts-sent : (exts : ExtensionMap) (headers : List RtpHeader) (numbers : List ℕ) (datagrams : List (List ℕ)) (verdicts : List Verdict)

@@ -10,6 +10,11 @@ use Rattle.rtp_wire.specs.Header.{IsWire}
 abbrev pub packet_id_of : RtpHeader → PacketId
 packet_id_of header = record { source = header.ssrc; low = header.sequence_number }
 
+-- the packet id of an SSRC and a sequence number
+abbrev pub packet_id_in : Option (ℕ × ℕ) → Option PacketId
+packet_id_in None = None
+packet_id_in (Some (ssrc, sequence_number)) = Some (record { source = ssrc; low = sequence_number })
+
 -- the datagram begins with a header of this packet id under the map
 pub record Shows (exts : ExtensionMap) (datagram : List ℕ) (packet_id : PacketId) : Type 0 where
   pub header : RtpHeader

@@ -24,8 +24,9 @@ pub use rtp_ext::{
     write_elements,
 };
 pub use rtp_receive::{
-    Receiver, Receivers, ReplayWindow, RestartingReceiver, RestartingVerdict, StreamReceiver,
-    Verdict, WideReceiver, extend_u7, extend_u8, extend_u15, extend_u16, extend_u32,
+    NarrowRestartingReceiver, Receiver, Receivers, ReplayWindow, RestartingReceiver,
+    RestartingStreamReceiver, RestartingVerdict, StreamReceiver, Verdict, WideReceiver, extend_u7,
+    extend_u8, extend_u15, extend_u16, extend_u32,
 };
 pub use rtp_vla::vla;
 pub use run::{receive_run, receive_run_one};

@@ -9,11 +9,12 @@ ghost use Rattle.rtp_receive.specs.Sources.{numbers_beside};
 ghost use Rattle.rtp_receive.specs.EachSource.{HoldsEach, taken_after_each};
 ghost use Rattle.rtp_ext.specs.declared.map.ExtensionMap.{ExtensionMap};
 ghost use Rattle.rtp_wire.specs.declared.header.rtp_header.RtpHeader.{RtpHeader};
-ghost use Rattle.rtp_wire.specs.PacketIds.{IsPacketId, ArePacketIds};
+ghost use Rattle.rtp_wire.specs.PacketIds.{packet_id_in, IsPacketId, ArePacketIds};
 ghost use Rattle.rtp_wire.specs.Sending.{AreSent, packet_ids_of};
 ghost use Rattle.rtp_wire.specs.Runs.{AreVerdicts, AreVerdictsBySource, OfEachSource, IsRunAlone, TakesEachOnce, IsDecidedBy, IsDecidedBySender};
 
 use crate::packet::RtpPacket;
+use rtp_base::Ssrc;
 use rtp_ext::ExtensionMap;
 use rtp_receive::{Receiver, Receivers, Verdict};
 use std::alloc::{AllocError, Global};
@@ -69,7 +70,7 @@ pub fn receive_run(
     let mut verdicts = Vec::with_capacity(alloc, datagrams.len())?;
     let mut receivers = Receivers::new(alloc);
     for datagram in datagrams {
-        let verdict = verdict_by_source(&mut receivers, datagram)?;
+        let verdict = verdict_by_source(&mut receivers, packet_id(datagram))?;
         verdicts.push_reserved(verdict);
     }
     Ok(verdicts)
@@ -112,47 +113,51 @@ pub fn receive_run_one(
     let mut verdicts = Vec::with_capacity(alloc, datagrams.len())?;
     let mut receiver = Receiver::new();
     for datagram in datagrams {
-        verdicts.push_reserved(verdict_on(&mut receiver, datagram));
+        verdicts.push_reserved(verdict_on(&mut receiver, packet_id(datagram)));
     }
     Ok(verdicts)
 }
 
-// The verdict on a datagram, by the packet that it is.
-fn verdict_on(receiver: &mut Receiver, datagram: &[u8]) -> Verdict
-    // It has the same packet id under each map, or none under any.
-    ensures read { (packet_id : Option PacketId)
-        × ((exts : ExtensionMap) → IsPacketId exts datagram.now packet_id) }
-    ensures verdict { (exts : ExtensionMap) → (packet_id : Option PacketId) →
-        IsPacketId exts datagram.now packet_id → (count : ℕ) → (taken : Numbers) →
-        Holds receiver.old count taken → IsVerdict count taken packet_id result }
+// The SSRC and the sequence number of a datagram, which are the same under each map, and `None`
+// where it begins with no header under any.
+fn packet_id(datagram: &[u8]) -> Option<(Ssrc, u16)>
+    ensures { (exts : ExtensionMap) → IsPacketId exts datagram.now (packet_id_in result) }
+{
+    match RtpPacket::read(datagram) {
+        Ok((packet, true)) => Some((packet.ssrc(), packet.sequence_number())),
+        _ => None,
+    }
+}
+
+// The verdict on a packet, whatever its SSRC is.
+fn verdict_on(receiver: &mut Receiver, packet_id: Option<(Ssrc, u16)>) -> Verdict
+    ensures verdict { (count : ℕ) → (taken : Numbers) → Holds receiver.old count taken →
+        IsVerdict count taken (packet_id_in packet_id) result }
     ensures after { (count : ℕ) → (taken : Numbers) → Holds receiver.old count taken →
         Holds receiver.new count (taken_after taken result) }
 {
-    match RtpPacket::read(datagram) {
-        Ok((packet, true)) => receiver.receive(packet.sequence_number()),
-        _ => Verdict::Unreadable,
+    match packet_id {
+        Some((_, sequence_number)) => receiver.receive(sequence_number),
+        None => Verdict::Unreadable,
     }
 }
 
 // The same, by the receiver of the packet's source.
-fn verdict_by_source(receivers: &mut Receivers, datagram: &[u8]) -> Result<Verdict, AllocError>
-    // It has the same packet id under each map, or none under any.
-    ensures read { (packet_id : Option PacketId)
-        × ((exts : ExtensionMap) → IsPacketId exts datagram.now packet_id) }
-    ensures verdict { (exts : ExtensionMap) → (packet_id : Option PacketId) →
-        IsPacketId exts datagram.now packet_id → (count : ℕ) → (taken : ℕ → Numbers) →
-        HoldsEach receivers.old count taken →
-        IfOk result (IsVerdict count (numbers_beside taken packet_id) packet_id) }
-    ensures after { (exts : ExtensionMap) → (packet_id : Option PacketId) →
-        IsPacketId exts datagram.now packet_id → (count : ℕ) → (taken : ℕ → Numbers) →
-        HoldsEach receivers.old count taken → IfOk result (λ verdict.
-        HoldsEach receivers.new count (taken_after_each taken packet_id verdict)) }
-    ensures succeeds { (exts : ExtensionMap) → IsPacketId exts datagram.now None → IsOk result }
-    ensures same { (exts : ExtensionMap) → IsPacketId exts datagram.now None →
-        receivers.new ≡ receivers.old }
+fn verdict_by_source(
+    receivers: &mut Receivers,
+    packet_id: Option<(Ssrc, u16)>,
+) -> Result<Verdict, AllocError>
+    ensures verdict { (count : ℕ) → (taken : ℕ → Numbers) → HoldsEach receivers.old count taken →
+        let id = packet_id_in packet_id in
+        IfOk result (IsVerdict count (numbers_beside taken id) id) }
+    ensures after { (count : ℕ) → (taken : ℕ → Numbers) → HoldsEach receivers.old count taken →
+        IfOk result (λ verdict.
+        HoldsEach receivers.new count (taken_after_each taken (packet_id_in packet_id) verdict)) }
+    ensures succeeds { packet_id ≡ None → IsOk result }
+    ensures same { packet_id ≡ None → receivers.new ≡ receivers.old }
 {
-    match RtpPacket::read(datagram) {
-        Ok((packet, true)) => receivers.receive(packet.ssrc(), packet.sequence_number()),
-        _ => Ok(Verdict::Unreadable),
+    match packet_id {
+        Some((ssrc, sequence_number)) => receivers.receive(ssrc, sequence_number),
+        None => Ok(Verdict::Unreadable),
     }
 }

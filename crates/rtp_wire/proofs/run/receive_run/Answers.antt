@@ -1,15 +1,15 @@
-use Rattle.std.proofs.Common.{◌≡◌, ℕ, ◌+◌, List, [], ◌∷◌, ◌++◌, map, take, length, get_or, sym, ap, ◌∙◌, subst, arith}
+use Rattle.std.proofs.Common.{◌≡◌, ℕ, ◌+◌, List, [], ◌∷◌, ◌++◌, map, length, get_or, sym, ap, ◌∙◌, subst, arith}
 use Rattle.std.specs.Prelude.{Option}
 use Rattle.std.specs.Global.{Vec}
-use Rattle.std.proofs.lemmas.List.{get_or-map, length-map, length_push, take_more}
+use Rattle.std.proofs.lemmas.List.{get_or-map, length-map, length_push}
 use Rattle.rtp_receive.specs.declared.receiver.Verdict.{Verdict}
 use Rattle.rtp_receive.specs.Verdicts.{PacketId}
-use Rattle.rtp_wire.specs.PacketIds.{IsPacketId}
+use Rattle.rtp_wire.specs.PacketIds.{packet_id_in, IsPacketId}
 use Rattle.rtp_receive.specs.Sources.{at_source, taken_of}
 use Rattle.rtp_receive.proofs.VerdictLemmas.{TakesOnce-run}
 use Rattle.rtp_wire.proofs.SendingLemmas.{AreTrueVerdicts-sent}
 use Rattle.rtp_receive.proofs.SourceLemmas.{SoFarEach, SoFarEach-none, SoFarEach-more, AllZip-at_source}
-use Rattle.rtp_wire.proofs.RunLemmas.{ReadSoFar, ReadSoFar-none, ReadSoFar-more, ReadSoFar-all, AreTrueVerdicts-of, AreVerdictsBySource-read, AreVerdicts-each, AreTrueVerdicts-sent_each}
+use Rattle.rtp_wire.proofs.RunLemmas.{ReadSoFar-none, ReadSoFar-more, ReadSoFar-all, AreTrueVerdicts-of, AreVerdictsBySource-read, AreVerdicts-each, AreTrueVerdicts-sent_each}
 use Rattle.rtp_wire.proofs.run.receive_run.Goals as goal
 
 pub loop-datagram-init : goal.loop-datagram-init
@@ -32,16 +32,13 @@ loop-datagram-preserved c =
     let here : get_or datagrams done [] ≡ c.deref.result.now =
     get_or-map bytes c.args.datagrams.now done c.datagram-item.result [] c.loop-datagram-test.true
     ∙ ap bytes (sym c.datagram-item.is) ∙ sym c.deref.ensures.value in
-    let read = c.in_ok-verdict.ensures.read in
+    let packet_id : Option PacketId = packet_id_in c.packet_id.result in
     let After : List (Option PacketId) → Type 0 = λ packet_ids. SoFarEach packet_ids c.push_reserved.new.self.items c.verdict_by_source.new.receivers in
-    let more = SoFarEach-more found.packet_ids read.0 verdicts c.in_ok-verdict.verdict c.loop-datagram.receivers c.verdict_by_source.new.receivers found.so_far
-    (c.in_ok-verdict.ensures.verdict c.args.exts.now read.0 (read.1 c.args.exts.now) 0 taken found.so_far.holds)
-    (c.in_ok-verdict.ensures.after c.args.exts.now read.0 (read.1 c.args.exts.now) 0 taken found.so_far.holds) in
-    let one : take (done + 1) datagrams ≡ take done datagrams ++ c.deref.result.now ∷ [] =
-    take_more datagrams done [] (omega (arith, many, c.loop-datagram-test.true)) ∙ ap (λ (d : List ℕ). take done datagrams ++ d ∷ []) here in (
-      subst (λ (ds : List (List ℕ)). ReadSoFar ds After) (sym one)
-          (ReadSoFar-more (take done datagrams) c.deref.result.now read.0 (λ packet_ids. SoFarEach packet_ids verdicts c.loop-datagram.receivers) After found read.1
-          (subst (λ (vs : List Verdict). SoFarEach (found.packet_ids ++ read.0 ∷ []) vs c.verdict_by_source.new.receivers) (sym c.push_reserved.ensures.items) more)),
+    let more = SoFarEach-more found.packet_ids packet_id verdicts c.in_ok-verdict.verdict c.loop-datagram.receivers c.verdict_by_source.new.receivers found.so_far
+    (c.in_ok-verdict.ensures.verdict 0 taken found.so_far.holds) (c.in_ok-verdict.ensures.after 0 taken found.so_far.holds) in (
+      ReadSoFar-more datagrams done packet_id (λ packet_ids. SoFarEach packet_ids verdicts c.loop-datagram.receivers) After (omega (arith, many, c.loop-datagram-test.true)) found
+          (λ exts. subst (λ (d : List ℕ). IsPacketId exts d packet_id) (sym here) (c.packet_id.ensures exts))
+          (subst (λ (vs : List Verdict). SoFarEach (found.packet_ids ++ packet_id ∷ []) vs c.verdict_by_source.new.receivers) (sym c.push_reserved.ensures.items) more),
       c.push_reserved.ensures.capacity ∙ c.loop-datagram.invariant.1,
       ap length c.push_reserved.ensures.items ∙ length_push verdicts c.in_ok-verdict.verdict ∙ ap (λ (k : ℕ). k + 1) c.loop-datagram.invariant.2,
     )

@@ -1,12 +1,13 @@
-use Rattle.std.proofs.Common.{◌≡◌, ℕ, ◌+◌, List, [], ◌∷◌, ◌++◌, map, take, length, get_or, refl, sym, ap, ◌∙◌, subst, arith}
+use Rattle.std.proofs.Common.{◌≡◌, ℕ, ◌+◌, List, [], ◌∷◌, ◌++◌, map, length, get_or, refl, sym, ap, ◌∙◌, subst, arith}
 use Rattle.std.specs.Prelude.{Option}
 use Rattle.std.specs.Global.{Vec}
-use Rattle.std.proofs.lemmas.List.{get_or-map, length-map, length_push, take_more}
+use Rattle.std.proofs.lemmas.List.{get_or-map, length-map, length_push}
 use Rattle.rtp_receive.specs.declared.receiver.Verdict.{Verdict}
 use Rattle.rtp_receive.specs.Receiver.{Holds, IsNothing}
 use Rattle.rtp_receive.specs.Verdicts.{PacketId, taken_by}
 use Rattle.rtp_receive.proofs.VerdictLemmas.{SoFar, SoFar-none, SoFar-more, TakesOnce-run}
-use Rattle.rtp_wire.proofs.RunLemmas.{ReadSoFar, ReadSoFar-none, ReadSoFar-more, ReadSoFar-all, AreVerdicts-read, AreTrueVerdicts-of}
+use Rattle.rtp_wire.specs.PacketIds.{packet_id_in, IsPacketId}
+use Rattle.rtp_wire.proofs.RunLemmas.{ReadSoFar-none, ReadSoFar-more, ReadSoFar-all, AreVerdicts-read, AreTrueVerdicts-of}
 use Rattle.rtp_wire.proofs.SendingLemmas.{AreTrueVerdicts-sent}
 use Rattle.rtp_wire.proofs.run.receive_run_one.Goals as goal
 
@@ -33,15 +34,13 @@ loop-datagram-preserved c =
     let here : get_or datagrams done [] ≡ c.deref.result.now =
     get_or-map bytes c.args.datagrams.now done c.datagram-item.result [] c.loop-datagram-test.true
     ∙ ap bytes (sym c.datagram-item.is) ∙ sym c.deref.ensures.value in
-    let read = c.verdict_on.ensures.read in
+    let packet_id : Option PacketId = packet_id_in c.packet_id.result in
     let After : List (Option PacketId) → Type 0 = λ packet_ids. SoFar packet_ids c.push_reserved.new.self.items c.verdict_on.new.receiver in
-    let more = SoFar-more found.packet_ids verdicts c.loop-datagram.receiver c.verdict_on.new.receiver read.0 c.verdict_on.result found.so_far
-    (c.verdict_on.ensures.verdict c.args.exts.now read.0 (read.1 c.args.exts.now) 0 (taken_by verdicts) found.so_far.holds) (c.verdict_on.ensures.after 0 (taken_by verdicts) found.so_far.holds) in
-    let one : take (done + 1) datagrams ≡ take done datagrams ++ c.deref.result.now ∷ [] =
-    take_more datagrams done [] (omega (arith, many, c.loop-datagram-test.true)) ∙ ap (λ (d : List ℕ). take done datagrams ++ d ∷ []) here in (
-      subst (λ (ds : List (List ℕ)). ReadSoFar ds After) (sym one)
-          (ReadSoFar-more (take done datagrams) c.deref.result.now read.0 (λ packet_ids. SoFar packet_ids verdicts c.loop-datagram.receiver) After found read.1
-          (subst (λ (vs : List Verdict). SoFar (found.packet_ids ++ read.0 ∷ []) vs c.verdict_on.new.receiver) (sym c.push_reserved.ensures.items) more)),
+    let more = SoFar-more found.packet_ids verdicts c.loop-datagram.receiver c.verdict_on.new.receiver packet_id c.verdict_on.result found.so_far
+    (c.verdict_on.ensures.verdict 0 (taken_by verdicts) found.so_far.holds) (c.verdict_on.ensures.after 0 (taken_by verdicts) found.so_far.holds) in (
+      ReadSoFar-more datagrams done packet_id (λ packet_ids. SoFar packet_ids verdicts c.loop-datagram.receiver) After (omega (arith, many, c.loop-datagram-test.true)) found
+          (λ exts. subst (λ (d : List ℕ). IsPacketId exts d packet_id) (sym here) (c.packet_id.ensures exts))
+          (subst (λ (vs : List Verdict). SoFar (found.packet_ids ++ packet_id ∷ []) vs c.verdict_on.new.receiver) (sym c.push_reserved.ensures.items) more),
       c.push_reserved.ensures.capacity ∙ c.loop-datagram.invariant.1,
       ap length c.push_reserved.ensures.items ∙ length_push verdicts c.verdict_on.result ∙ ap (λ (k : ℕ). k + 1) c.loop-datagram.invariant.2,
     )

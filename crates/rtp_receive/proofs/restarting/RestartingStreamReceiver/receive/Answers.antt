@@ -1,7 +1,7 @@
 use Rattle.std.proofs.Common.{refl, inl, inr, arith}
 use Rattle.rtp_receive.specs.Restarting.{taken_in}
 use Rattle.rtp_receive.proofs.EpochLemmas.{follows}
-use Rattle.rtp_receive.proofs.restarting.RestartingReceiver.receive.Goals as goal
+use Rattle.rtp_receive.proofs.restarting.RestartingStreamReceiver.receive.Goals as goal
 
 -- ---- a packet of the stream
 
@@ -17,7 +17,7 @@ returns-in-Some-clause-row g c count taken holds later k few = (
 
 pub returns-in-Some-clause-follows : goal.returns-in-Some-clause-follows
 returns-in-Some-clause-follows g c before remembers =
-    follows g.row.N c.args.self.now c.receive_in_stream.new.self c.args.sequence_number c.receive_in_stream.result before remembers
+    follows g.W.ReplayWindow.size c.args.self.now c.receive_in_stream.new.self c.args.sequence_number c.receive_in_stream.result before remembers
     (returns-in-Some-clause-verdict g c 1 (taken_in before) remembers.holds) (c.receive_in_stream.ensures.epoch 1 (taken_in before) remembers.holds)
     (returns-in-Some-clause-row g c 1 (taken_in before) remembers.holds) c.receive_in_stream.ensures.bounds
 
@@ -39,6 +39,6 @@ returns-in-None-clause-row g c count taken holds later k few =
 
 pub returns-in-None-clause-follows : goal.returns-in-None-clause-follows
 returns-in-None-clause-follows g c before remembers =
-    follows g.row.N c.args.self.now c.receive_outside.new.self c.args.sequence_number c.receive_outside.result before remembers
+    follows g.W.ReplayWindow.size c.args.self.now c.receive_outside.new.self c.args.sequence_number c.receive_outside.result before remembers
     (returns-in-None-clause-verdict g c 1 (taken_in before) remembers.holds) (c.receive_outside.ensures.epoch 1 (taken_in before) remembers.holds)
     (returns-in-None-clause-row g c 1 (taken_in before) remembers.holds) c.receive_outside.ensures.bounds

@@ -1,8 +1,7 @@
 use Rattle.std.proofs.Common.{ℕ, ◌≤◌, ◌↔◌, refl, subst, inl, inr, arith}
-use Rattle.rtp_receive.specs.declared.restarting.RestartingReceiver.{RestartingReceiver}
-use Rattle.rtp_receive.specs.RestartingState.{RowLeads}
+use Rattle.rtp_receive.specs.RestartingState.{RowLeadsOf}
 use Rattle.rtp_receive.proofs.RestartingLemmas.{row_grown}
-use Rattle.rtp_receive.proofs.restarting.RestartingReceiver.receive_outside.Goals as goal
+use Rattle.rtp_receive.proofs.restarting.RestartingStreamReceiver.receive_outside.Goals as goal
 
 pub returns-in-Some-clause-row : goal.returns-in-Some-clause-row
 returns-in-Some-clause-row g c later k few = (
@@ -17,4 +16,4 @@ pub returns-in-None-clause-row : goal.returns-in-None-clause-row
 returns-in-None-clause-row g c later k few =
     let same = c.in-None.ensures.unchanged refl in
     row_grown c.args.self.now.in_row c.args.self.now.next c.saturating_add-self.result _ c.row_before.result c.args.sequence_number later k few c.saturating_add-self.ensures refl
-    (subst (λ (self : RestartingReceiver g.row.N). (j : ℕ) → RowLeads g.row.N self c.args.sequence_number j ↔ j ≤ c.row_before.result) same c.row_before.ensures)
+    (subst (λ self. (j : ℕ) → RowLeadsOf self c.args.sequence_number j ↔ j ≤ c.row_before.result) same c.row_before.ensures)
