@@ -747,6 +747,21 @@ uint64_t rtpw_extend_u15(uint64_t previous, uint16_t number);
 uint64_t rtpw_extend_u16(uint64_t previous, uint16_t number);
 uint64_t rtpw_extend_u32(uint64_t previous, uint32_t number);
 
+/* Where a program is built with -fsanitize=address or memory, and that file lies beside this one, the calls test what
+ * they are given, and tell what they write: the library itself is built without. */
+#if defined(__SANITIZE_ADDRESS__)
+#define RTPW_IS_SANITIZED
+#elif defined(__has_feature)
+#if __has_feature(address_sanitizer) || __has_feature(memory_sanitizer)
+#define RTPW_IS_SANITIZED
+#endif
+#endif
+#if defined(RTPW_IS_SANITIZED) && defined(__has_include)
+#if __has_include("rtp_wire_sanitized.h")
+#include "rtp_wire_sanitized.h"
+#endif
+#endif
+
 #ifdef __cplusplus
 }
 #endif
