@@ -112,6 +112,20 @@ for it in packets padding faults headers statuses receivers corners apart; do
 done
 said 'values worked out by hand, as C99 and C++11'
 
+# The header file of C++17, with each compiler, and a status that isn't looked at.
+printf '#include <rtp_wire.hpp>\nvoid it(rtpw::buffer packet) { LOOKED_AT rtpw::set_ssrc(packet, 1); }\n' >"$scratch/status.cpp"
+for it in c++ clang++; do
+    has $it || continue
+    for standard in c++17 c++20; do
+        $it -std=$standard "${strict[@]}" -Wshadow -Wold-style-cast "${include[@]}" bindings/c/test/wrapped.cpp "$library" -o "$scratch/by_hand"
+        "$scratch/by_hand"
+        looks=("$it" -std=$standard "${strict[@]}" "${include[@]}" -fsyntax-only "$scratch/status.cpp")
+        "${looks[@]}" -D 'LOOKED_AT=(void)'
+        ! "${looks[@]}" -D LOOKED_AT= 2>/dev/null || fail "a status that isn't looked at passed $it"
+    done
+done
+said 'the header file of C++17, as C++17 and C++20, and a status that is not looked at is a warning'
+
 # The examples print what rtp_lines does.
 cargo=(cargo --quiet)
 export CARGO_TARGET_DIR=$here/out/cargo CARGO_NET_OFFLINE=true RUSTFLAGS='-D warnings' RUSTDOCFLAGS='-D warnings'
