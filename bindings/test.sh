@@ -101,7 +101,7 @@ for it in janus/rtp.h ortp/rtp.h re.h srtp2/srtp.h; do
     done
 done
 # Each name begins with rtpw_ or RTPW_, but for the file's own.
-if grep -oE '\b(rtp|RTP)_\w+' bindings/c/rtp_wire.h | grep -vx rtp_wire >&2; then fail 'names of the header file'; fi
+if grep -hoE '\b(rtp|RTP)_\w+' bindings/c/rtp_wire{,_sanitized}.h | grep -vxE 'rtp_wire(_sanitized)?' >&2; then fail 'names of the header file'; fi
 said "the header file beside ${beside:-no other library}"
 
 for it in packets padding faults headers statuses receivers corners apart; do

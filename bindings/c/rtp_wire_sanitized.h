@@ -31,10 +31,11 @@
 
 /* ---- Memory ---- */
 
-/* These bytes are the caller's to give, whatever they hold. */
-static inline void rtpw_sanitizer_room(const void *at, size_t size) {
+/* These bytes are the caller's to give, whatever they hold: they need not be set, and so aren't const, which gcc takes
+ * for a promise to read. */
+static inline void rtpw_sanitizer_room(void *at, size_t size) {
 #ifdef RTPW_SANITIZER_ADDRESS
-    const void *outside = __asan_region_is_poisoned((void *)at, size);
+    const void *outside = __asan_region_is_poisoned(at, size);
     if (outside != NULL) {
         (void)*(const volatile char *)outside; /* this is reported */
     }
@@ -46,7 +47,7 @@ static inline void rtpw_sanitizer_room(const void *at, size_t size) {
 
 /* These bytes are read. */
 static inline void rtpw_sanitizer_reads(const void *at, size_t size) {
-    rtpw_sanitizer_room(at, size);
+    rtpw_sanitizer_room((void *)at, size);
 #ifdef RTPW_SANITIZER_MEMORY
     __msan_check_mem_is_initialized(at, size);
 #endif
@@ -72,7 +73,7 @@ static inline size_t rtpw_sanitizer_least(size_t one, size_t other) {
  * how long the block is. */
 static inline size_t rtpw_sanitizer_header_len(const uint8_t *datagram, size_t len) {
     size_t at;
-    rtpw_sanitizer_room(datagram, len);
+    rtpw_sanitizer_room((void *)datagram, len);
     if (len < RTPW_CSRC_AT) {
         return 0;
     }
@@ -124,7 +125,7 @@ static inline void rtpw_sanitizer_block(const uint8_t *datagram, size_t len) {
 
 /* A packet in a buffer with room behind it. */
 static inline void rtpw_sanitizer_buffer(const uint8_t *buf, size_t size, const size_t *len) {
-    rtpw_sanitizer_room(buf, size);
+    rtpw_sanitizer_room((void *)buf, size);
     rtpw_sanitizer_reads(len, sizeof *len);
     if (*len <= size) {
         rtpw_sanitizer_block(buf, *len);
@@ -137,12 +138,12 @@ static inline void rtpw_sanitizer_buffer(const uint8_t *buf, size_t size, const 
 
 /* A map, or new ids: all but the entry of the id 0. */
 static inline void rtpw_sanitizer_ids(const uint8_t *ids) {
-    rtpw_sanitizer_room(ids, 256);
+    rtpw_sanitizer_room((void *)ids, 256);
     rtpw_sanitizer_reads(ids + 1, 255);
 }
 
 static inline void rtpw_sanitizer_fields(const rtpw_fields *fields) {
-    rtpw_sanitizer_room(fields, sizeof *fields);
+    rtpw_sanitizer_room((void *)fields, sizeof *fields);
     rtpw_sanitizer_reads(&fields->has_timestamp, 5); /* and the four others */
     if (fields->has_timestamp) { RTPW_SANITIZER_FIELD(fields->timestamp); }
     if (fields->has_ssrc) { RTPW_SANITIZER_FIELD(fields->ssrc); }
@@ -171,7 +172,7 @@ static inline void rtpw_sanitizer_time(const rtpw_time *time) {
 }
 
 static inline void rtpw_sanitizer_values(const rtpw_values *values) {
-    rtpw_sanitizer_room(values, sizeof *values);
+    rtpw_sanitizer_room((void *)values, sizeof *values);
     rtpw_sanitizer_reads(&values->has_send_time, 16); /* layers are passed beside the values */
     if (values->has_send_time) { RTPW_SANITIZER_FIELD(values->send_time); }
     if (values->has_capture_time) { RTPW_SANITIZER_FIELD(values->capture_time); }
@@ -199,7 +200,7 @@ static inline void rtpw_sanitizer_values(const rtpw_values *values) {
 
 /* A header without its values. */
 static inline void rtpw_sanitizer_fixed_part(const rtpw_header *header) {
-    rtpw_sanitizer_room(header, sizeof *header);
+    rtpw_sanitizer_room((void *)header, sizeof *header);
     rtpw_sanitizer_reads(&header->timestamp, 8);       /* and ssrc */
     rtpw_sanitizer_reads(&header->sequence_number, 6); /* and payload_type, csrc_count, marker, has_padding */
     rtpw_sanitizer_reads(header->csrc, 4 * rtpw_sanitizer_least(header->csrc_count, 15));
@@ -210,13 +211,13 @@ static inline void rtpw_sanitizer_written(const rtpw_map *map, const rtpw_header
     rtpw_sanitizer_fixed_part(header);
     RTPW_SANITIZER_FIELD(header->has_extension);
     rtpw_sanitizer_values(&header->values);
-    rtpw_sanitizer_room(map, sizeof *map);
+    rtpw_sanitizer_room((void *)map, sizeof *map);
     if (header->has_extension) { rtpw_sanitizer_ids(map->kind); }
 }
 
 static inline void rtpw_sanitizer_layers(const rtpw_layers *layers) {
     size_t i, j;
-    rtpw_sanitizer_room(layers, sizeof *layers);
+    rtpw_sanitizer_room((void *)layers, sizeof *layers);
     RTPW_SANITIZER_FIELD(layers->count);
     RTPW_SANITIZER_FIELD(layers->current);
     for (i = 0; i < rtpw_sanitizer_least(layers->count, 4); i++) {
@@ -236,8 +237,8 @@ static inline void rtpw_sanitizer_layers(const rtpw_layers *layers) {
 static inline void rtpw_sanitizer_elements(const uint8_t *data, size_t data_len, const rtpw_element *elements,
                                            size_t count) {
     size_t i;
-    rtpw_sanitizer_room(data, data_len);
-    rtpw_sanitizer_room(elements, count * sizeof *elements);
+    rtpw_sanitizer_room((void *)data, data_len);
+    rtpw_sanitizer_room((void *)elements, count * sizeof *elements);
     for (i = 0; i < count; i++) {
         rtpw_sanitizer_reads(&elements[i].data_at, 2 * sizeof(size_t)); /* and data_len */
         RTPW_SANITIZER_FIELD(elements[i].id);
@@ -248,14 +249,14 @@ static inline void rtpw_sanitizer_elements(const uint8_t *data, size_t data_len,
 }
 
 static inline void rtpw_sanitizer_receiver(const rtpw_receiver *receiver) {
-    rtpw_sanitizer_room(receiver, sizeof *receiver);
+    rtpw_sanitizer_room((void *)receiver, sizeof *receiver);
     RTPW_SANITIZER_FIELD(receiver->highest);
     RTPW_SANITIZER_FIELD(receiver->started);
     if (receiver->started) { rtpw_sanitizer_reads(&receiver->recorded_low, 16); /* and recorded_high */ }
 }
 
 static inline void rtpw_sanitizer_wide_receiver(const rtpw_wide_receiver *receiver) {
-    rtpw_sanitizer_room(receiver, sizeof *receiver);
+    rtpw_sanitizer_room((void *)receiver, sizeof *receiver);
     RTPW_SANITIZER_FIELD(receiver->highest);
     RTPW_SANITIZER_FIELD(receiver->started);
 }
@@ -263,12 +264,12 @@ static inline void rtpw_sanitizer_wide_receiver(const rtpw_wide_receiver *receiv
 /* The words aren't read before the first number is taken. */
 static inline void rtpw_sanitizer_window(const rtpw_wide_receiver *receiver, const uint64_t *words, size_t count) {
     rtpw_sanitizer_wide_receiver(receiver);
-    rtpw_sanitizer_room(words, count * sizeof *words);
+    rtpw_sanitizer_room((void *)words, count * sizeof *words);
     if (receiver->started && count <= 512) { rtpw_sanitizer_reads(words, count * sizeof *words); }
 }
 
 static inline void rtpw_sanitizer_restarting(const rtpw_restarting_receiver *receiver) {
-    rtpw_sanitizer_room(receiver, sizeof *receiver);
+    rtpw_sanitizer_room((void *)receiver, sizeof *receiver);
     RTPW_SANITIZER_FIELD(receiver->max_dropout);
     rtpw_sanitizer_reads(&receiver->min_sequential, 3); /* and in_row, started */
     if (receiver->in_row) { RTPW_SANITIZER_FIELD(receiver->next); }
@@ -310,13 +311,13 @@ static inline void rtpw_sanitizer_original(const uint8_t *buf, size_t size, size
         wrote; \
     }
 /* An output, and what is written where the status is RTPW_OK: all of it, or bytes. */
-#define RTPW_ROOM(output) rtpw_sanitizer_room(output, sizeof *(output))
+#define RTPW_ROOM(output) rtpw_sanitizer_room((void *)(output), sizeof *(output))
 #define RTPW_WROTE_BYTES(at, size) \
     if (status == RTPW_OK) { rtpw_sanitizer_wrote(at, size); }
 #define RTPW_WROTE(output) RTPW_WROTE_BYTES(output, sizeof *(output))
 
 RTPW_SANITIZED_AS(bool, is_rtcp, (const uint8_t *datagram, size_t len), (datagram, len),
-    rtpw_sanitizer_room(datagram, len); rtpw_sanitizer_reads(datagram, len < 2 ? 0 : 2), (void)0)
+    rtpw_sanitizer_room((void *)datagram, len); rtpw_sanitizer_reads(datagram, len < 2 ? 0 : 2), (void)0)
 #define rtpw_is_rtcp rtpw_sanitized_is_rtcp
 RTPW_SANITIZED(packet_parse, (const uint8_t *datagram, size_t len, rtpw_packet *packet), (datagram, len, packet),
     rtpw_sanitizer_packet(datagram, len); RTPW_ROOM(packet), RTPW_WROTE(packet))
@@ -365,7 +366,7 @@ RTPW_SANITIZED(compact, (uint8_t *buf, size_t size, size_t *len), (buf, size, le
     rtpw_sanitizer_buffer(buf, size, len), RTPW_WROTE_BYTES(buf, *len))
 #define rtpw_compact rtpw_sanitized_compact
 RTPW_SANITIZED(next_element, (const uint8_t *body, size_t body_len, uint8_t form, size_t at, rtpw_element *element),
-    (body, body_len, form, at, element), rtpw_sanitizer_room(body, body_len); RTPW_ROOM(element),
+    (body, body_len, form, at, element), rtpw_sanitizer_room((void *)body, body_len); RTPW_ROOM(element),
     RTPW_WROTE(element) rtpw_sanitizer_reads_next(body, body_len, at, status, element))
 #define rtpw_next_element rtpw_sanitized_next_element
 RTPW_SANITIZED(last_element, (const uint8_t *body, size_t body_len, uint8_t form, uint8_t id, rtpw_element *element),
@@ -391,7 +392,8 @@ RTPW_SANITIZED(values_read, (const uint8_t *body, size_t body_len, uint8_t form,
     rtpw_sanitizer_reads(body, body_len); rtpw_sanitizer_ids(map->kind); RTPW_ROOM(values), RTPW_WROTE(values))
 #define rtpw_values_read rtpw_sanitized_values_read
 RTPW_SANITIZED(data_of, (uint8_t kind, const rtpw_values *values, uint8_t *buf, size_t size, size_t *len),
-    (kind, values, buf, size, len), rtpw_sanitizer_values(values); rtpw_sanitizer_room(buf, size); RTPW_ROOM(len),
+    (kind, values, buf, size, len),
+    rtpw_sanitizer_values(values); rtpw_sanitizer_room((void *)buf, size); RTPW_ROOM(len),
     RTPW_WROTE(len) RTPW_WROTE_BYTES(buf, *len))
 #define rtpw_data_of rtpw_sanitized_data_of
 RTPW_SANITIZED(parse, (const uint8_t *datagram, size_t len, const rtpw_map *map, rtpw_header *header),
@@ -408,7 +410,7 @@ RTPW_SANITIZED(wire_len, (const rtpw_map *map, const rtpw_header *header, size_t
 #define rtpw_wire_len rtpw_sanitized_wire_len
 RTPW_SANITIZED(write, (const rtpw_map *map, const rtpw_header *header, uint8_t *buf, size_t size, size_t *len),
     (map, header, buf, size, len),
-    rtpw_sanitizer_written(map, header); rtpw_sanitizer_room(buf, size); RTPW_ROOM(len),
+    rtpw_sanitizer_written(map, header); rtpw_sanitizer_room((void *)buf, size); RTPW_ROOM(len),
     RTPW_WROTE(len) RTPW_WROTE_BYTES(buf, *len))
 #define rtpw_write rtpw_sanitized_write
 RTPW_SANITIZED(wire_len_layers, (const rtpw_map *map, const rtpw_header *header, const rtpw_layers *layers,
@@ -417,7 +419,7 @@ RTPW_SANITIZED(wire_len_layers, (const rtpw_map *map, const rtpw_header *header,
 #define rtpw_wire_len_layers rtpw_sanitized_wire_len_layers
 RTPW_SANITIZED(write_layers, (const rtpw_map *map, const rtpw_header *header, const rtpw_layers *layers,
     uint8_t *buf, size_t size, size_t *len), (map, header, layers, buf, size, len),
-    rtpw_sanitizer_written(map, header); rtpw_sanitizer_layers(layers); rtpw_sanitizer_room(buf, size);
+    rtpw_sanitizer_written(map, header); rtpw_sanitizer_layers(layers); rtpw_sanitizer_room((void *)buf, size);
     RTPW_ROOM(len),
     RTPW_WROTE(len) RTPW_WROTE_BYTES(buf, *len))
 #define rtpw_write_layers rtpw_sanitized_write_layers
@@ -425,19 +427,19 @@ RTPW_SANITIZED(write_with, (const rtpw_header *header, const uint8_t *data, size
     const rtpw_element *elements, size_t count, uint8_t *buf, size_t size, size_t *len), (header, data, data_len,
     elements, count, buf, size, len),
     rtpw_sanitizer_fixed_part(header); rtpw_sanitizer_elements(data, data_len, elements, count);
-    rtpw_sanitizer_room(buf, size); RTPW_ROOM(len),
+    rtpw_sanitizer_room((void *)buf, size); RTPW_ROOM(len),
     RTPW_WROTE(len) RTPW_WROTE_BYTES(buf, *len))
 #define rtpw_write_with rtpw_sanitized_write_with
 RTPW_SANITIZED(write_with_form, (const rtpw_header *header, const uint8_t *data, size_t data_len,
     const rtpw_element *elements, size_t count, uint8_t form, uint8_t *buf, size_t size, size_t *len), (header, data,
     data_len, elements, count, form, buf, size, len),
     rtpw_sanitizer_fixed_part(header); rtpw_sanitizer_elements(data, data_len, elements, count);
-    rtpw_sanitizer_room(buf, size); RTPW_ROOM(len),
+    rtpw_sanitizer_room((void *)buf, size); RTPW_ROOM(len),
     RTPW_WROTE(len) RTPW_WROTE_BYTES(buf, *len))
 #define rtpw_write_with_form rtpw_sanitized_write_with_form
 RTPW_SANITIZED(write_elements, (const uint8_t *data, size_t data_len, const rtpw_element *elements, size_t count,
     uint8_t form, uint8_t *buf, size_t size, size_t *len), (data, data_len, elements, count, form, buf, size, len),
-    rtpw_sanitizer_elements(data, data_len, elements, count); rtpw_sanitizer_room(buf, size); RTPW_ROOM(len),
+    rtpw_sanitizer_elements(data, data_len, elements, count); rtpw_sanitizer_room((void *)buf, size); RTPW_ROOM(len),
     RTPW_WROTE(len) RTPW_WROTE_BYTES(buf, *len))
 #define rtpw_write_elements rtpw_sanitized_write_elements
 RTPW_SANITIZED_VOID(new_ids_between, (const rtpw_map *from, const rtpw_map *to, rtpw_new_ids *ids), (from, to, ids),
@@ -449,17 +451,17 @@ RTPW_SANITIZED(renumber, (uint8_t *datagram, size_t len, const rtpw_new_ids *ids
 #define rtpw_renumber rtpw_sanitized_renumber
 RTPW_SANITIZED(pad, (uint8_t *datagram, size_t size, size_t header_len, uint8_t pad_len, size_t block_size,
     size_t *count), (datagram, size, header_len, pad_len, block_size, count),
-    rtpw_sanitizer_room(datagram, size); RTPW_ROOM(count);
+    rtpw_sanitizer_room((void *)datagram, size); RTPW_ROOM(count);
     rtpw_sanitizer_reads(datagram, pad_len != 0 && header_len != 0 && size != 0), /* P is set in it */
     RTPW_WROTE(count)
     if (status == RTPW_OK && *count != 0) { rtpw_sanitizer_wrote(datagram + header_len, *count); })
 #define rtpw_pad rtpw_sanitized_pad
 RTPW_SANITIZED(read_original, (const uint8_t *payload, size_t len, uint16_t *number), (payload, len, number),
-    rtpw_sanitizer_room(payload, len); rtpw_sanitizer_reads(payload, len < 2 ? 0 : 2); RTPW_ROOM(number),
+    rtpw_sanitizer_room((void *)payload, len); rtpw_sanitizer_reads(payload, len < 2 ? 0 : 2); RTPW_ROOM(number),
     RTPW_WROTE(number))
 #define rtpw_read_original rtpw_sanitized_read_original
 RTPW_SANITIZED(write_original, (uint8_t *payload, size_t size, uint64_t number), (payload, size, number),
-    rtpw_sanitizer_room(payload, size), RTPW_WROTE_BYTES(payload, 2))
+    rtpw_sanitizer_room((void *)payload, size), RTPW_WROTE_BYTES(payload, 2))
 #define rtpw_write_original rtpw_sanitized_write_original
 RTPW_SANITIZED_VOID(new_ids_to_retransmission, (const rtpw_map *map, rtpw_new_ids *ids), (map, ids),
     rtpw_sanitizer_ids(map->kind); RTPW_ROOM(ids), rtpw_sanitizer_wrote(ids, sizeof *ids))

@@ -747,8 +747,8 @@ uint64_t rtpw_extend_u15(uint64_t previous, uint16_t number);
 uint64_t rtpw_extend_u16(uint64_t previous, uint16_t number);
 uint64_t rtpw_extend_u32(uint64_t previous, uint32_t number);
 
-/* Where a program is built with -fsanitize=address or memory, and that file lies beside this one, the calls test what
- * they are given, and tell what they write: the library itself is built without. */
+/* In a program that is built with -fsanitize=address or memory the calls test what they are given, and tell what they
+ * write, where rtp_wire_sanitized.h lies beside this file: the library itself is built without. */
 #if defined(__SANITIZE_ADDRESS__)
 #define RTPW_IS_SANITIZED
 #elif defined(__has_feature)
