@@ -6,12 +6,12 @@
 #include <cstdlib>
 #include <vector>
 
-#define CHECK(holds)                                                                                                   \
-    do {                                                                                                               \
-        if (!(holds)) {                                                                                                \
-            std::printf("%s:%d: %s\n", __FILE__, __LINE__, #holds);                                                    \
-            std::exit(1);                                                                                              \
-        }                                                                                                              \
+#define CHECK(holds) \
+    do { \
+        if (!(holds)) { \
+            std::printf("%s:%d: %s\n", __FILE__, __LINE__, #holds); \
+            std::exit(1); \
+        } \
     } while (0)
 
 namespace {
@@ -107,11 +107,18 @@ void grows() {
     // Five bytes of elements, and so one word more.
     CHECK(rtpw::put_element(buf, len, 5, data) == status::ok && len == 31);
     CHECK(same({buf.data() + 20, 11}, {0x30, 0x8a, 0x51, 1, 2, 0, 0, 0, 7, 8, 1}));
+    const auto packet = rtpw::packet_parse({buf.data(), len});
+    std::size_t ids = 0;
+    for (const rtpw::element &it : rtpw::elements({buf.data(), len}, *packet)) {
+        ids = 10 * ids + it.id;
+        CHECK(it.id == 3 || same(it.data, {1, 2}));
+    }
+    CHECK(ids == 35);
     CHECK(rtpw::put_element(buf, len, 15, data, RTPW_ONE_BYTE_FORM) == status::bad_field);
     CHECK(rtpw::remove_element({buf.data(), len}, 5) == status::ok);
     CHECK(rtpw::compact(buf, len) == status::ok && len == 27);
-    CHECK(same({buf.data(), len}, {0xb1, 111, 1,    2,    0, 0, 3,    4,    0, 0, 0, 44, 0, 0,
-                                   0,    9,   0xbe, 0xde, 0, 1, 0x30, 0x8a, 0, 0, 7, 8,  1}));
+    CHECK(same({buf.data(), len},
+               {0xb1, 111, 1, 2, 0, 0, 3, 4, 0, 0, 0, 44, 0, 0, 0, 9, 0xbe, 0xde, 0, 1, 0x30, 0x8a, 0, 0, 7, 8, 1}));
 
     const rtpw_map map = level_is_3();
     CHECK(rtpw::to_retransmission(buf, len, 99, 97, 7, rtpw::new_ids_to_retransmission(map)) == status::ok);
