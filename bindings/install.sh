@@ -1,5 +1,5 @@
 #!/usr/bin/env bash
-# Installs the library for C into PREFIX: the static and the shared library, the header file, and what pkg-config
+# Installs the library for C into PREFIX: the static and the shared library, the header files, and what pkg-config
 # and CMake ask for.
 #
 # usage: bindings/install.sh [--prove] [--target TARGET] [--libdir DIR] [PREFIX]
@@ -64,7 +64,7 @@ to=${DESTDIR-}$prefix
 version=$(sed -n 's/^#define RTPW_VERSION "\(.*\)"$/\1/p' "$here/c/rtp_wire.h")
 abi=${version%%.*}
 if [ -n "$uninstalls" ]; then
-    rm -f -- "$to/include/rtp_wire.h" "$to/$libdir/pkgconfig/rtp_wire.pc" "$to/$libdir"/cmake/rtp_wire/rtp_wire-config{,-version}.cmake \
+    rm -f -- "$to"/include/rtp_wire{.h,.hpp,_sanitized.h} "$to/$libdir/pkgconfig/rtp_wire.pc" "$to/$libdir"/cmake/rtp_wire/rtp_wire-config{,-version}.cmake \
         "$to/$libdir"/librtp_wire.{a,so,"so.$abi"} "$to/$libdir/librtp_wire.so.$abi."*
     [ ! -d "$to/$libdir/cmake/rtp_wire" ] || rmdir -- "$to/$libdir/cmake/rtp_wire"
     say "removed the library from $to"
@@ -159,7 +159,7 @@ install -m 644 -- "$work/librtp_wire.a" "$to/$libdir"
 install -m 755 -- "$work/librtp_wire.so" "$to/$libdir/librtp_wire.so.$version"
 ln -sf "librtp_wire.so.$version" "$to/$libdir/librtp_wire.so.$abi"
 ln -sf "librtp_wire.so.$abi" "$to/$libdir/librtp_wire.so"
-install -m 644 -- "$here/c/rtp_wire.h" "$to/include"
+install -m 644 -- "$here"/c/rtp_wire{.h,.hpp,_sanitized.h} "$to/include"
 fill_in "$here/rtp_wire.pc.in" "$work/rtp_wire.pc"
 install -m 644 -- "$work/rtp_wire.pc" "$to/$libdir/pkgconfig"
 for it in rtp_wire-config.cmake rtp_wire-config-version.cmake; do

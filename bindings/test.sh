@@ -63,6 +63,10 @@ wants_as_said() { # nm, library
         fail "what $2 wants"
 }
 wants_as_said nm "$library"
+for name in $(sed -nE 's/^function .*\<(rtpw_[a-z0-9_]+)\(.*\*.*/\1/p' "$abi"); do
+    grep -qx "#define $name rtpw_sanitized_${name#rtpw_}" bindings/c/rtp_wire_sanitized.h || fail "$name has no line in rtp_wire_sanitized.h"
+    grep -q "\<$name(" bindings/c/test/sanitized.c || fail "$name is not called in bindings/c/test/sanitized.c"
+done
 for name in $(cat "$scratch/exported"); do
     for callers in 'bindings/test/hostile_*.c' bindings/test/stack.c bindings/rust/rtp-wire/src/sys.rs; do
         case $callers in *stack.c) word=${name#rtpw_} ;; *) word=$name ;; esac
@@ -97,7 +101,7 @@ for it in janus/rtp.h ortp/rtp.h re.h srtp2/srtp.h; do
     done
 done
 # Each name begins with rtpw_ or RTPW_, but for the file's own.
-if grep -oE '\b(rtp|RTP)_\w+' bindings/c/rtp_wire.h | grep -vx rtp_wire >&2; then fail 'names of the header file'; fi
+if grep -hoE '\b(rtp|RTP)_\w+' bindings/c/rtp_wire{,_sanitized}.h | grep -vxE 'rtp_wire(_sanitized)?' >&2; then fail 'names of the header file'; fi
 said "the header file beside ${beside:-no other library}"
 
 for it in packets padding faults headers statuses receivers corners standard datagrams apart; do
@@ -107,6 +111,20 @@ for it in packets padding faults headers statuses receivers corners standard dat
     "$scratch/by_hand"
 done
 said 'values worked out by hand, as C99 and C++11'
+
+# The header file of C++17, with each compiler, and a status that isn't looked at.
+printf '#include <rtp_wire.hpp>\nvoid it(rtpw::buffer packet) { LOOKED_AT rtpw::set_ssrc(packet, 1); }\n' >"$scratch/status.cpp"
+for it in c++ clang++; do
+    has $it || continue
+    for standard in c++17 c++20; do
+        $it -std=$standard "${strict[@]}" -Wshadow -Wold-style-cast "${include[@]}" bindings/c/test/wrapped.cpp "$library" -o "$scratch/by_hand"
+        "$scratch/by_hand"
+        looks=("$it" -std=$standard "${strict[@]}" "${include[@]}" -fsyntax-only "$scratch/status.cpp")
+        "${looks[@]}" -D 'LOOKED_AT=(void)'
+        ! "${looks[@]}" -D LOOKED_AT= 2>/dev/null || fail "a status that isn't looked at passed $it"
+    done
+done
+said 'the header file of C++17, as C++17 and C++20, and a status that is not looked at is a warning'
 
 # The examples print what rtp_lines does.
 cargo=(cargo --quiet)
@@ -215,8 +233,8 @@ if has pkg-config; then
 fi
 said "the programs of docs/CALLING.md in $languages"
 
-hostile() { # compiler, library, program
-    "$1" -std=c99 -g "${strict[@]}" -D_GNU_SOURCE bindings/test/hostile*.c "$2" -o "$3"
+hostile() { # compiler, library, program, options
+    "$1" -std=c99 -g "${strict[@]}" -D_GNU_SOURCE "${@:4}" bindings/test/hostile*.c "$2" -o "$3"
 }
 hostile cc "$library" "$scratch/hostile"
 "$scratch/hostile" 1 500000 >"$scratch/first" &
@@ -243,6 +261,31 @@ if has valgrind; then
     said 'the same under valgrind, 20,000 times'
 else
     said 'valgrind was left out: it is not there'
+fi
+
+# clang's sanitizers see what the library does by rtp_wire_sanitized.h. The programs of random bytes copy and compare no
+# bytes from NULL, which C allows since N3322.
+told_by_sanitizers() { # those of -fsanitize=
+    local built=(-std=c99 -g "${strict[@]}" "${include[@]}" -D_GNU_SOURCE "-fsanitize=$1" -fno-sanitize-recover=all)
+    if ! clang "${built[@]}" "$scratch/none.c" -o "$scratch/none" 2>/dev/null || ! "$scratch/none"; then
+        said "clang's -fsanitize=$1 was left out: it is not there"
+        return
+    fi
+    clang "${built[@]}" "$scratch/call.c" "$library" -o "$scratch/call_C"
+    "$scratch/call_C" | cmp - "$scratch/said_C" >&2 || fail "-fsanitize=$1, the program in C of docs/CALLING.md"
+    clang "${built[@]}" bindings/c/test/sanitized.c "$library" -o "$scratch/of_blocks"
+    "$scratch/of_blocks" >"$scratch/told" || { cat "$scratch/told" >&2; fail "-fsanitize=$1 tells nothing"; }
+    clang++ "${built[@]/-std=c99/-std=c++11}" -x c++ -fsyntax-only "$scratch/header.c"
+    CC=clang CXX=clang++ SANITIZERS=$1 bindings/test/sanitized.sh "$scratch/$1" "$prefix/include" "$library"
+    bindings/test/examples.sh "$scratch/$1"
+    hostile clang "$library" "$scratch/hostile_$1" "${built[@]}" -fno-sanitize=nonnull-attribute,pointer-overflow
+    "$scratch/hostile_$1" 4 20000 malloc >"$scratch/said" 2>&1 || { cat "$scratch/said" >&2; fail "-fsanitize=$1, hostile"; }
+    said "clang's -fsanitize=$1: the examples, random bytes, and $(cat "$scratch/told") of all calls that it tells of"
+}
+if has clang; then
+    for it in address,undefined memory; do told_by_sanitizers "$it"; done
+else
+    said "clang's sanitizers were left out: there is no clang"
 fi
 
 cc -std=c99 "${strict[@]}" bindings/test/threads.c "$library" -lpthread -o "$scratch/threads"

@@ -1025,6 +1025,21 @@ typedef struct {
  * authenticated, or whose packets are known to be authentic. */
 void rtpw_receive_many(rtpw_receiver *receivers, size_t receiver_count, rtpw_arrival *arrivals, size_t count);
 
+/* In a program that is built with -fsanitize=address or memory the calls test what they are given, and tell what they
+ * write, where rtp_wire_sanitized.h lies beside this file: the library itself is built without. */
+#if defined(__SANITIZE_ADDRESS__)
+#define RTPW_IS_SANITIZED
+#elif defined(__has_feature)
+#if __has_feature(address_sanitizer) || __has_feature(memory_sanitizer)
+#define RTPW_IS_SANITIZED
+#endif
+#endif
+#if defined(RTPW_IS_SANITIZED) && defined(__has_include)
+#if __has_include("rtp_wire_sanitized.h")
+#include "rtp_wire_sanitized.h"
+#endif
+#endif
+
 #ifdef __cplusplus
 }
 #endif

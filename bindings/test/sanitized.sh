@@ -6,7 +6,7 @@
 #        FOLDER is made, INCLUDE has rtp_wire.h, and LIBRARY is what to link, also an assembly text. Of FILE, a name
 #        in bindings/examples, only the programs that it is a part of, and of these only PROGRAM where it is named.
 #        SANITIZERS are those of the compiler's -fsanitize=, address and undefined where it isn't set; none, where it
-#        is empty, takes the least time.
+#        is empty, takes the least time. CC and CXX are the compilers, cc and c++ where they aren't set.
 set -euo pipefail
 folder=$1 include=$2 library=$3 file=${4-} program=${5-}
 examples=$(cd -- "$(dirname -- "$0")/../examples" && pwd)
@@ -22,13 +22,14 @@ build() { # program, standard, files
         case $it in *.c | *.cpp) sources+=("$examples/$it") ;; esac
     done
     case $1,$2 in
-    *.o,*) cc "-std=$2" -O1 -I "$include" -c "${sources[@]}" -o "$folder/$1" ;; # its own symbols alone
-    *,c++*) c++ "-std=$2" "${built[@]}" "${sources[@]}" "$library" -o "$folder/$1" ;;
-    *) cc "-std=$2" "${built[@]}" "${sources[@]}" "$library" -o "$folder/$1" ;;
+    *.o,*) "${CC:-cc}" "-std=$2" -O1 -I "$include" -c "${sources[@]}" -o "$folder/$1" ;; # its own symbols alone
+    *,c++*) "${CXX:-c++}" "-std=$2" "${built[@]}" "${sources[@]}" "$library" -o "$folder/$1" ;;
+    *) "${CC:-cc}" "-std=$2" "${built[@]}" "${sources[@]}" "$library" -o "$folder/$1" ;;
     esac
 }
 build lines_c c99 lines.c utf8.h
-build lines_cpp c++11 lines.cpp utf8.h
+# MemorySanitizer wants a library for C++ that is built with it.
+[[ ,$sanitizers, == *,memory,* ]] || build lines_cpp c++11 lines.cpp utf8.h
 build receive c99 receive.c
 build forward c99 forward.c
 build sfu_c c99 sfu.c sfu_lines.c sfu.h sfu_peers.h utf8.h

@@ -1,0 +1,481 @@
+/*
+ * rtp_wire.hpp: the calls of rtp_wire.h in C++17, and nothing more to link.
+ *
+ * Each has the name that it has in C behind rtpw_, does what is said there, and is called with what C++ has for it:
+ * bytes are a pointer and a length (in C++20 std::span), and so is a buffer; a text is a std::string_view; and what a
+ * call writes is what it returns, beside its status. A result or a status that isn't looked at is a warning. The
+ * structs are those of rtp_wire.h. Nothing here throws, keeps a pointer or takes memory.
+ *
+ *     const auto packet = rtpw::packet_parse({datagram, len});
+ *     if (!packet) {
+ *         return drop(rtpw::status_text(packet.status()));
+ *     }
+ *     for (const rtpw::element &it : rtpw::elements({datagram, len}, *packet)) {
+ *         look(it.id, it.data);
+ *     }
+ *     deliver(packet->ssrc, rtpw::unpadded_payload({datagram, len}, *packet));
+ */
+#ifndef RTPW_HPP
+#define RTPW_HPP
+
+#include <cstddef>
+#include <cstdint>
+#include <cstring>
+#include <optional>
+#include <string_view>
+#include <utility>
+#if __cplusplus >= 202002L
+#include <span>
+#endif
+
+#include "rtp_wire.h"
+
+namespace rtpw {
+
+/* ---- Bytes, statuses and results ---- */
+
+#if __cplusplus >= 202002L
+using bytes = std::span<const std::uint8_t>;
+using buffer = std::span<std::uint8_t>;
+#else
+/* A pointer to bytes, and how many there are: from both, or from what has data() and size(), as std::vector. */
+template <class Byte> class basic_bytes {
+  public:
+    constexpr basic_bytes() noexcept = default;
+    constexpr basic_bytes(Byte *data, std::size_t size) noexcept : data_(data), size_(size) {}
+    template <std::size_t count> constexpr basic_bytes(Byte (&array)[count]) noexcept : data_(array), size_(count) {}
+    template <class Bytes, class = decltype(static_cast<Byte *>(std::declval<Bytes &>().data()))>
+    constexpr basic_bytes(Bytes &&it) noexcept : data_(it.data()), size_(it.size()) {}
+    constexpr Byte *data() const noexcept {
+        return data_;
+    }
+    constexpr std::size_t size() const noexcept {
+        return size_;
+    }
+    constexpr bool empty() const noexcept {
+        return size_ == 0;
+    }
+    constexpr Byte *begin() const noexcept {
+        return data_;
+    }
+    constexpr Byte *end() const noexcept {
+        return size_ == 0 ? data_ : data_ + size_;
+    }
+    constexpr Byte &operator[](std::size_t at) const noexcept {
+        return data_[at];
+    }
+    constexpr basic_bytes subspan(std::size_t at, std::size_t count) const noexcept {
+        return {at == 0 ? data_ : data_ + at, count};
+    }
+
+  private:
+    Byte *data_ = nullptr;
+    std::size_t size_ = 0;
+};
+using bytes = basic_bytes<const std::uint8_t>;
+using buffer = basic_bytes<std::uint8_t>;
+#endif
+
+/* A status of rtp_wire.h. */
+enum class [[nodiscard]] status : std::int32_t{ok = RTPW_OK,
+                                               cut_fixed_part = RTPW_CUT_FIXED_PART,
+                                               other_version = RTPW_OTHER_VERSION,
+                                               cut_sources = RTPW_CUT_SOURCES,
+                                               cut_block_header = RTPW_CUT_BLOCK_HEADER,
+                                               unknown_form = RTPW_UNKNOWN_FORM,
+                                               cut_block = RTPW_CUT_BLOCK,
+                                               short_buffer = RTPW_SHORT_BUFFER,
+                                               bad_field = RTPW_BAD_FIELD,
+                                               refused = RTPW_REFUSED,
+                                               none = RTPW_NONE,
+                                               restarted = RTPW_RESTARTED};
+
+inline std::string_view status_text(status it) noexcept {
+    return ::rtpw_status_text(static_cast<std::int32_t>(it));
+}
+
+/* What a call wrote, where its status is ok or restarted; else zeros. */
+template <class Value> class [[nodiscard]] result {
+  public:
+    template <class Call>
+    explicit result(const Call &call) noexcept : status_(static_cast<rtpw::status>(call(&value_))) {
+        if (!*this) {
+            value_ = Value{};
+        }
+    }
+    explicit operator bool() const noexcept {
+        return status_ == rtpw::status::ok || status_ == rtpw::status::restarted;
+    }
+    rtpw::status status() const noexcept {
+        return status_;
+    }
+    const Value &operator*() const noexcept {
+        return value_;
+    }
+    const Value *operator->() const noexcept {
+        return &value_;
+    }
+
+  private:
+    Value value_;
+    rtpw::status status_;
+};
+
+inline std::uint32_t version() noexcept {
+    return ::rtpw_version();
+}
+
+/* ---- A packet where it lies ---- */
+
+inline bool is_rtcp(bytes datagram) noexcept {
+    return ::rtpw_is_rtcp(datagram.data(), datagram.size());
+}
+
+inline result<rtpw_packet> packet_parse(bytes datagram) noexcept {
+    return result<rtpw_packet>(
+        [&](rtpw_packet *it) { return ::rtpw_packet_parse(datagram.data(), datagram.size(), it); });
+}
+
+/* The parts of the datagram that was parsed: the payload with its padding and without, and the body of the block. */
+inline bytes payload(bytes datagram, const rtpw_packet &packet) noexcept {
+    return datagram.subspan(packet.payload_at, packet.payload_len);
+}
+inline bytes unpadded_payload(bytes datagram, const rtpw_packet &packet) noexcept {
+    return datagram.subspan(packet.payload_at, packet.unpadded_len);
+}
+inline bytes body(bytes datagram, const rtpw_packet &packet) noexcept {
+    return datagram.subspan(packet.body_at, packet.body_len);
+}
+/* The contributing source at a place below packet.csrc_count. */
+inline std::uint32_t csrc(bytes datagram, std::size_t index) noexcept {
+    const std::uint8_t *it = datagram.data() + RTPW_CSRC_AT + 4 * index;
+    return std::uint32_t{it[0]} << 24 | std::uint32_t{it[1]} << 16 | std::uint32_t{it[2]} << 8 | it[3];
+}
+
+/* ---- A packet, changed where it lies, one that grows, and one that is made short ---- */
+
+inline status set_marker(buffer datagram, bool marker) noexcept {
+    return status(::rtpw_set_marker(datagram.data(), datagram.size(), marker));
+}
+inline status set_payload_type(buffer datagram, std::uint8_t payload_type) noexcept {
+    return status(::rtpw_set_payload_type(datagram.data(), datagram.size(), payload_type));
+}
+inline status set_sequence_number(buffer datagram, std::uint16_t number) noexcept {
+    return status(::rtpw_set_sequence_number(datagram.data(), datagram.size(), number));
+}
+inline status set_timestamp(buffer datagram, std::uint32_t timestamp) noexcept {
+    return status(::rtpw_set_timestamp(datagram.data(), datagram.size(), timestamp));
+}
+inline status set_ssrc(buffer datagram, std::uint32_t ssrc) noexcept {
+    return status(::rtpw_set_ssrc(datagram.data(), datagram.size(), ssrc));
+}
+inline status set_fields(buffer datagram, const rtpw_fields &fields) noexcept {
+    return status(::rtpw_set_fields(datagram.data(), datagram.size(), &fields));
+}
+inline status set_csrc(buffer datagram, std::size_t index, std::uint32_t source) noexcept {
+    return status(::rtpw_set_csrc(datagram.data(), datagram.size(), index, source));
+}
+inline status set_element(buffer datagram, std::uint8_t id, bytes data) noexcept {
+    return status(::rtpw_set_element(datagram.data(), datagram.size(), id, data.data(), data.size()));
+}
+inline status remove_element(buffer datagram, std::uint8_t id) noexcept {
+    return status(::rtpw_remove_element(datagram.data(), datagram.size(), id));
+}
+inline status set_padding(buffer datagram, bool has_padding) noexcept {
+    return status(::rtpw_set_padding(datagram.data(), datagram.size(), has_padding));
+}
+/* How many bytes the packet has without its padding. */
+inline result<std::size_t> remove_padding(buffer datagram) noexcept {
+    return result<std::size_t>(
+        [&](std::size_t *it) { return ::rtpw_remove_padding(datagram.data(), datagram.size(), it); });
+}
+/* Of a packet of `len` bytes at the front of a buffer, which becomes its new length. */
+inline status put_element(buffer buf, std::size_t &len, std::uint8_t id, bytes data,
+                          std::uint8_t allowed = RTPW_ANY_FORM) noexcept {
+    return status(::rtpw_put_element(buf.data(), buf.size(), &len, id, data.data(), data.size(), allowed));
+}
+inline status compact(buffer buf, std::size_t &len) noexcept {
+    return status(::rtpw_compact(buf.data(), buf.size(), &len));
+}
+
+/* ---- The elements of a block ---- */
+
+inline result<rtpw_element> next_element(bytes body, std::uint8_t form, std::size_t at) noexcept {
+    return result<rtpw_element>(
+        [&](rtpw_element *it) { return ::rtpw_next_element(body.data(), body.size(), form, at, it); });
+}
+inline result<rtpw_element> last_element(bytes body, std::uint8_t form, std::uint8_t id) noexcept {
+    return result<rtpw_element>(
+        [&](rtpw_element *it) { return ::rtpw_last_element(body.data(), body.size(), form, id, it); });
+}
+
+/* An element, and its data where they lie. */
+struct element {
+    std::uint8_t id;
+    bytes data;
+};
+
+/* The elements of a packet, for `for`; none where its block has another form, or it has none. */
+class elements {
+  public:
+    elements(bytes datagram, const rtpw_packet &packet) noexcept
+        : body_(body(datagram, packet)), form_(packet.block_form) {}
+
+    class iterator {
+      public:
+        element operator*() const noexcept {
+            return {at_->id, body_.subspan(at_->data_at, at_->data_len)};
+        }
+        iterator &operator++() noexcept {
+            at_ = next_element(body_, form_, at_->end);
+            return *this;
+        }
+        /* There are more; only end() is compared with. */
+        bool operator!=(const iterator &) const noexcept {
+            return static_cast<bool>(at_);
+        }
+
+      private:
+        friend class elements;
+        iterator(bytes body, std::uint8_t form) noexcept : body_(body), form_(form), at_(next_element(body, form, 0)) {}
+        bytes body_;
+        std::uint8_t form_;
+        result<rtpw_element> at_;
+    };
+    iterator begin() const noexcept {
+        return {body_, form_};
+    }
+    iterator end() const noexcept {
+        return {bytes(), RTPW_NO_BLOCK};
+    }
+
+  private:
+    bytes body_;
+    std::uint8_t form_;
+};
+
+/* The data of the last element of an id, which is the one that counts. */
+inline std::optional<bytes> data_of_element(bytes datagram, const rtpw_packet &packet, std::uint8_t id) noexcept {
+    const auto it = last_element(body(datagram, packet), packet.block_form, id);
+    return it ? std::optional(body(datagram, packet).subspan(it->data_at, it->data_len)) : std::nullopt;
+}
+
+/* ---- The values of a block ---- */
+
+inline std::uint8_t kind_of_uri(std::string_view uri) noexcept {
+    return ::rtpw_kind_of_uri(reinterpret_cast<const std::uint8_t *>(uri.data()), uri.size());
+}
+inline status map_set(rtpw_map &map, std::uint8_t id, std::uint8_t kind) noexcept {
+    return status(::rtpw_map_set(&map, id, kind));
+}
+inline std::uint8_t map_get(const rtpw_map &map, std::uint8_t id) noexcept {
+    return ::rtpw_map_get(&map, id);
+}
+inline std::uint8_t id_of(const rtpw_map &map, std::uint8_t kind) noexcept {
+    return ::rtpw_id_of(&map, kind);
+}
+inline rtpw_map map_standard() noexcept {
+    rtpw_map map;
+    ::rtpw_map_standard(&map);
+    return map;
+}
+
+inline result<rtpw_values> values_read(bytes body, std::uint8_t form, const rtpw_map &map) noexcept {
+    return result<rtpw_values>(
+        [&](rtpw_values *it) { return ::rtpw_values_read(body.data(), body.size(), form, &map, it); });
+}
+inline result<std::size_t> data_of(std::uint8_t kind, const rtpw_values &values, buffer buf) noexcept {
+    return result<std::size_t>(
+        [&](std::size_t *it) { return ::rtpw_data_of(kind, &values, buf.data(), buf.size(), it); });
+}
+
+/* The texts of values, where they are there. */
+inline std::optional<std::string_view> mid(const rtpw_values &values) noexcept {
+    return values.has_mid ? std::optional<std::string_view>(values.mid) : std::nullopt;
+}
+inline std::optional<std::string_view> rid(const rtpw_values &values) noexcept {
+    return values.has_rid ? std::optional<std::string_view>(values.rid) : std::nullopt;
+}
+inline std::optional<std::string_view> repaired_rid(const rtpw_values &values) noexcept {
+    return values.has_repaired_rid ? std::optional<std::string_view>(values.repaired_rid) : std::nullopt;
+}
+
+/* Sets a text. bad_field where it is too long (16 characters, or 8) or has a zero; then nothing changes. Its other
+ * characters are judged where it is written. */
+namespace detail {
+template <std::size_t size> status set_text(char (&text)[size], std::uint8_t &has, std::string_view to) noexcept {
+    if (to.size() >= size || to.find('\0') != std::string_view::npos) {
+        return status::bad_field;
+    }
+    std::memset(text, 0, size);
+    to.copy(text, to.size());
+    has = 1;
+    return status::ok;
+}
+} // namespace detail
+inline status set_mid(rtpw_values &values, std::string_view to) noexcept {
+    return detail::set_text(values.mid, values.has_mid, to);
+}
+inline status set_rid(rtpw_values &values, std::string_view to) noexcept {
+    return detail::set_text(values.rid, values.has_rid, to);
+}
+inline status set_repaired_rid(rtpw_values &values, std::string_view to) noexcept {
+    return detail::set_text(values.repaired_rid, values.has_repaired_rid, to);
+}
+
+/* ---- A header, read and written ---- */
+
+inline result<rtpw_header> parse(bytes datagram, const rtpw_map &map) noexcept {
+    return result<rtpw_header>(
+        [&](rtpw_header *it) { return ::rtpw_parse(datagram.data(), datagram.size(), &map, it); });
+}
+/* The layers are written to `layers`, where there are none all zeros. */
+inline result<rtpw_header> parse_layers(bytes datagram, const rtpw_map &map, rtpw_layers &layers) noexcept {
+    return result<rtpw_header>(
+        [&](rtpw_header *it) { return ::rtpw_parse_layers(datagram.data(), datagram.size(), &map, it, &layers); });
+}
+
+/* Each returns the length of the header that it wrote, or would write. */
+inline result<std::size_t> wire_len(const rtpw_map &map, const rtpw_header &header) noexcept {
+    return result<std::size_t>([&](std::size_t *it) { return ::rtpw_wire_len(&map, &header, it); });
+}
+inline result<std::size_t> write(const rtpw_map &map, const rtpw_header &header, buffer buf) noexcept {
+    return result<std::size_t>(
+        [&](std::size_t *it) { return ::rtpw_write(&map, &header, buf.data(), buf.size(), it); });
+}
+inline result<std::size_t> wire_len_layers(const rtpw_map &map, const rtpw_header &header,
+                                           const rtpw_layers &layers) noexcept {
+    return result<std::size_t>([&](std::size_t *it) { return ::rtpw_wire_len_layers(&map, &header, &layers, it); });
+}
+inline result<std::size_t> write_layers(const rtpw_map &map, const rtpw_header &header, const rtpw_layers &layers,
+                                        buffer buf) noexcept {
+    return result<std::size_t>(
+        [&](std::size_t *it) { return ::rtpw_write_layers(&map, &header, &layers, buf.data(), buf.size(), it); });
+}
+/* With `count` elements; `form` is RTPW_ONE_BYTE_FORM or RTPW_TWO_BYTE_FORM alone, or either. */
+inline result<std::size_t> write_with(const rtpw_header &header, bytes data, const rtpw_element *elements,
+                                      std::size_t count, buffer buf, std::uint8_t form = RTPW_NO_BLOCK) noexcept {
+    return result<std::size_t>([&](std::size_t *it) {
+        return ::rtpw_write_with_form(&header, data.data(), data.size(), elements, count, form, buf.data(), buf.size(),
+                                      it);
+    });
+}
+inline result<std::size_t> write_elements(bytes data, const rtpw_element *elements, std::size_t count,
+                                          std::uint8_t form, buffer buf) noexcept {
+    return result<std::size_t>([&](std::size_t *it) {
+        return ::rtpw_write_elements(data.data(), data.size(), elements, count, form, buf.data(), buf.size(), it);
+    });
+}
+
+/* ---- From one map to another, padding and retransmissions ---- */
+
+inline rtpw_new_ids new_ids_between(const rtpw_map &from, const rtpw_map &to) noexcept {
+    rtpw_new_ids ids;
+    ::rtpw_new_ids_between(&from, &to, &ids);
+    return ids;
+}
+inline rtpw_new_ids new_ids_to_retransmission(const rtpw_map &map) noexcept {
+    rtpw_new_ids ids;
+    ::rtpw_new_ids_to_retransmission(&map, &ids);
+    return ids;
+}
+inline rtpw_new_ids new_ids_from_retransmission(const rtpw_map &map) noexcept {
+    rtpw_new_ids ids;
+    ::rtpw_new_ids_from_retransmission(&map, &ids);
+    return ids;
+}
+inline status renumber(buffer datagram, const rtpw_new_ids &ids) noexcept {
+    return status(::rtpw_renumber(datagram.data(), datagram.size(), &ids));
+}
+/* How many bytes of padding were written behind the header. */
+inline result<std::size_t> pad(buffer datagram, std::size_t header_len, std::uint8_t pad_len,
+                               std::size_t block_size) noexcept {
+    return result<std::size_t>([&](std::size_t *it) {
+        return ::rtpw_pad(datagram.data(), datagram.size(), header_len, pad_len, block_size, it);
+    });
+}
+inline result<std::uint16_t> read_original(bytes payload) noexcept {
+    return result<std::uint16_t>(
+        [&](std::uint16_t *it) { return ::rtpw_read_original(payload.data(), payload.size(), it); });
+}
+inline status write_original(buffer payload, std::uint64_t number) noexcept {
+    return status(::rtpw_write_original(payload.data(), payload.size(), number));
+}
+inline status to_retransmission(buffer buf, std::size_t &len, std::uint32_t ssrc, std::uint8_t payload_type,
+                                std::uint16_t number, const rtpw_new_ids &ids) noexcept {
+    return status(::rtpw_to_retransmission(buf.data(), buf.size(), &len, ssrc, payload_type, number, &ids));
+}
+inline status from_retransmission(buffer buf, std::size_t &len, std::uint32_t ssrc, std::uint8_t payload_type,
+                                  const rtpw_new_ids &ids) noexcept {
+    return status(::rtpw_from_retransmission(buf.data(), buf.size(), &len, ssrc, payload_type, &ids));
+}
+
+/* ---- The numbers of a stream ---- */
+
+/* A receiver whose first packet has this rollover count: 1 where nothing is authenticated. */
+inline result<rtpw_receiver> receiver_start(std::uint64_t rollover_count) noexcept {
+    return result<rtpw_receiver>([&](rtpw_receiver *it) { return ::rtpw_receiver_start(it, rollover_count); });
+}
+inline std::uint64_t receiver_number_of(const rtpw_receiver &receiver, std::uint16_t sequence_number) noexcept {
+    return ::rtpw_receiver_number_of(&receiver, sequence_number);
+}
+inline bool receiver_accepts(const rtpw_receiver &receiver, std::uint64_t number) noexcept {
+    return ::rtpw_receiver_accepts(&receiver, number);
+}
+inline void receiver_record(rtpw_receiver &receiver, std::uint64_t number) noexcept {
+    ::rtpw_receiver_record(&receiver, number);
+}
+inline result<std::uint64_t> receiver_receive(rtpw_receiver &receiver, std::uint16_t sequence_number) noexcept {
+    return result<std::uint64_t>(
+        [&](std::uint64_t *it) { return ::rtpw_receiver_receive(&receiver, sequence_number, it); });
+}
+
+/* A receiver with a window of 64 numbers for each of 1 to 512 words. */
+template <std::size_t count> class wide_receiver {
+    static_assert(count >= 1 && count <= 512, "a window has 1 to 512 words");
+
+  public:
+    status start(std::uint64_t rollover_count) noexcept {
+        return status(::rtpw_wide_receiver_start(&state, rollover_count));
+    }
+    std::uint64_t number_of(std::uint16_t sequence_number) const noexcept {
+        return ::rtpw_wide_receiver_number_of(&state, sequence_number);
+    }
+    bool accepts(std::uint64_t number) const noexcept {
+        return ::rtpw_wide_receiver_accepts(&state, words, count, number);
+    }
+    status record(std::uint64_t number) noexcept {
+        return status(::rtpw_wide_receiver_record(&state, words, count, number));
+    }
+    result<std::uint64_t> receive(std::uint16_t sequence_number) noexcept {
+        return result<std::uint64_t>(
+            [&](std::uint64_t *it) { return ::rtpw_wide_receiver_receive(&state, words, count, sequence_number, it); });
+    }
+
+    rtpw_wide_receiver state{};
+    std::uint64_t words[count]{};
+};
+
+/* The status is restarted where the packet begins another epoch: it is taken, and its number is there. */
+inline result<std::uint64_t> restarting_receive(rtpw_restarting_receiver &receiver,
+                                                std::uint16_t sequence_number) noexcept {
+    return result<std::uint64_t>(
+        [&](std::uint64_t *it) { return ::rtpw_restarting_receive(&receiver, sequence_number, it); });
+}
+
+inline std::uint64_t extend_u8(std::uint64_t previous, std::uint8_t number) noexcept {
+    return ::rtpw_extend_u8(previous, number);
+}
+inline std::uint64_t extend_u15(std::uint64_t previous, std::uint16_t number) noexcept {
+    return ::rtpw_extend_u15(previous, number);
+}
+inline std::uint64_t extend_u16(std::uint64_t previous, std::uint16_t number) noexcept {
+    return ::rtpw_extend_u16(previous, number);
+}
+inline std::uint64_t extend_u32(std::uint64_t previous, std::uint32_t number) noexcept {
+    return ::rtpw_extend_u32(previous, number);
+}
+
+} // namespace rtpw
+
+#endif

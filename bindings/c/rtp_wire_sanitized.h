@@ -1,0 +1,535 @@
+/*
+ * rtp_wire_sanitized.h: the calls of rtp_wire.h for a program that is built with -fsanitize=address or memory.
+ *
+ * The library is an assembly text, which no sanitizer looks into. So here each call first tests the memory that it is
+ * given, all of it (AddressSanitizer), and that what it reads was set (MemorySanitizer); what it has written counts as
+ * set then. rtp_wire.h includes this file where it lies beside it and one of the two is on: don't include it yourself.
+ * What is reported is the call, with a line of this file above it in the stack.
+ *
+ * A call that takes a pointer has two lines here. RTPW_SANITIZED has its name behind rtpw_, its parameters and
+ * arguments, what is tested before it, and what has been written after it (`status` is what it returned). A #define
+ * leads from its name to that.
+ */
+#ifndef RTPW_SANITIZED_H
+#define RTPW_SANITIZED_H
+
+#if defined(__SANITIZE_ADDRESS__)
+#define RTPW_SANITIZER_ADDRESS
+#elif defined(__has_feature)
+#if __has_feature(address_sanitizer)
+#define RTPW_SANITIZER_ADDRESS
+#elif __has_feature(memory_sanitizer)
+#define RTPW_SANITIZER_MEMORY
+#endif
+#endif
+#ifdef RTPW_SANITIZER_ADDRESS
+#include <sanitizer/asan_interface.h>
+#endif
+#ifdef RTPW_SANITIZER_MEMORY
+#include <sanitizer/msan_interface.h>
+#endif
+
+/* ---- Memory ---- */
+
+/* These bytes are the caller's to give, whatever they hold: they need not be set, and so aren't const, which gcc takes
+ * for a promise to read. */
+static inline void rtpw_sanitizer_room(void *at, size_t size) {
+#ifdef RTPW_SANITIZER_ADDRESS
+    const void *outside = __asan_region_is_poisoned(at, size);
+    if (outside != NULL) {
+        (void)*(const volatile char *)outside; /* this is reported */
+    }
+#else
+    (void)at;
+    (void)size;
+#endif
+}
+
+/* These bytes are read. */
+static inline void rtpw_sanitizer_reads(const void *at, size_t size) {
+    rtpw_sanitizer_room((void *)at, size);
+#ifdef RTPW_SANITIZER_MEMORY
+    __msan_check_mem_is_initialized(at, size);
+#endif
+}
+
+/* These bytes were written. */
+static inline void rtpw_sanitizer_wrote(const void *at, size_t size) {
+#ifdef RTPW_SANITIZER_MEMORY
+    __msan_unpoison(at, size);
+#else
+    (void)at;
+    (void)size;
+#endif
+}
+
+static inline size_t rtpw_sanitizer_least(size_t one, size_t other) {
+    return one < other ? one : other;
+}
+
+/* ---- Packets ---- */
+
+/* The length of the header, or what is there of it. Of a packet each call reads its first byte, and where X is set
+ * how long the block is. */
+static inline size_t rtpw_sanitizer_header_len(const uint8_t *datagram, size_t len) {
+    size_t at;
+    rtpw_sanitizer_room((void *)datagram, len);
+    if (len < RTPW_CSRC_AT) {
+        return 0;
+    }
+    rtpw_sanitizer_reads(datagram, 1);
+    if (datagram[0] >> 6 != 2) {
+        return 1;
+    }
+    at = RTPW_CSRC_AT + 4 * (size_t)(datagram[0] & 15);
+    if ((datagram[0] & 16) != 0 && at < len && len - at >= 4) {
+        rtpw_sanitizer_reads(datagram + at + 2, 2);
+        at += 4 + 4 * (((size_t)datagram[at + 2] << 8) + datagram[at + 3]);
+    }
+    return rtpw_sanitizer_least(at, len);
+}
+
+/* The length of the packet's padding is read where P is set. */
+static inline void rtpw_sanitizer_padding(const uint8_t *datagram, size_t len) {
+    if (rtpw_sanitizer_header_len(datagram, len) >= RTPW_CSRC_AT && (datagram[0] & 32) != 0) {
+        rtpw_sanitizer_reads(datagram + len - 1, 1);
+    }
+}
+
+/* The fixed part and the first bytes of the block are read. */
+static inline void rtpw_sanitizer_packet(const uint8_t *datagram, size_t len) {
+    size_t header_len = rtpw_sanitizer_header_len(datagram, len);
+    rtpw_sanitizer_reads(datagram, rtpw_sanitizer_least(header_len, RTPW_CSRC_AT));
+    if (header_len >= RTPW_CSRC_AT && (datagram[0] & 16) != 0) {
+        size_t at = RTPW_CSRC_AT + 4 * (size_t)(datagram[0] & 15);
+        if (at < header_len) {
+            rtpw_sanitizer_reads(datagram + at, rtpw_sanitizer_least(header_len - at, 4));
+        }
+    }
+    rtpw_sanitizer_padding(datagram, len);
+}
+
+/* The whole header is read. */
+static inline void rtpw_sanitizer_header(const uint8_t *datagram, size_t len) {
+    rtpw_sanitizer_reads(datagram, rtpw_sanitizer_header_len(datagram, len));
+}
+
+/* The block's elements are read. */
+static inline void rtpw_sanitizer_block(const uint8_t *datagram, size_t len) {
+    size_t header_len = rtpw_sanitizer_header_len(datagram, len);
+    if (header_len >= RTPW_CSRC_AT) {
+        size_t at = rtpw_sanitizer_least(RTPW_CSRC_AT + 4 * (size_t)(datagram[0] & 15), header_len);
+        rtpw_sanitizer_reads(datagram + at, header_len - at);
+    }
+}
+
+/* A packet in a buffer with room behind it. */
+static inline void rtpw_sanitizer_buffer(const uint8_t *buf, size_t size, const size_t *len) {
+    rtpw_sanitizer_room((void *)buf, size);
+    rtpw_sanitizer_reads(len, sizeof *len);
+    if (*len <= size) {
+        rtpw_sanitizer_block(buf, *len);
+    }
+}
+
+/* ---- Structs: the fields that count; what fills a struct up, and what isn't looked at, need not be set ---- */
+
+#define RTPW_SANITIZER_FIELD(field) rtpw_sanitizer_reads(&(field), sizeof(field))
+
+/* A map, or new ids: all but the entry of the id 0. */
+static inline void rtpw_sanitizer_ids(const uint8_t *ids) {
+    rtpw_sanitizer_room((void *)ids, 256);
+    rtpw_sanitizer_reads(ids + 1, 255);
+}
+
+static inline void rtpw_sanitizer_fields(const rtpw_fields *fields) {
+    rtpw_sanitizer_room((void *)fields, sizeof *fields);
+    rtpw_sanitizer_reads(&fields->has_timestamp, 5); /* and the four others */
+    if (fields->has_timestamp) { RTPW_SANITIZER_FIELD(fields->timestamp); }
+    if (fields->has_ssrc) { RTPW_SANITIZER_FIELD(fields->ssrc); }
+    if (fields->has_sequence_number) { RTPW_SANITIZER_FIELD(fields->sequence_number); }
+    if (fields->has_payload_type) { RTPW_SANITIZER_FIELD(fields->payload_type); }
+    if (fields->has_marker) { RTPW_SANITIZER_FIELD(fields->marker); }
+}
+
+static inline void rtpw_sanitizer_wrote_fields(uint8_t *datagram, const rtpw_fields *fields) {
+    if (fields->has_payload_type || fields->has_marker) { rtpw_sanitizer_wrote(datagram + 1, 1); }
+    if (fields->has_sequence_number) { rtpw_sanitizer_wrote(datagram + 2, 2); }
+    if (fields->has_timestamp) { rtpw_sanitizer_wrote(datagram + 4, 4); }
+    if (fields->has_ssrc) { rtpw_sanitizer_wrote(datagram + 8, 4); }
+}
+
+static inline void rtpw_sanitizer_text(const char *text, size_t size) {
+    size_t i = 0;
+    do {
+        rtpw_sanitizer_reads(text + i, 1);
+    } while (text[i++] != 0 && i < size);
+}
+
+static inline void rtpw_sanitizer_time(const rtpw_time *time) {
+    RTPW_SANITIZER_FIELD(time->ticks);
+    RTPW_SANITIZER_FIELD(time->hertz);
+}
+
+static inline void rtpw_sanitizer_values(const rtpw_values *values) {
+    rtpw_sanitizer_room((void *)values, sizeof *values);
+    rtpw_sanitizer_reads(&values->has_send_time, 16); /* layers are passed beside the values */
+    if (values->has_send_time) { RTPW_SANITIZER_FIELD(values->send_time); }
+    if (values->has_capture_time) { RTPW_SANITIZER_FIELD(values->capture_time); }
+    if (values->has_capture_offset) { RTPW_SANITIZER_FIELD(values->capture_offset); }
+    if (values->has_transmission_offset) { RTPW_SANITIZER_FIELD(values->transmission_offset); }
+    if (values->has_frame_marking) { RTPW_SANITIZER_FIELD(values->frame_marking); }
+    if (values->has_transport_number) { RTPW_SANITIZER_FIELD(values->transport_number); }
+    if (values->has_video_orientation) { RTPW_SANITIZER_FIELD(values->video_orientation); }
+    if (values->has_video_content_type) { RTPW_SANITIZER_FIELD(values->video_content_type); }
+    if (values->has_audio_level) { RTPW_SANITIZER_FIELD(values->audio_level); }
+    if (values->has_voice_activity) { RTPW_SANITIZER_FIELD(values->voice_activity); }
+    if (values->has_playout_delay_min) { rtpw_sanitizer_time(&values->playout_delay_min); }
+    if (values->has_playout_delay_max) { rtpw_sanitizer_time(&values->playout_delay_max); }
+    if (values->has_video_timing) {
+        RTPW_SANITIZER_FIELD(values->encode_start);
+        RTPW_SANITIZER_FIELD(values->encode_finish);
+        RTPW_SANITIZER_FIELD(values->packetize_complete);
+        RTPW_SANITIZER_FIELD(values->last_left_pacer);
+        RTPW_SANITIZER_FIELD(values->timing_flags);
+    }
+    if (values->has_mid) { rtpw_sanitizer_text(values->mid, sizeof values->mid); }
+    if (values->has_rid) { rtpw_sanitizer_text(values->rid, sizeof values->rid); }
+    if (values->has_repaired_rid) { rtpw_sanitizer_text(values->repaired_rid, sizeof values->repaired_rid); }
+}
+
+/* A header without its values. */
+static inline void rtpw_sanitizer_fixed_part(const rtpw_header *header) {
+    rtpw_sanitizer_room((void *)header, sizeof *header);
+    rtpw_sanitizer_reads(&header->timestamp, 8);       /* and ssrc */
+    rtpw_sanitizer_reads(&header->sequence_number, 6); /* and payload_type, csrc_count, marker, has_padding */
+    rtpw_sanitizer_reads(header->csrc, 4 * rtpw_sanitizer_least(header->csrc_count, 15));
+}
+
+/* A header that is written under a map. */
+static inline void rtpw_sanitizer_written(const rtpw_map *map, const rtpw_header *header) {
+    rtpw_sanitizer_fixed_part(header);
+    RTPW_SANITIZER_FIELD(header->has_extension);
+    rtpw_sanitizer_values(&header->values);
+    rtpw_sanitizer_room((void *)map, sizeof *map);
+    if (header->has_extension) { rtpw_sanitizer_ids(map->kind); }
+}
+
+static inline void rtpw_sanitizer_layers(const rtpw_layers *layers) {
+    size_t i, j;
+    rtpw_sanitizer_room((void *)layers, sizeof *layers);
+    RTPW_SANITIZER_FIELD(layers->count);
+    RTPW_SANITIZER_FIELD(layers->current);
+    for (i = 0; i < rtpw_sanitizer_least(layers->count, 4); i++) {
+        const rtpw_stream *stream = &layers->streams[i];
+        RTPW_SANITIZER_FIELD(stream->count);
+        for (j = 0; j < rtpw_sanitizer_least(stream->count, 4); j++) {
+            const rtpw_layer *layer = &stream->layers[j];
+            RTPW_SANITIZER_FIELD(layer->rates);
+            RTPW_SANITIZER_FIELD(layer->has_resolution);
+            rtpw_sanitizer_reads(layer->kbps, 8 * rtpw_sanitizer_least(layer->rates, 4));
+            if (layer->has_resolution) { rtpw_sanitizer_reads(&layer->width, 5); /* and height, framerate */ }
+        }
+    }
+}
+
+/* Elements that are written, and the data of each. */
+static inline void rtpw_sanitizer_elements(const uint8_t *data, size_t data_len, const rtpw_element *elements,
+                                           size_t count) {
+    size_t i;
+    rtpw_sanitizer_room((void *)data, data_len);
+    rtpw_sanitizer_room((void *)elements, count * sizeof *elements);
+    for (i = 0; i < count; i++) {
+        rtpw_sanitizer_reads(&elements[i].data_at, 2 * sizeof(size_t)); /* and data_len */
+        RTPW_SANITIZER_FIELD(elements[i].id);
+        if (elements[i].data_at < data_len && elements[i].data_len <= data_len - elements[i].data_at) {
+            rtpw_sanitizer_reads(data + elements[i].data_at, elements[i].data_len);
+        }
+    }
+}
+
+static inline void rtpw_sanitizer_receiver(const rtpw_receiver *receiver) {
+    rtpw_sanitizer_room((void *)receiver, sizeof *receiver);
+    RTPW_SANITIZER_FIELD(receiver->highest);
+    RTPW_SANITIZER_FIELD(receiver->started);
+    if (receiver->started) { rtpw_sanitizer_reads(&receiver->recorded_low, 16); /* and recorded_high */ }
+}
+
+static inline void rtpw_sanitizer_wide_receiver(const rtpw_wide_receiver *receiver) {
+    rtpw_sanitizer_room((void *)receiver, sizeof *receiver);
+    RTPW_SANITIZER_FIELD(receiver->highest);
+    RTPW_SANITIZER_FIELD(receiver->started);
+}
+
+/* The words aren't read before the first number is taken. */
+static inline void rtpw_sanitizer_window(const rtpw_wide_receiver *receiver, const uint64_t *words, size_t count) {
+    rtpw_sanitizer_wide_receiver(receiver);
+    rtpw_sanitizer_room((void *)words, count * sizeof *words);
+    if (receiver->started && count <= 512) { rtpw_sanitizer_reads(words, count * sizeof *words); }
+}
+
+static inline void rtpw_sanitizer_restarting(const rtpw_restarting_receiver *receiver) {
+    rtpw_sanitizer_room((void *)receiver, sizeof *receiver);
+    RTPW_SANITIZER_FIELD(receiver->max_dropout);
+    rtpw_sanitizer_reads(&receiver->min_sequential, 3); /* and in_row, started */
+    if (receiver->in_row) { RTPW_SANITIZER_FIELD(receiver->next); }
+    if (receiver->started) { rtpw_sanitizer_reads(&receiver->highest, 24); /* and words */ }
+}
+
+/* What is read of a body from an offset on: up to the data of the element that was found. */
+static inline void rtpw_sanitizer_reads_next(const uint8_t *body, size_t body_len, size_t at, int32_t status,
+                                             const rtpw_element *element) {
+    if (at < body_len) {
+        rtpw_sanitizer_reads(body + at, (status == RTPW_OK ? element->data_at : body_len) - at);
+    }
+}
+
+/* The number that the payload of a retransmission begins with. */
+static inline void rtpw_sanitizer_original(const uint8_t *buf, size_t size, size_t len) {
+    if (len <= size) {
+        size_t at = rtpw_sanitizer_header_len(buf, len);
+        if (at < len) { rtpw_sanitizer_reads(buf + at, rtpw_sanitizer_least(len - at, 2)); }
+    }
+}
+
+/* ---- The calls ---- */
+
+#define RTPW_SANITIZED_AS(type, name, parameters, arguments, tests, wrote) \
+    static inline type rtpw_sanitized_##name parameters { \
+        type status; \
+        tests; \
+        status = rtpw_##name arguments; \
+        wrote; \
+        return status; \
+    }
+#define RTPW_SANITIZED(name, parameters, arguments, tests, wrote) \
+    RTPW_CHECKED RTPW_SANITIZED_AS(int32_t, name, parameters, arguments, tests, wrote)
+#define RTPW_SANITIZED_VOID(name, parameters, arguments, tests, wrote) \
+    static inline void rtpw_sanitized_##name parameters { \
+        tests; \
+        rtpw_##name arguments; \
+        wrote; \
+    }
+/* An output, and what is written where the status is RTPW_OK: all of it, or bytes. */
+#define RTPW_ROOM(output) rtpw_sanitizer_room((void *)(output), sizeof *(output))
+#define RTPW_WROTE_BYTES(at, size) \
+    if (status == RTPW_OK) { rtpw_sanitizer_wrote(at, size); }
+#define RTPW_WROTE(output) RTPW_WROTE_BYTES(output, sizeof *(output))
+
+RTPW_SANITIZED_AS(bool, is_rtcp, (const uint8_t *datagram, size_t len), (datagram, len),
+    rtpw_sanitizer_room((void *)datagram, len); rtpw_sanitizer_reads(datagram, len < 2 ? 0 : 2), (void)0)
+#define rtpw_is_rtcp rtpw_sanitized_is_rtcp
+RTPW_SANITIZED(packet_parse, (const uint8_t *datagram, size_t len, rtpw_packet *packet), (datagram, len, packet),
+    rtpw_sanitizer_packet(datagram, len); RTPW_ROOM(packet), RTPW_WROTE(packet))
+#define rtpw_packet_parse rtpw_sanitized_packet_parse
+RTPW_SANITIZED(set_marker, (uint8_t *datagram, size_t len, bool marker), (datagram, len, marker),
+    (void)rtpw_sanitizer_header_len(datagram, len), RTPW_WROTE_BYTES(datagram + 1, 1))
+#define rtpw_set_marker rtpw_sanitized_set_marker
+RTPW_SANITIZED(set_payload_type, (uint8_t *datagram, size_t len, uint8_t payload_type), (datagram, len, payload_type),
+    (void)rtpw_sanitizer_header_len(datagram, len), RTPW_WROTE_BYTES(datagram + 1, 1))
+#define rtpw_set_payload_type rtpw_sanitized_set_payload_type
+RTPW_SANITIZED(set_sequence_number, (uint8_t *datagram, size_t len, uint16_t number), (datagram, len, number),
+    (void)rtpw_sanitizer_header_len(datagram, len), RTPW_WROTE_BYTES(datagram + 2, 2))
+#define rtpw_set_sequence_number rtpw_sanitized_set_sequence_number
+RTPW_SANITIZED(set_timestamp, (uint8_t *datagram, size_t len, uint32_t timestamp), (datagram, len, timestamp),
+    (void)rtpw_sanitizer_header_len(datagram, len), RTPW_WROTE_BYTES(datagram + 4, 4))
+#define rtpw_set_timestamp rtpw_sanitized_set_timestamp
+RTPW_SANITIZED(set_ssrc, (uint8_t *datagram, size_t len, uint32_t ssrc), (datagram, len, ssrc),
+    (void)rtpw_sanitizer_header_len(datagram, len), RTPW_WROTE_BYTES(datagram + 8, 4))
+#define rtpw_set_ssrc rtpw_sanitized_set_ssrc
+RTPW_SANITIZED(set_fields, (uint8_t *datagram, size_t len, const rtpw_fields *fields), (datagram, len, fields),
+    (void)rtpw_sanitizer_header_len(datagram, len); rtpw_sanitizer_fields(fields),
+    if (status == RTPW_OK) { rtpw_sanitizer_wrote_fields(datagram, fields); })
+#define rtpw_set_fields rtpw_sanitized_set_fields
+RTPW_SANITIZED(set_csrc, (uint8_t *datagram, size_t len, size_t index, uint32_t source),
+    (datagram, len, index, source), (void)rtpw_sanitizer_header_len(datagram, len),
+    RTPW_WROTE_BYTES(datagram + RTPW_CSRC_AT + 4 * index, 4))
+#define rtpw_set_csrc rtpw_sanitized_set_csrc
+RTPW_SANITIZED(set_element, (uint8_t *datagram, size_t len, uint8_t id, const uint8_t *data, size_t data_len),
+    (datagram, len, id, data, data_len), rtpw_sanitizer_block(datagram, len); rtpw_sanitizer_reads(data, data_len),
+    (void)0)
+#define rtpw_set_element rtpw_sanitized_set_element
+RTPW_SANITIZED(remove_element, (uint8_t *datagram, size_t len, uint8_t id), (datagram, len, id),
+    rtpw_sanitizer_block(datagram, len), (void)0)
+#define rtpw_remove_element rtpw_sanitized_remove_element
+RTPW_SANITIZED(set_padding, (uint8_t *datagram, size_t len, bool has_padding), (datagram, len, has_padding),
+    (void)rtpw_sanitizer_header_len(datagram, len), (void)0)
+#define rtpw_set_padding rtpw_sanitized_set_padding
+RTPW_SANITIZED(remove_padding, (uint8_t *datagram, size_t len, size_t *new_len), (datagram, len, new_len),
+    rtpw_sanitizer_padding(datagram, len); RTPW_ROOM(new_len), RTPW_WROTE(new_len))
+#define rtpw_remove_padding rtpw_sanitized_remove_padding
+RTPW_SANITIZED(put_element, (uint8_t *buf, size_t size, size_t *len, uint8_t id, const uint8_t *data,
+    size_t data_len, uint8_t allowed), (buf, size, len, id, data, data_len, allowed),
+    rtpw_sanitizer_buffer(buf, size, len); rtpw_sanitizer_reads(data, data_len), RTPW_WROTE_BYTES(buf, *len))
+#define rtpw_put_element rtpw_sanitized_put_element
+RTPW_SANITIZED(compact, (uint8_t *buf, size_t size, size_t *len), (buf, size, len),
+    rtpw_sanitizer_buffer(buf, size, len), RTPW_WROTE_BYTES(buf, *len))
+#define rtpw_compact rtpw_sanitized_compact
+RTPW_SANITIZED(next_element, (const uint8_t *body, size_t body_len, uint8_t form, size_t at, rtpw_element *element),
+    (body, body_len, form, at, element), rtpw_sanitizer_room((void *)body, body_len); RTPW_ROOM(element),
+    RTPW_WROTE(element) rtpw_sanitizer_reads_next(body, body_len, at, status, element))
+#define rtpw_next_element rtpw_sanitized_next_element
+RTPW_SANITIZED(last_element, (const uint8_t *body, size_t body_len, uint8_t form, uint8_t id, rtpw_element *element),
+    (body, body_len, form, id, element), rtpw_sanitizer_reads(body, body_len); RTPW_ROOM(element),
+    RTPW_WROTE(element))
+#define rtpw_last_element rtpw_sanitized_last_element
+RTPW_SANITIZED_AS(uint8_t, kind_of_uri, (const uint8_t *uri, size_t len), (uri, len), rtpw_sanitizer_reads(uri, len),
+    (void)0)
+#define rtpw_kind_of_uri rtpw_sanitized_kind_of_uri
+RTPW_SANITIZED(map_set, (rtpw_map *map, uint8_t id, uint8_t kind), (map, id, kind), RTPW_ROOM(map),
+    RTPW_WROTE_BYTES(&map->kind[id], 1))
+#define rtpw_map_set rtpw_sanitized_map_set
+RTPW_SANITIZED_AS(uint8_t, map_get, (const rtpw_map *map, uint8_t id), (map, id),
+    RTPW_ROOM(map); rtpw_sanitizer_reads(&map->kind[id], id != 0), (void)0)
+#define rtpw_map_get rtpw_sanitized_map_get
+RTPW_SANITIZED_AS(uint8_t, id_of, (const rtpw_map *map, uint8_t kind), (map, kind),
+    RTPW_ROOM(map); rtpw_sanitizer_ids(map->kind), (void)0)
+#define rtpw_id_of rtpw_sanitized_id_of
+RTPW_SANITIZED_VOID(map_standard, (rtpw_map *map), (map), RTPW_ROOM(map), rtpw_sanitizer_wrote(map, sizeof *map))
+#define rtpw_map_standard rtpw_sanitized_map_standard
+RTPW_SANITIZED(values_read, (const uint8_t *body, size_t body_len, uint8_t form, const rtpw_map *map,
+    rtpw_values *values), (body, body_len, form, map, values),
+    rtpw_sanitizer_reads(body, body_len); rtpw_sanitizer_ids(map->kind); RTPW_ROOM(values), RTPW_WROTE(values))
+#define rtpw_values_read rtpw_sanitized_values_read
+RTPW_SANITIZED(data_of, (uint8_t kind, const rtpw_values *values, uint8_t *buf, size_t size, size_t *len),
+    (kind, values, buf, size, len),
+    rtpw_sanitizer_values(values); rtpw_sanitizer_room((void *)buf, size); RTPW_ROOM(len),
+    RTPW_WROTE(len) RTPW_WROTE_BYTES(buf, *len))
+#define rtpw_data_of rtpw_sanitized_data_of
+RTPW_SANITIZED(parse, (const uint8_t *datagram, size_t len, const rtpw_map *map, rtpw_header *header),
+    (datagram, len, map, header),
+    rtpw_sanitizer_header(datagram, len); rtpw_sanitizer_ids(map->kind); RTPW_ROOM(header), RTPW_WROTE(header))
+#define rtpw_parse rtpw_sanitized_parse
+RTPW_SANITIZED(parse_layers, (const uint8_t *datagram, size_t len, const rtpw_map *map, rtpw_header *header,
+    rtpw_layers *layers), (datagram, len, map, header, layers),
+    rtpw_sanitizer_header(datagram, len); rtpw_sanitizer_ids(map->kind); RTPW_ROOM(header); RTPW_ROOM(layers),
+    RTPW_WROTE(header) RTPW_WROTE(layers))
+#define rtpw_parse_layers rtpw_sanitized_parse_layers
+RTPW_SANITIZED(wire_len, (const rtpw_map *map, const rtpw_header *header, size_t *len), (map, header, len),
+    rtpw_sanitizer_written(map, header); RTPW_ROOM(len), RTPW_WROTE(len))
+#define rtpw_wire_len rtpw_sanitized_wire_len
+RTPW_SANITIZED(write, (const rtpw_map *map, const rtpw_header *header, uint8_t *buf, size_t size, size_t *len),
+    (map, header, buf, size, len),
+    rtpw_sanitizer_written(map, header); rtpw_sanitizer_room((void *)buf, size); RTPW_ROOM(len),
+    RTPW_WROTE(len) RTPW_WROTE_BYTES(buf, *len))
+#define rtpw_write rtpw_sanitized_write
+RTPW_SANITIZED(wire_len_layers, (const rtpw_map *map, const rtpw_header *header, const rtpw_layers *layers,
+    size_t *len), (map, header, layers, len),
+    rtpw_sanitizer_written(map, header); rtpw_sanitizer_layers(layers); RTPW_ROOM(len), RTPW_WROTE(len))
+#define rtpw_wire_len_layers rtpw_sanitized_wire_len_layers
+RTPW_SANITIZED(write_layers, (const rtpw_map *map, const rtpw_header *header, const rtpw_layers *layers,
+    uint8_t *buf, size_t size, size_t *len), (map, header, layers, buf, size, len),
+    rtpw_sanitizer_written(map, header); rtpw_sanitizer_layers(layers); rtpw_sanitizer_room((void *)buf, size);
+    RTPW_ROOM(len),
+    RTPW_WROTE(len) RTPW_WROTE_BYTES(buf, *len))
+#define rtpw_write_layers rtpw_sanitized_write_layers
+RTPW_SANITIZED(write_with, (const rtpw_header *header, const uint8_t *data, size_t data_len,
+    const rtpw_element *elements, size_t count, uint8_t *buf, size_t size, size_t *len), (header, data, data_len,
+    elements, count, buf, size, len),
+    rtpw_sanitizer_fixed_part(header); rtpw_sanitizer_elements(data, data_len, elements, count);
+    rtpw_sanitizer_room((void *)buf, size); RTPW_ROOM(len),
+    RTPW_WROTE(len) RTPW_WROTE_BYTES(buf, *len))
+#define rtpw_write_with rtpw_sanitized_write_with
+RTPW_SANITIZED(write_with_form, (const rtpw_header *header, const uint8_t *data, size_t data_len,
+    const rtpw_element *elements, size_t count, uint8_t form, uint8_t *buf, size_t size, size_t *len), (header, data,
+    data_len, elements, count, form, buf, size, len),
+    rtpw_sanitizer_fixed_part(header); rtpw_sanitizer_elements(data, data_len, elements, count);
+    rtpw_sanitizer_room((void *)buf, size); RTPW_ROOM(len),
+    RTPW_WROTE(len) RTPW_WROTE_BYTES(buf, *len))
+#define rtpw_write_with_form rtpw_sanitized_write_with_form
+RTPW_SANITIZED(write_elements, (const uint8_t *data, size_t data_len, const rtpw_element *elements, size_t count,
+    uint8_t form, uint8_t *buf, size_t size, size_t *len), (data, data_len, elements, count, form, buf, size, len),
+    rtpw_sanitizer_elements(data, data_len, elements, count); rtpw_sanitizer_room((void *)buf, size); RTPW_ROOM(len),
+    RTPW_WROTE(len) RTPW_WROTE_BYTES(buf, *len))
+#define rtpw_write_elements rtpw_sanitized_write_elements
+RTPW_SANITIZED_VOID(new_ids_between, (const rtpw_map *from, const rtpw_map *to, rtpw_new_ids *ids), (from, to, ids),
+    rtpw_sanitizer_ids(from->kind); rtpw_sanitizer_ids(to->kind); RTPW_ROOM(ids),
+    rtpw_sanitizer_wrote(ids, sizeof *ids))
+#define rtpw_new_ids_between rtpw_sanitized_new_ids_between
+RTPW_SANITIZED(renumber, (uint8_t *datagram, size_t len, const rtpw_new_ids *ids), (datagram, len, ids),
+    rtpw_sanitizer_block(datagram, len); rtpw_sanitizer_ids(ids->id), (void)0)
+#define rtpw_renumber rtpw_sanitized_renumber
+RTPW_SANITIZED(pad, (uint8_t *datagram, size_t size, size_t header_len, uint8_t pad_len, size_t block_size,
+    size_t *count), (datagram, size, header_len, pad_len, block_size, count),
+    rtpw_sanitizer_room((void *)datagram, size); RTPW_ROOM(count);
+    rtpw_sanitizer_reads(datagram, pad_len != 0 && header_len != 0 && size != 0), /* P is set in it */
+    RTPW_WROTE(count)
+    if (status == RTPW_OK && *count != 0) { rtpw_sanitizer_wrote(datagram + header_len, *count); })
+#define rtpw_pad rtpw_sanitized_pad
+RTPW_SANITIZED(read_original, (const uint8_t *payload, size_t len, uint16_t *number), (payload, len, number),
+    rtpw_sanitizer_room((void *)payload, len); rtpw_sanitizer_reads(payload, len < 2 ? 0 : 2); RTPW_ROOM(number),
+    RTPW_WROTE(number))
+#define rtpw_read_original rtpw_sanitized_read_original
+RTPW_SANITIZED(write_original, (uint8_t *payload, size_t size, uint64_t number), (payload, size, number),
+    rtpw_sanitizer_room((void *)payload, size), RTPW_WROTE_BYTES(payload, 2))
+#define rtpw_write_original rtpw_sanitized_write_original
+RTPW_SANITIZED_VOID(new_ids_to_retransmission, (const rtpw_map *map, rtpw_new_ids *ids), (map, ids),
+    rtpw_sanitizer_ids(map->kind); RTPW_ROOM(ids), rtpw_sanitizer_wrote(ids, sizeof *ids))
+#define rtpw_new_ids_to_retransmission rtpw_sanitized_new_ids_to_retransmission
+RTPW_SANITIZED_VOID(new_ids_from_retransmission, (const rtpw_map *map, rtpw_new_ids *ids), (map, ids),
+    rtpw_sanitizer_ids(map->kind); RTPW_ROOM(ids), rtpw_sanitizer_wrote(ids, sizeof *ids))
+#define rtpw_new_ids_from_retransmission rtpw_sanitized_new_ids_from_retransmission
+RTPW_SANITIZED(to_retransmission, (uint8_t *buf, size_t size, size_t *len, uint32_t ssrc, uint8_t payload_type,
+    uint16_t number, const rtpw_new_ids *ids), (buf, size, len, ssrc, payload_type, number, ids),
+    rtpw_sanitizer_buffer(buf, size, len); if (*len <= size) { rtpw_sanitizer_padding(buf, *len);
+    } rtpw_sanitizer_ids(ids->id),
+    RTPW_WROTE_BYTES(buf, *len))
+#define rtpw_to_retransmission rtpw_sanitized_to_retransmission
+RTPW_SANITIZED(from_retransmission, (uint8_t *buf, size_t size, size_t *len, uint32_t ssrc, uint8_t payload_type,
+    const rtpw_new_ids *ids), (buf, size, len, ssrc, payload_type, ids),
+    rtpw_sanitizer_buffer(buf, size, len); if (*len <= size) { rtpw_sanitizer_padding(buf, *len);
+    } rtpw_sanitizer_ids(ids->id); rtpw_sanitizer_original(buf, size, *len),
+    RTPW_WROTE_BYTES(buf, *len))
+#define rtpw_from_retransmission rtpw_sanitized_from_retransmission
+RTPW_SANITIZED(receiver_start, (rtpw_receiver *receiver, uint64_t rollover_count), (receiver, rollover_count),
+    RTPW_ROOM(receiver), RTPW_WROTE(receiver))
+#define rtpw_receiver_start rtpw_sanitized_receiver_start
+RTPW_SANITIZED_AS(uint64_t, receiver_number_of, (const rtpw_receiver *receiver, uint16_t sequence_number),
+    (receiver, sequence_number), rtpw_sanitizer_receiver(receiver), (void)0)
+#define rtpw_receiver_number_of rtpw_sanitized_receiver_number_of
+RTPW_SANITIZED_AS(bool, receiver_accepts, (const rtpw_receiver *receiver, uint64_t number), (receiver, number),
+    rtpw_sanitizer_receiver(receiver), (void)0)
+#define rtpw_receiver_accepts rtpw_sanitized_receiver_accepts
+RTPW_SANITIZED_VOID(receiver_record, (rtpw_receiver *receiver, uint64_t number), (receiver, number),
+    rtpw_sanitizer_receiver(receiver), rtpw_sanitizer_wrote(receiver, sizeof *receiver))
+#define rtpw_receiver_record rtpw_sanitized_receiver_record
+RTPW_SANITIZED(receiver_receive, (rtpw_receiver *receiver, uint16_t sequence_number, uint64_t *number),
+    (receiver, sequence_number, number), rtpw_sanitizer_receiver(receiver); RTPW_ROOM(number),
+    RTPW_WROTE(receiver) RTPW_WROTE(number))
+#define rtpw_receiver_receive rtpw_sanitized_receiver_receive
+RTPW_SANITIZED(wide_receiver_start, (rtpw_wide_receiver *receiver, uint64_t rollover_count),
+    (receiver, rollover_count), RTPW_ROOM(receiver), RTPW_WROTE(receiver))
+#define rtpw_wide_receiver_start rtpw_sanitized_wide_receiver_start
+RTPW_SANITIZED_AS(uint64_t, wide_receiver_number_of, (const rtpw_wide_receiver *receiver, uint16_t sequence_number),
+    (receiver, sequence_number), rtpw_sanitizer_wide_receiver(receiver), (void)0)
+#define rtpw_wide_receiver_number_of rtpw_sanitized_wide_receiver_number_of
+RTPW_SANITIZED_AS(bool, wide_receiver_accepts, (const rtpw_wide_receiver *receiver, const uint64_t *words,
+    size_t count, uint64_t number), (receiver, words, count, number), rtpw_sanitizer_window(receiver, words, count),
+    (void)0)
+#define rtpw_wide_receiver_accepts rtpw_sanitized_wide_receiver_accepts
+RTPW_SANITIZED(wide_receiver_record, (rtpw_wide_receiver *receiver, uint64_t *words, size_t count, uint64_t number),
+    (receiver, words, count, number), rtpw_sanitizer_window(receiver, words, count),
+    RTPW_WROTE(receiver) RTPW_WROTE_BYTES(words, count * sizeof *words))
+#define rtpw_wide_receiver_record rtpw_sanitized_wide_receiver_record
+RTPW_SANITIZED(wide_receiver_receive, (rtpw_wide_receiver *receiver, uint64_t *words, size_t count,
+    uint16_t sequence_number, uint64_t *number), (receiver, words, count, sequence_number, number),
+    rtpw_sanitizer_window(receiver, words, count); RTPW_ROOM(number),
+    RTPW_WROTE(receiver) RTPW_WROTE_BYTES(words, count * sizeof *words) RTPW_WROTE(number))
+#define rtpw_wide_receiver_receive rtpw_sanitized_wide_receiver_receive
+RTPW_SANITIZED(restarting_receive, (rtpw_restarting_receiver *receiver, uint16_t sequence_number, uint64_t *number),
+    (receiver, sequence_number, number), rtpw_sanitizer_restarting(receiver); RTPW_ROOM(number),
+    rtpw_sanitizer_wrote(receiver, sizeof *receiver); if (status != RTPW_REFUSED) { rtpw_sanitizer_wrote(number,
+    sizeof *number); })
+#define rtpw_restarting_receive rtpw_sanitized_restarting_receive
+
+#undef RTPW_SANITIZED_AS
+#undef RTPW_SANITIZED
+#undef RTPW_SANITIZED_VOID
+#undef RTPW_ROOM
+#undef RTPW_WROTE_BYTES
+#undef RTPW_WROTE
+#undef RTPW_SANITIZER_FIELD
+#undef RTPW_SANITIZER_ADDRESS
+#undef RTPW_SANITIZER_MEMORY
+
+#endif

@@ -1,0 +1,562 @@
+/* What a sanitizer tells of each call of rtp_wire.h that takes a pointer. Built with -fsanitize=address, of each block
+ * that is one byte shorter than is said; with -fsanitize=memory, of each block that is read and wasn't set; and of a
+ * call that is given what it is owed nothing, nor of its outputs. Prints how many blocks were tried, or the first that
+ * wasn't told. */
+#include <stdio.h>
+#include <stdlib.h>
+#include <string.h>
+#include <sys/wait.h>
+#include <unistd.h>
+
+#include "../rtp_wire.h"
+
+#define REPORTED 9
+const char *__asan_default_options(void);
+const char *__asan_default_options(void) {
+    return "exitcode=9:detect_leaks=0:symbolize=0";
+}
+const char *__msan_default_options(void);
+const char *__msan_default_options(void) {
+    return "exitcode=9:symbolize=0";
+}
+
+/* The block, counted from 1 in the order of a case, that is wrong: too short, or not set; 0 where none is. */
+static int wrong, blocks;
+static int is_read[16];
+
+#if defined(__has_feature)
+#if __has_feature(memory_sanitizer)
+#define UNSET
+#endif
+#endif
+
+/* A block to be written. */
+static void *out(size_t size) {
+    blocks++;
+    is_read[blocks] = 0;
+#ifdef UNSET
+    return malloc(size);
+#else
+    return malloc(blocks == wrong ? size - 1 : size);
+#endif
+}
+
+/* A block to be read. */
+static void *in(const void *from, size_t size) {
+    unsigned char *block = out(size);
+    is_read[blocks] = 1;
+#ifdef UNSET
+    if (blocks != wrong) {
+        memcpy(block, from, size);
+    }
+#else
+    memcpy(block, from, blocks == wrong ? size - 1 : size);
+#endif
+    return block;
+}
+
+static void done(int32_t status) {
+    if (status != RTPW_OK) {
+        _exit(3);
+    }
+}
+
+/* The block was written: what isn't set is told. */
+static volatile int looked_at;
+static void set(const void *block, size_t size) {
+    const unsigned char *bytes = block;
+    for (size_t i = 0; i < size; i++) {
+        if (bytes[i] == 77) {
+            looked_at = 1;
+        }
+    }
+}
+
+/* One source, a block of the one-byte form with the element 3 of two bytes, and a payload of 3 bytes, with padding
+ * of 1. */
+static const uint8_t datagram[] = {0xb1, 111, 1,    2,    0, 0, 3,    4, 0, 0, 0, 44, 0, 0,
+                                   0,    9,   0xbe, 0xde, 0, 1, 0x31, 8, 9, 0, 7, 8,  1};
+#define LEN (sizeof datagram)
+#define BODY (datagram + 20)
+static const rtpw_map map = {{0, 0, 0, RTPW_KIND_AUDIO_LEVEL, RTPW_KIND_RID, RTPW_KIND_REPAIRED_RID}};
+static const uint8_t data_of_3[] = {3, 4};
+static const rtpw_element chosen[] = {{0, 2, 2, 3}};
+static const size_t length = LEN;
+
+#define PACKET in(datagram, LEN)
+#define MAP in(&map, sizeof map)
+#define DATA in(data_of_3, sizeof data_of_3)
+#define CHOSEN in(chosen, sizeof chosen)
+
+static uint8_t *buffer(void) { /* the packet, and 9 bytes behind it */
+    uint8_t *it = out(LEN + 9);
+    is_read[blocks] = 1;
+#ifdef UNSET
+    if (blocks == wrong) {
+        return it;
+    }
+#endif
+    memcpy(it, datagram, LEN);
+    return it;
+}
+
+static rtpw_header header(void) {
+    rtpw_header it;
+    memset(&it, 0, sizeof it);
+    it.has_extension = it.values.has_audio_level = it.values.has_voice_activity = it.values.has_mid = 1;
+    return it;
+}
+
+static rtpw_layers layers(void) {
+    rtpw_layers it;
+    memset(&it, 0, sizeof it);
+    it.count = it.streams[0].count = it.streams[0].layers[0].rates = 1;
+    return it;
+}
+
+static void is_rtcp(void) {
+    (void)rtpw_is_rtcp(PACKET, LEN);
+}
+static void packet_parse(void) {
+    const uint8_t *bytes = PACKET;
+    rtpw_packet *it = out(sizeof *it);
+    done(rtpw_packet_parse(bytes, LEN, it));
+    set(it, sizeof *it);
+}
+static void set_marker(void) {
+    done(rtpw_set_marker(PACKET, LEN, true));
+}
+static void set_payload_type(void) {
+    done(rtpw_set_payload_type(PACKET, LEN, 1));
+}
+static void set_sequence_number(void) {
+    done(rtpw_set_sequence_number(PACKET, LEN, 1));
+}
+static void set_timestamp(void) {
+    done(rtpw_set_timestamp(PACKET, LEN, 1));
+}
+static void set_ssrc(void) {
+    done(rtpw_set_ssrc(PACKET, LEN, 1));
+}
+static void set_padding(void) {
+    done(rtpw_set_padding(PACKET, LEN, true));
+}
+static void set_csrc(void) {
+    done(rtpw_set_csrc(PACKET, LEN, 0, 1));
+}
+static void set_new(void) { /* a packet of which only the first byte is set before */
+    uint8_t *it = out(12);
+    it[0] = 0x80;
+    done(rtpw_set_marker(it, 12, true));
+    done(rtpw_set_payload_type(it, 12, 1));
+    done(rtpw_set_sequence_number(it, 12, 1));
+    done(rtpw_set_timestamp(it, 12, 1));
+    done(rtpw_set_ssrc(it, 12, 1));
+    set(it, 12);
+}
+static void set_fields(void) {
+    rtpw_fields fields = {1, 2, 3, 4, 1, 1, 1, 1, 1, 1};
+    uint8_t *bytes = PACKET;
+    done(rtpw_set_fields(bytes, LEN, in(&fields, sizeof fields)));
+}
+static void set_element(void) {
+    uint8_t *bytes = PACKET;
+    done(rtpw_set_element(bytes, LEN, 3, DATA, 2));
+}
+static void remove_element(void) {
+    done(rtpw_remove_element(PACKET, LEN, 3));
+}
+static void remove_padding(void) {
+    uint8_t *bytes = PACKET;
+    size_t *len = out(sizeof *len);
+    done(rtpw_remove_padding(bytes, LEN, len));
+    set(len, sizeof *len);
+}
+static void put_element(void) {
+    uint8_t *bytes = buffer();
+    size_t *len = in(&length, sizeof length);
+    done(rtpw_put_element(bytes, LEN + 9, len, 30, DATA, 2, RTPW_ANY_FORM));
+    set(bytes, *len);
+}
+static void compact(void) {
+    uint8_t *bytes = buffer();
+    size_t *len = in(&length, sizeof length);
+    done(rtpw_compact(bytes, LEN + 9, len));
+    set(bytes, *len);
+}
+static void next_element(void) {
+    const uint8_t *body = in(BODY, 4);
+    rtpw_element *it = out(sizeof *it);
+    done(rtpw_next_element(body, 4, RTPW_ONE_BYTE_FORM, 0, it));
+    set(it, sizeof *it);
+}
+static void last_element(void) {
+    const uint8_t *body = in(BODY, 4);
+    rtpw_element *it = out(sizeof *it);
+    done(rtpw_last_element(body, 4, RTPW_ONE_BYTE_FORM, 3, it));
+    set(it, sizeof *it);
+}
+static void values_read(void) {
+    const uint8_t *body = in(BODY, 4);
+    const rtpw_map *kinds = MAP;
+    rtpw_values *it = out(sizeof *it);
+    done(rtpw_values_read(body, 4, RTPW_ONE_BYTE_FORM, kinds, it));
+    set(it, sizeof *it);
+}
+static void kind_of_uri(void) {
+    (void)rtpw_kind_of_uri(in("urn:x", 5), 5);
+}
+static void map_set(void) { /* each id in turn */
+    rtpw_map *it = out(sizeof *it);
+    for (int id = 1; id < 256; id++) {
+        done(rtpw_map_set(it, (uint8_t)id, RTPW_KIND_MID));
+    }
+    set(it->kind + 1, 255);
+}
+static void map_get(void) {
+    (void)rtpw_map_get(MAP, 3);
+}
+static void id_of(void) {
+    (void)rtpw_id_of(MAP, 3);
+}
+static void map_standard(void) {
+    rtpw_map *it = out(sizeof *it);
+    rtpw_map_standard(it);
+    set(it, sizeof *it);
+}
+static void data_of(void) {
+    rtpw_header it = header();
+    const rtpw_values *values = in(&it.values, sizeof it.values);
+    uint8_t *bytes = out(5);
+    size_t *len = out(sizeof *len);
+    done(rtpw_data_of(RTPW_KIND_AUDIO_LEVEL, values, bytes, 5, len));
+    set(bytes, *len);
+}
+static void parse(void) {
+    const uint8_t *bytes = PACKET;
+    const rtpw_map *kinds = MAP;
+    rtpw_header *it = out(sizeof *it);
+    done(rtpw_parse(bytes, LEN, kinds, it));
+    set(it, sizeof *it);
+}
+static void parse_layers(void) {
+    const uint8_t *bytes = PACKET;
+    const rtpw_map *kinds = MAP;
+    rtpw_header *it = out(sizeof *it);
+    rtpw_layers *lay = out(sizeof *lay);
+    done(rtpw_parse_layers(bytes, LEN, kinds, it, lay));
+    set(it, sizeof *it);
+    set(lay, sizeof *lay);
+}
+static void wire_len(void) {
+    rtpw_header it = header();
+    const rtpw_map *kinds = MAP;
+    const rtpw_header *head = in(&it, sizeof it);
+    size_t *len = out(sizeof *len);
+    done(rtpw_wire_len(kinds, head, len));
+    set(len, sizeof *len);
+}
+static void written(void) {
+    rtpw_header it = header();
+    const rtpw_map *kinds = MAP;
+    const rtpw_header *head = in(&it, sizeof it);
+    uint8_t *bytes = out(40);
+    size_t *len = out(sizeof *len);
+    done(rtpw_write(kinds, head, bytes, 40, len));
+    set(bytes, *len);
+}
+static void wire_len_layers(void) {
+    rtpw_header it = header();
+    rtpw_layers lay = layers();
+    const rtpw_map *kinds = MAP;
+    const rtpw_header *head = in(&it, sizeof it);
+    const rtpw_layers *streams = in(&lay, sizeof lay);
+    size_t *len = out(sizeof *len);
+    done(rtpw_wire_len_layers(kinds, head, streams, len));
+    set(len, sizeof *len);
+}
+static void write_layers(void) {
+    rtpw_header it = header();
+    rtpw_layers lay = layers();
+    const rtpw_map *kinds = MAP;
+    const rtpw_header *head = in(&it, sizeof it);
+    const rtpw_layers *streams = in(&lay, sizeof lay);
+    uint8_t *bytes = out(40);
+    size_t *len = out(sizeof *len);
+    done(rtpw_write_layers(kinds, head, streams, bytes, 40, len));
+    set(bytes, *len);
+}
+static void write_with(void) {
+    rtpw_header it = header();
+    const rtpw_header *head = in(&it, sizeof it);
+    const uint8_t *data = DATA;
+    const rtpw_element *elements = CHOSEN;
+    uint8_t *bytes = out(40);
+    size_t *len = out(sizeof *len);
+    done(rtpw_write_with(head, data, 2, elements, 1, bytes, 40, len));
+    set(bytes, *len);
+}
+static void write_with_form(void) {
+    rtpw_header it = header();
+    const rtpw_header *head = in(&it, sizeof it);
+    const uint8_t *data = DATA;
+    const rtpw_element *elements = CHOSEN;
+    uint8_t *bytes = out(40);
+    size_t *len = out(sizeof *len);
+    done(rtpw_write_with_form(head, data, 2, elements, 1, RTPW_TWO_BYTE_FORM, bytes, 40, len));
+    set(bytes, *len);
+}
+static void write_elements(void) {
+    const uint8_t *data = DATA;
+    const rtpw_element *elements = CHOSEN;
+    uint8_t *bytes = out(40);
+    size_t *len = out(sizeof *len);
+    done(rtpw_write_elements(data, 2, elements, 1, RTPW_TWO_BYTE_FORM, bytes, 40, len));
+    set(bytes, *len);
+}
+static void new_ids_between(void) {
+    const rtpw_map *from = MAP, *to = MAP;
+    rtpw_new_ids *ids = out(sizeof *ids);
+    rtpw_new_ids_between(from, to, ids);
+    set(ids, sizeof *ids);
+}
+static void new_ids_to_retransmission(void) {
+    const rtpw_map *kinds = MAP;
+    rtpw_new_ids *ids = out(sizeof *ids);
+    rtpw_new_ids_to_retransmission(kinds, ids);
+    set(ids, sizeof *ids);
+}
+static void new_ids_from_retransmission(void) {
+    const rtpw_map *kinds = MAP;
+    rtpw_new_ids *ids = out(sizeof *ids);
+    rtpw_new_ids_from_retransmission(kinds, ids);
+    set(ids, sizeof *ids);
+}
+static void renumber(void) {
+    uint8_t *bytes = PACKET;
+    done(rtpw_renumber(bytes, LEN, MAP)); /* new ids are as long */
+}
+static void pad(void) {
+    uint8_t *bytes = buffer();
+    size_t *count = out(sizeof *count);
+    done(rtpw_pad(bytes, LEN + 9, LEN, 9, 1, count));
+    set(bytes, LEN + *count);
+}
+static void read_original(void) {
+    const uint8_t *bytes = in("\1\2", 2);
+    uint16_t *number = out(sizeof *number);
+    done(rtpw_read_original(bytes, 2, number));
+    set(number, sizeof *number);
+}
+static void write_original(void) {
+    uint8_t *bytes = out(2);
+    done(rtpw_write_original(bytes, 2, 1));
+    set(bytes, 2);
+}
+static void to_retransmission(void) {
+    uint8_t *bytes = buffer();
+    size_t *len = in(&length, sizeof length);
+    done(rtpw_to_retransmission(bytes, LEN + 9, len, 1, 2, 3, MAP));
+    set(bytes, *len);
+}
+static void from_retransmission(void) {
+    uint8_t *bytes = buffer();
+    size_t *len = in(&length, sizeof length);
+    done(rtpw_from_retransmission(bytes, LEN + 9, len, 1, 2, MAP));
+    set(bytes, *len);
+}
+static const rtpw_receiver receiver = {65541, 1, 0, 1};
+static const rtpw_wide_receiver wide = {65541, 1};
+static const uint64_t words[2] = {32, 0};
+static const rtpw_restarting_receiver restarting = {65541, {32, 0}, 0, 0, 0, 0, 1};
+#define RECEIVER in(&receiver, sizeof receiver)
+#define WIDE in(&wide, sizeof wide)
+#define WORDS in(words, sizeof words)
+static void receiver_start(void) {
+    rtpw_receiver *it = out(sizeof *it);
+    done(rtpw_receiver_start(it, 1));
+    set(it, sizeof *it);
+}
+static void receiver_number_of(void) {
+    (void)rtpw_receiver_number_of(RECEIVER, 6);
+}
+static void receiver_accepts(void) {
+    (void)rtpw_receiver_accepts(RECEIVER, 65542);
+}
+static void receiver_record(void) {
+    rtpw_receiver_record(RECEIVER, 65542);
+}
+static void receiver_receive(void) {
+    rtpw_receiver *it = RECEIVER;
+    uint64_t *number = out(sizeof *number);
+    done(rtpw_receiver_receive(it, 6, number));
+    set(number, sizeof *number);
+}
+static void receiver_first(void) { /* what is taken isn't looked at before the first packet, nor what fills it up */
+    rtpw_receiver *it = out(sizeof *it);
+    uint64_t number;
+    it->highest = 65536;
+    it->started = 0;
+    done(rtpw_receiver_receive(it, 6, &number));
+    set(it, sizeof *it);
+}
+static void wide_receiver_start(void) {
+    rtpw_wide_receiver *it = out(sizeof *it);
+    done(rtpw_wide_receiver_start(it, 1));
+    set(it, sizeof *it);
+}
+static void wide_receiver_number_of(void) {
+    (void)rtpw_wide_receiver_number_of(WIDE, 6);
+}
+static void wide_receiver_accepts(void) {
+    const rtpw_wide_receiver *it = WIDE;
+    (void)rtpw_wide_receiver_accepts(it, WORDS, 2, 65542);
+}
+static void wide_receiver_record(void) {
+    rtpw_wide_receiver *it = WIDE;
+    done(rtpw_wide_receiver_record(it, WORDS, 2, 65542));
+}
+static void wide_receiver_receive(void) {
+    rtpw_wide_receiver *it = WIDE;
+    uint64_t *window = WORDS;
+    uint64_t *number = out(sizeof *number);
+    done(rtpw_wide_receiver_receive(it, window, 2, 6, number));
+    set(number, sizeof *number);
+}
+static void wide_receiver_first(void) { /* nor the words */
+    rtpw_wide_receiver *it = out(sizeof *it);
+    uint64_t *window = out(2 * sizeof *window), number;
+    done(rtpw_wide_receiver_start(it, 1));
+    done(rtpw_wide_receiver_receive(it, window, 2, 6, &number));
+    set(window, 2 * sizeof *window);
+}
+static void restarting_receive(void) {
+    rtpw_restarting_receiver *it = in(&restarting, sizeof restarting);
+    uint64_t *number = out(sizeof *number);
+    done(rtpw_restarting_receive(it, 6, number));
+    set(number, sizeof *number);
+}
+static void no_bytes(void) { /* NULL, where the size is 0 */
+    size_t len = 0;
+    rtpw_packet packet;
+    rtpw_element element;
+    rtpw_values values;
+    uint16_t original;
+    rtpw_header it = header();
+    uint8_t bytes[40];
+    if (rtpw_is_rtcp(NULL, 0) || rtpw_packet_parse(NULL, 0, &packet) != RTPW_CUT_FIXED_PART ||
+        rtpw_next_element(NULL, 0, RTPW_ONE_BYTE_FORM, 0, &element) != RTPW_NONE ||
+        rtpw_put_element(NULL, 0, &len, 1, NULL, 0, RTPW_ANY_FORM) != RTPW_CUT_FIXED_PART ||
+        rtpw_from_retransmission(NULL, 0, &len, 1, 1, (const rtpw_new_ids *)(const void *)&map) !=
+            RTPW_CUT_FIXED_PART ||
+        rtpw_read_original(NULL, 0, &original) != RTPW_SHORT_BUFFER || rtpw_kind_of_uri(NULL, 0) != RTPW_KIND_NONE) {
+        _exit(3);
+    }
+    done(rtpw_values_read(NULL, 0, RTPW_ONE_BYTE_FORM, &map, &values));
+    done(rtpw_pad(NULL, 0, 0, 0, 1, &len));
+    done(rtpw_write_with(&it, NULL, 0, NULL, 0, bytes, sizeof bytes, &len));
+}
+
+static const struct {
+    const char *name;
+    void (*call)(void);
+} cases[] = {
+#define CASE(name) \
+    { #name, name }
+    CASE(is_rtcp),
+    CASE(packet_parse),
+    CASE(set_marker),
+    CASE(set_payload_type),
+    CASE(set_sequence_number),
+    CASE(set_timestamp),
+    CASE(set_ssrc),
+    CASE(set_padding),
+    CASE(set_csrc),
+    CASE(set_new),
+    CASE(set_fields),
+    CASE(set_element),
+    CASE(remove_element),
+    CASE(remove_padding),
+    CASE(put_element),
+    CASE(compact),
+    CASE(next_element),
+    CASE(last_element),
+    CASE(values_read),
+    CASE(kind_of_uri),
+    CASE(map_set),
+    CASE(map_get),
+    CASE(id_of),
+    CASE(map_standard),
+    CASE(data_of),
+    CASE(parse),
+    CASE(parse_layers),
+    CASE(wire_len),
+    CASE(written),
+    CASE(wire_len_layers),
+    CASE(write_layers),
+    CASE(write_with),
+    CASE(write_with_form),
+    CASE(write_elements),
+    CASE(new_ids_between),
+    CASE(new_ids_to_retransmission),
+    CASE(new_ids_from_retransmission),
+    CASE(renumber),
+    CASE(pad),
+    CASE(read_original),
+    CASE(write_original),
+    CASE(to_retransmission),
+    CASE(from_retransmission),
+    CASE(receiver_start),
+    CASE(receiver_number_of),
+    CASE(receiver_accepts),
+    CASE(receiver_record),
+    CASE(receiver_receive),
+    CASE(receiver_first),
+    CASE(wide_receiver_start),
+    CASE(wide_receiver_number_of),
+    CASE(wide_receiver_accepts),
+    CASE(wide_receiver_record),
+    CASE(wide_receiver_receive),
+    CASE(wide_receiver_first),
+    CASE(restarting_receive),
+    CASE(no_bytes)};
+
+/* The status with which a case ends where this block is wrong. */
+static int ends(size_t i, int block, int shows) {
+    int status = 0;
+    pid_t child = fork();
+    if (child == 0) {
+        if (!shows) {
+            (void)!freopen("/dev/null", "w", stderr);
+        }
+        wrong = block;
+        blocks = 0;
+        cases[i].call();
+        _exit(0);
+    }
+    return waitpid(child, &status, 0) == child && WIFEXITED(status) ? WEXITSTATUS(status) : -1;
+}
+
+int main(void) {
+    int tried = 0;
+    for (size_t i = 0; i < sizeof cases / sizeof *cases; i++) {
+        int count;
+        blocks = wrong = 0;
+        cases[i].call(); /* says how many blocks it has; where it is given what it is owed, nothing is reported */
+        count = blocks;
+        for (int block = 1; block <= count; block++) {
+#ifdef UNSET
+            if (!is_read[block]) {
+                continue;
+            }
+#endif
+            if (ends(i, block, 0) != REPORTED) {
+                printf("%s: nothing is told of its block %d\n", cases[i].name, block);
+                return 1;
+            }
+            tried++;
+        }
+    }
+    printf("%d blocks\n", tried);
+    return 0;
+}
