@@ -37,6 +37,9 @@ static void *out(size_t size) {
 #ifdef UNSET
     return malloc(size);
 #else
+    if (blocks == wrong && size == 1) {
+        return (char *)malloc(1) + 1; /* malloc(0) would have a byte */
+    }
     return malloc(blocks == wrong ? size - 1 : size);
 #endif
 }
@@ -341,17 +344,17 @@ static void write_frame_marking(void) {
     set(bytes, *len);
 }
 static void read_orientation(void) {
-    const uint8_t *data = in("\0\16", 2); /* malloc(0) has a byte */
+    const uint8_t *data = in("\16", 1);
     rtpw_orientation *it = out(sizeof *it);
-    done(rtpw_read_orientation(data + 1, 1, it));
+    done(rtpw_read_orientation(data, 1, it));
     set(it, sizeof *it);
 }
 static void write_orientation(void) {
     static const rtpw_orientation that = {180, RTPW_CAMERA_BACK, 1};
     const rtpw_orientation *it = in(&that, sizeof that);
-    uint8_t *bytes = out(2);
+    uint8_t *bytes = out(1);
     size_t *len = out(sizeof *len);
-    done(rtpw_write_orientation(it, bytes, 2, len));
+    done(rtpw_write_orientation(it, bytes, 1, len));
     set(bytes, *len);
 }
 static void is_token(void) {
