@@ -2,8 +2,8 @@
  * rtp_lines for Linux on aarch64: the assembly text that Rattle's compiler makes of the program, each function of which is proved.
  * Made anew by: generated/make
  * kit: rattle-kit-13f logic dac8208d650f15bf
- * sources: 279f60d31a7e9dfde3a44eb3bd2165675c5f42384ac5136956e6405e2ddfeb34
- * text: 589e63c79d2673d21f44644e0785cb4b95623dcbeca15d467084f7b02d2a5c72
+ * sources: 52d2e90404ce95e9d7ef884d03cc0a81dd89b2eed24bc7abdbf093e7692e13f4
+ * text: cb790fd5880742620d6ece50c887afad6a7b436e08bbb9d11e9f3cdd45354936
  * SPDX-License-Identifier: MIT OR Apache-2.0
  * Copyright (c) 2026 The rtp-wire developers (NOTICE)
  */

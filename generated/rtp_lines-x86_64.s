@@ -2,8 +2,8 @@
  * rtp_lines for Linux on x86_64: the assembly text that Rattle's compiler makes of the program, each function of which is proved.
  * Made anew by: generated/make
  * kit: rattle-kit-13f logic dac8208d650f15bf
- * sources: 279f60d31a7e9dfde3a44eb3bd2165675c5f42384ac5136956e6405e2ddfeb34
- * text: 7157f5689fe6edc68af8257084ffe49bcce78f4dd28e2f2e2894736da8189ce1
+ * sources: 52d2e90404ce95e9d7ef884d03cc0a81dd89b2eed24bc7abdbf093e7692e13f4
+ * text: cb24047fa5727140fa4224c351daa5c21402b84e936522ff833b52760bcfdbdc
  * SPDX-License-Identifier: MIT OR Apache-2.0
  * Copyright (c) 2026 The rtp-wire developers (NOTICE)
  */

@@ -121,3 +121,7 @@ __all__ = [
     "write_elements",
     "write_original",
 ]
+
+_version: int = _library.version()
+__version__ = f"{_version >> 16}.{_version >> 8 & 0xFF}.{_version & 0xFF}"
+"""The version of the library."""
