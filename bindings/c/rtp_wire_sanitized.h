@@ -29,6 +29,12 @@
 #include <sanitizer/msan_interface.h>
 #endif
 
+/* In C++ too these are the casts of C. */
+#ifdef __clang__
+#pragma clang diagnostic push
+#pragma clang diagnostic ignored "-Wold-style-cast"
+#endif
+
 /* ---- Memory ---- */
 
 /* These bytes are the caller's to give, whatever they hold: they need not be set, and so aren't const, which gcc takes
@@ -760,5 +766,9 @@ RTPW_SANITIZED_VOID(receive_many, (rtpw_receiver *receivers, size_t receiver_cou
 #undef RTPW_SANITIZER_FIELD
 #undef RTPW_SANITIZER_ADDRESS
 #undef RTPW_SANITIZER_MEMORY
+
+#ifdef __clang__
+#pragma clang diagnostic pop
+#endif
 
 #endif
