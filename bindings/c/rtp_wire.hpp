@@ -2,9 +2,9 @@
  * rtp_wire.hpp: the calls of rtp_wire.h in C++17, and nothing more to link.
  *
  * Each has the name that it has in C behind rtpw_, does what is said there, and is called with what C++ has for it:
- * bytes are a pointer and a length (in C++20 std::span), and so is a buffer; a text is a std::string_view; and what a
- * call writes is what it returns, beside its status. A result or a status that isn't looked at is a warning. The
- * structs are those of rtp_wire.h. Nothing here throws, keeps a pointer or takes memory.
+ * bytes are a pointer and a length (in C++20 std::span), and so are a buffer and several structs; a text is a
+ * std::string_view; and what a call writes is what it returns, beside its status. A result or a status that isn't
+ * looked at is a warning. The structs are those of rtp_wire.h. Nothing here throws, keeps a pointer or takes memory.
  *
  *     const auto packet = rtpw::packet_parse({datagram, len});
  *     if (!packet) {
@@ -35,18 +35,17 @@ namespace rtpw {
 /* ---- Bytes, statuses and results ---- */
 
 #if __cplusplus >= 202002L
-using bytes = std::span<const std::uint8_t>;
-using buffer = std::span<std::uint8_t>;
+template <class Value> using span = std::span<Value>;
 #else
-/* A pointer to bytes, and how many there are: from both, or from what has data() and size(), as std::vector. */
-template <class Byte> class basic_bytes {
+/* A pointer to values, and how many there are: from both, or from what has data() and size(), as std::vector. */
+template <class Value> class span {
   public:
-    constexpr basic_bytes() noexcept = default;
-    constexpr basic_bytes(Byte *data, std::size_t size) noexcept : data_(data), size_(size) {}
-    template <std::size_t count> constexpr basic_bytes(Byte (&array)[count]) noexcept : data_(array), size_(count) {}
-    template <class Bytes, class = decltype(static_cast<Byte *>(std::declval<Bytes &>().data()))>
-    constexpr basic_bytes(Bytes &&it) noexcept : data_(it.data()), size_(it.size()) {}
-    constexpr Byte *data() const noexcept {
+    constexpr span() noexcept = default;
+    constexpr span(Value *data, std::size_t size) noexcept : data_(data), size_(size) {}
+    template <std::size_t count> constexpr span(Value (&array)[count]) noexcept : data_(array), size_(count) {}
+    template <class Values, class = decltype(static_cast<Value *>(std::declval<Values &>().data()))>
+    constexpr span(Values &&it) noexcept : data_(it.data()), size_(it.size()) {}
+    constexpr Value *data() const noexcept {
         return data_;
     }
     constexpr std::size_t size() const noexcept {
@@ -55,26 +54,26 @@ template <class Byte> class basic_bytes {
     constexpr bool empty() const noexcept {
         return size_ == 0;
     }
-    constexpr Byte *begin() const noexcept {
+    constexpr Value *begin() const noexcept {
         return data_;
     }
-    constexpr Byte *end() const noexcept {
+    constexpr Value *end() const noexcept {
         return size_ == 0 ? data_ : data_ + size_;
     }
-    constexpr Byte &operator[](std::size_t at) const noexcept {
+    constexpr Value &operator[](std::size_t at) const noexcept {
         return data_[at];
     }
-    constexpr basic_bytes subspan(std::size_t at, std::size_t count) const noexcept {
+    constexpr span subspan(std::size_t at, std::size_t count) const noexcept {
         return {at == 0 ? data_ : data_ + at, count};
     }
 
   private:
-    Byte *data_ = nullptr;
+    Value *data_ = nullptr;
     std::size_t size_ = 0;
 };
-using bytes = basic_bytes<const std::uint8_t>;
-using buffer = basic_bytes<std::uint8_t>;
 #endif
+using bytes = span<const std::uint8_t>;
+using buffer = span<std::uint8_t>;
 
 /* A status of rtp_wire.h. */
 enum class [[nodiscard]] status : std::int32_t{ok = RTPW_OK,
@@ -367,6 +366,100 @@ inline result<std::size_t> write_elements(bytes data, const rtpw_element *elemen
     });
 }
 
+/* ---- Values as the standards lay them out ---- */
+
+/* The data of one element are read, or written to the front of a buffer: then what is returned is how many bytes they
+ * are. */
+inline result<std::int32_t> read_transmission_offset(bytes data) noexcept {
+    return result<std::int32_t>(
+        [&](std::int32_t *it) { return ::rtpw_read_transmission_offset(data.data(), data.size(), it); });
+}
+inline result<std::size_t> write_transmission_offset(std::int32_t offset, buffer buf) noexcept {
+    return result<std::size_t>(
+        [&](std::size_t *it) { return ::rtpw_write_transmission_offset(offset, buf.data(), buf.size(), it); });
+}
+inline result<rtpw_frame_marking> read_frame_marking(bytes data) noexcept {
+    return result<rtpw_frame_marking>(
+        [&](rtpw_frame_marking *it) { return ::rtpw_read_frame_marking(data.data(), data.size(), it); });
+}
+inline result<std::size_t> write_frame_marking(const rtpw_frame_marking &marking, buffer buf) noexcept {
+    return result<std::size_t>(
+        [&](std::size_t *it) { return ::rtpw_write_frame_marking(&marking, buf.data(), buf.size(), it); });
+}
+inline result<rtpw_orientation> read_orientation(bytes data) noexcept {
+    return result<rtpw_orientation>(
+        [&](rtpw_orientation *it) { return ::rtpw_read_orientation(data.data(), data.size(), it); });
+}
+inline result<std::size_t> write_orientation(const rtpw_orientation &orientation, buffer buf) noexcept {
+    return result<std::size_t>(
+        [&](std::size_t *it) { return ::rtpw_write_orientation(&orientation, buf.data(), buf.size(), it); });
+}
+inline bool is_token(bytes data) noexcept {
+    return ::rtpw_is_token(data.data(), data.size());
+}
+inline result<rtpw_timing> read_timing(bytes data) noexcept {
+    return result<rtpw_timing>([&](rtpw_timing *it) { return ::rtpw_read_timing(data.data(), data.size(), it); });
+}
+inline result<std::size_t> write_timing(const rtpw_timing &timing, buffer buf) noexcept {
+    return result<std::size_t>(
+        [&](std::size_t *it) { return ::rtpw_write_timing(&timing, buf.data(), buf.size(), it); });
+}
+inline result<rtpw_transport_number> read_transport_number(bytes data) noexcept {
+    return result<rtpw_transport_number>(
+        [&](rtpw_transport_number *it) { return ::rtpw_read_transport_number(data.data(), data.size(), it); });
+}
+inline result<std::size_t> write_transport_number(const rtpw_transport_number &number, buffer buf) noexcept {
+    return result<std::size_t>(
+        [&](std::size_t *it) { return ::rtpw_write_transport_number(&number, buf.data(), buf.size(), it); });
+}
+inline result<std::int8_t> read_mixer_level(bytes data, std::size_t csrc_count, std::size_t index) noexcept {
+    return result<std::int8_t>(
+        [&](std::int8_t *it) { return ::rtpw_read_mixer_level(data.data(), data.size(), csrc_count, index, it); });
+}
+inline result<std::size_t> write_mixer_levels(span<const std::int8_t> levels, buffer buf) noexcept {
+    return result<std::size_t>([&](std::size_t *it) {
+        return ::rtpw_write_mixer_levels(levels.data(), levels.size(), buf.data(), buf.size(), it);
+    });
+}
+inline result<std::uint64_t> read_ntp_64(bytes data) noexcept {
+    return result<std::uint64_t>([&](std::uint64_t *it) { return ::rtpw_read_ntp_64(data.data(), data.size(), it); });
+}
+inline result<std::size_t> write_ntp_64(std::uint64_t time, buffer buf) noexcept {
+    return result<std::size_t>(
+        [&](std::size_t *it) { return ::rtpw_write_ntp_64(time, buf.data(), buf.size(), it); });
+}
+inline result<std::uint64_t> read_ntp_56(bytes data) noexcept {
+    return result<std::uint64_t>([&](std::uint64_t *it) { return ::rtpw_read_ntp_56(data.data(), data.size(), it); });
+}
+inline result<std::size_t> write_ntp_56(std::uint64_t time, buffer buf) noexcept {
+    return result<std::size_t>(
+        [&](std::size_t *it) { return ::rtpw_write_ntp_56(time, buf.data(), buf.size(), it); });
+}
+inline std::uint64_t extend_ntp_56(std::uint64_t near, std::uint64_t low) noexcept {
+    return ::rtpw_extend_ntp_56(near, low);
+}
+inline result<rtpw_color_space> read_color_space(bytes data) noexcept {
+    return result<rtpw_color_space>(
+        [&](rtpw_color_space *it) { return ::rtpw_read_color_space(data.data(), data.size(), it); });
+}
+inline result<std::size_t> write_color_space(const rtpw_color_space &space, buffer buf) noexcept {
+    return result<std::size_t>(
+        [&](std::size_t *it) { return ::rtpw_write_color_space(&space, buf.data(), buf.size(), it); });
+}
+inline result<rtpw_dependency_descriptor> read_dependency_descriptor(bytes data) noexcept {
+    return result<rtpw_dependency_descriptor>([&](rtpw_dependency_descriptor *it) {
+        return ::rtpw_read_dependency_descriptor(data.data(), data.size(), it);
+    });
+}
+inline result<std::size_t> write_dependency_descriptor(const rtpw_dependency_descriptor &descriptor,
+                                                       buffer buf) noexcept {
+    return result<std::size_t>(
+        [&](std::size_t *it) { return ::rtpw_write_dependency_descriptor(&descriptor, buf.data(), buf.size(), it); });
+}
+inline bool has_structure(bytes data) noexcept {
+    return ::rtpw_has_structure(data.data(), data.size());
+}
+
 /* ---- From one map to another, padding and retransmissions ---- */
 
 inline rtpw_new_ids new_ids_between(const rtpw_map &from, const rtpw_map &to) noexcept {
@@ -474,6 +567,19 @@ inline std::uint64_t extend_u16(std::uint64_t previous, std::uint16_t number) no
 }
 inline std::uint64_t extend_u32(std::uint64_t previous, std::uint32_t number) noexcept {
     return ::rtpw_extend_u32(previous, number);
+}
+
+/* ---- Many at once ---- */
+
+/* What is told of each stands in the struct, its status too: rtpw::status(it.status). */
+inline void packet_parse_many(bytes buf, span<rtpw_datagram> datagrams) noexcept {
+    ::rtpw_packet_parse_many(buf.data(), buf.size(), datagrams.data(), datagrams.size());
+}
+inline void parse_many(bytes buf, const rtpw_map &map, span<rtpw_datagram_header> datagrams) noexcept {
+    ::rtpw_parse_many(buf.data(), buf.size(), &map, datagrams.data(), datagrams.size());
+}
+inline void receive_many(span<rtpw_receiver> receivers, span<rtpw_arrival> arrivals) noexcept {
+    ::rtpw_receive_many(receivers.data(), receivers.size(), arrivals.data(), arrivals.size());
 }
 
 } // namespace rtpw

@@ -29,6 +29,12 @@
 #include <sanitizer/msan_interface.h>
 #endif
 
+/* In C++ too these are the casts of C. */
+#ifdef __clang__
+#pragma clang diagnostic push
+#pragma clang diagnostic ignored "-Wold-style-cast"
+#endif
+
 /* ---- Memory ---- */
 
 /* These bytes are the caller's to give, whatever they hold: they need not be set, and so aren't const, which gcc takes
@@ -292,6 +298,131 @@ static inline void rtpw_sanitizer_original(const uint8_t *buf, size_t size, size
     }
 }
 
+/* ---- Values as the standards lay them out ---- */
+
+/* The data of an element: they are read where they have from `least` to `most` bytes. */
+static inline void rtpw_sanitizer_data(const uint8_t *data, size_t data_len, size_t least, size_t most) {
+    rtpw_sanitizer_room((void *)data, data_len);
+    if (least <= data_len && data_len <= most) { rtpw_sanitizer_reads(data, data_len); }
+}
+
+static inline void rtpw_sanitizer_frame_marking(const rtpw_frame_marking *marking) {
+    rtpw_sanitizer_room((void *)marking, sizeof *marking);
+    rtpw_sanitizer_reads(&marking->start, 5); /* and end, independent, discardable, has_layers */
+    if (marking->has_layers) {
+        rtpw_sanitizer_reads(&marking->base_layer_sync, 4); /* and temporal_id, layer_id, has_tl0_pic_idx */
+        if (marking->has_tl0_pic_idx) { RTPW_SANITIZER_FIELD(marking->tl0_pic_idx); }
+    }
+}
+
+static inline void rtpw_sanitizer_timing(const rtpw_timing *timing) {
+    rtpw_sanitizer_room((void *)timing, sizeof *timing);
+    rtpw_sanitizer_reads(&timing->encode_start, 12); /* and the five others */
+    RTPW_SANITIZER_FIELD(timing->has_flags);
+    if (timing->has_flags) { RTPW_SANITIZER_FIELD(timing->flags); }
+}
+
+static inline void rtpw_sanitizer_transport_number(const rtpw_transport_number *number) {
+    rtpw_sanitizer_room((void *)number, sizeof *number);
+    RTPW_SANITIZER_FIELD(number->number);
+    RTPW_SANITIZER_FIELD(number->has_request);
+    if (number->has_request) {
+        RTPW_SANITIZER_FIELD(number->packets);
+        RTPW_SANITIZER_FIELD(number->timestamps);
+    }
+}
+
+static inline void rtpw_sanitizer_color_space(const rtpw_color_space *space) {
+    rtpw_sanitizer_room((void *)space, sizeof *space);
+    rtpw_sanitizer_reads(&space->primaries, 7); /* and transfer, matrix, range, horizontal, vertical, has_hdr */
+    if (space->has_hdr) { RTPW_SANITIZER_FIELD(space->hdr); }
+}
+
+static inline void rtpw_sanitizer_dependency_descriptor(const rtpw_dependency_descriptor *descriptor) {
+    rtpw_sanitizer_room((void *)descriptor, sizeof *descriptor);
+    rtpw_sanitizer_reads(&descriptor->frame_number, 5); /* and start_of_frame, end_of_frame, template_id */
+}
+
+/* ---- Many at once ---- */
+
+/* Of a datagram its place and length are read, and the two bytes by which RTCP is told. Returns where more is read:
+ * NULL where it isn't within the buffer, or has no two bytes. */
+static inline const uint8_t *rtpw_sanitizer_datagram(const uint8_t *buf, size_t size, const size_t *at,
+                                                     const size_t *len) {
+    rtpw_sanitizer_reads(at, sizeof *at);
+    rtpw_sanitizer_reads(len, sizeof *len);
+    if (*at > size || *len > size - *at || *len < 2) {
+        return NULL;
+    }
+    rtpw_sanitizer_reads(buf + *at, 2);
+    return buf + *at;
+}
+
+static inline void rtpw_sanitizer_datagrams(const uint8_t *buf, size_t size, const rtpw_datagram *datagrams,
+                                            size_t count) {
+    size_t i;
+    rtpw_sanitizer_room((void *)buf, size);
+    rtpw_sanitizer_room((void *)datagrams, count * sizeof *datagrams);
+    for (i = 0; i < count; i++) {
+        const uint8_t *datagram = rtpw_sanitizer_datagram(buf, size, &datagrams[i].at, &datagrams[i].len);
+        if (datagram != NULL) { rtpw_sanitizer_packet(datagram, datagrams[i].len); }
+    }
+}
+
+static inline void rtpw_sanitizer_wrote_datagrams(const rtpw_datagram *datagrams, size_t count) {
+    size_t i;
+    for (i = 0; i < count; i++) {
+        rtpw_sanitizer_wrote(&datagrams[i].status, 5); /* and is_rtcp */
+        if (datagrams[i].status == RTPW_OK) { rtpw_sanitizer_wrote(&datagrams[i].packet, sizeof(rtpw_packet)); }
+    }
+}
+
+static inline void rtpw_sanitizer_datagram_headers(const uint8_t *buf, size_t size, const rtpw_map *map,
+                                                   const rtpw_datagram_header *datagrams, size_t count) {
+    size_t i;
+    rtpw_sanitizer_room((void *)buf, size);
+    rtpw_sanitizer_room((void *)map, sizeof *map);
+    rtpw_sanitizer_room((void *)datagrams, count * sizeof *datagrams);
+    if (count != 0) { rtpw_sanitizer_ids(map->kind); }
+    for (i = 0; i < count; i++) {
+        const uint8_t *datagram = rtpw_sanitizer_datagram(buf, size, &datagrams[i].at, &datagrams[i].len);
+        if (datagram != NULL) { rtpw_sanitizer_header(datagram, datagrams[i].len); }
+    }
+}
+
+static inline void rtpw_sanitizer_wrote_datagram_headers(const rtpw_datagram_header *datagrams, size_t count) {
+    size_t i;
+    for (i = 0; i < count; i++) {
+        rtpw_sanitizer_wrote(&datagrams[i].status, 5); /* and is_rtcp */
+        if (datagrams[i].status == RTPW_OK) { rtpw_sanitizer_wrote(&datagrams[i].header, sizeof(rtpw_header)); }
+    }
+}
+
+/* Of each arrival its receiver and its number are read, and the receiver where there is one. */
+static inline void rtpw_sanitizer_arrivals(const rtpw_receiver *receivers, size_t receiver_count,
+                                           const rtpw_arrival *arrivals, size_t count) {
+    size_t i;
+    rtpw_sanitizer_room((void *)receivers, receiver_count * sizeof *receivers);
+    rtpw_sanitizer_room((void *)arrivals, count * sizeof *arrivals);
+    for (i = 0; i < count; i++) {
+        RTPW_SANITIZER_FIELD(arrivals[i].receiver);
+        RTPW_SANITIZER_FIELD(arrivals[i].sequence_number);
+        if (arrivals[i].receiver < receiver_count) { rtpw_sanitizer_receiver(&receivers[arrivals[i].receiver]); }
+    }
+}
+
+static inline void rtpw_sanitizer_wrote_arrivals(const rtpw_receiver *receivers, const rtpw_arrival *arrivals,
+                                                 size_t count) {
+    size_t i;
+    for (i = 0; i < count; i++) {
+        rtpw_sanitizer_wrote(&arrivals[i].status, sizeof arrivals[i].status);
+        if (arrivals[i].status == RTPW_OK) {
+            rtpw_sanitizer_wrote(&arrivals[i].number, sizeof arrivals[i].number);
+            rtpw_sanitizer_wrote(&receivers[arrivals[i].receiver], sizeof *receivers);
+        }
+    }
+}
+
 /* ---- The calls ---- */
 
 #define RTPW_SANITIZED_AS(type, name, parameters, arguments, tests, wrote) \
@@ -442,6 +573,96 @@ RTPW_SANITIZED(write_elements, (const uint8_t *data, size_t data_len, const rtpw
     rtpw_sanitizer_elements(data, data_len, elements, count); rtpw_sanitizer_room((void *)buf, size); RTPW_ROOM(len),
     RTPW_WROTE(len) RTPW_WROTE_BYTES(buf, *len))
 #define rtpw_write_elements rtpw_sanitized_write_elements
+RTPW_SANITIZED(read_transmission_offset, (const uint8_t *data, size_t data_len, int32_t *offset),
+    (data, data_len, offset), rtpw_sanitizer_data(data, data_len, 3, 3); RTPW_ROOM(offset), RTPW_WROTE(offset))
+#define rtpw_read_transmission_offset rtpw_sanitized_read_transmission_offset
+RTPW_SANITIZED(write_transmission_offset, (int32_t offset, uint8_t *buf, size_t size, size_t *len),
+    (offset, buf, size, len), rtpw_sanitizer_room((void *)buf, size); RTPW_ROOM(len),
+    RTPW_WROTE(len) RTPW_WROTE_BYTES(buf, *len))
+#define rtpw_write_transmission_offset rtpw_sanitized_write_transmission_offset
+RTPW_SANITIZED(read_frame_marking, (const uint8_t *data, size_t data_len, rtpw_frame_marking *marking),
+    (data, data_len, marking), rtpw_sanitizer_data(data, data_len, 1, 3); RTPW_ROOM(marking), RTPW_WROTE(marking))
+#define rtpw_read_frame_marking rtpw_sanitized_read_frame_marking
+RTPW_SANITIZED(write_frame_marking, (const rtpw_frame_marking *marking, uint8_t *buf, size_t size, size_t *len),
+    (marking, buf, size, len),
+    rtpw_sanitizer_frame_marking(marking); rtpw_sanitizer_room((void *)buf, size); RTPW_ROOM(len),
+    RTPW_WROTE(len) RTPW_WROTE_BYTES(buf, *len))
+#define rtpw_write_frame_marking rtpw_sanitized_write_frame_marking
+RTPW_SANITIZED(read_orientation, (const uint8_t *data, size_t data_len, rtpw_orientation *orientation),
+    (data, data_len, orientation), rtpw_sanitizer_data(data, data_len, 1, 1); RTPW_ROOM(orientation),
+    RTPW_WROTE(orientation))
+#define rtpw_read_orientation rtpw_sanitized_read_orientation
+RTPW_SANITIZED(write_orientation, (const rtpw_orientation *orientation, uint8_t *buf, size_t size, size_t *len),
+    (orientation, buf, size, len),
+    rtpw_sanitizer_reads(orientation, sizeof *orientation); rtpw_sanitizer_room((void *)buf, size); RTPW_ROOM(len),
+    RTPW_WROTE(len) RTPW_WROTE_BYTES(buf, *len))
+#define rtpw_write_orientation rtpw_sanitized_write_orientation
+RTPW_SANITIZED_AS(bool, is_token, (const uint8_t *data, size_t data_len), (data, data_len),
+    rtpw_sanitizer_data(data, data_len, 1, 255), (void)0)
+#define rtpw_is_token rtpw_sanitized_is_token
+RTPW_SANITIZED(read_timing, (const uint8_t *data, size_t data_len, rtpw_timing *timing),
+    (data, data_len, timing), rtpw_sanitizer_data(data, data_len, 12, 13); RTPW_ROOM(timing), RTPW_WROTE(timing))
+#define rtpw_read_timing rtpw_sanitized_read_timing
+RTPW_SANITIZED(write_timing, (const rtpw_timing *timing, uint8_t *buf, size_t size, size_t *len),
+    (timing, buf, size, len), rtpw_sanitizer_timing(timing); rtpw_sanitizer_room((void *)buf, size); RTPW_ROOM(len),
+    RTPW_WROTE(len) RTPW_WROTE_BYTES(buf, *len))
+#define rtpw_write_timing rtpw_sanitized_write_timing
+RTPW_SANITIZED(read_transport_number, (const uint8_t *data, size_t data_len, rtpw_transport_number *number),
+    (data, data_len, number),
+    rtpw_sanitizer_data(data, data_len, 2, 2); rtpw_sanitizer_data(data, data_len, 4, 4); RTPW_ROOM(number),
+    RTPW_WROTE(number))
+#define rtpw_read_transport_number rtpw_sanitized_read_transport_number
+RTPW_SANITIZED(write_transport_number, (const rtpw_transport_number *number, uint8_t *buf, size_t size, size_t *len),
+    (number, buf, size, len),
+    rtpw_sanitizer_transport_number(number); rtpw_sanitizer_room((void *)buf, size); RTPW_ROOM(len),
+    RTPW_WROTE(len) RTPW_WROTE_BYTES(buf, *len))
+#define rtpw_write_transport_number rtpw_sanitized_write_transport_number
+RTPW_SANITIZED(read_mixer_level, (const uint8_t *data, size_t data_len, size_t csrc_count, size_t index,
+    int8_t *level), (data, data_len, csrc_count, index, level), rtpw_sanitizer_room((void *)data, data_len);
+    if (index < csrc_count && index < data_len) { rtpw_sanitizer_reads(data + index, 1); } RTPW_ROOM(level),
+    RTPW_WROTE(level))
+#define rtpw_read_mixer_level rtpw_sanitized_read_mixer_level
+RTPW_SANITIZED(write_mixer_levels, (const int8_t *levels, size_t count, uint8_t *buf, size_t size, size_t *len),
+    (levels, count, buf, size, len),
+    rtpw_sanitizer_reads(levels, count); rtpw_sanitizer_room((void *)buf, size); RTPW_ROOM(len),
+    RTPW_WROTE(len) RTPW_WROTE_BYTES(buf, *len))
+#define rtpw_write_mixer_levels rtpw_sanitized_write_mixer_levels
+RTPW_SANITIZED(read_ntp_64, (const uint8_t *data, size_t data_len, uint64_t *time),
+    (data, data_len, time), rtpw_sanitizer_data(data, data_len, 8, 8); RTPW_ROOM(time), RTPW_WROTE(time))
+#define rtpw_read_ntp_64 rtpw_sanitized_read_ntp_64
+RTPW_SANITIZED(write_ntp_64, (uint64_t time, uint8_t *buf, size_t size, size_t *len),
+    (time, buf, size, len), rtpw_sanitizer_room((void *)buf, size); RTPW_ROOM(len),
+    RTPW_WROTE(len) RTPW_WROTE_BYTES(buf, *len))
+#define rtpw_write_ntp_64 rtpw_sanitized_write_ntp_64
+RTPW_SANITIZED(read_ntp_56, (const uint8_t *data, size_t data_len, uint64_t *time),
+    (data, data_len, time), rtpw_sanitizer_data(data, data_len, 7, 7); RTPW_ROOM(time), RTPW_WROTE(time))
+#define rtpw_read_ntp_56 rtpw_sanitized_read_ntp_56
+RTPW_SANITIZED(write_ntp_56, (uint64_t time, uint8_t *buf, size_t size, size_t *len),
+    (time, buf, size, len), rtpw_sanitizer_room((void *)buf, size); RTPW_ROOM(len),
+    RTPW_WROTE(len) RTPW_WROTE_BYTES(buf, *len))
+#define rtpw_write_ntp_56 rtpw_sanitized_write_ntp_56
+RTPW_SANITIZED(read_color_space, (const uint8_t *data, size_t data_len, rtpw_color_space *space),
+    (data, data_len, space),
+    rtpw_sanitizer_data(data, data_len, 4, 4); rtpw_sanitizer_data(data, data_len, 28, 28); RTPW_ROOM(space),
+    RTPW_WROTE(space))
+#define rtpw_read_color_space rtpw_sanitized_read_color_space
+RTPW_SANITIZED(write_color_space, (const rtpw_color_space *space, uint8_t *buf, size_t size, size_t *len),
+    (space, buf, size, len), rtpw_sanitizer_color_space(space); rtpw_sanitizer_room((void *)buf, size); RTPW_ROOM(len),
+    RTPW_WROTE(len) RTPW_WROTE_BYTES(buf, *len))
+#define rtpw_write_color_space rtpw_sanitized_write_color_space
+RTPW_SANITIZED(read_dependency_descriptor, (const uint8_t *data, size_t data_len,
+    rtpw_dependency_descriptor *descriptor), (data, data_len, descriptor), rtpw_sanitizer_room((void *)data, data_len);
+    rtpw_sanitizer_reads(data, data_len < 3 ? 0 : 3); RTPW_ROOM(descriptor), RTPW_WROTE(descriptor))
+#define rtpw_read_dependency_descriptor rtpw_sanitized_read_dependency_descriptor
+RTPW_SANITIZED(write_dependency_descriptor, (const rtpw_dependency_descriptor *descriptor, uint8_t *buf,
+    size_t size, size_t *len),
+    (descriptor, buf, size, len),
+    rtpw_sanitizer_dependency_descriptor(descriptor); rtpw_sanitizer_room((void *)buf, size); RTPW_ROOM(len),
+    RTPW_WROTE(len) RTPW_WROTE_BYTES(buf, *len))
+#define rtpw_write_dependency_descriptor rtpw_sanitized_write_dependency_descriptor
+RTPW_SANITIZED_AS(bool, has_structure, (const uint8_t *data, size_t data_len), (data, data_len),
+    rtpw_sanitizer_room((void *)data, data_len); if (data_len > 3) { rtpw_sanitizer_reads(data + 3, 1); }, (void)0)
+#define rtpw_has_structure rtpw_sanitized_has_structure
 RTPW_SANITIZED_VOID(new_ids_between, (const rtpw_map *from, const rtpw_map *to, rtpw_new_ids *ids), (from, to, ids),
     rtpw_sanitizer_ids(from->kind); rtpw_sanitizer_ids(to->kind); RTPW_ROOM(ids),
     rtpw_sanitizer_wrote(ids, sizeof *ids))
@@ -521,6 +742,20 @@ RTPW_SANITIZED(restarting_receive, (rtpw_restarting_receiver *receiver, uint16_t
     rtpw_sanitizer_wrote(receiver, sizeof *receiver); if (status != RTPW_REFUSED) { rtpw_sanitizer_wrote(number,
     sizeof *number); })
 #define rtpw_restarting_receive rtpw_sanitized_restarting_receive
+RTPW_SANITIZED_VOID(packet_parse_many, (const uint8_t *buf, size_t size, rtpw_datagram *datagrams, size_t count),
+    (buf, size, datagrams, count), rtpw_sanitizer_datagrams(buf, size, datagrams, count),
+    rtpw_sanitizer_wrote_datagrams(datagrams, count))
+#define rtpw_packet_parse_many rtpw_sanitized_packet_parse_many
+RTPW_SANITIZED_VOID(parse_many, (const uint8_t *buf, size_t size, const rtpw_map *map,
+    rtpw_datagram_header *datagrams, size_t count), (buf, size, map, datagrams, count),
+    rtpw_sanitizer_datagram_headers(buf, size, map, datagrams, count),
+    rtpw_sanitizer_wrote_datagram_headers(datagrams, count))
+#define rtpw_parse_many rtpw_sanitized_parse_many
+RTPW_SANITIZED_VOID(receive_many, (rtpw_receiver *receivers, size_t receiver_count, rtpw_arrival *arrivals,
+    size_t count), (receivers, receiver_count, arrivals, count),
+    rtpw_sanitizer_arrivals(receivers, receiver_count, arrivals, count),
+    rtpw_sanitizer_wrote_arrivals(receivers, arrivals, count))
+#define rtpw_receive_many rtpw_sanitized_receive_many
 
 #undef RTPW_SANITIZED_AS
 #undef RTPW_SANITIZED
@@ -531,5 +766,9 @@ RTPW_SANITIZED(restarting_receive, (rtpw_restarting_receiver *receiver, uint16_t
 #undef RTPW_SANITIZER_FIELD
 #undef RTPW_SANITIZER_ADDRESS
 #undef RTPW_SANITIZER_MEMORY
+
+#ifdef __clang__
+#pragma clang diagnostic pop
+#endif
 
 #endif

@@ -37,6 +37,9 @@ static void *out(size_t size) {
 #ifdef UNSET
     return malloc(size);
 #else
+    if (blocks == wrong && size == 1) {
+        return (char *)malloc(1) + 1; /* malloc(0) would have a byte */
+    }
     return malloc(blocks == wrong ? size - 1 : size);
 #endif
 }
@@ -314,6 +317,169 @@ static void write_elements(void) {
     done(rtpw_write_elements(data, 2, elements, 1, RTPW_TWO_BYTE_FORM, bytes, 40, len));
     set(bytes, *len);
 }
+static void read_transmission_offset(void) {
+    const uint8_t *data = in("\0\1\2", 3);
+    int32_t *it = out(sizeof *it);
+    done(rtpw_read_transmission_offset(data, 3, it));
+    set(it, sizeof *it);
+}
+static void write_transmission_offset(void) {
+    uint8_t *bytes = out(3);
+    size_t *len = out(sizeof *len);
+    done(rtpw_write_transmission_offset(-90, bytes, 3, len));
+    set(bytes, *len);
+}
+static void read_frame_marking(void) {
+    const uint8_t *data = in("\xa9\2\7", 3);
+    rtpw_frame_marking *it = out(sizeof *it);
+    done(rtpw_read_frame_marking(data, 3, it));
+    set(it, sizeof *it);
+}
+static void write_frame_marking(void) {
+    static const rtpw_frame_marking that = {1, 0, 1, 0, 1, 1, 1, 2, 1, 7};
+    const rtpw_frame_marking *it = in(&that, sizeof that);
+    uint8_t *bytes = out(3);
+    size_t *len = out(sizeof *len);
+    done(rtpw_write_frame_marking(it, bytes, 3, len));
+    set(bytes, *len);
+}
+static void read_orientation(void) {
+    const uint8_t *data = in("\16", 1);
+    rtpw_orientation *it = out(sizeof *it);
+    done(rtpw_read_orientation(data, 1, it));
+    set(it, sizeof *it);
+}
+static void write_orientation(void) {
+    static const rtpw_orientation that = {180, RTPW_CAMERA_BACK, 1};
+    const rtpw_orientation *it = in(&that, sizeof that);
+    uint8_t *bytes = out(1);
+    size_t *len = out(sizeof *len);
+    done(rtpw_write_orientation(it, bytes, 1, len));
+    set(bytes, *len);
+}
+static void is_token(void) {
+    (void)rtpw_is_token(in("cam-1", 5), 5);
+}
+static void read_timing(void) {
+    const uint8_t *data = in("\2\0\1\0\2\0\3\0\4\0\5\0\6", 13);
+    rtpw_timing *it = out(sizeof *it);
+    done(rtpw_read_timing(data, 13, it));
+    set(it, sizeof *it);
+}
+static void write_timing(void) {
+    static const rtpw_timing that = {1, 2, 3, 4, 5, 6, 2, 1};
+    const rtpw_timing *it = in(&that, sizeof that);
+    uint8_t *bytes = out(13);
+    size_t *len = out(sizeof *len);
+    done(rtpw_write_timing(it, bytes, 13, len));
+    set(bytes, *len);
+}
+static void read_transport_number(void) {
+    const uint8_t *data = in("\1\2\x80\5", 4);
+    rtpw_transport_number *it = out(sizeof *it);
+    done(rtpw_read_transport_number(data, 4, it));
+    set(it, sizeof *it);
+}
+static void write_transport_number(void) {
+    static const rtpw_transport_number that = {258, 5, 1, 1};
+    const rtpw_transport_number *it = in(&that, sizeof that);
+    uint8_t *bytes = out(4);
+    size_t *len = out(sizeof *len);
+    done(rtpw_write_transport_number(it, bytes, 4, len));
+    set(bytes, *len);
+}
+static void read_mixer_level(void) {
+    const uint8_t *data = in("\1\2\3", 3);
+    int8_t *it = out(sizeof *it);
+    done(rtpw_read_mixer_level(data, 3, 3, 1, it));
+    set(it, sizeof *it);
+}
+static void write_mixer_levels(void) {
+    static const int8_t these[] = {-1, -2, -3};
+    const int8_t *it = in(these, sizeof these);
+    uint8_t *bytes = out(3);
+    size_t *len = out(sizeof *len);
+    done(rtpw_write_mixer_levels(it, 3, bytes, 3, len));
+    set(bytes, *len);
+}
+static void read_ntp_64(void) {
+    const uint8_t *data = in("\1\2\3\4\5\6\7\10", 8);
+    uint64_t *it = out(sizeof *it);
+    done(rtpw_read_ntp_64(data, 8, it));
+    set(it, sizeof *it);
+}
+static void write_ntp_64(void) {
+    uint8_t *bytes = out(8);
+    size_t *len = out(sizeof *len);
+    done(rtpw_write_ntp_64(1, bytes, 8, len));
+    set(bytes, *len);
+}
+static void read_ntp_56(void) {
+    const uint8_t *data = in("\1\2\3\4\5\6\7", 7);
+    uint64_t *it = out(sizeof *it);
+    done(rtpw_read_ntp_56(data, 7, it));
+    set(it, sizeof *it);
+}
+static void write_ntp_56(void) {
+    uint8_t *bytes = out(7);
+    size_t *len = out(sizeof *len);
+    done(rtpw_write_ntp_56(1, bytes, 7, len));
+    set(bytes, *len);
+}
+static void read_color_space(void) {
+    const uint8_t *data = in("\1\2\3\44", 4);
+    rtpw_color_space *it = out(sizeof *it);
+    done(rtpw_read_color_space(data, 4, it));
+    set(it, sizeof *it);
+}
+static void write_color_space(void) {
+    static const rtpw_color_space that = {{1, 2, {3, 4}, {5, 6}, {7, 8}, {9, 10}, 11, 12}, 1, 2, 3, 1, 1, 1, 1};
+    const rtpw_color_space *it = in(&that, sizeof that);
+    uint8_t *bytes = out(28);
+    size_t *len = out(sizeof *len);
+    done(rtpw_write_color_space(it, bytes, 28, len));
+    set(bytes, *len);
+}
+static void read_dependency_descriptor(void) {
+    const uint8_t *data = in("\x83\1\2", 3);
+    rtpw_dependency_descriptor *it = out(sizeof *it);
+    done(rtpw_read_dependency_descriptor(data, 3, it));
+    set(it, sizeof *it);
+}
+static void write_dependency_descriptor(void) {
+    static const rtpw_dependency_descriptor that = {258, 1, 0, 3};
+    const rtpw_dependency_descriptor *it = in(&that, sizeof that);
+    uint8_t *bytes = out(3);
+    size_t *len = out(sizeof *len);
+    done(rtpw_write_dependency_descriptor(it, bytes, 3, len));
+    set(bytes, *len);
+}
+static void has_structure(void) {
+    (void)rtpw_has_structure(in("\x83\1\2\x80", 4), 4);
+}
+static void absent_parts(void) { /* what stands beside a has_ of 0 isn't looked at */
+    rtpw_frame_marking *marking = out(sizeof *marking);
+    rtpw_timing *timing = out(sizeof *timing);
+    rtpw_transport_number *number = out(sizeof *number);
+    rtpw_color_space *space = out(sizeof *space);
+    uint8_t bytes[12];
+    size_t len;
+    marking->start = marking->end = marking->independent = marking->discardable = marking->has_layers = 0;
+    done(rtpw_write_frame_marking(marking, bytes, 1, &len));
+    marking->base_layer_sync = marking->temporal_id = marking->layer_id = marking->has_tl0_pic_idx = 0;
+    marking->has_layers = 1;
+    done(rtpw_write_frame_marking(marking, bytes, 2, &len));
+    timing->encode_start = timing->encode_finish = timing->packetize_complete = timing->last_left_pacer = 1;
+    timing->network = timing->network2 = 2;
+    timing->has_flags = 0;
+    done(rtpw_write_timing(timing, bytes, 12, &len));
+    number->number = 1;
+    number->has_request = 0;
+    done(rtpw_write_transport_number(number, bytes, 2, &len));
+    space->primaries = space->transfer = space->matrix = space->range = space->horizontal = space->vertical = 1;
+    space->has_hdr = 0;
+    done(rtpw_write_color_space(space, bytes, 4, &len));
+}
 static void new_ids_between(void) {
     const rtpw_map *from = MAP, *to = MAP;
     rtpw_new_ids *ids = out(sizeof *ids);
@@ -436,12 +602,60 @@ static void restarting_receive(void) {
     done(rtpw_restarting_receive(it, 6, number));
     set(number, sizeof *number);
 }
+/* One datagram, and one that isn't within the buffer. */
+static void packet_parse_many(void) {
+    const uint8_t *bytes = PACKET;
+    rtpw_datagram these[2], *it;
+    these[0].at = 0;
+    these[1].at = 1;
+    these[0].len = these[1].len = LEN;
+    it = in(these, sizeof these);
+    rtpw_packet_parse_many(bytes, LEN, it, 2);
+    if (it[0].status != RTPW_OK || it[1].status != RTPW_BAD_FIELD || it[0].is_rtcp || it[1].is_rtcp) {
+        _exit(3);
+    }
+    set(&it[0].packet, sizeof it[0].packet);
+}
+static void parse_many(void) {
+    const uint8_t *bytes = PACKET;
+    const rtpw_map *kinds = MAP;
+    rtpw_datagram_header these[2], *it;
+    these[0].at = 0;
+    these[1].at = 1;
+    these[0].len = these[1].len = LEN;
+    it = in(these, sizeof these);
+    rtpw_parse_many(bytes, LEN, kinds, it, 2);
+    if (it[0].status != RTPW_OK || it[1].status != RTPW_BAD_FIELD || it[0].is_rtcp || it[1].is_rtcp) {
+        _exit(3);
+    }
+    set(&it[0].header, sizeof it[0].header);
+}
+static void receive_many(void) { /* the second receiver has taken nothing, and there is no third */
+    rtpw_receiver two[2], *receivers;
+    rtpw_arrival these[3], *it;
+    two[0] = receiver;
+    two[1].highest = 65536;
+    two[1].started = 0;
+    for (size_t i = 0; i < 3; i++) {
+        these[i].receiver = i;
+        these[i].sequence_number = 6;
+    }
+    receivers = in(two, sizeof two);
+    it = in(these, sizeof these);
+    rtpw_receive_many(receivers, 2, it, 3);
+    if (it[0].status != RTPW_OK || it[1].status != RTPW_OK || it[2].status != RTPW_BAD_FIELD) {
+        _exit(3);
+    }
+    set(&it[0].number, sizeof it[0].number);
+    set(receivers, sizeof two);
+}
 static void no_bytes(void) { /* NULL, where the size is 0 */
     size_t len = 0;
     rtpw_packet packet;
     rtpw_element element;
     rtpw_values values;
     uint16_t original;
+    uint64_t time;
     rtpw_header it = header();
     uint8_t bytes[40];
     if (rtpw_is_rtcp(NULL, 0) || rtpw_packet_parse(NULL, 0, &packet) != RTPW_CUT_FIXED_PART ||
@@ -449,12 +663,17 @@ static void no_bytes(void) { /* NULL, where the size is 0 */
         rtpw_put_element(NULL, 0, &len, 1, NULL, 0, RTPW_ANY_FORM) != RTPW_CUT_FIXED_PART ||
         rtpw_from_retransmission(NULL, 0, &len, 1, 1, (const rtpw_new_ids *)(const void *)&map) !=
             RTPW_CUT_FIXED_PART ||
-        rtpw_read_original(NULL, 0, &original) != RTPW_SHORT_BUFFER || rtpw_kind_of_uri(NULL, 0) != RTPW_KIND_NONE) {
+        rtpw_read_original(NULL, 0, &original) != RTPW_SHORT_BUFFER || rtpw_kind_of_uri(NULL, 0) != RTPW_KIND_NONE ||
+        rtpw_read_ntp_64(NULL, 0, &time) != RTPW_BAD_FIELD || rtpw_is_token(NULL, 0) || rtpw_has_structure(NULL, 0)) {
         _exit(3);
     }
     done(rtpw_values_read(NULL, 0, RTPW_ONE_BYTE_FORM, &map, &values));
     done(rtpw_pad(NULL, 0, 0, 0, 1, &len));
     done(rtpw_write_with(&it, NULL, 0, NULL, 0, bytes, sizeof bytes, &len));
+    done(rtpw_write_mixer_levels(NULL, 0, NULL, 0, &len));
+    rtpw_packet_parse_many(NULL, 0, NULL, 0);
+    rtpw_parse_many(NULL, 0, &map, NULL, 0);
+    rtpw_receive_many(NULL, 0, NULL, 0);
 }
 
 static const struct {
@@ -497,6 +716,29 @@ static const struct {
     CASE(write_with),
     CASE(write_with_form),
     CASE(write_elements),
+    CASE(read_transmission_offset),
+    CASE(write_transmission_offset),
+    CASE(read_frame_marking),
+    CASE(write_frame_marking),
+    CASE(read_orientation),
+    CASE(write_orientation),
+    CASE(is_token),
+    CASE(read_timing),
+    CASE(write_timing),
+    CASE(read_transport_number),
+    CASE(write_transport_number),
+    CASE(read_mixer_level),
+    CASE(write_mixer_levels),
+    CASE(read_ntp_64),
+    CASE(write_ntp_64),
+    CASE(read_ntp_56),
+    CASE(write_ntp_56),
+    CASE(read_color_space),
+    CASE(write_color_space),
+    CASE(read_dependency_descriptor),
+    CASE(write_dependency_descriptor),
+    CASE(has_structure),
+    CASE(absent_parts),
     CASE(new_ids_between),
     CASE(new_ids_to_retransmission),
     CASE(new_ids_from_retransmission),
@@ -519,6 +761,9 @@ static const struct {
     CASE(wide_receiver_receive),
     CASE(wide_receiver_first),
     CASE(restarting_receive),
+    CASE(packet_parse_many),
+    CASE(parse_many),
+    CASE(receive_many),
     CASE(no_bytes)};
 
 /* The status with which a case ends where this block is wrong. */

@@ -208,6 +208,130 @@ void receives() {
     CHECK(rtpw::version() == RTPW_VERSION_NUMBER);
 }
 
+void standards() {
+    std::uint8_t buf[40];
+    const std::uint8_t offset[] = {0xff, 0xff, 0xfe};
+    CHECK(*rtpw::read_transmission_offset(offset) == -2);
+    CHECK(rtpw::read_transmission_offset({offset, 2}).status() == status::bad_field);
+    CHECK(*rtpw::write_transmission_offset(258, buf) == 3 && same({buf, 3}, {0, 1, 2}));
+    CHECK(rtpw::write_transmission_offset(8388608, buf).status() == status::bad_field);
+    CHECK(rtpw::write_transmission_offset(258, {buf, 2}).status() == status::short_buffer);
+
+    // S, E, I, D, B and three bits of TID; LID; TL0PICIDX.
+    const std::uint8_t marked[] = {0x5d, 9, 33};
+    rtpw_frame_marking marking = *rtpw::read_frame_marking(marked);
+    CHECK(marking.start == 0 && marking.end == 1 && marking.independent == 0 && marking.discardable == 1);
+    CHECK(marking.has_layers == 1 && marking.base_layer_sync == 1 && marking.temporal_id == 5);
+    CHECK(marking.layer_id == 9 && marking.has_tl0_pic_idx == 1 && marking.tl0_pic_idx == 33);
+    marking.start = 1;
+    marking.has_tl0_pic_idx = 0;
+    CHECK(*rtpw::write_frame_marking(marking, buf) == 2 && same({buf, 2}, {0xdd, 9}));
+    marking.temporal_id = 8;
+    CHECK(rtpw::write_frame_marking(marking, buf).status() == status::bad_field);
+
+    // C, F and two bits of the rotation.
+    const std::uint8_t turned[] = {0x0d};
+    const auto orientation = rtpw::read_orientation(turned);
+    CHECK(orientation->turn == 270 && orientation->camera == RTPW_CAMERA_BACK && orientation->flip == 1);
+    CHECK(*rtpw::write_orientation({90, RTPW_CAMERA_FRONT, 1}, buf) == 1 && buf[0] == 7);
+    CHECK(rtpw::write_orientation({45, RTPW_CAMERA_FRONT, 1}, buf).status() == status::bad_field);
+
+    const std::uint8_t text[] = {'c', '-', '1', ' '};
+    CHECK(rtpw::is_token({text, 3}) && !rtpw::is_token(text) && !rtpw::is_token({}));
+
+    const std::uint8_t times[] = {1, 0, 2, 0, 3, 1, 4, 0, 5, 0, 6, 0, 7};
+    rtpw_timing timing = *rtpw::read_timing(times);
+    CHECK(timing.flags == 1 && timing.has_flags == 1 && timing.encode_start == 2 && timing.encode_finish == 3);
+    CHECK(timing.packetize_complete == 260 && timing.last_left_pacer == 5);
+    CHECK(timing.network == 6 && timing.network2 == 7);
+    CHECK(!rtpw::read_timing({times + 1, 12})->has_flags);
+    timing.has_flags = 0;
+    CHECK(*rtpw::write_timing(timing, buf) == 12 && same({buf, 12}, {0, 2, 0, 3, 1, 4, 0, 5, 0, 6, 0, 7}));
+
+    const std::uint8_t requested[] = {1, 2, 0x80, 5};
+    const auto number = rtpw::read_transport_number(requested);
+    CHECK(number->number == 258 && number->has_request == 1 && number->timestamps == 1 && number->packets == 5);
+    CHECK(!rtpw::read_transport_number({requested, 2})->has_request);
+    CHECK(*rtpw::write_transport_number({772, 6, 1, 0}, buf) == 4 && same({buf, 4}, {3, 4, 0, 6}));
+    CHECK(rtpw::write_transport_number({772, 0, 1, 0}, buf).status() == status::bad_field);
+
+    // Of two sources; the third byte is padding.
+    const std::uint8_t mixed[] = {0x8a, 5, 0};
+    CHECK(*rtpw::read_mixer_level(mixed, 2, 0) == -10 && *rtpw::read_mixer_level(mixed, 2, 1) == -5);
+    CHECK(rtpw::read_mixer_level(mixed, 2, 2).status() == status::bad_field);
+    const std::vector<std::int8_t> levels = {-1, -20, 0};
+    CHECK(*rtpw::write_mixer_levels(levels, buf) == 3 && same({buf, 3}, {1, 20, 0}));
+    CHECK(*rtpw::write_mixer_levels({levels.data(), 2}, buf) == 2 && *rtpw::write_mixer_levels({}, buf) == 0);
+
+    const std::uint8_t time[] = {1, 2, 3, 4, 5, 6, 7, 8};
+    CHECK(*rtpw::read_ntp_64(time) == 0x0102030405060708);
+    CHECK(*rtpw::read_ntp_56({time + 1, 7}) == 0x02030405060708);
+    CHECK(rtpw::read_ntp_64({time, 7}).status() == status::bad_field);
+    CHECK(rtpw::read_ntp_56(time).status() == status::bad_field);
+    CHECK(*rtpw::write_ntp_64(0x1112131415161718, buf) == 8);
+    CHECK(same({buf, 8}, {0x11, 0x12, 0x13, 0x14, 0x15, 0x16, 0x17, 0x18}));
+    CHECK(*rtpw::write_ntp_56(0x2122232425262728, buf) == 7);
+    CHECK(same({buf, 7}, {0x22, 0x23, 0x24, 0x25, 0x26, 0x27, 0x28}));
+    CHECK(rtpw::extend_ntp_56(0x01fffffffffffffe, 3) == 0x0200000000000003);
+
+    // Two bits each of the range and of where the chroma samples lie, from left to right and from top to bottom.
+    const std::uint8_t colors[] = {9, 16, 10, 0x16};
+    rtpw_color_space space = *rtpw::read_color_space(colors);
+    CHECK(space.primaries == 9 && space.transfer == 16 && space.matrix == 10 && space.range == RTPW_RANGE_LIMITED);
+    CHECK(space.horizontal == RTPW_SITING_COLLOCATED && space.vertical == RTPW_SITING_HALF && space.has_hdr == 0);
+    space.has_hdr = 1;
+    space.hdr = {1, 2, {3, 4}, {5, 6}, {7, 8}, {9, 10}, 11, 12};
+    CHECK(*rtpw::write_color_space(space, buf) == 28);
+    CHECK(same({buf, 4}, {9, 16, 10, 0x16}));
+    CHECK(same({buf + 4, 24}, {0, 1, 0, 2, 0, 3, 0, 4, 0, 5, 0, 6, 0, 7, 0, 8, 0, 9, 0, 10, 0, 11, 0, 12}));
+    const auto hdr = rtpw::read_color_space({buf, 28});
+    CHECK(hdr->has_hdr == 1 && std::memcmp(&hdr->hdr, &space.hdr, sizeof space.hdr) == 0);
+
+    // Start, end and six bits of the template; the number.
+    const std::uint8_t described[] = {0x45, 1, 2, 0x80};
+    const auto descriptor = rtpw::read_dependency_descriptor(described);
+    CHECK(descriptor->start_of_frame == 0 && descriptor->end_of_frame == 1);
+    CHECK(descriptor->template_id == 5 && descriptor->frame_number == 258);
+    CHECK(rtpw::has_structure(described) && !rtpw::has_structure({described, 3}));
+    CHECK(*rtpw::write_dependency_descriptor({772, 1, 0, 6}, buf) == 3 && same({buf, 3}, {0x86, 3, 4}));
+    CHECK(rtpw::write_dependency_descriptor({772, 1, 0, 64}, buf).status() == status::bad_field);
+}
+
+// A packet, RTCP behind it, and one that ends a byte behind the buffer.
+void many() {
+    std::vector<std::uint8_t> buf = datagram;
+    buf.insert(buf.end(), {0x80, 200});
+    std::array<rtpw_datagram, 3> packets{};
+    packets[0].len = 27;
+    packets[1].at = 27;
+    packets[2].at = 28;
+    packets[1].len = packets[2].len = 2;
+    rtpw::packet_parse_many(buf, packets);
+    CHECK(status(packets[0].status) == status::ok && packets[0].is_rtcp == 0 && packets[0].packet.ssrc == 44);
+    const auto first = rtpw::bytes(buf).subspan(packets[0].at, packets[0].len);
+    CHECK(same(rtpw::unpadded_payload(first, packets[0].packet), {7, 8}));
+    CHECK(status(packets[1].status) == status::cut_fixed_part && packets[1].is_rtcp == 1);
+    CHECK(status(packets[2].status) == status::bad_field && packets[2].is_rtcp == 0);
+
+    std::vector<rtpw_datagram_header> headers(3);
+    headers[0].at = 27;
+    headers[0].len = 2;
+    headers[1].len = headers[2].len = 27;
+    rtpw::parse_many(buf, level_is_3(), {headers.data(), 2});
+    CHECK(status(headers[0].status) == status::cut_fixed_part && headers[0].is_rtcp == 1);
+    CHECK(status(headers[1].status) == status::ok && headers[1].header.header_len == 24);
+    CHECK(headers[1].header.values.audio_level == -10);
+    CHECK(headers[2].header.header_len == 0); // it isn't passed
+
+    rtpw_receiver receivers[2] = {{}, *rtpw::receiver_start(2)};
+    std::array<rtpw_arrival, 4> arrivals = {{{0, 0, 5, 0}, {1, 0, 6, 0}, {0, 0, 5, 0}, {2, 0, 7, 0}}};
+    rtpw::receive_many(receivers, arrivals);
+    CHECK(status(arrivals[0].status) == status::ok && arrivals[0].number == 5);
+    CHECK(status(arrivals[1].status) == status::ok && arrivals[1].number == 131078);
+    CHECK(status(arrivals[2].status) == status::refused && status(arrivals[3].status) == status::bad_field);
+    CHECK(receivers[0].highest == 5 && receivers[1].highest == 131078);
+}
+
 } // namespace
 
 int main() {
@@ -216,4 +340,6 @@ int main() {
     grows();
     writes();
     receives();
+    standards();
+    many();
 }
