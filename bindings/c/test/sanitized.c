@@ -378,9 +378,10 @@ static void write_timing(void) {
     done(rtpw_write_timing(it, bytes, 13, len));
     set(bytes, *len);
 }
-static void read_transport_number(void) {
-    const uint8_t *data = in("\1\2\x80\5", 4);
+static void read_transport_number(void) { /* with a request, and without */
+    const uint8_t *data = in("\1\2\x80\5", 4), *number = in("\1\2", 2);
     rtpw_transport_number *it = out(sizeof *it);
+    done(rtpw_read_transport_number(number, 2, it));
     done(rtpw_read_transport_number(data, 4, it));
     set(it, sizeof *it);
 }
@@ -430,10 +431,12 @@ static void write_ntp_56(void) {
     done(rtpw_write_ntp_56(1, bytes, 7, len));
     set(bytes, *len);
 }
-static void read_color_space(void) {
-    const uint8_t *data = in("\1\2\3\44", 4);
+static void read_color_space(void) { /* without HDR metadata, and with these */
+    static const uint8_t hdr[28] = {9, 16, 9, 0x15};
+    const uint8_t *colors = in(hdr, 4), *data = in(hdr, 28);
     rtpw_color_space *it = out(sizeof *it);
-    done(rtpw_read_color_space(data, 4, it));
+    done(rtpw_read_color_space(colors, 4, it));
+    done(rtpw_read_color_space(data, 28, it));
     set(it, sizeof *it);
 }
 static void write_color_space(void) {
