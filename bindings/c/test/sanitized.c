@@ -448,9 +448,9 @@ static void write_color_space(void) {
     set(bytes, *len);
 }
 static void read_dependency_descriptor(void) {
-    const uint8_t *data = in("\x83\1\2", 3);
+    const uint8_t *data = in("\x83\1\2\x80", 4);
     rtpw_dependency_descriptor *it = out(sizeof *it);
-    done(rtpw_read_dependency_descriptor(data, 3, it));
+    done(rtpw_read_dependency_descriptor(data, 4, it));
     set(it, sizeof *it);
 }
 static void write_dependency_descriptor(void) {
@@ -462,7 +462,7 @@ static void write_dependency_descriptor(void) {
     set(bytes, *len);
 }
 static void has_structure(void) {
-    (void)rtpw_has_structure(in("\x83\1\2\x80", 4), 4);
+    (void)rtpw_has_structure(in("\x83\1\2\x80\4", 5), 5);
 }
 static void absent_parts(void) { /* what stands beside a has_ of 0 isn't looked at */
     rtpw_frame_marking *marking = out(sizeof *marking);
