@@ -73,6 +73,8 @@ for name in $(cat "$scratch/exported"); do
         # shellcheck disable=SC2086
         grep -qw -- "$word" $callers || fail "$name is not called in $callers"
     done
+    call=${name#rtpw_} call=${call#wide_receiver_}
+    grep -qE "(rtpw::|wide\.)${call%_form}\(" bindings/c/test/wrapped.cpp || fail "$name is not called in bindings/c/test/wrapped.cpp"
 done
 said "symbols: $(wc -l <"$scratch/exported") functions, all named rtpw_*, as declared and each tested; they want memcpy, memmove and memset alone"
 
