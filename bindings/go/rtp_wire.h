@@ -84,7 +84,7 @@ enum {
     RTPW_UNKNOWN_FORM = 5,     /* the block's form is neither 0xBEDE nor 0x1000 to 0x100F */
     RTPW_CUT_BLOCK = 6,        /* the block is longer than what is left */
     RTPW_SHORT_BUFFER = 8,     /* a buffer is too short */
-    RTPW_BAD_FIELD = 9,        /* an argument is out of its range */
+    RTPW_BAD_FIELD = 9,        /* an argument is out of its range, or data are none of the value that is read */
     RTPW_REFUSED = 10,         /* a replay, or too old to tell */
     RTPW_NONE = 11,            /* there is no such element */
     RTPW_RESTARTED = 12        /* a packet is taken, as the first one after its sender has started again */

@@ -282,9 +282,10 @@ class Reading(unittest.TestCase):
             with self.assertRaises(TypeError):
                 Columns.parse(PLAIN, places, [14])
         apart = memoryview(array("q", [0, 7, 14]))[::2]
-        self.assertEqual(list(Columns.parse(PLAIN, apart.tolist(), [14, 0]).status), [0, 1])
-        with self.assertRaises(TypeError):
-            Columns.parse(PLAIN, apart, [14, 0])
+        for at in (apart, apart.tolist()):
+            self.assertEqual(list(Columns.parse(PLAIN, at, [14, 0]).status), [0, 1])
+        apart = memoryview(array("q", [14, 99, 0, 99]))[::2]
+        self.assertEqual(list(Columns.parse(PLAIN, [0, 14], apart).status), [0, 1])
 
     def test_overlapping_datagrams(self) -> None:
         columns = Columns.parse(SAMPLE, [0] * 7, range(31, 38))

@@ -9,7 +9,7 @@ from itertools import compress
 from typing import TYPE_CHECKING, Dict, Iterable, Iterator, MutableMapping, NamedTuple, Optional, Tuple, Union
 
 from . import _library
-from ._buffers import address_of, place_of, view_of
+from ._buffers import address_of, place_of
 from ._column import Column, TextColumn
 from ._errors import BadField, Status
 from ._map import Map
@@ -100,7 +100,7 @@ def _numbers(places: Places) -> array[int]:
         pass
     else:
         if view.itemsize == 8 and view.format.lstrip("@=") in ("q", "Q", "l", "L", "n", "N"):
-            numbers.frombytes(view_of(view))
+            numbers.frombytes(view.tobytes())  # also where they don't lie together
             return numbers
     try:
         numbers.extend(iter(places))  # type: ignore[arg-type]
