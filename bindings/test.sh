@@ -70,6 +70,8 @@ done
 for name in $(cat "$scratch/exported"); do
     for callers in 'bindings/test/hostile_*.c' bindings/test/stack.c bindings/rust/rtp-wire/src/sys.rs; do
         case $callers in *stack.c) word=${name#rtpw_} ;; *) word=$name ;; esac
+        # of the receivers for a sender that may start again the bindings have the one with a window of any size
+        case $name:$callers in rtpw_restarting_receive:*sys.rs) continue ;; esac
         # shellcheck disable=SC2086
         grep -qw -- "$word" $callers || fail "$name is not called in $callers"
     done
@@ -106,7 +108,7 @@ done
 if grep -hoE '\b(rtp|RTP)_\w+' bindings/c/rtp_wire{,_sanitized}.h | grep -vxE 'rtp_wire(_sanitized)?' >&2; then fail 'names of the header file'; fi
 said "the header file beside ${beside:-no other library}"
 
-for it in packets padding faults headers statuses receivers corners standard datagrams apart; do
+for it in packets padding faults headers statuses receivers reception corners standard datagrams apart; do
     cc -std=c99 "${strict[@]}" bindings/c/test/$it.c "$library" -o "$scratch/by_hand"
     "$scratch/by_hand"
     c++ -std=c++11 "${strict[@]}" -Wno-missing-field-initializers -x c++ bindings/c/test/$it.c -x none "$library" -o "$scratch/by_hand"
@@ -309,7 +311,7 @@ if has aarch64-linux-gnu-gcc && has qemu-aarch64; then
     mkdir "$scratch/emulated"
     cp "$scratch/arm" "$scratch/emulated/lines_arm"
     bindings/test/examples.sh "$scratch/emulated" qemu-aarch64
-    for it in packets padding faults headers statuses receivers corners standard datagrams apart; do
+    for it in packets padding faults headers statuses receivers reception corners standard datagrams apart; do
         aarch64-linux-gnu-gcc -std=c99 "${strict[@]}" -static bindings/c/test/$it.c "$arm" -o "$scratch/arm"
         qemu-aarch64 "$scratch/arm"
     done

@@ -2,8 +2,8 @@
  * rtp_lines for Linux on aarch64: the assembly text that Rattle's compiler makes of the program, each function of which is proved.
  * Made anew by: generated/make
  * kit: rattle-kit-13f logic dac8208d650f15bf
- * sources: 52d2e90404ce95e9d7ef884d03cc0a81dd89b2eed24bc7abdbf093e7692e13f4
- * text: cb790fd5880742620d6ece50c887afad6a7b436e08bbb9d11e9f3cdd45354936
+ * sources: 37770cbbd3ea56c7b9e351d2897877a926c1b019a187fdbf9b16925225e9f051
+ * text: b27cf2f9d659c5e6a1af49d162c5ee6008aebe4472b35d8c5ff59332d8bda53f
  * SPDX-License-Identifier: MIT OR Apache-2.0
  * Copyright (c) 2026 The rtp-wire developers (NOTICE)
  */
@@ -7680,43 +7680,79 @@
 	.type	"rtp_ext::block_values::is_another_allocation",@function
 "rtp_ext::block_values::is_another_allocation":
 	.cfi_startproc
-	cbz	x1, .Lrtp_BB10_13
+	cbz	x1, .Lrtp_BB10_6
 	subs	x9, x1, #1
 	b.ne	.Lrtp_BB10_3
 	ldrb	w8, [x0]
-	cbz	w8, .Lrtp_BB10_14
+	cbz	w8, .Lrtp_BB10_7
 .Lrtp_BB10_3:
 	mov	x8, x0
 	ldrb	w10, [x8], #1
 	ubfx	x11, x10, #4, #2
-	ands	w12, w10, #0xf
+	ands	w13, w10, #0xf
 	add	w10, w11, #1
-	b.eq	.Lrtp_BB10_12
-	mov	w13, w12
-	mov	w14, w12
-	mov	w17, w12
-	fmov	s0, w12
-	cnt	v0.8b, v0.8b
-	fmov	w12, s0
-	cbz	w11, .Lrtp_BB10_6
-.Lrtp_BB10_5:
+	b.eq	.Lrtp_BB10_5
 	fmov	s0, w13
-	fmov	s1, w14
+	cnt	v0.8b, v0.8b
+	fmov	w11, s0
+	mul	w10, w11, w10
+	b	.Lrtp_BB10_15
+.Lrtp_BB10_5:
+	add	x12, x11, #2
+	lsr	x12, x12, #1
+	subs	x9, x9, x12
+	b.hs	.Lrtp_BB10_8
+.Lrtp_BB10_6:
+	mov	w0, wzr
+	ret
+.Lrtp_BB10_7:
+	mov	w0, #1
+	ret
+.Lrtp_BB10_8:
+	ldrb	w14, [x8]
+	lsr	w14, w14, #4
+	cbz	w11, .Lrtp_BB10_11
+	ldrb	w15, [x8]
+	cmp	w10, #2
+	and	w15, w15, #0xf
+	b.ne	.Lrtp_BB10_12
+	mov	w16, w13
+	b	.Lrtp_BB10_14
+.Lrtp_BB10_11:
+	mov	w15, w13
+	mov	w16, w13
+	b	.Lrtp_BB10_14
+.Lrtp_BB10_12:
+	ldrb	w16, [x0, #2]
 	cmp	w10, #3
-	fmov	s2, w17
+	lsr	w16, w16, #4
+	b.eq	.Lrtp_BB10_14
+	ldrb	w13, [x0, #2]
+	and	w13, w13, #0xf
+	fmov	s0, w13
+	cnt	v0.8b, v0.8b
+	fmov	w13, s0
+.Lrtp_BB10_14:
+	fmov	s0, w14
+	fmov	s1, w15
+	cmp	w10, #3
+	fmov	s2, w16
+	add	x8, x8, x12
 	cnt	v0.8b, v0.8b
 	cnt	v1.8b, v1.8b
 	cnt	v2.8b, v2.8b
-	fmov	w11, s0
-	fmov	w13, s1
-	add	w11, w12, w11
-	add	w12, w11, w13
-	fmov	w13, s2
-	add	w13, w12, w13
-	csel	w12, w12, w13, eq
+	fmov	w14, s0
+	fmov	w15, s1
+	fmov	w16, s2
+	add	w15, w14, w15
+	add	w16, w15, w16
+	add	w13, w16, w13
+	csel	w13, w16, w13, eq
 	cmp	w10, #2
-	csel	w12, w11, w12, eq
-.Lrtp_BB10_6:
+	csel	w10, w15, w13, eq
+	cmp	w11, #0
+	csel	w10, w14, w10, eq
+.Lrtp_BB10_15:
 	sub	sp, sp, #80
 	stp	x29, x30, [sp, #32]
 	stp	x22, x21, [sp, #48]
@@ -7729,100 +7765,60 @@
 	.cfi_offset w22, -32
 	.cfi_offset w30, -40
 	.cfi_offset w29, -48
-	and	x21, x12, #0xff
+	and	x21, x10, #0xff
 	add	x10, x21, #3
 	lsr	x10, x10, #2
 	subs	x19, x9, x10
-	b.hs	.Lrtp_BB10_9
-.Lrtp_BB10_7:
+	b.hs	.Lrtp_BB10_18
+.Lrtp_BB10_16:
 	mov	w0, wzr
-.Lrtp_BB10_8:
+.Lrtp_BB10_17:
 	ldp	x20, x19, [sp, #64]
 	ldp	x22, x21, [sp, #48]
 	ldp	x29, x30, [sp, #32]
 	add	sp, sp, #80
 	ret
-.Lrtp_BB10_9:
+.Lrtp_BB10_18:
 	mov	x9, x21
-	cbz	x10, .Lrtp_BB10_18
+	cbz	x10, .Lrtp_BB10_21
 	cmp	x10, #1
-	b.ne	.Lrtp_BB10_19
+	b.ne	.Lrtp_BB10_22
 	ldrb	w11, [x8]
 	lsl	w11, w11, #24
-	cbnz	w21, .Lrtp_BB10_30
-	b	.Lrtp_BB10_21
-.Lrtp_BB10_12:
-	add	x13, x11, #2
-	lsr	x15, x13, #1
-	subs	x9, x9, x15
-	b.hs	.Lrtp_BB10_15
-.Lrtp_BB10_13:
-	mov	w0, wzr
-	ret
-.Lrtp_BB10_14:
-	mov	w0, #1
-	ret
-.Lrtp_BB10_15:
-	ldrb	w13, [x8]
-	lsr	w16, w13, #4
-	cbz	w11, .Lrtp_BB10_22
-	ldrb	w13, [x8]
-	cmp	w10, #2
-	and	w13, w13, #0xf
-	b.ne	.Lrtp_BB10_25
-	mov	w14, w12
-	b	.Lrtp_BB10_27
-.Lrtp_BB10_18:
+	cbnz	w21, .Lrtp_BB10_29
+	b	.Lrtp_BB10_24
+.Lrtp_BB10_21:
 	mov	w11, wzr
-	cbnz	w21, .Lrtp_BB10_30
-	b	.Lrtp_BB10_21
-.Lrtp_BB10_19:
+	cbnz	w21, .Lrtp_BB10_29
+	b	.Lrtp_BB10_24
+.Lrtp_BB10_22:
 	cmp	w21, #8
-	b.hi	.Lrtp_BB10_23
+	b.hi	.Lrtp_BB10_25
 	ldrh	w11, [x8]
 	rev	w11, w11
-	cbnz	w21, .Lrtp_BB10_30
-.Lrtp_BB10_21:
+	cbnz	w21, .Lrtp_BB10_29
+.Lrtp_BB10_24:
 	mov	w0, #1
 	ldp	x20, x19, [sp, #64]
 	ldp	x22, x21, [sp, #48]
 	ldp	x29, x30, [sp, #32]
 	add	sp, sp, #80
 	ret
-.Lrtp_BB10_22:
-	mov	w13, w12
-	mov	w14, w12
-	b	.Lrtp_BB10_27
-.Lrtp_BB10_23:
+.Lrtp_BB10_25:
 	cmp	x10, #3
-	b.ne	.Lrtp_BB10_28
+	b.ne	.Lrtp_BB10_27
 	ldrb	w11, [x8, #2]
 	ldrh	w12, [x8]
 	orr	w11, w12, w11, lsl #16
-	b	.Lrtp_BB10_29
-.Lrtp_BB10_25:
-	ldrb	w14, [x0, #2]
-	cmp	w10, #3
-	lsr	w14, w14, #4
-	b.eq	.Lrtp_BB10_27
-	ldrb	w12, [x0, #2]
-	and	w12, w12, #0xf
+	b	.Lrtp_BB10_28
 .Lrtp_BB10_27:
-	mov	w17, w12
-	add	x8, x8, x15
-	fmov	s0, w16
-	cnt	v0.8b, v0.8b
-	fmov	w12, s0
-	cbnz	w11, .Lrtp_BB10_5
-	b	.Lrtp_BB10_6
-.Lrtp_BB10_28:
 	ldr	w11, [x8]
-.Lrtp_BB10_29:
+.Lrtp_BB10_28:
 	rev	w11, w11
-.Lrtp_BB10_30:
+.Lrtp_BB10_29:
 	mov	x12, xzr
 	add	x20, x8, x10
-.Lrtp_BB10_31:
+.Lrtp_BB10_30:
 	lsr	w13, w11, #30
 	mov	w8, w11
 	mov	x10, x12
@@ -7830,71 +7826,71 @@
 	subs	x9, x9, #1
 	add	w12, w13, #1
 	add	x12, x10, x12
-	b.ne	.Lrtp_BB10_31
-	cbz	x12, .Lrtp_BB10_44
+	b.ne	.Lrtp_BB10_30
+	cbz	x12, .Lrtp_BB10_43
 	mov	w8, w8
 	add	x8, x10, x8, lsr #30
 	add	x22, x8, #1
-	b	.Lrtp_BB10_36
-.Lrtp_BB10_34:
+	b	.Lrtp_BB10_35
+.Lrtp_BB10_33:
 	sub	x19, x19, #1
 	add	x20, x20, #1
-.Lrtp_BB10_35:
+.Lrtp_BB10_34:
 	subs	x22, x22, #1
-	b.eq	.Lrtp_BB10_44
-.Lrtp_BB10_36:
-	cbz	x19, .Lrtp_BB10_35
+	b.eq	.Lrtp_BB10_43
+.Lrtp_BB10_35:
+	cbz	x19, .Lrtp_BB10_34
 	ldrsb	w8, [x20]
-	tbz	w8, #31, .Lrtp_BB10_34
+	tbz	w8, #31, .Lrtp_BB10_33
 	cmp	x19, #1
-	b.eq	.Lrtp_BB10_41
+	b.eq	.Lrtp_BB10_40
 	ldrsb	w8, [x20, #1]
-	tbnz	w8, #31, .Lrtp_BB10_41
+	tbnz	w8, #31, .Lrtp_BB10_40
 	mov	w8, #2
-	b	.Lrtp_BB10_43
-.Lrtp_BB10_41:
+	b	.Lrtp_BB10_42
+.Lrtp_BB10_40:
 	add	x0, sp, #8
 	mov	x1, x20
 	mov	x2, x19
 	bl	"rtp_vla::leb::long_number_at"
 	ldrb	w8, [sp, #8]
 	cmp	w8, #1
-	b.ne	.Lrtp_BB10_35
+	b.ne	.Lrtp_BB10_34
 	ldr	x8, [sp, #24]
-.Lrtp_BB10_43:
+.Lrtp_BB10_42:
 	add	x20, x20, x8
 	sub	x19, x19, x8
-	b	.Lrtp_BB10_35
-.Lrtp_BB10_44:
+	b	.Lrtp_BB10_34
+.Lrtp_BB10_43:
 	subs	x9, x19, #5
-	b.hs	.Lrtp_BB10_46
+	b.hs	.Lrtp_BB10_45
 	mov	w0, #1
 	ldp	x20, x19, [sp, #64]
 	ldp	x22, x21, [sp, #48]
 	ldp	x29, x30, [sp, #32]
 	add	sp, sp, #80
 	ret
-.Lrtp_BB10_46:
+.Lrtp_BB10_45:
 	mov	w8, #1
-.Lrtp_BB10_47:
+.Lrtp_BB10_46:
 	ldrh	w10, [x20]
 	rev	w11, w10
 	mov	w10, #65535
 	cmp	w10, w11, lsr #16
-	b.eq	.Lrtp_BB10_7
+	b.eq	.Lrtp_BB10_16
 	ldrh	w11, [x20, #2]
 	rev	w11, w11
 	cmp	w10, w11, lsr #16
-	b.eq	.Lrtp_BB10_7
+	b.eq	.Lrtp_BB10_16
 	cmp	x8, x21
 	mov	w0, #1
-	b.hs	.Lrtp_BB10_8
+	b.hs	.Lrtp_BB10_17
 	cmp	x9, #5
 	sub	x9, x9, #5
 	add	x8, x8, #1
 	add	x20, x20, #5
-	b.hs	.Lrtp_BB10_47
-	b	.Lrtp_BB10_8
+	b.hs	.Lrtp_BB10_46
+	b	.Lrtp_BB10_17
 .Lrtp_func_end10:
 	.size	"rtp_ext::block_values::is_another_allocation", .Lrtp_func_end10-"rtp_ext::block_values::is_another_allocation"
 	.cfi_endproc
@@ -8050,7 +8046,7 @@
 	.cfi_offset w28, -80
 	.cfi_offset w30, -88
 	.cfi_offset w29, -96
-	cbz	x2, .Lrtp_BB12_28
+	cbz	x2, .Lrtp_BB12_36
 	mov	x27, x0
 	subs	x9, x2, #1
 	b.ne	.Lrtp_BB12_15
@@ -8068,14 +8064,14 @@
 	cmp	w9, #1
 	stp	x8, x11, [x27, #176]
 	str	x28, [x27, #208]
-	b.ne	.Lrtp_BB12_28
-	cbz	x20, .Lrtp_BB12_36
+	b.ne	.Lrtp_BB12_36
+	cbz	x20, .Lrtp_BB12_34
 	mov	x23, xzr
 	b	.Lrtp_BB12_8
 .Lrtp_BB12_7:
 	add	x23, x23, #1
 	cmp	x23, x20
-	b.eq	.Lrtp_BB12_36
+	b.eq	.Lrtp_BB12_34
 .Lrtp_BB12_8:
 	mov	w8, #24
 	madd	x8, x23, x8, x21
@@ -8102,105 +8098,97 @@
 .Lrtp_BB12_15:
 	ldrb	w19, [x1]
 .Lrtp_BB12_16:
-	ands	w8, w19, #0xf
-	mov	w10, #16843009
-	mul	w11, w8, w10
-	ubfx	w10, w19, #4, #2
+	ands	w10, w19, #0xf
+	mov	w8, #16843009
+	ubfx	w12, w19, #4, #2
+	mul	w11, w10, w8
 	add	x8, x1, #1
-	add	w28, w10, #1
+	add	w28, w12, #1
 	stur	w11, [x29, #-36]
-	b.eq	.Lrtp_BB12_21
-	ldurb	w11, [x29, #-36]
-	fmov	d0, x11
-	cnt	v0.8b, v0.8b
-	fmov	w11, s0
-	cbz	w10, .Lrtp_BB12_27
-.Lrtp_BB12_18:
-	ldurb	w10, [x29, #-35]
-	cmp	w28, #2
-	fmov	d0, x10
+	b.eq	.Lrtp_BB12_18
+	fmov	s0, w10
 	cnt	v0.8b, v0.8b
 	fmov	w10, s0
-	add	w11, w11, w10
-	b.eq	.Lrtp_BB12_27
-	ldurb	w10, [x29, #-34]
-	cmp	w28, #3
-	fmov	d0, x10
-	cnt	v0.8b, v0.8b
-	fmov	w10, s0
-	add	w11, w11, w10
-	b.eq	.Lrtp_BB12_27
-	ldurb	w10, [x29, #-33]
-	fmov	d0, x10
-	cnt	v0.8b, v0.8b
-	fmov	w10, s0
-	add	w11, w11, w10
-	b	.Lrtp_BB12_27
-.Lrtp_BB12_21:
-	add	x11, x28, #1
-	lsr	x11, x11, #1
-	subs	x9, x9, x11
-	b.lo	.Lrtp_BB12_28
-	ldrb	w12, [x8]
-	lsr	w12, w12, #4
-	sturb	w12, [x29, #-36]
-	cbz	w10, .Lrtp_BB12_26
-	ldrb	w12, [x8]
-	cmp	w28, #2
-	and	w12, w12, #0xf
-	sturb	w12, [x29, #-35]
-	b.eq	.Lrtp_BB12_26
-	ldrb	w12, [x1, #2]
-	cmp	w28, #3
-	lsr	w12, w12, #4
-	sturb	w12, [x29, #-34]
-	b.eq	.Lrtp_BB12_26
-	ldrb	w12, [x1, #2]
-	and	w12, w12, #0xf
-	sturb	w12, [x29, #-33]
-.Lrtp_BB12_26:
-	add	x8, x8, x11
-	ldurb	w11, [x29, #-36]
-	fmov	d0, x11
-	cnt	v0.8b, v0.8b
-	fmov	w11, s0
-	cbnz	w10, .Lrtp_BB12_18
-.Lrtp_BB12_27:
+	mul	w11, w28, w10
 	and	x20, x11, #0xff
 	add	x10, x20, #3
 	lsr	x10, x10, #2
 	subs	x22, x9, x10
-	b.hs	.Lrtp_BB12_30
+	b.hs	.Lrtp_BB12_28
+	b	.Lrtp_BB12_36
+.Lrtp_BB12_18:
+	add	x10, x28, #1
+	lsr	x10, x10, #1
+	subs	x9, x9, x10
+	b.lo	.Lrtp_BB12_36
+	ldrb	w11, [x8]
+	lsr	w11, w11, #4
+	sturb	w11, [x29, #-36]
+	cbz	w12, .Lrtp_BB12_23
+	ldrb	w11, [x8]
+	cmp	w28, #2
+	and	w11, w11, #0xf
+	sturb	w11, [x29, #-35]
+	b.eq	.Lrtp_BB12_23
+	ldrb	w11, [x1, #2]
+	cmp	w28, #3
+	lsr	w11, w11, #4
+	sturb	w11, [x29, #-34]
+	b.eq	.Lrtp_BB12_23
+	ldrb	w11, [x1, #2]
+	and	w11, w11, #0xf
+	sturb	w11, [x29, #-33]
+.Lrtp_BB12_23:
+	ldurb	w11, [x29, #-36]
+	fmov	d0, x11
+	cnt	v0.8b, v0.8b
+	fmov	w11, s0
+	cbz	w12, .Lrtp_BB12_27
+	ldurb	w12, [x29, #-35]
+	cmp	w28, #2
+	fmov	d0, x12
+	cnt	v0.8b, v0.8b
+	fmov	w12, s0
+	add	w11, w11, w12
+	b.eq	.Lrtp_BB12_27
+	ldurb	w12, [x29, #-34]
+	cmp	w28, #3
+	fmov	d0, x12
+	cnt	v0.8b, v0.8b
+	fmov	w12, s0
+	add	w11, w11, w12
+	b.eq	.Lrtp_BB12_27
+	ldurb	w12, [x29, #-33]
+	fmov	d0, x12
+	cnt	v0.8b, v0.8b
+	fmov	w12, s0
+	add	w11, w11, w12
+.Lrtp_BB12_27:
+	add	x8, x8, x10
+	and	x20, x11, #0xff
+	add	x10, x20, #3
+	lsr	x10, x10, #2
+	subs	x22, x9, x10
+	b.lo	.Lrtp_BB12_36
 .Lrtp_BB12_28:
-	mov	w0, wzr
-.Lrtp_BB12_29:
-	ldp	x20, x19, [sp, #192]
-	ldp	x22, x21, [sp, #176]
-	ldp	x24, x23, [sp, #160]
-	ldp	x26, x25, [sp, #144]
-	ldp	x28, x27, [sp, #128]
-	ldp	x29, x30, [sp, #112]
-	add	sp, sp, #208
-	ret
-.Lrtp_BB12_30:
 	mov	x9, x20
 	add	x21, x8, x10
-	cbz	x10, .Lrtp_BB12_33
+	cbz	x10, .Lrtp_BB12_31
 	cmp	x10, #1
-	b.ne	.Lrtp_BB12_34
+	b.ne	.Lrtp_BB12_32
 	ldrb	w8, [x8]
 	lsl	w25, w8, #24
 	mov	x24, x22
 	mov	x23, x21
 	cbnz	w20, .Lrtp_BB12_42
 	b	.Lrtp_BB12_58
-.Lrtp_BB12_33:
+.Lrtp_BB12_31:
 	mov	w25, wzr
 	mov	x24, x22
 	mov	x23, x21
 	cbnz	w20, .Lrtp_BB12_42
 	b	.Lrtp_BB12_58
-.Lrtp_BB12_34:
+.Lrtp_BB12_32:
 	cmp	w20, #8
 	b.hi	.Lrtp_BB12_38
 	ldrh	w8, [x8]
@@ -8209,11 +8197,21 @@
 	mov	x23, x21
 	cbnz	w20, .Lrtp_BB12_42
 	b	.Lrtp_BB12_58
-.Lrtp_BB12_36:
-	cbz	x22, .Lrtp_BB12_28
+.Lrtp_BB12_34:
+	cbz	x22, .Lrtp_BB12_36
 	mov	x0, x21
 	bl	rattle_dealloc
-	b	.Lrtp_BB12_28
+.Lrtp_BB12_36:
+	mov	w0, wzr
+.Lrtp_BB12_37:
+	ldp	x20, x19, [sp, #192]
+	ldp	x22, x21, [sp, #176]
+	ldp	x24, x23, [sp, #160]
+	ldp	x26, x25, [sp, #144]
+	ldp	x28, x27, [sp, #128]
+	ldp	x29, x30, [sp, #112]
+	add	sp, sp, #208
+	ret
 .Lrtp_BB12_38:
 	cmp	x10, #3
 	b.ne	.Lrtp_BB12_40
@@ -8620,11 +8618,11 @@
 	rev	w12, w11
 	mov	w11, #65535
 	cmp	w11, w12, lsr #16
-	b.eq	.Lrtp_BB12_28
+	b.eq	.Lrtp_BB12_36
 	ldrh	w12, [x10, #2]
 	rev	w12, w12
 	cmp	w11, w12, lsr #16
-	b.eq	.Lrtp_BB12_28
+	b.eq	.Lrtp_BB12_36
 	cmp	x8, x20
 	b.hs	.Lrtp_BB12_58
 	cmp	x9, #5
@@ -8765,7 +8763,7 @@
 	bl	rattle_dealloc
 .Lrtp_BB12_171:
 	mov	w0, #1
-	b	.Lrtp_BB12_29
+	b	.Lrtp_BB12_37
 .Lrtp_BB12_172:
 	ldr	x10, [sp, #48]
 	ldr	x11, [sp, #8]

@@ -264,6 +264,15 @@ inline std::optional<bytes> data_of_element(bytes datagram, const rtpw_packet &p
 inline std::uint8_t kind_of_uri(std::string_view uri) noexcept {
     return ::rtpw_kind_of_uri(reinterpret_cast<const std::uint8_t *>(uri.data()), uri.size());
 }
+/* The URI is written to the buffer, for which RTPW_URI_SIZE bytes are enough, and returned as it lies there. */
+inline result<std::string_view> uri_of_kind(std::uint8_t kind, buffer buf) noexcept {
+    return result<std::string_view>([&](std::string_view *it) {
+        std::size_t len = 0;
+        const std::int32_t status = ::rtpw_uri_of_kind(kind, buf.data(), buf.size(), &len);
+        *it = {reinterpret_cast<const char *>(buf.data()), len};
+        return status;
+    });
+}
 inline status map_set(rtpw_map &map, std::uint8_t id, std::uint8_t kind) noexcept {
     return status(::rtpw_map_set(&map, id, kind));
 }
@@ -350,6 +359,23 @@ inline result<std::size_t> write_layers(const rtpw_map &map, const rtpw_header &
                                         buffer buf) noexcept {
     return result<std::size_t>(
         [&](std::size_t *it) { return ::rtpw_write_layers(&map, &header, &layers, buf.data(), buf.size(), it); });
+}
+/* The kinds of which there is a value that isn't written, each the bit 1 << kind. */
+inline result<std::uint32_t> left_out(const rtpw_map &map, const rtpw_header &header) noexcept {
+    return result<std::uint32_t>([&](std::uint32_t *it) { return ::rtpw_left_out(&map, &header, it); });
+}
+/* A header with these values, all else 0: has_extension is set exactly where one of them is there. */
+inline rtpw_header header_with(const rtpw_values &values) noexcept {
+    rtpw_header it{};
+    it.values = values;
+    const auto there = left_out(rtpw_map{}, it); // without a block, all that are there
+    it.has_extension = there && *there == 0 ? 0 : 1;
+    return it;
+}
+inline result<std::uint32_t> left_out_layers(const rtpw_map &map, const rtpw_header &header,
+                                             const rtpw_layers &layers) noexcept {
+    return result<std::uint32_t>(
+        [&](std::uint32_t *it) { return ::rtpw_left_out_layers(&map, &header, &layers, it); });
 }
 /* With `count` elements; `form` is RTPW_ONE_BYTE_FORM or RTPW_TWO_BYTE_FORM alone, or either. */
 inline result<std::size_t> write_with(const rtpw_header &header, bytes data, const rtpw_element *elements,
@@ -505,7 +531,8 @@ inline status from_retransmission(buffer buf, std::size_t &len, std::uint32_t ss
 
 /* ---- The numbers of a stream ---- */
 
-/* A receiver whose first packet has this rollover count: 1 where nothing is authenticated. */
+/* A receiver whose first packet has this rollover count: 1 where nothing is authenticated, so that a packet from before
+ * the first one has a number too. */
 inline result<rtpw_receiver> receiver_start(std::uint64_t rollover_count) noexcept {
     return result<rtpw_receiver>([&](rtpw_receiver *it) { return ::rtpw_receiver_start(it, rollover_count); });
 }
@@ -515,6 +542,15 @@ inline std::uint64_t receiver_number_of(const rtpw_receiver &receiver, std::uint
 inline bool receiver_accepts(const rtpw_receiver &receiver, std::uint64_t number) noexcept {
     return ::rtpw_receiver_accepts(&receiver, number);
 }
+/* Why a number isn't accepted. */
+enum class standing : std::uint8_t {
+    unseen = RTPW_NEW,
+    taken = RTPW_TAKEN,
+    too_old = RTPW_TOO_OLD
+};
+inline standing receiver_standing_of(const rtpw_receiver &receiver, std::uint64_t number) noexcept {
+    return standing(::rtpw_receiver_standing_of(&receiver, number));
+}
 inline void receiver_record(rtpw_receiver &receiver, std::uint64_t number) noexcept {
     ::rtpw_receiver_record(&receiver, number);
 }
@@ -523,7 +559,8 @@ inline result<std::uint64_t> receiver_receive(rtpw_receiver &receiver, std::uint
         [&](std::uint64_t *it) { return ::rtpw_receiver_receive(&receiver, sequence_number, it); });
 }
 
-/* A receiver with a window of 64 numbers for each of 1 to 512 words. */
+/* A receiver with a window of 64 numbers for each of 1 to 512 words. Start it at a rollover count: 1 where nothing is
+ * authenticated. Without a start its first packet has the rollover count 0. */
 template <std::size_t count> class wide_receiver {
     static_assert(count >= 1 && count <= 512, "a window has 1 to 512 words");
 
@@ -536,6 +573,9 @@ template <std::size_t count> class wide_receiver {
     }
     bool accepts(std::uint64_t number) const noexcept {
         return ::rtpw_wide_receiver_accepts(&state, words, count, number);
+    }
+    standing standing_of(std::uint64_t number) const noexcept {
+        return standing(::rtpw_wide_receiver_standing_of(&state, words, count, number));
     }
     status record(std::uint64_t number) noexcept {
         return status(::rtpw_wide_receiver_record(&state, words, count, number));
@@ -554,6 +594,30 @@ inline result<std::uint64_t> restarting_receive(rtpw_restarting_receiver &receiv
                                                 std::uint16_t sequence_number) noexcept {
     return result<std::uint64_t>(
         [&](std::uint64_t *it) { return ::rtpw_restarting_receive(&receiver, sequence_number, it); });
+}
+
+inline void reception_record(rtpw_reception &reception, std::uint64_t number, std::uint32_t timestamp,
+                             std::uint32_t arrival) noexcept {
+    ::rtpw_reception_record(&reception, number, timestamp, arrival);
+}
+/* The status is none where nothing was recorded since the last report. */
+inline result<rtpw_report> reception_report(rtpw_reception &reception) noexcept {
+    return result<rtpw_report>([&](rtpw_report *it) { return ::rtpw_reception_report(&reception, it); });
+}
+/* The report block's 24 bytes. */
+inline result<std::size_t> write_report(const rtpw_report &report, std::uint32_t ssrc, std::uint32_t last_report,
+                                        std::uint32_t delay, buffer buf) noexcept {
+    return result<std::size_t>([&](std::size_t *it) {
+        return ::rtpw_write_report(&report, ssrc, last_report, delay, buf.data(), buf.size(), it);
+    });
+}
+/* The same with a window of these words. The bounds are fields of the receiver, where 0 stands for those that are safe
+ * for a stream whose packets are sent again. */
+inline result<std::uint64_t> wide_restarting_receive(rtpw_wide_restarting_receiver &receiver, span<std::uint64_t> words,
+                                                     std::uint16_t sequence_number) noexcept {
+    return result<std::uint64_t>([&](std::uint64_t *it) {
+        return ::rtpw_wide_restarting_receive(&receiver, words.data(), words.size(), sequence_number, it);
+    });
 }
 
 inline std::uint64_t extend_u8(std::uint64_t previous, std::uint8_t number) noexcept {

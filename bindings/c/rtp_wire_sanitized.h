@@ -282,6 +282,11 @@ static inline void rtpw_sanitizer_restarting(const rtpw_restarting_receiver *rec
     if (receiver->started) { rtpw_sanitizer_reads(&receiver->highest, 24); /* and words */ }
 }
 
+static inline void rtpw_sanitizer_reception(const rtpw_reception *reception) {
+    rtpw_sanitizer_room((void *)reception, sizeof *reception);
+    rtpw_sanitizer_reads(reception, offsetof(rtpw_reception, transit) + sizeof reception->transit);
+}
+
 /* What is read of a body from an offset on: up to the data of the element that was found. */
 static inline void rtpw_sanitizer_reads_next(const uint8_t *body, size_t body_len, size_t at, int32_t status,
                                              const rtpw_element *element) {
@@ -398,6 +403,20 @@ static inline void rtpw_sanitizer_wrote_datagram_headers(const rtpw_datagram_hea
     }
 }
 
+static inline void rtpw_sanitizer_wide_restarting(const rtpw_wide_restarting_receiver *receiver, const uint64_t *words,
+                                                  size_t count) {
+    rtpw_sanitizer_room((void *)receiver, sizeof *receiver);
+    rtpw_sanitizer_room((void *)words, count * sizeof *words);
+    if (count == 0 || count > 512) { return; } /* of these nothing is read */
+    rtpw_sanitizer_reads(&receiver->max_dropout, 4);    /* and max_misorder */
+    rtpw_sanitizer_reads(&receiver->min_sequential, 3); /* and in_row, started */
+    if (receiver->in_row) { RTPW_SANITIZER_FIELD(receiver->next); }
+    if (receiver->started) {
+        RTPW_SANITIZER_FIELD(receiver->highest);
+        rtpw_sanitizer_reads(words, count * sizeof *words);
+    }
+}
+
 /* Of each arrival its receiver and its number are read, and the receiver where there is one. */
 static inline void rtpw_sanitizer_arrivals(const rtpw_receiver *receivers, size_t receiver_count,
                                            const rtpw_arrival *arrivals, size_t count) {
@@ -507,6 +526,10 @@ RTPW_SANITIZED(last_element, (const uint8_t *body, size_t body_len, uint8_t form
 RTPW_SANITIZED_AS(uint8_t, kind_of_uri, (const uint8_t *uri, size_t len), (uri, len), rtpw_sanitizer_reads(uri, len),
     (void)0)
 #define rtpw_kind_of_uri rtpw_sanitized_kind_of_uri
+RTPW_SANITIZED(uri_of_kind, (uint8_t kind, uint8_t *buf, size_t size, size_t *len), (kind, buf, size, len),
+    rtpw_sanitizer_room((void *)buf, size); RTPW_ROOM(len),
+    RTPW_WROTE(len) RTPW_WROTE_BYTES(buf, *len))
+#define rtpw_uri_of_kind rtpw_sanitized_uri_of_kind
 RTPW_SANITIZED(map_set, (rtpw_map *map, uint8_t id, uint8_t kind), (map, id, kind), RTPW_ROOM(map),
     RTPW_WROTE_BYTES(&map->kind[id], 1))
 #define rtpw_map_set rtpw_sanitized_map_set
@@ -554,6 +577,13 @@ RTPW_SANITIZED(write_layers, (const rtpw_map *map, const rtpw_header *header, co
     RTPW_ROOM(len),
     RTPW_WROTE(len) RTPW_WROTE_BYTES(buf, *len))
 #define rtpw_write_layers rtpw_sanitized_write_layers
+RTPW_SANITIZED(left_out, (const rtpw_map *map, const rtpw_header *header, uint32_t *kinds), (map, header, kinds),
+    rtpw_sanitizer_written(map, header); RTPW_ROOM(kinds), RTPW_WROTE(kinds))
+#define rtpw_left_out rtpw_sanitized_left_out
+RTPW_SANITIZED(left_out_layers, (const rtpw_map *map, const rtpw_header *header, const rtpw_layers *layers,
+    uint32_t *kinds), (map, header, layers, kinds),
+    rtpw_sanitizer_written(map, header); rtpw_sanitizer_layers(layers); RTPW_ROOM(kinds), RTPW_WROTE(kinds))
+#define rtpw_left_out_layers rtpw_sanitized_left_out_layers
 RTPW_SANITIZED(write_with, (const rtpw_header *header, const uint8_t *data, size_t data_len,
     const rtpw_element *elements, size_t count, uint8_t *buf, size_t size, size_t *len), (header, data, data_len,
     elements, count, buf, size, len),
@@ -718,6 +748,9 @@ RTPW_SANITIZED(receiver_receive, (rtpw_receiver *receiver, uint16_t sequence_num
     (receiver, sequence_number, number), rtpw_sanitizer_receiver(receiver); RTPW_ROOM(number),
     RTPW_WROTE(receiver) RTPW_WROTE(number))
 #define rtpw_receiver_receive rtpw_sanitized_receiver_receive
+RTPW_SANITIZED_AS(uint8_t, receiver_standing_of, (const rtpw_receiver *receiver, uint64_t number), (receiver, number),
+    rtpw_sanitizer_receiver(receiver), (void)0)
+#define rtpw_receiver_standing_of rtpw_sanitized_receiver_standing_of
 RTPW_SANITIZED(wide_receiver_start, (rtpw_wide_receiver *receiver, uint64_t rollover_count),
     (receiver, rollover_count), RTPW_ROOM(receiver), RTPW_WROTE(receiver))
 #define rtpw_wide_receiver_start rtpw_sanitized_wide_receiver_start
@@ -737,11 +770,35 @@ RTPW_SANITIZED(wide_receiver_receive, (rtpw_wide_receiver *receiver, uint64_t *w
     rtpw_sanitizer_window(receiver, words, count); RTPW_ROOM(number),
     RTPW_WROTE(receiver) RTPW_WROTE_BYTES(words, count * sizeof *words) RTPW_WROTE(number))
 #define rtpw_wide_receiver_receive rtpw_sanitized_wide_receiver_receive
+RTPW_SANITIZED_AS(uint8_t, wide_receiver_standing_of, (const rtpw_wide_receiver *receiver, const uint64_t *words,
+    size_t count, uint64_t number), (receiver, words, count, number), rtpw_sanitizer_window(receiver, words, count),
+    (void)0)
+#define rtpw_wide_receiver_standing_of rtpw_sanitized_wide_receiver_standing_of
 RTPW_SANITIZED(restarting_receive, (rtpw_restarting_receiver *receiver, uint16_t sequence_number, uint64_t *number),
     (receiver, sequence_number, number), rtpw_sanitizer_restarting(receiver); RTPW_ROOM(number),
     rtpw_sanitizer_wrote(receiver, sizeof *receiver); if (status != RTPW_REFUSED) { rtpw_sanitizer_wrote(number,
     sizeof *number); })
 #define rtpw_restarting_receive rtpw_sanitized_restarting_receive
+RTPW_SANITIZED_VOID(reception_record, (rtpw_reception *reception, uint64_t number, uint32_t timestamp,
+    uint32_t arrival), (reception, number, timestamp, arrival), rtpw_sanitizer_reception(reception),
+    rtpw_sanitizer_wrote(reception, sizeof *reception))
+#define rtpw_reception_record rtpw_sanitized_reception_record
+RTPW_SANITIZED(reception_report, (rtpw_reception *reception, rtpw_report *report), (reception, report),
+    rtpw_sanitizer_reception(reception); RTPW_ROOM(report), RTPW_WROTE(reception) RTPW_WROTE(report))
+#define rtpw_reception_report rtpw_sanitized_reception_report
+RTPW_SANITIZED(write_report, (const rtpw_report *report, uint32_t ssrc, uint32_t last_report, uint32_t delay,
+    uint8_t *buf, size_t size, size_t *len), (report, ssrc, last_report, delay, buf, size, len),
+    RTPW_SANITIZER_FIELD(report->fraction_lost); rtpw_sanitizer_reads(&report->cumulative_lost, 12);
+    rtpw_sanitizer_room((void *)buf, size); RTPW_ROOM(len), RTPW_WROTE(len) RTPW_WROTE_BYTES(buf, *len))
+#define rtpw_write_report rtpw_sanitized_write_report
+RTPW_SANITIZED(wide_restarting_receive, (rtpw_wide_restarting_receiver *receiver, uint64_t *words, size_t count,
+    uint16_t sequence_number, uint64_t *number), (receiver, words, count, sequence_number, number),
+    rtpw_sanitizer_wide_restarting(receiver, words, count); RTPW_ROOM(number),
+    if (status != RTPW_BAD_FIELD) { rtpw_sanitizer_wrote(receiver, sizeof *receiver); }
+    if (status == RTPW_OK || status == RTPW_RESTARTED) {
+        rtpw_sanitizer_wrote(words, count * sizeof *words); rtpw_sanitizer_wrote(number, sizeof *number);
+    })
+#define rtpw_wide_restarting_receive rtpw_sanitized_wide_restarting_receive
 RTPW_SANITIZED_VOID(packet_parse_many, (const uint8_t *buf, size_t size, rtpw_datagram *datagrams, size_t count),
     (buf, size, datagrams, count), rtpw_sanitizer_datagrams(buf, size, datagrams, count),
     rtpw_sanitizer_wrote_datagrams(datagrams, count))

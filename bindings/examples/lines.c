@@ -56,7 +56,9 @@ static long bytes_of(char *line, size_t len) {
     return (long)(len / 2);
 }
 
-/* The receiver of the source; {0} has taken nothing yet. NULL where there is no memory for one more. */
+/* The receiver of the source. Of zeros it starts at the rollover count 0, as the program rtp_lines has it: from 1 on,
+ * by rtpw_receiver_start, a packet from before the first one has a number too. NULL where there is no memory for one
+ * more. */
 static rtpw_receiver *receiver_of(uint32_t ssrc) {
     static stream *streams;
     static size_t count;

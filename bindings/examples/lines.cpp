@@ -92,7 +92,9 @@ void print_verdict(unsigned long count, rtpw_receiver &receiver, std::uint16_t s
 
 int main() {
     rtpw_map map = {};
-    std::map<std::uint32_t, rtpw_receiver> receivers; // one of zeros has taken nothing yet
+    // Of zeros a receiver starts at the rollover count 0, as the program rtp_lines has it: from 1 on, by
+    // rtpw_receiver_start, a packet from before the first one has a number too.
+    std::map<std::uint32_t, rtpw_receiver> receivers;
     std::vector<std::uint8_t> datagram;
     std::string line;
     unsigned long packets = 0, lines = 0;

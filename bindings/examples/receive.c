@@ -20,7 +20,7 @@ int main(void) {
     static const uint8_t report[] = {0x80, 204, 0, 2, 0, 0, 0, 7, 'R', 'T', 'C', 'P'}; /* at the same port */
     rtpw_map map; /* of the ids that SDP negotiated; here the usual ones */
     rtpw_map_standard(&map);
-    rtpw_receiver receiver; /* one for each SSRC */
+    rtpw_receiver receiver; /* one for each SSRC; from 1 on a packet from before the first one has a number too */
     if (rtpw_receiver_start(&receiver, 1) != RTPW_OK) {
         return 1;
     }

@@ -11,12 +11,13 @@ type arrival struct {
 // An ArrivalBatch has packets that were read already and needn't be authenticated judged in one call of the library,
 // in order, each by one of several receivers. Use one again, as a [HeaderBatch]. The zero ArrivalBatch is ready.
 //
-//	receivers := make([]rtpwire.Receiver, 2)
+//	receiver, err := rtpwire.NewReceiver(1) // 1, so that a packet from before the first one has a number too
+//	receivers := []rtpwire.Receiver{*receiver, *receiver}
 //	batch.Reset()
 //	batch.Add(1, 47000)
 //	batch.Add(1, 47000)
 //	batch.Receive(receivers)
-//	number, err := batch.At(0) // 47000, nil
+//	number, err := batch.At(0) // 112536, nil
 //	_, err = batch.At(1)       // ErrRefused: a replay
 type ArrivalBatch struct {
 	given  []arrival

@@ -124,18 +124,31 @@ static inline call_number call_wide_check_packet(const rtpw_wide_receiver *recei
     return it;
 }
 
-static inline call_number call_restarting_receive(rtpw_restarting_receiver *receiver, uint16_t sequence_number) {
+static inline call_number call_restarting_receive(rtpw_wide_restarting_receiver *receiver, uint64_t *words,
+                                                  size_t count, uint16_t sequence_number) {
     call_number it = {0};
-    it.status = rtpw_restarting_receive(receiver, sequence_number, &it.number);
+    it.status = rtpw_wide_restarting_receive(receiver, words, count, sequence_number, &it.number);
     return it;
 }
 
-static inline call_number call_restarting_receive_packet(rtpw_restarting_receiver *receiver,
-                                                         const uint8_t *datagram, size_t len, const rtpw_map *map,
-                                                         rtpw_header *header, rtpw_packet *packet) {
+typedef struct {
+    rtpw_report report;
+    int32_t status;
+} call_report;
+
+static inline call_report call_reception_report(rtpw_reception *reception) {
+    call_report it = {{0, 0, 0, 0}, RTPW_OK};
+    it.status = rtpw_reception_report(reception, &it.report);
+    return it;
+}
+
+static inline call_number call_restarting_receive_packet(rtpw_wide_restarting_receiver *receiver, uint64_t *words,
+                                                         size_t count, const uint8_t *datagram, size_t len,
+                                                         const rtpw_map *map, rtpw_header *header,
+                                                         rtpw_packet *packet) {
     call_number it = {0};
     it.status = call_parse(datagram, len, map, header, packet);
-    return it.status != RTPW_OK ? it : call_restarting_receive(receiver, header->sequence_number);
+    return it.status != RTPW_OK ? it : call_restarting_receive(receiver, words, count, header->sequence_number);
 }
 
 static inline int32_t call_parse_layers(const uint8_t *datagram, size_t len, const rtpw_map *map,
@@ -191,6 +204,30 @@ static inline call_len call_write_layers(const rtpw_map *map, const rtpw_header 
                                          uint8_t *buf, size_t size) {
     call_len it = {0};
     it.status = rtpw_write_layers(map, header, layers, buf, size, &it.len);
+    return it;
+}
+
+static inline call_len call_uri_of_kind(uint8_t kind, uint8_t *buf, size_t size) {
+    call_len it = {0};
+    it.status = rtpw_uri_of_kind(kind, buf, size, &it.len);
+    return it;
+}
+
+typedef struct {
+    uint32_t kinds;
+    int32_t status;
+} call_kinds;
+
+static inline call_kinds call_left_out(const rtpw_map *map, const rtpw_header *header) {
+    call_kinds it = {0};
+    it.status = rtpw_left_out(map, header, &it.kinds);
+    return it;
+}
+
+static inline call_kinds call_left_out_layers(const rtpw_map *map, const rtpw_header *header,
+                                              const rtpw_layers *layers) {
+    call_kinds it = {0};
+    it.status = rtpw_left_out_layers(map, header, layers, &it.kinds);
     return it;
 }
 
@@ -344,6 +381,12 @@ static inline call_number call_read_ntp_64(const uint8_t *data, size_t len) {
 static inline call_data call_write_ntp_64(uint64_t time) {
     call_data it = {{0}, 0, RTPW_OK};
     it.status = rtpw_write_ntp_64(time, it.data, sizeof it.data, &it.len);
+    return it;
+}
+
+static inline call_data call_write_report(rtpw_report report, uint32_t ssrc, uint32_t last_report, uint32_t delay) {
+    call_data it = {{0}, 0, RTPW_OK};
+    it.status = rtpw_write_report(&report, ssrc, last_report, delay, it.data, sizeof it.data, &it.len);
     return it;
 }
 

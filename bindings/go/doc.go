@@ -18,8 +18,10 @@
 // [ParseOrientation], [ParseTiming], [ParseTransportNumber], [ParseColorSpace], [ParseDependencyDescriptor],
 // [ParseMixerLevel], [ParseNTP64] and [ParseNTP56], each with what writes them. [Packet.Token] has a mid as it lies.
 //
-// [WideReceiver] has a window of another size, and [RestartingReceiver], which is not for SRTP, tells that a sender has
-// started again.
+// [NewReceiver] asks for the rollover count: 1 where nothing is authenticated. [WideReceiver] has a window of another
+// size, and [RestartingReceiver], which is not for SRTP, tells that a sender has started again;
+// [WideRestartingReceiver] does so with a window of another size. [ReceptionStatistics] are what a
+// receiver report says (RFC 3550, 6.4.1).
 //
 // No function keeps a pointer to what it is given, but a Packet the datagram that it was read from, and a batch the
 // buffer. Calls from several goroutines at once are safe as long as nothing that one of them changes is used by

@@ -14,7 +14,7 @@ func Example() {
 	if _, err := m.SetURI(1, "urn:ietf:params:rtp-hdrext:ssrc-audio-level"); err != nil {
 		log.Fatal(err)
 	}
-	receiver, err := rtpwire.NewReceiver(1) // one for each SSRC
+	receiver, err := rtpwire.NewReceiver(1) // one for each SSRC; 1, as no packet is authenticated
 	if err != nil {
 		log.Fatal(err)
 	}
@@ -46,7 +46,7 @@ func Example() {
 // With SRTP a forged packet must change nothing: the number is recorded once the packet is authenticated.
 func ExampleReceiver_CheckPacket() {
 	isAuthentic := func(packet *rtpwire.Packet, number uint64) bool { return packet.SSRC == 7 }
-	var receiver rtpwire.Receiver
+	var receiver rtpwire.Receiver // the packet indices of a new key begin at the rollover count 0
 	var packet rtpwire.Packet
 	for _, ssrc := range []byte{8, 7, 7} {
 		datagram := []byte{0x80, 96, 0, 5, 0, 0, 0, 160, 0, 0, 0, ssrc}
@@ -141,7 +141,11 @@ func ExampleHeaderBatch() {
 	} {
 		lengths[i] = copy(buf[i*slot:], datagram)
 	}
-	m := rtpwire.StandardMap() // 1 is the audio level
+	m := rtpwire.StandardMap()           // 1 is the audio level
+	first, err := rtpwire.NewReceiver(1) // nothing is authenticated: a packet from before the first one has a number too
+	if err != nil {
+		log.Fatal(err)
+	}
 	receivers := make([]rtpwire.Receiver, 0, 8)
 	indices := make(map[uint32]int) // of each SSRC
 
@@ -162,7 +166,7 @@ func ExampleHeaderBatch() {
 		index, ok := indices[header.SSRC]
 		if !ok {
 			index = len(receivers)
-			indices[header.SSRC], receivers = index, append(receivers, rtpwire.Receiver{})
+			indices[header.SSRC], receivers = index, append(receivers, *first)
 		}
 		arrivals.Add(index, header.SequenceNumber)
 		level, _, ok := header.Values.AudioLevel()
@@ -178,8 +182,8 @@ func ExampleHeaderBatch() {
 	// SSRC 8, audio at 0 dB: false, ""
 	// rtpwire: fewer than twelve bytes
 	// SSRC 7, audio at -10 dB: true, "hi"
-	// 5 <nil>
-	// 5 <nil>
+	// 65541 <nil>
+	// 65541 <nil>
 	// 0 rtpwire: a replay, or too old to tell
 }
 

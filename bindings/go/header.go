@@ -24,6 +24,12 @@ type Header struct {
 	Values Values
 }
 
+// NewHeader is a header with these values, all else zero: HasExtension is set exactly where one of them is there, so that
+// what is given is written.
+func NewHeader(values Values) *Header {
+	return &Header{HasExtension: values != Values{}, Values: values}
+}
+
 // CSRC is the contributing sources, at most 15, in order. It is a part of the header, not a copy: what is written
 // through it changes the header, and an append copies.
 func (h *Header) CSRC() []uint32 {
@@ -72,6 +78,45 @@ func (h *Header) WireLenLayers(m *Map, layers *Layers) (int, error) {
 // above 0 without a stream; a rate is 2^63 or more; a width or height is 0; there is a resolution of a layer that isn't
 // active, or behind an active layer without one; or they take more than 255 bytes.
 func (h *Header) WriteLayers(buf []byte, m *Map, layers *Layers) (int, error) {
+	return h.writeLayers(buf, m, layers)
+}
+
+// LeftOut is the kinds of which there is a value that Write leaves out: all that are there where HasExtension is false,
+// and else those that aren't mapped; those of which a second value is absent, as an audio level without voice or one of two
+// playout delays; and KindLayers where a layer allocation was read. It returns ErrBadField as Write does.
+func (h *Header) LeftOut(m *Map) (KindSet, error) {
+	return h.leftOut(m)
+}
+
+// LeftOutLayers is the same where WriteLayers writes: these layers are left out where HasExtension is false or KindLayers
+// isn't mapped.
+func (h *Header) LeftOutLayers(m *Map, layers *Layers) (KindSet, error) {
+	return h.leftOutLayers(m, layers)
+}
+
+// WriteAll writes the header as Write does, where no value is left out. It returns the errors of Write; and after
+// ErrBadField and before ErrShortBuffer a *[LeftOutError], where LeftOut tells any kind. Nothing is written then.
+func (h *Header) WriteAll(buf []byte, m *Map) (int, error) {
+	kinds, err := h.leftOut(m)
+	if err != nil {
+		return 0, err
+	}
+	if kinds != 0 {
+		return 0, &LeftOutError{kinds}
+	}
+	return h.Write(buf, m)
+}
+
+// WriteAllLayers writes the header as WriteLayers does, where no value is left out. It returns the errors of WriteLayers,
+// and a *[LeftOutError] as WriteAll does.
+func (h *Header) WriteAllLayers(buf []byte, m *Map, layers *Layers) (int, error) {
+	kinds, err := h.leftOutLayers(m, layers)
+	if err != nil {
+		return 0, err
+	}
+	if kinds != 0 {
+		return 0, &LeftOutError{kinds}
+	}
 	return h.writeLayers(buf, m, layers)
 }
 

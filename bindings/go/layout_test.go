@@ -15,6 +15,9 @@ func TestStructsLieAsThoseOfC(t *testing.T) {
 		r  Receiver
 		w  wideState
 		rr RestartingReceiver
+		rs ReceptionStatistics
+		rp ReceptionReport
+		wr wideRestartingState
 		v  Values
 		h  Header
 		la Layer
@@ -70,13 +73,31 @@ func TestStructsLieAsThoseOfC(t *testing.T) {
 		{"wide_receiver", unsafe.Sizeof(w), 16},
 		{"wide_receiver.highest", unsafe.Offsetof(w.highest), 0},
 		{"wide_receiver.started", unsafe.Offsetof(w.started), 8},
-		{"restarting_receiver", unsafe.Sizeof(rr), 32},
-		{"restarting_receiver.words", unsafe.Offsetof(rr.words), 8},
-		{"restarting_receiver.max_dropout", unsafe.Offsetof(rr.MaxDropout), 24},
-		{"restarting_receiver.next", unsafe.Offsetof(rr.next), 26},
-		{"restarting_receiver.min_sequential", unsafe.Offsetof(rr.MinSequential), 28},
-		{"restarting_receiver.in_row", unsafe.Offsetof(rr.inRow), 29},
-		{"restarting_receiver.started", unsafe.Offsetof(rr.started), 30},
+		{"restarting_receiver.words", unsafe.Offsetof(rr.words), 24},
+		{"wide_restarting_receiver", unsafe.Sizeof(wr), 24},
+		{"restarting_receiver.max_dropout", unsafe.Offsetof(rr.MaxDropout), 8},
+		{"wide_restarting_receiver.max_dropout", unsafe.Offsetof(wr.maxDropout), 8},
+		{"restarting_receiver.max_misorder", unsafe.Offsetof(rr.MaxMisorder), 10},
+		{"wide_restarting_receiver.max_misorder", unsafe.Offsetof(wr.maxMisorder), 10},
+		{"restarting_receiver.next", unsafe.Offsetof(rr.next), 12},
+		{"wide_restarting_receiver.next", unsafe.Offsetof(wr.next), 12},
+		{"restarting_receiver.min_sequential", unsafe.Offsetof(rr.MinSequential), 14},
+		{"wide_restarting_receiver.min_sequential", unsafe.Offsetof(wr.minSequential), 14},
+		{"restarting_receiver.in_row", unsafe.Offsetof(rr.inRow), 15},
+		{"wide_restarting_receiver.in_row", unsafe.Offsetof(wr.inRow), 15},
+		{"restarting_receiver.started", unsafe.Offsetof(rr.started), 16},
+		{"wide_restarting_receiver.started", unsafe.Offsetof(wr.started), 16},
+		{"reception", unsafe.Sizeof(rs), 56},
+		{"reception.highest", unsafe.Offsetof(rs.highest), 8},
+		{"reception.received", unsafe.Offsetof(rs.received), 16},
+		{"reception.received_before", unsafe.Offsetof(rs.receivedBefore), 24},
+		{"reception.expected_before", unsafe.Offsetof(rs.expectedBefore), 32},
+		{"reception.scaled_jitter", unsafe.Offsetof(rs.scaledJitter), 40},
+		{"reception.transit", unsafe.Offsetof(rs.transit), 48},
+		{"report", unsafe.Sizeof(rp), 16},
+		{"report.cumulative_lost", unsafe.Offsetof(rp.CumulativeLost), 4},
+		{"report.extended_highest", unsafe.Offsetof(rp.ExtendedHighest), 8},
+		{"report.jitter", unsafe.Offsetof(rp.Jitter), 12},
 		{"header", unsafe.Sizeof(h), 224},
 		{"header.timestamp", unsafe.Offsetof(h.Timestamp), 8},
 		{"header.ssrc", unsafe.Offsetof(h.SSRC), 12},

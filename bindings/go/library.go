@@ -105,8 +105,24 @@ func (r *WideReceiver) count() C.size_t {
 	return C.size_t(len(r.words))
 }
 
-func (r *RestartingReceiver) c() *C.rtpw_restarting_receiver {
-	return (*C.rtpw_restarting_receiver)(unsafe.Pointer(r))
+func (r *RestartingReceiver) c() *C.rtpw_wide_restarting_receiver {
+	return (*C.rtpw_wide_restarting_receiver)(unsafe.Pointer(&r.highest))
+}
+
+func (r *WideRestartingReceiver) c() *C.rtpw_wide_restarting_receiver {
+	return (*C.rtpw_wide_restarting_receiver)(unsafe.Pointer(&r.state))
+}
+
+// firstOf is where the words of a window lie.
+func firstOf(words []uint64) *C.uint64_t {
+	if len(words) == 0 {
+		return nil
+	}
+	return (*C.uint64_t)(unsafe.Pointer(&words[0]))
+}
+
+func (s *ReceptionStatistics) c() *C.rtpw_reception {
+	return (*C.rtpw_reception)(unsafe.Pointer(s))
 }
 
 func (v *Values) c() *C.rtpw_values {
@@ -151,6 +167,10 @@ func (r *Receiver) accepts(number uint64) bool {
 	return bool(C.rtpw_receiver_accepts(r.c(), C.uint64_t(number)))
 }
 
+func (r *Receiver) standingOf(number uint64) Standing {
+	return Standing(C.rtpw_receiver_standing_of(r.c(), C.uint64_t(number)))
+}
+
 func (r *Receiver) record(number uint64) {
 	C.rtpw_receiver_record(r.c(), C.uint64_t(number))
 }
@@ -181,6 +201,10 @@ func (r *WideReceiver) accepts(number uint64) bool {
 	return bool(C.rtpw_wide_receiver_accepts(r.c(), r.firstWord(), r.count(), C.uint64_t(number)))
 }
 
+func (r *WideReceiver) standingOf(number uint64) Standing {
+	return Standing(C.rtpw_wide_receiver_standing_of(r.c(), r.firstWord(), r.count(), C.uint64_t(number)))
+}
+
 func (r *WideReceiver) record(number uint64) error {
 	return errorOf(int32(C.rtpw_wide_receiver_record(r.c(), r.firstWord(), r.count(), C.uint64_t(number))))
 }
@@ -199,14 +223,29 @@ func verdictOr(it C.call_number) (uint64, Verdict, error) {
 	}
 }
 
-func (r *RestartingReceiver) receive(sequenceNumber uint16) (uint64, Verdict) {
-	number, verdict, _ := verdictOr(C.call_restarting_receive(r.c(), C.uint16_t(sequenceNumber)))
+func receiveRestarting(r *C.rtpw_wide_restarting_receiver, words []uint64, sequenceNumber uint16) (uint64, Verdict) {
+	it := C.call_restarting_receive(r, firstOf(words), C.size_t(len(words)), C.uint16_t(sequenceNumber))
+	number, verdict, _ := verdictOr(it)
 	return number, verdict
 }
 
-func (r *RestartingReceiver) receivePacket(datagram []byte, m *Map, p *Packet) (uint64, Verdict, error) {
-	it := C.call_restarting_receive_packet(r.c(), first(datagram), size(datagram), m.c(), p.Header.c(), p.parts.c())
-	return verdictOr(it)
+func receiveRestartingPacket(r *C.rtpw_wide_restarting_receiver, words []uint64, datagram []byte, m *Map, p *Packet) (uint64, Verdict, error) {
+	return verdictOr(C.call_restarting_receive_packet(r, firstOf(words), C.size_t(len(words)), first(datagram),
+		size(datagram), m.c(), p.Header.c(), p.parts.c()))
+}
+
+func (s *ReceptionStatistics) record(number uint64, timestamp, arrival uint32) {
+	C.rtpw_reception_record(s.c(), C.uint64_t(number), C.uint32_t(timestamp), C.uint32_t(arrival))
+}
+
+func (s *ReceptionStatistics) report() (ReceptionReport, bool) {
+	it := C.call_reception_report(s.c())
+	return *(*ReceptionReport)(unsafe.Pointer(&it.report)), it.status == C.RTPW_OK
+}
+
+func (r ReceptionReport) appendBlock(data []byte, ssrc, lastReport, delay uint32) ([]byte, error) {
+	report := *(*C.rtpw_report)(unsafe.Pointer(&r))
+	return appended(data, C.call_write_report(report, C.uint32_t(ssrc), C.uint32_t(lastReport), C.uint32_t(delay)))
 }
 
 func extend8(previous uint64, number uint8) uint64 {
@@ -249,6 +288,10 @@ func kindOfURI(uri []byte) Kind {
 	return Kind(C.rtpw_kind_of_uri(first(uri), size(uri)))
 }
 
+func (k Kind) uri(buf []byte) (int, error) {
+	return lenOr(C.call_uri_of_kind(C.uint8_t(k), first(buf), size(buf)))
+}
+
 func (m *Map) set(id uint8, kind Kind) error {
 	return errorOf(int32(C.rtpw_map_set((*C.rtpw_map)(unsafe.Pointer(&m.kinds)), C.uint8_t(id), C.uint8_t(kind))))
 }
@@ -279,6 +322,19 @@ func (h *Header) wireLenLayers(m *Map, l *Layers) (int, error) {
 
 func (h *Header) writeLayers(buf []byte, m *Map, l *Layers) (int, error) {
 	return lenOr(C.call_write_layers(m.c(), h.c(), l.c(), first(buf), size(buf)))
+}
+
+// kindsOr is the kinds, or the error that the status means.
+func kindsOr(it C.call_kinds) (KindSet, error) {
+	return KindSet(it.kinds), errorOf(int32(it.status))
+}
+
+func (h *Header) leftOut(m *Map) (KindSet, error) {
+	return kindsOr(C.call_left_out(m.c(), h.c()))
+}
+
+func (h *Header) leftOutLayers(m *Map, l *Layers) (KindSet, error) {
+	return kindsOr(C.call_left_out_layers(m.c(), h.c(), l.c()))
 }
 
 func (h *Header) writeWith(buf []byte, form Form, data []byte, places []Place) (int, error) {

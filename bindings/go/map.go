@@ -63,6 +63,16 @@ func KindOfURI(uri string) Kind {
 	return kindOfURI([]byte(uri))
 }
 
+// URI is the URI that names the kind in SDP (RFC 8285, 5), as an answer says it: "" for KindNone, and for yours.
+func (k Kind) URI() string {
+	var buf [73]byte // the longest has as many
+	n, err := k.uri(buf[:])
+	if err != nil {
+		return ""
+	}
+	return string(buf[:n])
+}
+
 // A Map says which kind of extension each id means, as the two peers agreed (RFC 8285, 5). In the zero Map no id
 // means anything, and a nil *Map is read as that. It may be copied, and compared with ==.
 type Map struct {

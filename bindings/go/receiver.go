@@ -1,8 +1,13 @@
 package rtpwire
 
 // A Receiver is the receive state of one stream: a replay window of 128 numbers, and the rollover count (RFC 3711,
-// 3.3.1 and 3.3.2). Keep one for each SSRC. The zero Receiver has taken nothing yet, and its first packet has the
-// rollover count 0. It is 32 bytes, and may be copied and compared.
+// 3.3.1 and 3.3.2). Keep one for each SSRC. Make it by [NewReceiver], at the rollover count 1 where nothing is
+// authenticated: a packet from before the first one then has a number too. It is 32 bytes, and may be copied and
+// compared.
+//
+// The zero Receiver has taken nothing yet either, and its first packet has the rollover count 0: it is for SRTP, where
+// a stream's packet indices begin there. Without authentication 65,533 after 5 gets a number near 2^64, and once that
+// is taken nearly all later ones are refused.
 //
 // A packet is taken where its number is above the highest taken, or less than 128 below it and not taken. With SRTP
 // a forged packet must change nothing: CheckPacket, authenticate it, Record.
@@ -13,10 +18,9 @@ type Receiver struct {
 	started      bool
 }
 
-// NewReceiver is a receiver that has taken nothing yet, whose first packet has this rollover count. It returns
-// ErrBadField where that is 2^48 or more. With a count of 1 or more a packet from before the first one has a number
-// too; with 0 it gets one near 2^64, and once that is taken nearly all later ones are refused. So where nothing is
-// authenticated start at 1.
+// NewReceiver is a receiver that has taken nothing yet, whose first packet has this rollover count: 1 where nothing is
+// authenticated, so that a packet from before the first one has a number too, and with SRTP the count that was
+// signalled, or 0. It returns ErrBadField where the count is 2^48 or more.
 func NewReceiver(rolloverCount uint64) (*Receiver, error) {
 	r := new(Receiver)
 	if err := r.start(rolloverCount); err != nil {
@@ -77,6 +81,37 @@ func (r *Receiver) NumberOf(sequenceNumber uint16) uint64 {
 // Accepts is whether the number may be taken.
 func (r *Receiver) Accepts(number uint64) bool {
 	return r.accepts(number)
+}
+
+// A Standing is what a receiver knows of a number: why it isn't accepted.
+type Standing uint8
+
+// What is known of a number.
+const (
+	// StandingNew: it may be taken.
+	StandingNew Standing = iota
+	// StandingTaken: it is in the window and was taken, so that its packet is a replay.
+	StandingTaken
+	// StandingTooOld: it is behind the window, which doesn't tell any more whether it was taken.
+	StandingTooOld
+)
+
+// String names what is known.
+func (s Standing) String() string {
+	switch s {
+	case StandingNew:
+		return "new"
+	case StandingTaken:
+		return "taken already"
+	default:
+		return "too old to tell"
+	}
+}
+
+// StandingOf is what is known of the number. A packet that was refused changed nothing, so after ErrRefused
+// r.StandingOf(r.NumberOf(p.SequenceNumber)) says why.
+func (r *Receiver) StandingOf(number uint64) Standing {
+	return r.standingOf(number)
 }
 
 // Record records that the number is taken. One that isn't accepted changes nothing.

@@ -7,6 +7,57 @@ import (
 	"rtpwire"
 )
 
+func TestStandings(t *testing.T) {
+	first, err := rtpwire.NewReceiver(1)
+	same(t, "made", err, nil)
+	words := wide(t, 16, 1)
+	same(t, "nothing is taken", []any{first.StandingOf(0), words.StandingOf(0)}, []any{rtpwire.StandingNew, rtpwire.StandingNew})
+	first.Record(66536)
+	words.Record(66536)
+	for _, row := range []struct {
+		number      uint64
+		first, wide rtpwire.Standing
+	}{
+		{66537, rtpwire.StandingNew, rtpwire.StandingNew},
+		{66536, rtpwire.StandingTaken, rtpwire.StandingTaken},
+		{66409, rtpwire.StandingNew, rtpwire.StandingNew},
+		{66408, rtpwire.StandingTooOld, rtpwire.StandingNew},
+		{65513, rtpwire.StandingTooOld, rtpwire.StandingNew},
+		{65512, rtpwire.StandingTooOld, rtpwire.StandingTooOld},
+	} {
+		same(t, "standing", []any{first.StandingOf(row.number), words.StandingOf(row.number)}, []any{row.first, row.wide})
+	}
+	var none rtpwire.WideReceiver
+	same(t, "no words", none.StandingOf(0), rtpwire.StandingTooOld)
+	names := []string{rtpwire.StandingNew.String(), rtpwire.StandingTaken.String(), rtpwire.StandingTooOld.String()}
+	same(t, "names", names, []string{"new", "taken already", "too old to tell"})
+}
+
+// A packet from before the first one has a number where the rollover count is 1, and one near 2^64 where it is 0.
+func TestPacketFromBeforeTheFirst(t *testing.T) {
+	first, err := rtpwire.NewReceiver(1)
+	same(t, "made", err, nil)
+	number, ok := first.Receive(5)
+	same(t, "first", []any{number, ok}, []any{uint64(65541), true})
+	var zero rtpwire.Receiver
+	words := wide(t, 16, 1)
+	words.Receive(5)
+	zero.Receive(5)
+	for _, row := range []struct {
+		low          uint16
+		number       uint64
+		fromZero     uint64
+		isTakenAfter bool
+	}{{65533, 65533, 1<<64 - 3, true}, {6, 65542, 0, false}, {7, 65543, 0, false}} {
+		number, ok = first.Receive(row.low)
+		same(t, "from 1", []any{number, ok}, []any{row.number, true})
+		number, ok = words.Receive(row.low)
+		same(t, "wide, from 1", []any{number, ok}, []any{row.number, true})
+		number, ok = zero.Receive(row.low)
+		same(t, "from 0", []any{number, ok}, []any{row.fromZero, row.isTakenAfter})
+	}
+}
+
 func TestReceiver(t *testing.T) {
 	var r rtpwire.Receiver
 	if _, ok := r.Highest(); ok {

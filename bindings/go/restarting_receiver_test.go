@@ -14,7 +14,9 @@ type judged struct {
 }
 
 // judges compares the verdicts on packets, one after another, with those of RFC 3550, A.1, by hand.
-func judges(t *testing.T, r *rtpwire.RestartingReceiver, rows []judged) {
+func judges(t *testing.T, r interface {
+	Receive(uint16) (uint64, rtpwire.Verdict)
+}, rows []judged) {
 	t.Helper()
 	for _, row := range rows {
 		number, verdict := r.Receive(row.low)
@@ -46,10 +48,8 @@ func TestLargeJump(t *testing.T) {
 func TestVeryNextPacket(t *testing.T) {
 	judges(t, new(rtpwire.RestartingReceiver), []judged{
 		{1000, 66536, rtpwire.Taken},
-		{873, 66409, rtpwire.Taken}, // 127 below
-		{872, 0, rtpwire.Refused},
+		{29999, 0, rtpwire.Refused},
 		{1001, 66537, rtpwire.Taken},
-		{873, 0, rtpwire.Refused},
 		{30000, 0, rtpwire.Refused},
 		{30001, 226609, rtpwire.Restarted},
 	})
@@ -63,6 +63,73 @@ func TestBounds(t *testing.T) {
 		{603, 0, rtpwire.Refused},
 		{602, 66138, rtpwire.Taken},
 	})
+}
+
+// Retransmissions are no restart: 1,023 below is in the window, and 2,999 below is of the stream.
+func TestLatePackets(t *testing.T) {
+	rows := []judged{
+		{5000, 70536, rtpwire.Taken},
+		{4800, 70336, rtpwire.Taken},
+		{4801, 70337, rtpwire.Taken},
+		{4801, 0, rtpwire.Refused},
+		{3977, 69513, rtpwire.Taken},
+		{3976, 0, rtpwire.Refused},
+		{2001, 0, rtpwire.Refused},
+		{2002, 0, rtpwire.Refused},
+		{2000, 0, rtpwire.Refused},
+		{2001, 0, rtpwire.Refused},
+		{1999, 0, rtpwire.Refused},
+		{2000, 198608, rtpwire.Restarted},
+	}
+	judges(t, new(rtpwire.RestartingReceiver), rows)
+	judges(t, wideRestarting(t, 16, rtpwire.RestartBounds{}), rows)
+	// a window of 32,768 numbers is the bound
+	judges(t, wideRestarting(t, 512, rtpwire.RestartBounds{}), []judged{{40000, 105536, rtpwire.Taken}, {7233, 72769, rtpwire.Taken}})
+}
+
+// By RFC 3550's bounds 99 below is of the stream and 100 isn't, and a source is valid with its second packet.
+func TestBoundsOfTheRFC(t *testing.T) {
+	rows := []judged{
+		{999, 0, rtpwire.Refused},
+		{1000, 66536, rtpwire.Taken},
+		{901, 66437, rtpwire.Taken},
+		{899, 0, rtpwire.Refused},
+		{900, 197508, rtpwire.Restarted},
+		{1000, 197608, rtpwire.Taken},
+		{4000, 0, rtpwire.Refused},
+	}
+	judges(t, &rtpwire.RestartingReceiver{MaxMisorder: 100, MinSequential: 2}, rows)
+	judges(t, wideRestarting(t, 2, rtpwire.RestartBounds{MaxMisorder: 100, MinSequential: 2}), rows)
+	judges(t, wideRestarting(t, 1, rtpwire.RestartBounds{MaxDropout: 10}), []judged{{5, 65541, rtpwire.Taken}, {15, 0, rtpwire.Refused}})
+}
+
+func wideRestarting(t *testing.T, words int, bounds rtpwire.RestartBounds) *rtpwire.WideRestartingReceiver {
+	t.Helper()
+	r, err := rtpwire.NewWideRestartingReceiver(words, bounds)
+	same(t, "made", err, nil)
+	return r
+}
+
+func TestWideRestartingReceivers(t *testing.T) {
+	for _, words := range []int{-1, 0, 513} {
+		r, err := rtpwire.NewWideRestartingReceiver(words, rtpwire.RestartBounds{})
+		same(t, "words", []any{r, err}, []any{(*rtpwire.WideRestartingReceiver)(nil), rtpwire.ErrBadField})
+	}
+	var none rtpwire.WideRestartingReceiver
+	judges(t, &none, []judged{{5, 0, rtpwire.Refused}})
+	var packet rtpwire.Packet
+	datagram := []byte{0x80, 96, 0, 5, 0, 0, 0, 1, 0, 0, 0, 7, 'h', 'i'}
+	_, _, err := none.ReceivePacket(datagram, nil, &packet)
+	same(t, "no words", err, rtpwire.ErrBadField)
+	r := wideRestarting(t, 3, rtpwire.RestartBounds{})
+	highest, ok := r.Highest()
+	same(t, "nothing is taken", []any{highest, ok}, []any{uint64(0), false})
+	number, verdict, err := r.ReceivePacket(datagram, nil, &packet)
+	same(t, "taken", []any{number, verdict, err, string(packet.Payload())}, []any{uint64(65541), rtpwire.Taken, nil, "hi"})
+	_, _, err = r.ReceivePacket(datagram[:11], nil, &packet)
+	same(t, "no packet", errors.Is(err, rtpwire.CutFixedPart), true)
+	highest, ok = r.Highest()
+	same(t, "highest", []any{highest, ok}, []any{uint64(65541), true})
 }
 
 func TestPacketsAreJudged(t *testing.T) {

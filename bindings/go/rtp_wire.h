@@ -30,8 +30,9 @@
  *
  * A buffer is a pointer and then its size in bytes. Numbers are in the byte order of the machine:
  * what stands in a packet in network byte order is turned. Outputs are written whole where the
- * status is RTPW_OK, and else not at all; but rtpw_restarting_receive writes the number at RTPW_RESTARTED too, and
- * its state at each status. The calls for many at once return nothing, and write a status beside each.
+ * status is RTPW_OK, and else not at all; but rtpw_restarting_receive and rtpw_wide_restarting_receive write the number
+ * at RTPW_RESTARTED too, and their state also at RTPW_REFUSED. The calls for many at once return nothing, and write a
+ * status beside each.
  *
  * Where a call has several faults, the status is that of the first of these:
  *   1. an argument is out of its range whatever the buffers hold, or data lie in the buffer: RTPW_BAD_FIELD;
@@ -324,6 +325,18 @@ typedef struct {
 /* The kind whose URI these bytes are, letter for letter; RTPW_KIND_NONE where it is that of none, as for
  * those of your own kinds. The URI is the bytes alone, without a zero behind them. */
 uint8_t rtpw_kind_of_uri(const uint8_t *uri, size_t len);
+/* Writes the URI that names the kind in SDP, as an answer says it, to the front of the buffer: at most 73 bytes
+ * (RTPW_URI_SIZE), and no zero behind them. RTPW_OK, and *len is how many; RTPW_NONE where the number is that of no
+ * kind, as RTPW_KIND_NONE and those of your own; RTPW_SHORT_BUFFER.
+ *
+ *     uint8_t uri[RTPW_URI_SIZE];
+ *     size_t uri_len;
+ *     if (rtpw_uri_of_kind(kind, uri, sizeof uri, &uri_len) == RTPW_OK) {
+ *         printf("a=extmap:%d %.*s\r\n", id, (int)uri_len, (const char *)uri);
+ *     }
+ */
+#define RTPW_URI_SIZE 73
+RTPW_CHECKED int32_t rtpw_uri_of_kind(uint8_t kind, uint8_t *buf, size_t size, size_t *len);
 /* The id means the kind from now on, or nothing with RTPW_KIND_NONE. RTPW_OK, or RTPW_BAD_FIELD where the
  * id is 0 or the kind is one of 16 to 127; then nothing changes. */
 RTPW_CHECKED int32_t rtpw_map_set(rtpw_map *map, uint8_t id, uint8_t kind);
@@ -518,6 +531,22 @@ RTPW_CHECKED int32_t rtpw_wire_len_layers(const rtpw_map *map, const rtpw_header
                                           size_t *len);
 RTPW_CHECKED int32_t rtpw_write_layers(const rtpw_map *map, const rtpw_header *header, const rtpw_layers *layers,
                                        uint8_t *buf, size_t size, size_t *len);
+
+/* Which kinds rtpw_write leaves out, and rtpw_write_layers with these layers: those of which a value is there (a has_
+ * isn't 0) and no element that is written carries it. Each is the bit 1 << kind of *kinds, as 1 << RTPW_KIND_MID, and
+ * no other bit is set: 0 where all that is there is written. Where has_extension is 0 they are all that are there;
+ * else those that no id means; an audio level without has_voice_activity, and the other way round; one of two playout
+ * delays; a capture offset without its time; and with rtpw_left_out RTPW_KIND_LAYERS where has_layers isn't 0. RTPW_OK;
+ * RTPW_BAD_FIELD as rtpw_write and rtpw_write_layers.
+ *
+ *     uint32_t kinds;
+ *     if (rtpw_left_out(&map, &header, &kinds) == RTPW_OK && kinds != 0) {
+ *         return complain(kinds); // has_extension isn't set, say, or the peer's map has no such kind
+ *     }
+ */
+RTPW_CHECKED int32_t rtpw_left_out(const rtpw_map *map, const rtpw_header *header, uint32_t *kinds);
+RTPW_CHECKED int32_t rtpw_left_out_layers(const rtpw_map *map, const rtpw_header *header, const rtpw_layers *layers,
+                                          uint32_t *kinds);
 
 /* As rtpw_write, with a block of these elements, whatever has_extension and the values hold. The data of each
  * are the data_len bytes at data_at of `data`: those that rtpw_next_element told of a body, say. What
@@ -842,8 +871,19 @@ RTPW_CHECKED int32_t rtpw_from_retransmission(uint8_t *buf, size_t size, size_t 
 /* ---- The numbers of a stream ---- */
 
 /* The receive state of one stream, a replay window of 128 numbers (RFC 3711, 3.3.1 and 3.3.2). 32
- * bytes of plain memory, of which each value is a state: it may be copied and stored. {0} has taken
- * nothing yet, and its first packet has the rollover count 0.
+ * bytes of plain memory, of which each value is a state: it may be copied and stored. Start it by
+ * rtpw_receiver_start, where nothing is authenticated at the rollover count 1: a packet from before the
+ * first one then has a number too.
+ *
+ *     rtpw_receiver receiver;
+ *     if (rtpw_receiver_start(&receiver, 1) != RTPW_OK) {
+ *         return; // not at a count below 2^48
+ *     }
+ *     int32_t status = rtpw_receiver_receive(&receiver, packet.sequence_number, &number);
+ *
+ * {0} has taken nothing yet either, and its first packet has the rollover count 0. It is for SRTP, where a
+ * stream's packet indices begin there. Without authentication 65,533 after 5 gets a number near 2^64, and once
+ * that is taken nearly all later ones are refused.
  *
  * The fields are told as the functions write them. As these read them, each `started` but 0 counts as 1, and
  * where started the highest number as taken, whatever bit 0 of recorded_low is; where not, of the numbers
@@ -861,8 +901,7 @@ typedef struct {
 
 /* Nothing is taken yet, and the first packet has this rollover count: `highest` becomes 65,536 times the
  * count, and all else 0, whatever it was. RTPW_OK, or RTPW_BAD_FIELD where the count is 2^48 or more.
- * With a count of 1 or more a packet from before the first one has a number too; with 0 it gets one near
- * 2^64, and once that is taken nearly all later ones are refused. */
+ * With a count of 1 or more a packet from before the first one has a number too, and with 0 one near 2^64. */
 RTPW_CHECKED int32_t rtpw_receiver_start(rtpw_receiver *receiver, uint64_t rollover_count);
 /* The extended sequence number: the nearest to the highest taken that ends in these 16 bits; of the
  * first packet the one with the rollover count of the start. Its low 48 bits are SRTP's packet index. */
@@ -876,12 +915,33 @@ void rtpw_receiver_record(rtpw_receiver *receiver, uint64_t number);
 /* RTPW_OK, and the number is written and recorded; or RTPW_REFUSED where it may not be taken. */
 RTPW_CHECKED int32_t rtpw_receiver_receive(rtpw_receiver *receiver, uint16_t sequence_number, uint64_t *number);
 
+/* What is known of a number: why it isn't accepted. */
+enum {
+    RTPW_NEW = 0,      /* it may be taken */
+    RTPW_TAKEN = 1,    /* it is in the window and was taken: the packet is a replay */
+    RTPW_TOO_OLD = 2,  /* it is behind the window, which doesn't tell any more whether it was taken */
+    RTPW_NO_WINDOW = 3 /* of a wide receiver alone: count is 0 or above 512 */
+};
+
+/* RTPW_NEW where rtpw_receiver_accepts is true, and else RTPW_TAKEN or RTPW_TOO_OLD. A packet that was refused changed
+ * nothing, so it can be asked afterwards:
+ *
+ *     if (status == RTPW_REFUSED) {
+ *         uint64_t number = rtpw_receiver_number_of(&receiver, packet.sequence_number);
+ *         late += rtpw_receiver_standing_of(&receiver, number) == RTPW_TOO_OLD;
+ *     }
+ */
+uint8_t rtpw_receiver_standing_of(const rtpw_receiver *receiver, uint64_t number);
+
 /* The receive state of one stream with a window of another size: 64 numbers for each of 1 to 512 words, which
  * are the caller's array beside it. Choose it so that the window is longer than a packet can be late: at 30
  * Mbit/s 128 numbers are 43 ms; libwebrtc has 1,024, which are 16 words.
  *
- *     rtpw_wide_receiver receiver = {0};
+ *     rtpw_wide_receiver receiver;
  *     uint64_t words[16];
+ *     if (rtpw_wide_receiver_start(&receiver, 1) != RTPW_OK) {
+ *         return; // not at a count below 2^48
+ *     }
  *     int32_t status = rtpw_wide_receiver_receive(&receiver, words, 16, packet.sequence_number, &number);
  *
  * 16 bytes of plain memory, of which each value is a state, with whatever words: these are written with the
@@ -889,8 +949,8 @@ RTPW_CHECKED int32_t rtpw_receiver_receive(rtpw_receiver *receiver, uint16_t seq
  * highest number as taken, whatever its bit is. Pass the same words at each call, and as many: another count is
  * another state.
  *
- * The calls are those of rtpw_receiver. Where count is 0 or above 512 they are refused: RTPW_BAD_FIELD, and not
- * accepted. */
+ * The calls are those of rtpw_receiver. Where count is 0 or above 512 they are refused: RTPW_BAD_FIELD, not
+ * accepted, and RTPW_NO_WINDOW. */
 typedef struct {
     uint64_t highest; /* the highest number taken; before that, 65,536 times the first packet's rollover count */
     uint8_t started;  /* 0 where nothing is taken yet, and then 1 */
@@ -910,6 +970,8 @@ RTPW_CHECKED int32_t rtpw_wide_receiver_record(rtpw_wide_receiver *receiver, uin
                                                uint64_t number);
 RTPW_CHECKED int32_t rtpw_wide_receiver_receive(rtpw_wide_receiver *receiver, uint64_t *words, size_t count,
                                                 uint16_t sequence_number, uint64_t *number);
+uint8_t rtpw_wide_receiver_standing_of(const rtpw_wide_receiver *receiver, const uint64_t *words, size_t count,
+                                       uint64_t number);
 
 /* The receive state of one stream that isn't authenticated and whose sender may start again under the same SSRC
  * (RFC 3550, appendix A.1). Not for SRTP: there a packet that isn't authentic must change nothing, and a sender
@@ -926,14 +988,15 @@ RTPW_CHECKED int32_t rtpw_wide_receiver_receive(rtpw_wide_receiver *receiver, ui
  * above those of the epochs before it, and a packet from before the first one of an epoch has a number too. Where
  * 2^64 leaves no such number the packet is refused.
  *
- * Not for a stream with retransmissions under its own SSRC either: two that are 128 and more below the highest
- * number, one after the other, look as if the sender had started again.
+ * Nor for packets that may come 128 numbers late, as retransmissions under the stream's own SSRC do: two of them in a
+ * row look as if the sender had started again, and copies of what was taken are then taken again. Take
+ * rtpw_wide_restarting_receiver for these.
  *
  * 32 bytes of plain memory, of which each value is a state. {0} has taken nothing yet, with the RFC's MAX_DROPOUT of
  * 3,000. The other two bounds are not the RFC's: MAX_MISORDER is the window's 128, where it has 100, and a
  * min_sequential of 0 takes a source with its first packet, where its MIN_SEQUENTIAL is 2. Set max_dropout and
- * min_sequential where others are wanted. Each `started` but 0 counts as 1, and where
- * started the highest number as taken, whatever its bit is. */
+ * min_sequential where others are wanted; rtpw_wide_restarting_receiver has all three. Each `started` but 0 counts as
+ * 1, and where started the highest number as taken, whatever its bit is. */
 typedef struct {
     uint64_t highest;       /* the highest number taken in the epoch; before that it isn't looked at */
     uint64_t words[2];      /* bit n % 64 of words[n / 64 % 2]: whether the number n is taken in the epoch */
@@ -949,6 +1012,91 @@ typedef struct {
  * written, and what is taken stays as it was. */
 RTPW_CHECKED int32_t rtpw_restarting_receive(rtpw_restarting_receiver *receiver, uint16_t sequence_number,
                                              uint64_t *number);
+
+/* Statistics of the packets that came from one source, by which its receiver reports what it got (RFC 3550, 6.4.1,
+ * A.3 and A.8):
+ *
+ *     uint64_t number = rtpw_receiver_number_of(&receiver, packet.sequence_number);
+ *     rtpw_reception_record(&reception, number, packet.timestamp, now);
+ *
+ * Record each packet of the source, those that are late and duplicates too, whether the receiver then takes it or
+ * refuses it: they count as received, so that the loss may be negative. With SRTP record it once it is authentic.
+ * Packets are expected from the first one's number on, even where one with a lower number comes later.
+ *
+ * Of packets that an rtpw_restarting_receiver refuses record those of the stream, after which its in_row is 0:
+ * rtpw_extend_u16(receiver.highest, ..) is their number. After RTPW_RESTARTED begin anew with {0}.
+ *
+ * 56 bytes of plain memory. {0} has recorded nothing yet. Each value may be passed, but what is reported of one that
+ * these calls don't leave means nothing. A count of packets past 64 bits stays at 2^64 - 1. */
+typedef struct {
+    uint64_t first;           /* the extended sequence number of the first packet */
+    uint64_t highest;         /* the highest extended sequence number of a packet */
+    uint64_t received;        /* how many packets came; 0 where none did yet */
+    uint64_t received_before; /* how many had come at the last report */
+    uint64_t expected_before; /* how many were expected at the last report */
+    uint64_t scaled_jitter;   /* sixteen times the jitter */
+    uint32_t transit;         /* the arrival less the timestamp of the packet that came last, modulo 2^32 */
+} rtpw_reception;
+
+/* What a report block says of a source, but for its SSRC and the times of the last sender report: 16 bytes. */
+typedef struct {
+    uint8_t fraction_lost;     /* of the packets expected since the last report, in 256ths, rounded down; 0 where the
+                                * loss is negative */
+    int32_t cumulative_lost;   /* the packets expected less those received, since the first one: -8,388,608 to
+                                * 8,388,607, and one of these two where it is beyond them */
+    uint32_t extended_highest; /* the highest sequence number, and in the high 16 bits how often they rolled over
+                                * since the first packet */
+    uint32_t jitter;           /* in ticks of the timestamp's clock */
+} rtpw_report;
+
+/* Records a packet that came, by its extended sequence number, its timestamp and the time of its arrival: in ticks of
+ * the timestamp's clock, from any moment on, modulo 2^32. */
+void rtpw_reception_record(rtpw_reception *reception, uint64_t number, uint32_t timestamp, uint32_t arrival);
+
+/* Reports on the packets that were recorded, and begins the interval of the next report. RTPW_NONE where none was
+ * recorded since the last report, since no report on the source is owed then (6.4). */
+RTPW_CHECKED int32_t rtpw_reception_report(rtpw_reception *reception, rtpw_report *report);
+
+/* Writes the report block on this source to the front of the buffer, and that it has 24 bytes (6.4.1). last_report is
+ * LSR, the middle 32 bits of the NTP time of the last sender report, and delay is DLSR, the time since it came in
+ * units of 1/65,536 s: both 0 where none came yet. A cumulative_lost that 24 bits can't carry is written as the
+ * nearest that they can. */
+RTPW_CHECKED int32_t rtpw_write_report(const rtpw_report *report, uint32_t ssrc, uint32_t last_report, uint32_t delay,
+                                       uint8_t *buf, size_t size, size_t *len);
+
+/* The same with a window of another size, 64 numbers for each of 1 to 512 words, as rtpw_wide_receiver has it, and
+ * with a bound for late packets apart from the window's size: a packet is of the stream where its number is less than
+ * max_dropout above the highest one taken, or less than max_misorder below it. What is of the stream and behind the
+ * window is too old to tell, and is refused; two of those in a row are no restart.
+ *
+ *     rtpw_wide_restarting_receiver receiver = {0};
+ *     uint64_t words[16];
+ *     int32_t status = rtpw_wide_restarting_receive(&receiver, words, 16, packet.sequence_number, &number);
+ *
+ * Choose the window longer than a packet can be late, so that retransmissions are taken, and max_misorder so that none
+ * comes later still. A sender that starts again with a number that is less than max_misorder below the highest one, or
+ * less than max_dropout above it, isn't seen: its packets are refused until they pass the highest number.
+ *
+ * 24 bytes of plain memory, of which each value is a state, with whatever words: these are written with the first
+ * number that is taken, and not read before. {0} has taken nothing yet, with bounds that are safe where packets are
+ * sent again: max_dropout is the RFC's 3,000, max_misorder 3,000 too, or the size of the window where that is more, and
+ * no packet of a source is lost. RFC 3550, A.1, has a MAX_MISORDER of 100 and a MIN_SEQUENTIAL of 2. Pass the same
+ * words at each call, and as many. Each `started` but 0 counts as 1, and where started the highest number as taken,
+ * whatever its bit is. */
+typedef struct {
+    uint64_t highest;       /* the highest number taken in the epoch; before that it isn't looked at */
+    uint16_t max_dropout;   /* 0 stands for 3,000 */
+    uint16_t max_misorder;  /* 0 stands for 3,000, or for 64 * count where that is more */
+    uint16_t next;          /* the 16 bits after those of the last packet outside of the stream */
+    uint8_t min_sequential; /* a new source's first packet is taken with the last of so many in a row; 0 is as 1 */
+    uint8_t in_row;         /* how many packets outside of the stream came last in a row, at most 255 */
+    uint8_t started;        /* 0 where nothing is taken yet, and then 1 */
+} rtpw_wide_restarting_receiver;
+
+/* Judges the next packet of the source, as rtpw_restarting_receive does; RTPW_BAD_FIELD where count is 0 or above 512,
+ * and then nothing is written. Where started, bit n % 64 of words[n / 64 % count] is whether the number n is taken. */
+RTPW_CHECKED int32_t rtpw_wide_restarting_receive(rtpw_wide_restarting_receiver *receiver, uint64_t *words,
+                                                  size_t count, uint16_t sequence_number, uint64_t *number);
 
 /* The number nearest to the previous one, modulo 2^64, that ends in these 8, 15, 16 or 32 bits. Where two
  * are equally near it is the one with the rollover count of the previous one. The sixteenth bit of what is

@@ -16,9 +16,9 @@ type wideState struct {
 	started bool
 }
 
-// NewWideReceiver is a receiver that has taken nothing yet, whose first packet has this rollover count: with 1 or more
-// a packet from before the first one has a number too, as [NewReceiver] says. It returns ErrBadField where the words
-// aren't 1 to 512, or the count is 2^48 or more.
+// NewWideReceiver is a receiver that has taken nothing yet, whose first packet has this rollover count: 1 where nothing
+// is authenticated, as [NewReceiver] says. It returns ErrBadField where the words aren't 1 to 512, or the count is 2^48
+// or more.
 func NewWideReceiver(words int, rolloverCount uint64) (*WideReceiver, error) {
 	if words < 1 || words > 512 {
 		return nil, ErrBadField
@@ -72,6 +72,14 @@ func (r *WideReceiver) NumberOf(sequenceNumber uint16) uint64 {
 // Accepts is whether the number may be taken.
 func (r *WideReceiver) Accepts(number uint64) bool {
 	return r.accepts(number)
+}
+
+// StandingOf is what is known of the number, as [Receiver.StandingOf]; of the zero WideReceiver it is StandingTooOld.
+func (r *WideReceiver) StandingOf(number uint64) Standing {
+	if len(r.words) == 0 {
+		return StandingTooOld
+	}
+	return r.standingOf(number)
 }
 
 // Record records that the number is taken. It is not ok, and nothing changes, where the number isn't accepted.

@@ -22,6 +22,7 @@ static const char uri[] = "urn:ietf:params:rtp-hdrext:sdes:mid";
 static uint8_t kept[sizeof packet + 2];
 static uint8_t buf[1500];
 static size_t len, count;
+static uint32_t kinds;
 static uint64_t number;
 static rtpw_packet parts;
 static rtpw_header header, written;
@@ -35,6 +36,11 @@ static rtpw_wide_receiver wide;
 static uint64_t words[16], wide_number;
 static rtpw_restarting_receiver restarting;
 static uint64_t restarting_number;
+static rtpw_reception reception;
+static uint64_t recorded;
+static rtpw_report report;
+static rtpw_wide_restarting_receiver wide_restarting;
+static uint64_t restarting_words[16], wide_restarting_number;
 static rtpw_fields fields;
 /* Data of each value that a standard lays out: of a color space with HDR metadata, and of the others their first bytes. */
 static const uint8_t data[28] = {1, 1, 1, 0x24, 5, 6, 7, 8, 9, 10, 11, 12, 13};
@@ -95,10 +101,13 @@ enum { BODY_AT = 16, BODY_LEN = 16 };
     X(rtpw_write, rtpw_write(&map, &written, buf, sizeof buf, &len))                                                  \
     X(rtpw_wire_len_layers, rtpw_wire_len_layers(&layers_map, &written, &given_layers, &len))                         \
     X(rtpw_write_layers, rtpw_write_layers(&layers_map, &written, &given_layers, buf, sizeof buf, &len))              \
+    X(rtpw_left_out, rtpw_left_out(&map, &written, &kinds))                                                           \
+    X(rtpw_left_out_layers, rtpw_left_out_layers(&layers_map, &written, &given_layers, &kinds))                       \
     X(rtpw_write_with, rtpw_write_with(&written, rtcp, sizeof rtcp, &element, 1, buf, sizeof buf, &len))              \
     X(rtpw_write_with_form, rtpw_write_with_form(&written, rtcp, sizeof rtcp, &element, 1, 2, buf, sizeof buf, &len)) \
     X(rtpw_write_elements, rtpw_write_elements(rtcp, sizeof rtcp, &element, 1, RTPW_ONE_BYTE_FORM, buf, sizeof buf, &len)) \
     X(rtpw_kind_of_uri, rtpw_kind_of_uri((const uint8_t *)uri, sizeof uri - 1))                                       \
+    X(rtpw_uri_of_kind, rtpw_uri_of_kind(RTPW_KIND_MID, buf, sizeof buf, &len))                                        \
     X(rtpw_map_set, rtpw_map_set(&other_map, 3, RTPW_KIND_AUDIO_LEVEL))                                               \
     X(rtpw_map_get, rtpw_map_get(&map, 3))                                                                            \
     X(rtpw_map_standard, (rtpw_map_standard(&other_map), 0))                                                          \
@@ -140,14 +149,21 @@ enum { BODY_AT = 16, BODY_LEN = 16 };
     X(rtpw_receiver_start, rtpw_receiver_start(&receiver, 1))                                                         \
     X(rtpw_receiver_number_of, rtpw_receiver_number_of(&receiver, (uint16_t)(number + 1)))                            \
     X(rtpw_receiver_accepts, rtpw_receiver_accepts(&receiver, number + 1))                                            \
+    X(rtpw_receiver_standing_of, rtpw_receiver_standing_of(&receiver, number))                                        \
     X(rtpw_receiver_record, (rtpw_receiver_record(&receiver, ++number), 0))                                           \
     X(rtpw_receiver_receive, rtpw_receiver_receive(&receiver, (uint16_t)(number + 1), &number))                       \
     X(rtpw_wide_receiver_start, rtpw_wide_receiver_start(&wide, 1))                                                   \
     X(rtpw_wide_receiver_number_of, rtpw_wide_receiver_number_of(&wide, (uint16_t)(wide_number + 1)))                 \
     X(rtpw_wide_receiver_accepts, rtpw_wide_receiver_accepts(&wide, words, 16, wide_number + 1))                      \
+    X(rtpw_wide_receiver_standing_of, rtpw_wide_receiver_standing_of(&wide, words, 16, wide_number))                  \
     X(rtpw_wide_receiver_record, rtpw_wide_receiver_record(&wide, words, 16, ++wide_number))                          \
     X(rtpw_wide_receiver_receive, rtpw_wide_receiver_receive(&wide, words, 16, (uint16_t)(wide_number + 1), &wide_number))\
     X(rtpw_restarting_receive, rtpw_restarting_receive(&restarting, (uint16_t)(restarting_number + 1), &restarting_number))\
+    X(rtpw_reception_record, (++recorded, rtpw_reception_record(&reception, recorded, (uint32_t)recorded, 7), 0))     \
+    X(rtpw_reception_report, (reception.received_before = 0, rtpw_reception_report(&reception, &report)))             \
+    X(rtpw_write_report, rtpw_write_report(&report, 44, 2, 3, buf, sizeof buf, &len))                                 \
+    X(rtpw_wide_restarting_receive, rtpw_wide_restarting_receive(&wide_restarting, restarting_words, 16,              \
+      (uint16_t)(wide_restarting_number + 1), &wide_restarting_number))                                               \
     MANY(X)                                                                                                           \
     X(rtpw_extend_u8, rtpw_extend_u8(number, 7))                                                                      \
     X(rtpw_extend_u15, rtpw_extend_u15(number, 7))                                                                    \

@@ -33,6 +33,8 @@ size_t write_fixed(const rtpw_header *header, bool has_extension, uint8_t *bytes
 /* Writes the block of a header that can be written, with these bytes as its layer allocation where there are any. */
 size_t write_block(const rtpw_map *map, const rtpw_values *values, const uint8_t *allocation, size_t len,
                    uint8_t *bytes);
+/* The kinds of the header's values that rtpw_write leaves out, or rtpw_write_layers, each as its bit. */
+uint32_t kinds_left(const rtpw_map *map, const rtpw_header *header, bool with_layers);
 
 /* What has to be told of the packet that the bytes are, as the walk found it. */
 void packet_told(const uint8_t *bytes, size_t len, const walked *it, rtpw_packet *packet);
@@ -48,6 +50,8 @@ void receivers_round(void);
 void arrivals_round(void);
 void wide_receivers_round(void);
 void restarting_round(void);
+void reception_round(void);
+void wide_restarting_round(void);
 void values_round(void);
 void headers_round(void);
 void maps_round(void);
@@ -67,6 +71,8 @@ static inline void every_round(void) {
     arrivals_round();
     wide_receivers_round();
     restarting_round();
+    reception_round();
+    wide_restarting_round();
     values_round();
     headers_round();
     maps_round();

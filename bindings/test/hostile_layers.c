@@ -1,4 +1,4 @@
-/* rtpw_wire_len_layers, rtpw_write_layers: against a writer that owes nothing to the library (video-layers-allocation00).
+/* rtpw_wire_len_layers, rtpw_write_layers, rtpw_left_out_layers: against a writer that owes nothing to the library (video-layers-allocation00).
  * What was written is read again. */
 #include "hostile.h"
 
@@ -7,7 +7,7 @@
 /* The longest that is written: a header of 15 sources, and 255 elements of 257 bytes. */
 #define LONGEST_WRITTEN 65612
 
-static memory buffers, maps, headers, allocations, lengths;
+static memory buffers, maps, headers, allocations, lengths, outputs;
 
 /* ---- Random layers ---- */
 
@@ -209,6 +209,7 @@ void layers_round(void) {
         headers = memory_of(sizeof(rtpw_header));
         allocations = memory_of(sizeof(rtpw_layers));
         lengths = memory_of(sizeof(size_t));
+        outputs = memory_of(sizeof(uint32_t));
     }
     rtpw_map *map = block_in(&maps, sizeof *map), same_map;
     sparse_map(map);
@@ -250,6 +251,10 @@ void layers_round(void) {
     if (is_written) {
         layers_are_read(&same_given, &same, &same_map, buf, wanted);
     }
+    uint32_t *kinds = block_in(&outputs, sizeof *kinds);
+    *kinds = 0x80000001;
+    CHECK(rtpw_left_out_layers(map, header, layers, kinds) == (is_writable ? RTPW_OK : RTPW_BAD_FIELD));
+    CHECK(*kinds == (is_writable ? kinds_left(&same_map, &same, true) : 0x80000001));
     CHECK(memcmp(map, &same_map, sizeof same_map) == 0);
     CHECK(memcmp(header, &same, sizeof same) == 0);
     CHECK(memcmp(layers, &same_given, sizeof same_given) == 0);

@@ -1,4 +1,4 @@
-/* rtpw_kind_of_uri, rtpw_map_set, rtpw_map_get, rtpw_map_standard, rtpw_id_of, rtpw_new_ids_between,
+/* rtpw_kind_of_uri, rtpw_uri_of_kind, rtpw_map_set, rtpw_map_get, rtpw_map_standard, rtpw_id_of, rtpw_new_ids_between,
  * rtpw_renumber, rtpw_new_ids_to_retransmission, rtpw_new_ids_from_retransmission, rtpw_to_retransmission,
  * rtpw_from_retransmission */
 #include "hostile.h"
@@ -25,7 +25,7 @@ static const char *const URIS[16] = {
     "http://www.webrtc.org/experiments/rtp-hdrext/video-layers-allocation00",
 };
 
-static memory datagrams, uris, maps, other_maps, tables, lengths;
+static memory datagrams, uris, maps, other_maps, tables, lengths, lengths;
 
 /* A URI, at times with a byte changed, more or fewer, or bytes of any kind. */
 static void uri(void) {
@@ -54,6 +54,27 @@ static void uri(void) {
     memcpy(bytes, copy, len);
     CHECK(rtpw_kind_of_uri(bytes, len) == kind);
     CHECK(memcmp(bytes, copy, len) == 0);
+}
+
+/* The URI of any number, in as many bytes, fewer or more. */
+static void uri_of(void) {
+    static uint8_t before[100];
+    uint64_t x = random_u64();
+    uint8_t kind = (uint8_t)(x % 4 == 0 ? x >> 8 : 1 + x / 4 % 15);
+    bool is_kind = kind >= 1 && kind <= 15;
+    size_t wanted = is_kind ? strlen(URIS[kind]) : 0, size = x / 64 % 4 == 0 ? random_below(wanted + 1) : wanted + x / 256 % 8;
+    uint8_t *bytes = block_in(&uris, size);
+    fill(bytes, size);
+    memcpy(before, bytes, size);
+    size_t *len = block_in(&lengths, sizeof *len);
+    *len = 200;
+    int32_t due = !is_kind ? RTPW_NONE : size < wanted ? RTPW_SHORT_BUFFER : RTPW_OK;
+    CHECK(rtpw_uri_of_kind(kind, bytes, size, len) == due);
+    CHECK(*len == (due == RTPW_OK ? wanted : 200));
+    if (due == RTPW_OK) {
+        memcpy(before, URIS[kind], wanted);
+    }
+    CHECK(memcmp(bytes, before, size) == 0);
 }
 
 /* The number of a kind, or one of the caller's own. */
@@ -252,11 +273,13 @@ void maps_round(void) {
         lengths = memory_of(sizeof(size_t));
         datagrams = memory_of(LONGEST);
         uris = memory_of(200);
+        lengths = memory_of(sizeof(size_t));
         maps = memory_of(sizeof(rtpw_map));
         other_maps = memory_of(sizeof(rtpw_map));
         tables = memory_of(sizeof(rtpw_new_ids));
     }
     uri();
+    uri_of();
     rtpw_map *from = block_in(&maps, sizeof *from), *to = block_in(&other_maps, sizeof *to);
     random_map(from);
     random_map(to);

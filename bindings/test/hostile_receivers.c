@@ -1,4 +1,4 @@
-/* rtpw_receiver_start, rtpw_receiver_number_of, rtpw_receiver_accepts, rtpw_receiver_record,
+/* rtpw_receiver_start, rtpw_receiver_number_of, rtpw_receiver_accepts, rtpw_receiver_standing_of, rtpw_receiver_record,
  * rtpw_receiver_receive, rtpw_receive_many, rtpw_extend_u8, rtpw_extend_u15, rtpw_extend_u16, rtpw_extend_u32 */
 #include "hostile.h"
 
@@ -128,6 +128,9 @@ void receivers_round(void) {
     uint64_t tried = random_number(it.highest);
     CHECK(rtpw_receiver_number_of(receiver, low) == number_of(&it, low));
     CHECK(rtpw_receiver_accepts(receiver, tried) == accepts(&it, tried));
+    bool is_behind = it.is_started && tried <= it.highest && it.highest - tried >= 128;
+    unsigned refused_as = is_behind ? RTPW_TOO_OLD : RTPW_TAKEN;
+    CHECK(rtpw_receiver_standing_of(receiver, tried) == (accepts(&it, tried) ? RTPW_NEW : refused_as));
     CHECK(rtpw_extend_u8(it.highest, (uint8_t)low) == nearest(it.highest, 8, low % 256));
     CHECK(rtpw_extend_u15(it.highest, low) == nearest(it.highest, 15, low % 32768));
     CHECK(rtpw_extend_u16(it.highest, low) == nearest(it.highest, 16, low));

@@ -1,5 +1,5 @@
 /* rtpw_wide_receiver_start, rtpw_wide_receiver_number_of, rtpw_wide_receiver_accepts,
- * rtpw_wide_receiver_record, rtpw_wide_receiver_receive */
+ * rtpw_wide_receiver_standing_of, rtpw_wide_receiver_record, rtpw_wide_receiver_receive */
 #include "hostile.h"
 
 #include "../c/rtp_wire.h"
@@ -45,6 +45,13 @@ static bool accepts(const model *it, uint64_t number) {
         return true;
     }
     return it->highest - number < it->size && !it->taken[it->highest - number];
+}
+
+static unsigned standing_of(const model *it, uint64_t number) {
+    if (it->is_started && number <= it->highest && it->highest - number >= it->size) {
+        return RTPW_TOO_OLD;
+    }
+    return accepts(it, number) ? RTPW_NEW : RTPW_TAKEN;
 }
 
 /* Whether the receiver holds what the model holds with the number, of the numbers from 0 on. */
@@ -134,6 +141,8 @@ void wide_receivers_round(void) {
     bool is_window = count >= 1 && count <= 512;
     CHECK(rtpw_wide_receiver_number_of(receiver, low) == number_of(&it, low));
     CHECK(rtpw_wide_receiver_accepts(receiver, words, count, tried) == (is_window && accepts(&it, tried)));
+    CHECK(rtpw_wide_receiver_standing_of(receiver, words, count, tried) ==
+          (is_window ? standing_of(&it, tried) : RTPW_NO_WINDOW));
     CHECK(memcmp(receiver, &before, sizeof before) == 0);
     for (int i = 0; i < 6; i++) {
         judged(receiver, words, count, random_number(receiver->highest, count), i % 2 == 0 ? number : NULL);

@@ -1,4 +1,4 @@
-/* rtpw_wire_len, rtpw_write, rtpw_data_of: against a writer that owes nothing to the library (RFC 3550, 5.1; RFC 8285, 4.2
+/* rtpw_wire_len, rtpw_write, rtpw_left_out, rtpw_data_of: against a writer that owes nothing to the library (RFC 3550, 5.1; RFC 8285, 4.2
  * and 4.3; the documents of the extensions). What was written is read again. */
 #include "hostile.h"
 
@@ -7,7 +7,7 @@
 /* The longest that is written: a header of 15 sources, and 255 elements of 18 bytes. */
 #define LONGEST_WRITTEN 5000
 
-static memory buffers, maps, headers, lengths;
+static memory buffers, maps, headers, lengths, outputs;
 
 static void put_number(uint8_t *bytes, size_t width, uint64_t number) {
     for (size_t i = 0; i < width; i++) {
@@ -323,6 +323,45 @@ static void header_is_read(const rtpw_header *given, const rtpw_map *map, const 
     }
 }
 
+/* ---- What is left out ---- */
+
+/* Whether a field of the kind is there. */
+static bool is_there(size_t kind, const rtpw_values *it) {
+    const uint8_t there[16] = {
+        0,
+        it->has_send_time,
+        it->has_capture_time | it->has_capture_offset,
+        it->has_audio_level | it->has_voice_activity,
+        it->has_transmission_offset,
+        it->has_video_orientation,
+        it->has_transport_number,
+        it->has_playout_delay_min | it->has_playout_delay_max,
+        it->has_video_content_type,
+        it->has_video_timing,
+        it->has_rid,
+        it->has_repaired_rid,
+        it->has_mid,
+        it->has_frame_marking,
+        0,
+        it->has_layers,
+    };
+    return there[kind] != 0;
+}
+
+uint32_t kinds_left(const rtpw_map *map, const rtpw_header *header, bool with_layers) {
+    uint32_t kinds = 0;
+    for (uint8_t kind = 1; kind < 16; kind++) {
+        uint8_t data[17];
+        bool is_layers = with_layers && kind == RTPW_KIND_LAYERS;
+        bool has_data = is_layers || data_of(kind, &header->values, data) >= 0;
+        if ((is_layers || is_there(kind, &header->values)) &&
+            !(header->has_extension != 0 && is_mapped(map, kind) && has_data)) {
+            kinds |= 1u << kind;
+        }
+    }
+    return kinds;
+}
+
 /* ---- The calls ---- */
 
 static size_t *length(size_t *before) {
@@ -368,6 +407,7 @@ void writing_round(void) {
         maps = memory_of(sizeof(rtpw_map));
         headers = memory_of(sizeof(rtpw_header));
         lengths = memory_of(sizeof(size_t));
+        outputs = memory_of(sizeof(uint32_t));
     }
     rtpw_map *map = block_in(&maps, sizeof *map), same_map;
     sparse_map(map);
@@ -403,6 +443,10 @@ void writing_round(void) {
     if (is_written) {
         header_is_read(&same, &same_map, buf, wanted);
     }
+    uint32_t *kinds = block_in(&outputs, sizeof *kinds);
+    *kinds = 0x80000001;
+    CHECK(rtpw_left_out(map, header, kinds) == (is_writable ? RTPW_OK : RTPW_BAD_FIELD));
+    CHECK(*kinds == (is_writable ? kinds_left(&same_map, &same, false) : 0x80000001));
     CHECK(memcmp(map, &same_map, sizeof same_map) == 0);
     CHECK(memcmp(header, &same, sizeof same) == 0);
     one_value(&same.values);

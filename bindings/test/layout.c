@@ -72,6 +72,14 @@ HOLDS(sizeof(rtpw_wide_receiver) == 16);
 HOLDS(offsetof(rtpw_wide_receiver, highest) == 0);
 HOLDS(offsetof(rtpw_wide_receiver, started) == 8);
 
+HOLDS(sizeof(rtpw_wide_restarting_receiver) == 24);
+HOLDS(offsetof(rtpw_wide_restarting_receiver, highest) == 0);
+HOLDS(offsetof(rtpw_wide_restarting_receiver, max_dropout) == 8);
+HOLDS(offsetof(rtpw_wide_restarting_receiver, max_misorder) == 10);
+HOLDS(offsetof(rtpw_wide_restarting_receiver, next) == 12);
+HOLDS(offsetof(rtpw_wide_restarting_receiver, min_sequential) == 14);
+HOLDS(offsetof(rtpw_wide_restarting_receiver, in_row) == 15);
+HOLDS(offsetof(rtpw_wide_restarting_receiver, started) == 16);
 HOLDS(sizeof(rtpw_restarting_receiver) == 32);
 HOLDS(offsetof(rtpw_restarting_receiver, highest) == 0);
 HOLDS(offsetof(rtpw_restarting_receiver, words) == 8);
@@ -80,6 +88,21 @@ HOLDS(offsetof(rtpw_restarting_receiver, next) == 26);
 HOLDS(offsetof(rtpw_restarting_receiver, min_sequential) == 28);
 HOLDS(offsetof(rtpw_restarting_receiver, in_row) == 29);
 HOLDS(offsetof(rtpw_restarting_receiver, started) == 30);
+
+HOLDS(sizeof(rtpw_reception) == 56);
+HOLDS(offsetof(rtpw_reception, first) == 0);
+HOLDS(offsetof(rtpw_reception, highest) == 8);
+HOLDS(offsetof(rtpw_reception, received) == 16);
+HOLDS(offsetof(rtpw_reception, received_before) == 24);
+HOLDS(offsetof(rtpw_reception, expected_before) == 32);
+HOLDS(offsetof(rtpw_reception, scaled_jitter) == 40);
+HOLDS(offsetof(rtpw_reception, transit) == 48);
+
+HOLDS(sizeof(rtpw_report) == 16);
+HOLDS(offsetof(rtpw_report, fraction_lost) == 0);
+HOLDS(offsetof(rtpw_report, cumulative_lost) == 4);
+HOLDS(offsetof(rtpw_report, extended_highest) == 8);
+HOLDS(offsetof(rtpw_report, jitter) == 12);
 
 HOLDS(sizeof(rtpw_time) == 16);
 HOLDS(offsetof(rtpw_time, ticks) == 0);

@@ -25,6 +25,9 @@ static rtpw_receiver receiver;
 static rtpw_wide_receiver wide;
 static uint64_t words[512];
 static rtpw_restarting_receiver restarting;
+static rtpw_reception reception = {.first = 9, .received = 1};
+static rtpw_report report;
+static rtpw_wide_restarting_receiver wide_restarting;
 /* the longest packet, and one that isn't within the buffer */
 static rtpw_datagram datagrams[2] = {{.len = sizeof datagram}, {.at = 1, .len = SIZE_MAX}};
 static rtpw_datagram_header datagram_headers[2] = {{.len = sizeof datagram}, {.at = 1, .len = SIZE_MAX}};
@@ -39,6 +42,7 @@ static rtpw_element many[255];
 static uint64_t number;
 static uint16_t original;
 static size_t count;
+static uint32_t kinds;
 static int32_t status; /* looked at by nobody */
 static const uint8_t data[1] = {7};
 static rtpw_frame_marking marking = {1, 1, 1, 1, 1, 1, 7, 9, 1, 9};
@@ -128,12 +132,21 @@ static void wide_receiver_accepts(void) { number = rtpw_wide_receiver_accepts(&w
 static void wide_receiver_record(void) { status = rtpw_wide_receiver_record(&wide, words, 512, 65545); }
 static void wide_receiver_receive(void) { status = rtpw_wide_receiver_receive(&wide, words, 512, 99, &number); }
 static void restarting_receive(void) { status = rtpw_restarting_receive(&restarting, 99, &number); }
+static void reception_record(void) { rtpw_reception_record(&reception, 65545, 7, 9); }
+static void reception_report(void) { status = rtpw_reception_report(&reception, &report); }
+static void write_report(void) { status = rtpw_write_report(&report, 44, 2, 3, written, 24, &count); }
+static void receiver_standing_of(void) { number = rtpw_receiver_standing_of(&receiver, 9); }
+static void wide_receiver_standing_of(void) { number = rtpw_wide_receiver_standing_of(&wide, words, 512, 9); }
+static void wide_restarting_receive(void) { status = rtpw_wide_restarting_receive(&wide_restarting, words, 512, 99, &number); }
 static void receiver_receive(void) { status = rtpw_receiver_receive(&receiver, 99, &number); }
 static void receive_many(void) { rtpw_receive_many(&receiver, 1, arrivals, 3); }
 static void packet_parse_many(void) { rtpw_packet_parse_many(datagram, sizeof datagram, datagrams, 2); }
 static void parse_many(void) { rtpw_parse_many(datagram, sizeof datagram, &map, datagram_headers, 2); }
 static void values_read(void) { status = rtpw_values_read(datagram + 76, 262140, RTPW_ONE_BYTE_FORM, &map, &values); }
 static void kind_of_uri(void) { number = rtpw_kind_of_uri((const uint8_t *)LAST_URI, sizeof LAST_URI - 1); }
+static void uri_of_kind(void) {
+    status = rtpw_uri_of_kind(RTPW_KIND_LAYERS, datagram, sizeof datagram, &count);
+}
 static void map_set(void) { status = rtpw_map_set(&usual, 255, RTPW_KIND_MID); }
 static void map_get(void) { number = rtpw_map_get(&map, 3); }
 static void id_of(void) { number = rtpw_id_of(&map, 255); }
@@ -147,6 +160,8 @@ static void wire_len_layers(void) { status = rtpw_wire_len_layers(&map, &given, 
 static void write_layers(void) {
     status = rtpw_write_layers(&map, &given, &given_layers, datagram, sizeof datagram, &count);
 }
+static void left_out(void) { status = rtpw_left_out(&map, &given, &kinds); }
+static void left_out_layers(void) { status = rtpw_left_out_layers(&map, &given, &given_layers, &kinds); }
 static void write_with(void) {
     status = rtpw_write_with(&given, data, sizeof data, many, 255, datagram, sizeof datagram, &count);
 }
@@ -236,11 +251,13 @@ int main(void) {
         CALL(next_element), CALL(last_element), CALL(receiver_start), CALL(receiver_number_of),
         CALL(receiver_accepts), CALL(receiver_record), CALL(receiver_receive), CALL(wide_receiver_start),
         CALL(wide_receiver_number_of), CALL(wide_receiver_accepts), CALL(wide_receiver_record),
-        CALL(wide_receiver_receive), CALL(restarting_receive), CALL(extend_u16),
+        CALL(wide_receiver_receive), CALL(restarting_receive), CALL(wide_restarting_receive),
+        CALL(receiver_standing_of), CALL(wide_receiver_standing_of), CALL(reception_record),
+        CALL(reception_report), CALL(write_report), CALL(extend_u16),
         CALL(extend_u8), CALL(extend_u15), CALL(extend_u32), CALL(is_rtcp), CALL(set_padding), CALL(remove_padding),
-        CALL(values_read), CALL(kind_of_uri), CALL(map_set), CALL(map_get), CALL(map_standard), CALL(id_of), CALL(data_of),
+        CALL(values_read), CALL(kind_of_uri), CALL(uri_of_kind), CALL(map_set), CALL(map_get), CALL(map_standard), CALL(id_of), CALL(data_of),
         CALL(parse),
-        CALL(parse_layers), CALL(wire_len), CALL(write), CALL(wire_len_layers), CALL(write_layers), CALL(write_with), CALL(write_with_form),
+        CALL(parse_layers), CALL(wire_len), CALL(write), CALL(wire_len_layers), CALL(write_layers), CALL(left_out), CALL(left_out_layers), CALL(write_with), CALL(write_with_form),
         CALL(write_elements),
         CALL(new_ids_between), CALL(renumber), CALL(pad), CALL(read_original), CALL(write_original), CALL(version),
         CALL(new_ids_to_retransmission), CALL(new_ids_from_retransmission), CALL(to_retransmission),

@@ -140,6 +140,7 @@ static void null_is_no_bytes(void) {
     CHECK(rtpw_last_element(NULL, 0, RTPW_TWO_BYTE_FORM, 1, &element) == RTPW_NONE);
     CHECK(rtpw_values_read(NULL, 0, RTPW_ONE_BYTE_FORM, &MAP, &values) == RTPW_OK && values.has_mid == 0);
     CHECK(rtpw_kind_of_uri(NULL, 0) == RTPW_KIND_NONE);
+    CHECK(rtpw_uri_of_kind(RTPW_KIND_MID, NULL, 0, &len) == RTPW_SHORT_BUFFER && len == 9);
     CHECK(rtpw_write(&MAP, &HEADER, NULL, 0, &len) == RTPW_SHORT_BUFFER && len == 9);
     CHECK(rtpw_write_with(&HEADER, NULL, 0, NULL, 0, NULL, 0, &len) == RTPW_SHORT_BUFFER && len == 9);
     CHECK(rtpw_write_with(&HEADER, NULL, 0, NULL, 0, bytes, sizeof bytes, &len) == RTPW_OK && len == 16);

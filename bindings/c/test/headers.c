@@ -194,6 +194,47 @@ static void layers_are_written(void) {
     CHECK(rtpw_wire_len_layers(&map, &header, &layers, &len) == RTPW_BAD_FIELD && len == 20);
 }
 
+/* Of the kinds 3, 5, 7, 12 and 15: a level without voice, one of two delays, a mid that isn't mapped. */
+static void what_is_left_out_is_told(void) {
+    rtpw_map map = {{0}};
+    rtpw_header header = {0};
+    rtpw_layers layers = {0};
+    uint32_t kinds = 7;
+    map.kind[1] = RTPW_KIND_AUDIO_LEVEL;
+    map.kind[2] = map.kind[200] = RTPW_KIND_VIDEO_ORIENTATION;
+    map.kind[3] = RTPW_KIND_PLAYOUT_DELAY;
+    map.kind[4] = 130;
+    CHECK(rtpw_left_out(&map, &header, &kinds) == RTPW_OK && kinds == 0);
+    header.values.has_audio_level = header.values.has_video_orientation = header.values.has_mid = 1;
+    header.values.has_playout_delay_max = header.values.has_layers = 1;
+    header.values.playout_delay_max.hertz = 100;
+    CHECK(rtpw_left_out(&map, &header, &kinds) == RTPW_OK && kinds == 0x90A8); /* X is clear */
+    header.has_extension = 1;
+    CHECK(rtpw_left_out(&map, &header, &kinds) == RTPW_OK && kinds == 0x9088);
+    header.values.has_voice_activity = header.values.has_playout_delay_min = 1;
+    header.values.playout_delay_min.hertz = 90000;
+    CHECK(rtpw_left_out(&map, &header, &kinds) == RTPW_OK && kinds == 0x9000);
+    CHECK(rtpw_left_out_layers(&map, &header, &layers, &kinds) == RTPW_OK && kinds == 0x9000);
+    map.kind[255] = RTPW_KIND_LAYERS;
+    map.kind[15] = RTPW_KIND_MID;
+    CHECK(rtpw_left_out(&map, &header, &kinds) == RTPW_OK && kinds == 0x8000); /* rtpw_write writes no layers */
+    header.values.has_layers = 0;
+    CHECK(rtpw_left_out(&map, &header, &kinds) == RTPW_OK && kinds == 0);
+    CHECK(rtpw_left_out_layers(&map, &header, &layers, &kinds) == RTPW_OK && kinds == 0);
+    map.kind[9] = RTPW_KIND_ABS_CAPTURE_TIME;
+    header.values.has_capture_offset = 1;
+    CHECK(rtpw_left_out(&map, &header, &kinds) == RTPW_OK && kinds == 4);
+    CHECK(rtpw_left_out_layers(&map, &header, &layers, &kinds) == RTPW_OK && kinds == 4);
+    header.values.has_capture_time = 1;
+    CHECK(rtpw_left_out(&map, &header, &kinds) == RTPW_OK && kinds == 0);
+
+    kinds = 7;
+    layers.count = 5;
+    CHECK(rtpw_left_out_layers(&map, &header, &layers, &kinds) == RTPW_BAD_FIELD && kinds == 7);
+    header.payload_type = 128;
+    CHECK(rtpw_left_out(&map, &header, &kinds) == RTPW_BAD_FIELD && kinds == 7);
+}
+
 /* Four streams of four layers of four rates, whose first layer has a resolution of 1 * 1: 1 byte, 4 of counts, 64
  * rates and 5 bytes. */
 static rtpw_layers many_layers(uint64_t kbps) {
@@ -481,6 +522,7 @@ int main(void) {
     is_written();
     layers_are_read();
     layers_are_written();
+    what_is_left_out_is_told();
     layers_are_refused();
     elements_are_written();
     elements_are_written_in_one_form();

@@ -88,9 +88,69 @@ static void senders_start_again(void) {
     judged(&receiver, VALID, sizeof VALID / sizeof *VALID);
 }
 
+/* The wide form, with the bounds that are safe where packets are sent again, and with those of RFC 3550, A.1. */
+static void judged_by_words(rtpw_wide_restarting_receiver *receiver, uint64_t *words, size_t words_count, const row *rows,
+                            size_t count) {
+    size_t i;
+    for (i = 0; i < count; i++) {
+        uint64_t number = 7;
+        CHECK(rtpw_wide_restarting_receive(receiver, words, words_count, rows[i].low, &number) == rows[i].status);
+        CHECK(number == rows[i].number);
+    }
+}
+
+static void late_packets_are_no_restart(void) {
+    static const rtpw_wide_restarting_receiver NEW = {0};
+    /* 1,023 below is in the window and 1,024 isn't; 2,999 below is of the stream and 3,000 isn't */
+    static const row SAFE[] = {
+        {5000, RTPW_OK, 70536},     {4800, RTPW_OK, 70336},     {4801, RTPW_OK, 70337},         {4801, RTPW_REFUSED, 7},
+        {3977, RTPW_OK, 69513},     {3976, RTPW_REFUSED, 7},    {3977, RTPW_REFUSED, 7},        {2001, RTPW_REFUSED, 7},
+        {2002, RTPW_REFUSED, 7},    {5001, RTPW_OK, 70537},     {2002, RTPW_REFUSED, 7},        {2001, RTPW_REFUSED, 7},
+        {2002, RTPW_REFUSED, 7},    {2000, RTPW_REFUSED, 7},    {2001, RTPW_RESTARTED, 198609}, {2000, RTPW_OK, 198608}};
+    /* the RFC's: 99 below is of the stream and 100 isn't, and a new source is valid with its second packet */
+    static const row RFC[] = {
+        {999, RTPW_REFUSED, 7},  {1000, RTPW_OK, 66536},  {901, RTPW_OK, 66437}, {900, RTPW_REFUSED, 7}, {902, RTPW_OK, 66438},
+        {899, RTPW_REFUSED, 7},  {900, RTPW_RESTARTED, 197508}};
+    uint64_t words[512], number = 7;
+    rtpw_wide_restarting_receiver receiver = NEW;
+    judged_by_words(&receiver, words, 16, SAFE, sizeof SAFE / sizeof *SAFE);
+    CHECK(receiver.highest == 198609 && receiver.started == 1 && receiver.in_row == 0);
+    receiver = NEW;
+    receiver.max_misorder = 100;
+    receiver.min_sequential = 2;
+    judged_by_words(&receiver, words, 2, RFC, sizeof RFC / sizeof *RFC);
+    /* a window of more than 3,000 numbers is the bound */
+    receiver = NEW;
+    CHECK(rtpw_wide_restarting_receive(&receiver, words, 512, 40000, &number) == RTPW_OK && number == 105536);
+    CHECK(rtpw_wide_restarting_receive(&receiver, words, 512, 7233, &number) == RTPW_OK && number == 72769);
+    CHECK(rtpw_wide_restarting_receive(&receiver, words, 0, 9, &number) == RTPW_BAD_FIELD && number == 72769);
+    CHECK(rtpw_wide_restarting_receive(&receiver, words, 513, 9, &number) == RTPW_BAD_FIELD && receiver.highest == 105536);
+}
+
+/* What is known of numbers at the ends of the window. */
+static void numbers_are_told_apart(void) {
+    rtpw_receiver receiver;
+    rtpw_wide_receiver wide;
+    uint64_t words[16], number;
+    CHECK(rtpw_receiver_start(&receiver, 1) == RTPW_OK && rtpw_wide_receiver_start(&wide, 1) == RTPW_OK);
+    CHECK(rtpw_receiver_standing_of(&receiver, 0) == RTPW_NEW);
+    CHECK(rtpw_wide_receiver_standing_of(&wide, words, 16, 0) == RTPW_NEW);
+    CHECK(rtpw_receiver_receive(&receiver, 1000, &number) == RTPW_OK && number == 66536);
+    CHECK(rtpw_receiver_standing_of(&receiver, 66536) == RTPW_TAKEN && rtpw_receiver_standing_of(&receiver, 66537) == RTPW_NEW);
+    CHECK(rtpw_receiver_standing_of(&receiver, 66409) == RTPW_NEW && rtpw_receiver_standing_of(&receiver, 66408) == RTPW_TOO_OLD);
+    CHECK(rtpw_wide_receiver_record(&wide, words, 16, 66536) == RTPW_OK);
+    CHECK(rtpw_wide_receiver_standing_of(&wide, words, 16, 66536) == RTPW_TAKEN);
+    CHECK(rtpw_wide_receiver_standing_of(&wide, words, 16, 65513) == RTPW_NEW);
+    CHECK(rtpw_wide_receiver_standing_of(&wide, words, 16, 65512) == RTPW_TOO_OLD);
+    CHECK(rtpw_wide_receiver_standing_of(&wide, words, 513, 66537) == RTPW_NO_WINDOW);
+    CHECK(rtpw_wide_receiver_standing_of(&wide, NULL, 0, 66537) == RTPW_NO_WINDOW);
+}
+
 int main(void) {
     a_thousand_numbers();
     counts_of_words();
     senders_start_again();
+    late_packets_are_no_restart();
+    numbers_are_told_apart();
     return failed;
 }

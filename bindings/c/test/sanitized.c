@@ -210,6 +210,12 @@ static void values_read(void) {
     done(rtpw_values_read(body, 4, RTPW_ONE_BYTE_FORM, kinds, it));
     set(it, sizeof *it);
 }
+static void uri_of_kind(void) {
+    uint8_t *bytes = out(40);
+    size_t *len = out(sizeof *len);
+    done(rtpw_uri_of_kind(RTPW_KIND_MID, bytes, 40, len));
+    set(bytes, *len);
+}
 static void kind_of_uri(void) {
     (void)rtpw_kind_of_uri(in("urn:x", 5), 5);
 }
@@ -292,6 +298,24 @@ static void write_layers(void) {
     size_t *len = out(sizeof *len);
     done(rtpw_write_layers(kinds, head, streams, bytes, 40, len));
     set(bytes, *len);
+}
+static void left_out(void) {
+    rtpw_header it = header();
+    const rtpw_map *kinds = MAP;
+    const rtpw_header *head = in(&it, sizeof it);
+    uint32_t *left = out(sizeof *left);
+    done(rtpw_left_out(kinds, head, left));
+    set(left, sizeof *left);
+}
+static void left_out_layers(void) {
+    rtpw_header it = header();
+    rtpw_layers lay = layers();
+    const rtpw_map *kinds = MAP;
+    const rtpw_header *head = in(&it, sizeof it);
+    const rtpw_layers *streams = in(&lay, sizeof lay);
+    uint32_t *left = out(sizeof *left);
+    done(rtpw_left_out_layers(kinds, head, streams, left));
+    set(left, sizeof *left);
 }
 static void write_with(void) {
     rtpw_header it = header();
@@ -541,6 +565,7 @@ static void from_retransmission(void) {
 static const rtpw_receiver receiver = {65541, 1, 0, 1};
 static const rtpw_wide_receiver wide = {65541, 1};
 static const uint64_t words[2] = {32, 0};
+static const rtpw_wide_restarting_receiver wide_restarting = {65541, 0, 0, 0, 0, 0, 1};
 static const rtpw_restarting_receiver restarting = {65541, {32, 0}, 0, 0, 0, 0, 1};
 #define RECEIVER in(&receiver, sizeof receiver)
 #define WIDE in(&wide, sizeof wide)
@@ -608,6 +633,47 @@ static void restarting_receive(void) {
     uint64_t *number = out(sizeof *number);
     done(rtpw_restarting_receive(it, 6, number));
     set(number, sizeof *number);
+}
+static const rtpw_reception reception = {65541, 65543, 2, 0, 0, 160, 7};
+static void reception_record(void) {
+    rtpw_reception *it = in(&reception, sizeof reception);
+    rtpw_reception_record(it, 65544, 1, 2);
+}
+static void reception_report(void) {
+    rtpw_reception *it = in(&reception, sizeof reception);
+    rtpw_report *report = out(sizeof *report);
+    done(rtpw_reception_report(it, report));
+    set(report, sizeof *report);
+}
+static void write_report(void) {
+    static const rtpw_report that = {64, -2, 65544, 1};
+    const rtpw_report *it = in(&that, sizeof that);
+    uint8_t *bytes = out(24);
+    size_t *len = out(sizeof *len);
+    done(rtpw_write_report(it, 44, 2, 3, bytes, 24, len));
+    set(bytes, *len);
+}
+static void wide_restarting_receive(void) {
+    rtpw_wide_restarting_receiver *it = in(&wide_restarting, sizeof wide_restarting);
+    uint64_t *window = WORDS, *number = out(sizeof *number);
+    done(rtpw_wide_restarting_receive(it, window, 2, 6, number));
+    set(it, sizeof *it);
+    set(window, 2 * sizeof *window);
+    set(number, sizeof *number);
+}
+static void wide_restarting_first(void) { /* neither the highest number is looked at nor the words */
+    rtpw_wide_restarting_receiver *it = out(sizeof *it);
+    uint64_t *window = out(2 * sizeof *window), number;
+    it->max_dropout = it->max_misorder = it->min_sequential = it->in_row = it->started = 0;
+    done(rtpw_wide_restarting_receive(it, window, 2, 6, &number));
+    set(window, 2 * sizeof *window);
+}
+static void receiver_standing_of(void) {
+    (void)rtpw_receiver_standing_of(RECEIVER, 65541);
+}
+static void wide_receiver_standing_of(void) {
+    const rtpw_wide_receiver *it = WIDE;
+    (void)rtpw_wide_receiver_standing_of(it, WORDS, 2, 65541);
 }
 /* One datagram, and one that isn't within the buffer. */
 static void packet_parse_many(void) {
@@ -709,6 +775,7 @@ static const struct {
     CASE(last_element),
     CASE(values_read),
     CASE(kind_of_uri),
+    CASE(uri_of_kind),
     CASE(map_set),
     CASE(map_get),
     CASE(id_of),
@@ -720,6 +787,8 @@ static const struct {
     CASE(written),
     CASE(wire_len_layers),
     CASE(write_layers),
+    CASE(left_out),
+    CASE(left_out_layers),
     CASE(write_with),
     CASE(write_with_form),
     CASE(write_elements),
@@ -768,6 +837,13 @@ static const struct {
     CASE(wide_receiver_receive),
     CASE(wide_receiver_first),
     CASE(restarting_receive),
+    CASE(reception_record),
+    CASE(reception_report),
+    CASE(write_report),
+    CASE(wide_restarting_receive),
+    CASE(wide_restarting_first),
+    CASE(receiver_standing_of),
+    CASE(wide_receiver_standing_of),
     CASE(packet_parse_many),
     CASE(parse_many),
     CASE(receive_many),

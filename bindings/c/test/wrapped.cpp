@@ -141,12 +141,19 @@ void writes() {
     CHECK(rtpw::map_get(map, 4) == RTPW_KIND_MID && rtpw::id_of(map, RTPW_KIND_AUDIO_LEVEL) == 1);
     CHECK(rtpw::kind_of_uri("urn:ietf:params:rtp-hdrext:sdes:mid") == RTPW_KIND_MID);
     CHECK(rtpw::kind_of_uri("urn:ietf:params:rtp-hdrext:sdes:mi") == RTPW_KIND_NONE);
+    std::uint8_t uri[RTPW_URI_SIZE];
+    CHECK(*rtpw::uri_of_kind(RTPW_KIND_MID, uri) == "urn:ietf:params:rtp-hdrext:sdes:mid");
+    CHECK(rtpw::uri_of_kind(RTPW_KIND_MID, {uri, 34}).status() == status::short_buffer);
+    CHECK(rtpw::uri_of_kind(16, uri).status() == status::none);
     rtpw_map changed = map;
     CHECK(rtpw::map_set(changed, 0, RTPW_KIND_MID) == status::bad_field);
 
     rtpw_header header{};
-    header.has_extension = 1;
+    CHECK(rtpw::header_with(header.values).has_extension == 0);
     CHECK(rtpw::set_mid(header.values, "microphone") == status::ok);
+    CHECK(*rtpw::left_out(map, header) == 1u << RTPW_KIND_MID);
+    header = rtpw::header_with(header.values);
+    CHECK(header.has_extension == 1 && *rtpw::left_out(map, header) == 0);
     CHECK(rtpw::set_mid(header.values, "audio") == status::ok);
     CHECK(rtpw::set_mid(header.values, "seventeen_letters") == status::bad_field);
     CHECK(rtpw::set_mid(header.values, std::string_view("a\0b", 3)) == status::bad_field);
@@ -169,6 +176,8 @@ void writes() {
     layers.streams[0].layers[0].kbps[0] = 300;
     const auto with_layers = rtpw::write_layers(changed, header, layers, buf);
     CHECK(with_layers && *with_layers == *rtpw::wire_len_layers(changed, header, layers));
+    CHECK(*rtpw::left_out_layers(changed, header, layers) == *rtpw::left_out(changed, header));
+    CHECK(*rtpw::left_out_layers(map, header, layers) == (*rtpw::left_out(map, header) | 1u << RTPW_KIND_LAYERS));
     rtpw_layers read;
     CHECK(rtpw::parse_layers({buf, *with_layers}, changed, read)->values.has_layers);
     CHECK(read.count == 1 && read.streams[0].layers[0].kbps[0] == 300);
@@ -191,17 +200,47 @@ void receives() {
     CHECK(rtpw::receiver_number_of(receiver, 65535) == 65535 && rtpw::receiver_accepts(receiver, 65535));
     rtpw::receiver_record(receiver, 65535);
     CHECK(!rtpw::receiver_accepts(receiver, 65535));
+    CHECK(rtpw::receiver_standing_of(receiver, 65535) == rtpw::standing::taken);
+    CHECK(rtpw::receiver_standing_of(receiver, 65414) == rtpw::standing::unseen);
+    CHECK(rtpw::receiver_standing_of(receiver, 65413) == rtpw::standing::too_old);
 
     rtpw::wide_receiver<16> wide;
     CHECK(wide.start(1) == status::ok && *wide.receive(5) == 65541 && wide.number_of(4) == 65540);
     CHECK(wide.record(65541 - 1023) == status::ok && !wide.accepts(65541 - 1023) && !wide.accepts(65541 - 1024));
     CHECK(wide.accepts(65541 - 1022));
+    CHECK(wide.standing_of(65541 - 1022) == rtpw::standing::unseen && wide.standing_of(65541) == rtpw::standing::taken);
+    CHECK(wide.standing_of(65541 - 1024) == rtpw::standing::too_old);
 
     rtpw_restarting_receiver restarting{};
     CHECK(*rtpw::restarting_receive(restarting, 5) == 65541);
     CHECK(rtpw::restarting_receive(restarting, 30000).status() == status::refused);
     const auto again = rtpw::restarting_receive(restarting, 30001);
     CHECK(again && again.status() == status::restarted && *again == 3 * 65536 + 30001);
+
+    // A quarter of four is lost; the two later transit times are 16 ticks from the ones before.
+    rtpw_reception reception{};
+    CHECK(rtpw::reception_report(reception).status() == status::none);
+    rtpw::reception_record(reception, 65541, 0, 1000);
+    rtpw::reception_record(reception, 65542, 3000, 4016);
+    rtpw::reception_record(reception, 65544, 9000, 10000);
+    const auto report = rtpw::reception_report(reception);
+    CHECK(report->fraction_lost == 64 && report->cumulative_lost == 1);
+    CHECK(report->extended_highest == 8 && report->jitter == 1);
+    std::uint8_t block[24];
+    CHECK(*rtpw::write_report({64, -2, 65544, 1}, 44, 0x12345678, 65536, block) == 24);
+    CHECK(same(block, {0, 0, 0, 44, 64, 0xff, 0xff, 0xfe, 0, 1, 0, 8, 0, 0, 0, 1, 0x12, 0x34, 0x56, 0x78, 0, 1, 0, 0}));
+    CHECK(rtpw::write_report(*report, 44, 0, 0, {block, 23}).status() == status::short_buffer);
+
+    rtpw_wide_restarting_receiver patient{};
+    std::uint64_t words[16];
+    CHECK(*rtpw::wide_restarting_receive(patient, words, 1999) == 67535);
+    CHECK(*rtpw::wide_restarting_receive(patient, words, 1800) == 67336);
+    CHECK(*rtpw::wide_restarting_receive(patient, words, 1801) == 67337);
+    CHECK(rtpw::wide_restarting_receive(patient, words, 1801).status() == status::refused);
+    patient.max_misorder = 100;
+    CHECK(rtpw::wide_restarting_receive(patient, words, 1800).status() == status::refused);
+    const auto restarted = rtpw::wide_restarting_receive(patient, words, 1801);
+    CHECK(restarted && restarted.status() == status::restarted && *restarted == 3 * 65536 + 1801);
 
     CHECK(rtpw::extend_u8(255, 0) == 256 && rtpw::extend_u15(32767, 0) == 32768);
     CHECK(rtpw::extend_u16(65535, 0) == 65536 && rtpw::extend_u32(0xffffffff, 0) == std::uint64_t{1} << 32);

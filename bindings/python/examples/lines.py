@@ -67,7 +67,9 @@ def lines_of(datagram: bytes, map: Map, receivers: DefaultDict[int, Receiver], c
 
 def main(lines: Iterable[str]) -> int:
     map = Map()
-    receivers: DefaultDict[int, Receiver] = defaultdict(Receiver)
+    # From the rollover count 0, as the program rtp_lines has it. Receiver(1) also has a number for a packet from before
+    # the first one.
+    receivers: DefaultDict[int, Receiver] = defaultdict(lambda: Receiver(0))
     count = 0
     for place, line in enumerate(lines, 1):
         line = re.sub(r"\r?\n\Z", "", line)

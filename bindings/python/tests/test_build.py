@@ -188,7 +188,7 @@ class Build(unittest.TestCase):
         self.assertEqual(gzip.decompress(packed)[257:265], b"ustar\x0000")
         parts = ["PKG-INFO", "pyproject.toml", "README.md", "backend/rtp_wire_backend.py"]
         parts += ["src/columns.c", "src/whole_packet.c", "src/rtp_wire/py.typed"]
-        parts += ["examples/lines.py", "examples/pcap.py", "examples/times.py"]
+        parts += ["examples/lines.py", "examples/pcap.py", "examples/pcap_dpkt.py", "examples/times.py"]
         for inner in ("src/rtp_wire", "tests"):
             parts += [str(it.relative_to(HERE)) for it in (HERE / inner).glob("*.py")]
         parts += [f"texts/{name}" for name in self.backend.TEXTS]

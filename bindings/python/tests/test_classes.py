@@ -32,6 +32,8 @@ from rtp_wire import (
     Packet,
     Receiver,
     Resolution,
+    ReceptionReport,
+    ReceptionStatistics,
     RestartingReceiver,
     RtpError,
     ShortBuffer,
@@ -126,9 +128,13 @@ CALLS: Dict[Any, str] = {
     NewIds.between: "(sender, receiver)",
     NewIds.to_retransmission: "(map)",
     NewIds.from_retransmission: "(map)",
-    Receiver: "(rollover_count=0)",
-    WideReceiver: "(words=16, rollover_count=1)",
-    RestartingReceiver: "(max_dropout=3000, min_sequential=1)",
+    Receiver: "(rollover_count)",
+    WideReceiver: "(words, rollover_count)",
+    RestartingReceiver: "(max_dropout=3000, min_sequential=1, max_misorder=None, words=16)",
+    Receiver.standing_of: "(self, number)",
+    ReceptionStatistics: "()",
+    ReceptionStatistics.record: "(self, number, timestamp, arrival)",
+    ReceptionReport.block: "(self, ssrc, last_report=0, delay=0)",
     Receiver.record: "(self, number)",
     Receiver.receive: "(self, sequence_number)",
     Layer: "(kbps, resolution)",
@@ -213,9 +219,9 @@ class Fields(unittest.TestCase):
 
     def test_what_is_not_there_cannot_be_set(self) -> None:
         packet = Packet.parse(bytearray(PLAIN))
-        states = (Receiver(), WideReceiver(), RestartingReceiver())
+        states = (Receiver(0), WideReceiver(16, 1), RestartingReceiver())
         value: Any
-        for value in (packet, Map(), NewIds(), *states):
+        for value in (packet, Map(), NewIds(), ReceptionStatistics(), *states):
             self.assertFalse(hasattr(value, "__dict__"), type(value))
             self.assertRaises(AttributeError, setattr, value, "sequence_numer", 5)
         for name in ("csrc", "form", "block_profile", "body", "payload", "header_len", "header_bytes", "values"):
@@ -243,7 +249,7 @@ class Calls(unittest.TestCase):
             lambda: packet.set_element(1, b"a"),
             lambda: packet.renumber(NewIds({1: 2})),
             lambda: packet.remove_element(2),
-            lambda: Receiver().record(5),
+            lambda: Receiver(0).record(5),
             lambda: rtp_wire.write_original(bytearray(2), 5),
         ]
         for call in calls:
@@ -273,7 +279,7 @@ class Calls(unittest.TestCase):
         self.assertEqual((repr(maps[1]), repr(OwnIds({1: 2}))), ("OwnMap({4: <Kind.MID: 12>})", "OwnIds({1: 2})"))
         self.assertEqual(type(copy.copy(OwnReceiver(5))), OwnReceiver)
         # a state of another class is another one, whichever of the two stands first
-        self.assertFalse(Receiver() == OwnReceiver() or OwnReceiver() == Receiver())
+        self.assertFalse(Receiver(0) == OwnReceiver(0) or OwnReceiver(0) == Receiver(0))
         self.assertTrue(OwnReceiver(2) == OwnReceiver(2) and OwnReceiver(2) != OwnReceiver(3))
 
     def test_each_makes_one_of_its_own(self) -> None:
@@ -316,8 +322,8 @@ class Calls(unittest.TestCase):
         # and so are packets, headers and states that live side by side
         map = Map({1: Kind.AUDIO_LEVEL, 3: Kind.VIDEO_CONTENT_TYPE})
         packet, header = Packet.parse(bytes(packet), map), Header.parse(bytes(packet), map)
-        states: Any = [Receiver(), WideReceiver(), RestartingReceiver()]
-        others: Any = [Receiver(), WideReceiver(), RestartingReceiver()]
+        states: Any = [Receiver(0), WideReceiver(16, 1), RestartingReceiver()]
+        others: Any = [Receiver(0), WideReceiver(16, 1), RestartingReceiver()]
         plain, short = Packet.parse(b"\x80" + bytes(11)), Header.parse(b"\x80" + bytes(11))
         for state in others:
             state.receive(9)
@@ -343,7 +349,7 @@ class Calls(unittest.TestCase):
         self.assertEqual(str(cut.exception), "fewer than twelve bytes")
         with self.assertRaises(BadField) as bad:
             Map({5: 16})  # type: ignore[arg-type]
-        self.assertEqual(str(bad.exception), "an argument is out of its range")
+        self.assertEqual(str(bad.exception), "a kind is 16, and not 0 to 15 or 128 to 255")
 
     def test_what_they_are(self) -> None:
         for kind in (Map, NewIds):
@@ -406,7 +412,9 @@ SIZES = {
     _library.RawLayers: 680,
     _library.RawReceiver: 32,
     _library.RawWideReceiver: 16,
-    _library.RawRestartingReceiver: 32,
+    _library.RawRestartingReceiver: 24,
+    _library.RawReception: 56,
+    _library.RawReport: 16,
     _library.RawFrameMarking: 10,
     _library.RawOrientation: 4,
     _library.RawTiming: 14,
@@ -418,6 +426,7 @@ SIZES = {
     _library.WholePacket: 64 + 136 + 8,
 }
 SMALL = {
+    _library.RawReport: 4,
     _library.RawFields: 4,
     _library.RawMap: 1,
     _library.RawNewIds: 1,

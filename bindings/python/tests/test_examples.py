@@ -2,8 +2,9 @@
 
 import contextlib
 import doctest
-import importlib
+import importlib.util
 import io
+import random
 import re
 import runpy
 import subprocess
@@ -216,6 +217,30 @@ class Pcap(unittest.TestCase):
             sources = sources_of(whole[:length], rtp_wire.Map.standard()).values()
             counts.append(sum(len(it.numbers) for it in sources))
         self.assertEqual((counts, set(counts)), (sorted(counts), set(range(7))))
+
+    @unittest.skipUnless(importlib.util.find_spec("dpkt"), "dpkt isn't there")
+    def test_the_same_by_dpkt(self) -> None:
+        draw = random.Random(9)
+        frames = []
+        for at in range(3000):
+            ssrc = draw.choice((5, 5, 5, 70, 900))
+            number = 65_000 + at - draw.choice((0, 0, 0, 0, 1, 2, 9, 130))  # some come twice, some late, some too late
+            data = udp(packet(number % 65536, ssrc, draw.randrange(-40, 128)))
+            if draw.random() > 0.1:  # the others are lost
+                rest = ipv4(data) if draw.random() < 0.5 else ipv6(data)
+                frames.append((100 + at // 50, 20_000 * (at % 50), rest))
+        file = tempfile.NamedTemporaryFile()
+        file.write(pcap("<", 0xA1B2C3D4, frames))
+        file.flush()
+        told = [
+            subprocess.check_output([sys.executable, str(HERE / "examples" / name), file.name], text=True)
+            for name in ("pcap.py", "pcap_dpkt.py")
+        ]
+        self.assertEqual(told[0], told[1])
+        rows = [line.split() for line in told[0].splitlines()[1:]]
+        self.assertEqual([row[0] for row in rows], ["5", "70", "900"])
+        # each source has lost packets, has refused some, and has levels
+        self.assertTrue(all(int(row[2]) > 500 and int(row[3]) > 20 and float(row[5]) < -30 for row in rows))
 
     def test_datagrams_that_are_cut(self) -> None:
         # by the length of UDP, or since fewer bytes were captured: what is there is read

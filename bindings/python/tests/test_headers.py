@@ -5,9 +5,23 @@ import copy
 import pickle
 import unittest
 from types import SimpleNamespace
-from typing import Any
+from typing import Any, Callable
 
-from rtp_wire import BadField, Form, Header, Kind, Map, NewIds, ShortBuffer, Values, write_elements
+from rtp_wire import (
+    BadField,
+    Form,
+    Header,
+    Kind,
+    Layers,
+    LeftOut,
+    Map,
+    NewIds,
+    ShortBuffer,
+    Time,
+    Values,
+    put_element,
+    write_elements,
+)
 
 MID = "urn:ietf:params:rtp-hdrext:sdes:mid"
 
@@ -26,11 +40,51 @@ class Headers(unittest.TestCase):
         read = Header.parse(buf, self.MAP)
         self.assertEqual((read, read.header_len), (self.HEADER, 28))
         self.assertEqual(Header().write(self.MAP), bytes.fromhex("80") + bytes(11))
-        self.assertEqual(Header(values=Values(mid="1")).write(self.MAP), bytes.fromhex("80") + bytes(11))
+        without = Header(has_extension=False, values=Values(mid="1"))
+        self.assertEqual(without.write(self.MAP), bytes.fromhex("80") + bytes(11))
         self.assertEqual(
             Header(has_extension=True).write(Map()),
             bytes.fromhex("90") + bytes(11) + bytes.fromhex("BEDE0000"),
         )
+
+    def test_a_block_is_there_where_a_value_is(self) -> None:
+        self.assertIs(Header(values=Values(mid="1")).has_extension, True)
+        self.assertIs(Header(values=Values(layers=Layers((), 0))).has_extension, True)
+        self.assertIs(Header(values=Values()).has_extension, False)
+        self.assertIs(Header(has_extension=True).has_extension, True)
+        self.assertIs(Header.parse(bytes.fromhex("80") + bytes(11)).has_extension, False)
+
+    def test_what_is_left_out_is_told_or_refused(self) -> None:
+        map = Map({1: Kind.AUDIO_LEVEL, 2: Kind.PLAYOUT_DELAY, 200: Kind.VIDEO_ORIENTATION, 5: Kind(130)})
+        values = Values(mid="a", audio_level=-42, playout_delay_max=Time(5, 100), video_orientation=90)
+        header, left = Header(values=values), {Kind.AUDIO_LEVEL, Kind.PLAYOUT_DELAY, Kind.MID}
+        self.assertEqual(header.left_out(map), left)
+        buf = bytearray(b"\xEE" * 40)
+        write: Any
+        for write in (lambda: header.write_all(map), lambda: header.write_all_to(buf, map)):
+            with self.assertRaises(LeftOut) as caught:
+                write()
+            self.assertEqual(caught.exception.kinds, left)
+            self.assertEqual(str(caught.exception), "values that no element carries: AUDIO_LEVEL, PLAYOUT_DELAY, MID")
+            made = pickle.loads(pickle.dumps(caught.exception))
+            self.assertEqual((type(made), made.kinds, str(made)), (LeftOut, left, str(caught.exception)))
+        self.assertEqual(buf, b"\xEE" * 40)
+        block = bytes.fromhex("10000001 C8010300")
+        self.assertEqual(header.write(map)[12:], block)
+        header.values = Values(video_orientation=90)
+        self.assertEqual((header.left_out(map), header.write_all(map)[12:]), (frozenset(), block))
+        self.assertEqual((header.write_all_to(buf, map), bytes(buf[12:20])), (20, block))
+        with self.assertRaises(ShortBuffer):
+            header.write_all_to(bytearray(19), map)
+        header.has_extension = False
+        self.assertEqual(header.left_out(map), {Kind.VIDEO_ORIENTATION})
+        header.values = Values(layers=Layers((), 0), capture_offset=1)
+        self.assertEqual(header.left_out(map), {Kind.LAYERS, Kind.ABS_CAPTURE_TIME})
+        header.values, header.has_extension = Values(layers=Layers((), 0)), True
+        self.assertEqual(header.write_all(Map({5: Kind.LAYERS}))[12:].hex(), "1000000105010000")
+        header.payload_type = 128
+        with self.assertRaises(BadField):
+            header.left_out(map)
 
     def test_what_cannot_be_written(self) -> None:
         buf = bytearray(27)
@@ -53,6 +107,43 @@ class Headers(unittest.TestCase):
                 header.write(self.MAP)
             with self.assertRaises(BadField):
                 header.write_with([])
+
+    def test_what_is_wrong_is_named(self) -> None:
+        packet = bytearray(self.WRITTEN + bytes(4))
+        two_bytes = bytearray(bytes.fromhex("90") + bytes(11) + bytes.fromhex("1000 0000") + bytes(8))
+        rows: list[tuple[Callable[[], object], str]] = [
+            (lambda: Map({0: Kind.MID}), "an id is 0, and not 1 to 255"),
+            (lambda: Map({256: Kind.MID}), "an id is 256, and not 1 to 255"),
+            (lambda: Map({1: 16}), "a kind is 16, and not 0 to 15 or 128 to 255"),  # type: ignore[arg-type]
+            (lambda: write_elements([(0, b"")], 2), "an id is 0, and not 1 to 255"),
+            (lambda: write_elements([], 0), "a form is 0, and not 1 to 2"),
+            (lambda: put_element(packet, 28, 0, b""), "id is 0, and not 1 to 255"),
+            (lambda: put_element(packet, 33, 1, b""), "length is 33, and not 0 to 32"),
+            (lambda: put_element(packet, 28, 1, bytes(256)), "the length of data is 256, and not 0 to 255"),
+            (
+                lambda: put_element(two_bytes, 16, 1, b"1", Form.ONE_BYTE),
+                "the block needs a form that isn't allowed, or more than 65535 words",
+            ),
+            (lambda: self.told(mid="a-1"), "mid is 'a-1', and not up to 16 letters, digits and underscores"),
+            (lambda: self.told(rid="9" * 9), "rid is '999999999', and not up to 8 letters, digits and underscores"),
+            (lambda: self.told(video_orientation=91), "video_orientation is 91, and not 0, 90, 180 or 270"),
+            (
+                lambda: self.told(playout_delay_min=Time(1, 0)),
+                "hertz of playout_delay_min is 0, and not 1 to 4294967295",
+            ),
+        ]
+        for call, text in rows:
+            with self.assertRaises(BadField) as caught:
+                call()
+            self.assertEqual(str(caught.exception), text)
+        for map in ({3: Kind.MID}, b"", None):
+            with self.assertRaisesRegex(TypeError, f"^a map is {type(map).__name__}, and not Map$"):
+                self.HEADER.write(map)  # type: ignore[arg-type]
+        with self.assertRaisesRegex(TypeError, "^a map is dict, and not Map$"):
+            Header.parse(self.WRITTEN, {})  # type: ignore[arg-type]
+
+    def told(self, **values: Any) -> bytes:
+        return Header(values=Values(**values)).write(self.MAP)
 
     def test_elements_are_written(self) -> None:
         elements = [(1, b"\xAA"), (2, bytearray(b"\xBB\xCC"))]
@@ -145,6 +236,12 @@ class Maps(unittest.TestCase):
         # RTCRtpHeaderExtensionParameters of aiortc have these attributes
         negotiated = [SimpleNamespace(id=4, uri=MID), SimpleNamespace(id=5, uri="urn:x")]
         self.assertEqual(Map.from_uris((it.id, it.uri) for it in negotiated), Map({4: Kind.MID}))
+
+    def test_each_kind_has_its_uri(self) -> None:
+        for kind in list(Kind)[1:16]:
+            self.assertEqual(Kind.from_uri(kind.uri or ""), kind)
+        self.assertEqual(Kind.MID.uri, MID)
+        self.assertEqual((Kind.NONE.uri, Kind.OWN.uri, Kind(255).uri), (None, None, None))
 
     def test_the_usual_ids(self) -> None:
         usual = {

@@ -36,7 +36,9 @@ STRUCTS = {
     "rtpw_layers": _library.RawLayers,
     "rtpw_receiver": _library.RawReceiver,
     "rtpw_wide_receiver": _library.RawWideReceiver,
-    "rtpw_restarting_receiver": _library.RawRestartingReceiver,
+    "rtpw_wide_restarting_receiver": _library.RawRestartingReceiver,
+    "rtpw_reception": _library.RawReception,
+    "rtpw_report": _library.RawReport,
     "rtpw_frame_marking": _library.RawFrameMarking,
     "rtpw_orientation": _library.RawOrientation,
     "rtpw_timing": _library.RawTiming,
@@ -49,6 +51,8 @@ STRUCTS = {
     "column": _library.RawColumn,
 }
 SOURCES = [it.read_text("utf-8") for it in sorted(HERE.glob("src/*.c"))]
+# Of the receivers for a sender that may start again the package has the one with a window of any size.
+OF_C_ALONE = {"rtpw_restarting_receive"}
 NUMBERS: Dict[str, Any] = {
     "void": None,
     "bool": ctypes.c_bool,
@@ -70,6 +74,8 @@ def declared() -> Iterator[Tuple[str, Any, List[Any]]]:
     for result, name, parameters in re.findall(
         r"^(?:RTPW_CHECKED )?(\w+) (rtpw_\w+)\(([^)]*)\);", TEXT, re.M
     ):
+        if name in OF_C_ALONE:
+            continue
         listed = [] if parameters == "void" else parameters.split(",")
         yield name, NUMBERS[result], [type_of(it) for it in listed]
 

@@ -152,8 +152,8 @@ class Ranges(unittest.TestCase):
         put, own = self.datagram, Form.ONE_BYTE
         self.are_refused(
             [
-                (lambda: put_element(put, 38, 257, b"a"), past("id", 8, 257)),
-                (lambda: put_element(put, 1 << 64, 1, b"a"), past("length", 64)),
+                (lambda: put_element(put, 38, 257, b"a"), "id is 257, and not 1 to 255"),
+                (lambda: put_element(put, 1 << 64, 1, b"a"), f"length is {1 << 64}, and not 0 to {len(put)}"),
                 (lambda: put_element(put, 38, 1, b"a", 257), "allowed is 257, and not 0 to 2"),
                 (lambda: put_element(put, 38, 1, b"a", Form.OTHER), "allowed is 3, and not 0 to 2"),
                 (lambda: self.packet.set_element(258, b"ab"), past("an id", 8, 258)),
@@ -161,10 +161,10 @@ class Ranges(unittest.TestCase):
                 (lambda: self.packet.element(258), past("an id", 8, 258)),
                 (lambda: next(elements(b"\x10a", 257)), past("a form", 8, 257)),
                 (lambda: Values.read(b"\x10a", 257, Map()), past("a form", 8, 257)),
-                (lambda: write_elements([(257, b"a")], own), past("an id", 8, 257)),
-                (lambda: write_elements([(1, b"a")], 257), past("a form", 8, 257)),
-                (lambda: Header().write_with([(257, b"a")]), past("an id", 8, 257)),
-                (lambda: Header().write_with([(1, b"a")], 257), past("a form", 8, 257)),
+                (lambda: write_elements([(257, b"a")], own), "an id is 257, and not 1 to 255"),
+                (lambda: write_elements([(1, b"a")], 257), "a form is 257, and not 1 to 2"),
+                (lambda: Header().write_with([(257, b"a")]), "an id is 257, and not 1 to 255"),
+                (lambda: Header().write_with([(1, b"a")], 257), "a form is 257, and not 0 to 2"),
                 (lambda: Values(mid="a").data_of(268), past("a kind", 8, 268)),
             ]
         )
@@ -184,7 +184,7 @@ class Ranges(unittest.TestCase):
                 self.assertRaises(KeyError, table.pop, id)
         self.are_refused(
             [
-                (lambda: map.update({260: Kind.MID}), past("an id", 8, 260)),
+                (lambda: map.update({260: Kind.MID}), "an id is 260, and not 1 to 255"),
                 (lambda: map.update({5: 268}), past("a kind", 8, 268)),
                 (lambda: map.id_of(268), past("a kind", 8, 268)),
                 (lambda: ids.update({260: 1}), "an id is 260, and not 1 to 255"),
@@ -208,13 +208,19 @@ class Ranges(unittest.TestCase):
                 (valued(transmission_offset=1 << 32), past("transmission_offset", 32)),
                 (valued(frame_marking=1 << 32), past("frame_marking", 32)),
                 (valued(transport_number=65536), past("transport_number", 16)),
-                (valued(video_orientation=65536), past("video_orientation", 16)),
+                (
+                    valued(video_orientation=65536),
+                    "video_orientation is 65536, and not 0, 90, 180 or 270",
+                ),
                 (valued(video_content_type=256), past("video_content_type", 8)),
                 (valued(audio_level=-128), "audio_level is -128, and not -127 to 0"),
                 (valued(audio_level=1), "audio_level is 1, and not -127 to 0"),
                 (valued(voice_activity=256), past("voice_activity", 1, 256)),
                 (valued(playout_delay_min=Time(1 << 64, 1)), past("playout_delay_min", 64)),
-                (valued(playout_delay_max=Time(1, 1 << 32)), past("playout_delay_max", 32)),
+                (
+                    valued(playout_delay_max=Time(1, 1 << 32)),
+                    f"hertz of playout_delay_max is {1 << 32}, and not 1 to {(1 << 32) - 1}",
+                ),
                 (valued(mid="a" * 17), f"mid is '{'a' * 17}'{too_long(16)}"),
                 (valued(rid="a" * 9), f"rid is 'aaaaaaaaa'{too_long(8)}"),
                 (valued(repaired_rid="\0"), f"repaired_rid is '\\x00'{too_long(8)}"),
@@ -236,9 +242,9 @@ class Ranges(unittest.TestCase):
                 wide = letter * (most + 1)
                 self.are_refused(
                     [
-                        (valued(**{name: letter}), "an argument is out of its range"),
-                        (valued(**{name: "a" + letter}), "an argument is out of its range"),
-                        (valued(**{name: letter * most}), "an argument is out of its range"),
+                        (valued(**{name: letter}), f"{name} is {letter!r}{too_long(most)}"),
+                        (valued(**{name: "a" + letter}), f"{name} is {'a' + letter!r}{too_long(most)}"),
+                        (valued(**{name: letter * most}), f"{name} is {letter * most!r}{too_long(most)}"),
                         (valued(**{name: wide}), f"{name} is {wide!r}{too_long(most)}"),
                     ]
                 )
@@ -265,10 +271,15 @@ class Ranges(unittest.TestCase):
         rows: List[Refused] = [
             (lambda: Receiver(1 << 64), past("rollover_count", 64)),
             (lambda: WideReceiver(1, 1 << 64), past("rollover_count", 64)),
-            (lambda: WideReceiver(513), "words is 513, and not 1 to 512"),
+            (lambda: WideReceiver(513, 1), "words is 513, and not 1 to 512"),
             (lambda: RestartingReceiver(0), "max_dropout is 0, and not 1 to 65535"),
             (lambda: RestartingReceiver(65537), "max_dropout is 65537, and not 1 to 65535"),
             (lambda: RestartingReceiver(1, 257), past("min_sequential", 8, 257)),
+            (lambda: RestartingReceiver(max_misorder=0), "max_misorder is 0, and not 1 to 65535"),
+            (lambda: RestartingReceiver(max_misorder=65536), "max_misorder is 65536, and not 1 to 65535"),
+            (lambda: RestartingReceiver(words=0), "words is 0, and not 1 to 512"),
+            (lambda: Receiver(0).standing_of(1 << 64), past("number", 64)),
+            (lambda: WideReceiver(1, 0).standing_of(-1), past("number", 64, -1)),
             (lambda: RestartingReceiver().receive(65536), past("sequence_number", 16)),
             (lambda: pad(buf, 1 << 64, 1), past("header_len", 64)),
             (lambda: pad(buf, 38, 257), past("pad_len", 8, 257)),
@@ -281,7 +292,7 @@ class Ranges(unittest.TestCase):
             (lambda: extend_u8(1 << 64, 0), past("previous", 64)),
         ]
         receiver: Any
-        for receiver in (Receiver(), WideReceiver(1, 0)):
+        for receiver in (Receiver(0), WideReceiver(1, 0)):
             for call in (receiver.receive, receiver.number_of):
                 rows.append((lambda call=call: call(65536), past("sequence_number", 16)))
             for change in (receiver.accepts, receiver.record):
@@ -307,7 +318,7 @@ class Ranges(unittest.TestCase):
         self.assertEqual(WideReceiver(number(2), number(1)).receive(number(5)), 65541)
         taken = RestartingReceiver(number(1), number(1)).receive(number(5))
         self.assertEqual(taken and taken.number, 65541)
-        receiver = Receiver()
+        receiver = Receiver(0)
         receiver.record(number(5))
         self.assertEqual((receiver.accepts(number(5)), receiver.accepts(number(6))), (False, True))
         header = Header(

@@ -4,10 +4,10 @@
 import copy
 import pickle
 import unittest
-from typing import List, Optional, Tuple
+from typing import Any, List, Optional, Tuple
 
 import rtp_wire
-from rtp_wire import BadField, Receiver, RestartingReceiver, ShortBuffer, Taken, WideReceiver
+from rtp_wire import BadField, Receiver, RestartingReceiver, ShortBuffer, Standing, Taken, WideReceiver
 
 LAST = (1 << 64) - 1
 
@@ -33,7 +33,7 @@ class Receivers(unittest.TestCase):
         )
 
     def test_three_steps(self) -> None:
-        receiver = Receiver()
+        receiver = Receiver(0)
         for low, number in ((65535, 65535), (0, 65536)):
             self.assertEqual(receiver.number_of(low), number)
             self.assertTrue(receiver.accepts(number))
@@ -44,15 +44,38 @@ class Receivers(unittest.TestCase):
         self.assertFalse(receiver.accepts(65536 - 128))
 
     def test_the_start(self) -> None:
-        self.assertEqual(repr(Receiver()), "Receiver(rollover_count=0)")
+        self.assertEqual(repr(Receiver(0)), "Receiver(rollover_count=0)")
         self.assertEqual(Receiver((1 << 48) - 1).receive(65535), LAST)
         for count in (-1, 1 << 48, 1 << 64):
             with self.assertRaises(BadField):
                 Receiver(count)
 
+    def test_a_packet_from_before_the_first(self) -> None:
+        receiver: Any
+        for receiver in (Receiver(1), WideReceiver(16, 1)):
+            self.assertEqual([receiver.receive(it) for it in (5, 65533, 6, 7)], [65541, 65533, 65542, 65543])
+        # at the rollover count 0 it has a number near 2^64
+        for receiver in (Receiver(0), WideReceiver(16, 0)):
+            self.assertEqual([receiver.receive(it) for it in (5, 65533, 6, 7)], [5, LAST - 2, None, None])
+
+    def test_why_a_number_is_not_accepted(self) -> None:
+        receiver, wide = Receiver(1), WideReceiver(16, 1)
+        self.assertEqual((receiver.standing_of(0), wide.standing_of(0)), (Standing.NEW, Standing.NEW))
+        receiver.record(66536)
+        self.assertTrue(wide.record(66536))
+        wanted = [Standing.NEW, Standing.TAKEN, Standing.NEW, Standing.TOO_OLD]
+        self.assertEqual([receiver.standing_of(it) for it in (66537, 66536, 66409, 66408)], wanted)
+        self.assertEqual([wide.standing_of(it) for it in (66537, 66536, 65513, 65512)], wanted)
+
+    def test_the_rollover_count_is_asked_for(self) -> None:
+        made: Any
+        for made in (Receiver, WideReceiver, lambda: WideReceiver(16)):  # type: ignore[call-arg]
+            with self.assertRaises(TypeError):
+                made()
+
     def test_the_state_is_copied_and_stored(self) -> None:
         receiver = Receiver(3)
-        self.assertNotEqual(receiver, Receiver())
+        self.assertNotEqual(receiver, Receiver(0))
         receiver.receive(7)
         for made in (copy.copy(receiver), copy.deepcopy(receiver), pickle.loads(pickle.dumps(receiver))):
             self.assertEqual(made, receiver)
@@ -61,7 +84,7 @@ class Receivers(unittest.TestCase):
         self.assertEqual(receiver.highest, 196615)
 
     def test_what_is_out_of_its_range(self) -> None:
-        receiver = Receiver()
+        receiver = Receiver(0)
         for number in (-1, 65536):
             for call in (receiver.receive, receiver.number_of):
                 with self.assertRaises(BadField):
@@ -70,7 +93,7 @@ class Receivers(unittest.TestCase):
             for change in (receiver.accepts, receiver.record):
                 with self.assertRaises(BadField):
                     change(number)
-        self.assertEqual(receiver, Receiver())
+        self.assertEqual(receiver, Receiver(0))
 
     def test_the_nearest_number(self) -> None:
         self.assertEqual((rtp_wire.extend_u8(255, 0), rtp_wire.extend_u8(256, 129)), (256, 129))
@@ -93,7 +116,7 @@ class Receivers(unittest.TestCase):
 
 class WideReceivers(unittest.TestCase):
     def test_a_window_of_1024(self) -> None:
-        receiver = WideReceiver()
+        receiver = WideReceiver(16, 1)
         self.assertIsNone(receiver.highest)
         # 1,023 below the highest, and 1,024
         for low, number in (
@@ -112,15 +135,15 @@ class WideReceivers(unittest.TestCase):
 
     def test_the_least_and_the_most_words(self) -> None:
         for words in (1, 512):
-            size, receiver = 64 * words, WideReceiver(words)
+            size, receiver = 64 * words, WideReceiver(words, 1)
             self.assertEqual(receiver.receive(40000), 105536)
             self.assertTrue(receiver.accepts(105536 - size + 1))
             self.assertFalse(receiver.accepts(105536 - size))
         for words in (-1, 0, 513):
             with self.assertRaises(BadField):
-                WideReceiver(words)
+                WideReceiver(words, 1)
         with self.assertRaises(TypeError):
-            WideReceiver(16.0)  # type: ignore[arg-type]
+            WideReceiver(16.0, 1)  # type: ignore[arg-type]
 
     def test_three_steps(self) -> None:
         receiver = WideReceiver(2, rollover_count=0)
@@ -137,15 +160,15 @@ class WideReceivers(unittest.TestCase):
         self.assertTrue(receiver.record(65536 - 127))
 
     def test_the_start(self) -> None:
-        self.assertEqual(repr(WideReceiver(3)), "WideReceiver(words=3, rollover_count=1)")
+        self.assertEqual(repr(WideReceiver(3, 1)), "WideReceiver(words=3, rollover_count=1)")
         self.assertEqual(WideReceiver(1, (1 << 48) - 1).receive(65535), LAST)
         for count in (-1, 1 << 48, 1 << 64):
             with self.assertRaises(BadField):
                 WideReceiver(1, count)
 
     def test_the_state_is_copied_and_stored(self) -> None:
-        receiver = WideReceiver(4)
-        self.assertNotEqual(receiver, WideReceiver(5))
+        receiver = WideReceiver(4, 1)
+        self.assertNotEqual(receiver, WideReceiver(5, 1))
         receiver.receive(7)
         for made in (copy.copy(receiver), copy.deepcopy(receiver), pickle.loads(pickle.dumps(receiver))):
             self.assertEqual(made, receiver)
@@ -154,7 +177,7 @@ class WideReceivers(unittest.TestCase):
         self.assertEqual(receiver.highest, 65543)
 
     def test_what_is_out_of_its_range(self) -> None:
-        receiver = WideReceiver()
+        receiver = WideReceiver(16, 1)
         for number in (-1, 65536):
             for call in (receiver.receive, receiver.number_of):
                 with self.assertRaises(BadField):
@@ -163,7 +186,7 @@ class WideReceivers(unittest.TestCase):
             for change in (receiver.accepts, receiver.record):
                 with self.assertRaises(BadField):
                     change(number)
-        self.assertEqual(receiver, WideReceiver())
+        self.assertEqual(receiver, WideReceiver(16, 1))
 
 
 class RestartingReceivers(unittest.TestCase):
@@ -191,20 +214,49 @@ class RestartingReceivers(unittest.TestCase):
         self.judges(receiver, rows)
         self.assertEqual(
             (receiver.highest, repr(receiver)),
-            (203610, "RestartingReceiver(max_dropout=3000, min_sequential=1, highest=203610)"),
+            (203610, "RestartingReceiver(max_dropout=3000, min_sequential=1, max_misorder=3000, words=16, highest=203610)"),
         )
 
     def test_the_very_next_packet(self) -> None:
         rows: RestartingReceivers.Rows = [
             (1000, Taken(66536, False)),
-            (873, Taken(66409, False)),
-            (872, None),
+            (29999, None),
             (1001, Taken(66537, False)),
-            (873, None),
             (30000, None),
             (30001, Taken(226609, True)),
         ]
         self.judges(RestartingReceiver(), rows)
+
+    def test_late_packets_are_no_restart(self) -> None:
+        # 1,023 below is in the window, and 2,999 below is of the stream
+        rows: RestartingReceivers.Rows = [
+            (5000, Taken(70536, False)),
+            (4800, Taken(70336, False)),
+            (4801, Taken(70337, False)),
+            (4801, None),
+            (3977, Taken(69513, False)),
+            (3976, None),
+            (2001, None),
+            (2002, None),
+            (2000, None),
+            (2001, None),
+            (1999, None),
+            (2000, Taken(198608, True)),
+        ]
+        self.judges(RestartingReceiver(), rows)
+        # a window of 32,768 numbers is the bound
+        rows = [(40000, Taken(105536, False)), (7233, Taken(72769, False))]
+        self.judges(RestartingReceiver(words=512), rows)
+        # RFC 3550's bounds: 99 below is of the stream, and 100 isn't; a source is valid with its second packet
+        rows = [
+            (999, None),
+            (1000, Taken(66536, False)),
+            (901, Taken(66437, False)),
+            (899, None),
+            (900, Taken(197508, True)),
+        ]
+        self.judges(RestartingReceiver(max_misorder=100, min_sequential=2), rows)
+        self.judges(RestartingReceiver(max_misorder=100, min_sequential=2, words=2), rows)
 
     def test_the_bounds(self) -> None:
         rows: RestartingReceivers.Rows = [

@@ -427,8 +427,8 @@ class Zeros(unittest.TestCase):
     def test_defaults(self) -> None:
         self.assertEqual(Header(), Header(0, 0, 0, 0, (), False, False, False, Values(), 5))
         self.assertEqual({it for it in vars(Values()).values()}, {None})
-        self.assertEqual((Receiver(), WideReceiver()), (Receiver(0), WideReceiver(16, 1)))
-        self.assertEqual(RestartingReceiver(), RestartingReceiver(3000, 1))
+        self.assertEqual(RestartingReceiver(), RestartingReceiver(3000, 1, 3000, 16))
+        self.assertEqual(RestartingReceiver(words=512), RestartingReceiver(3000, 1, 32768, 512))
         buf = bytearray(bytes(20))
         self.assertEqual((rtp_wire.pad(buf, 12, 3), buf[14]), (3, 3))
         self.assertEqual((Map(), NewIds()), (Map({}), NewIds({})))
@@ -441,12 +441,12 @@ class Kept(unittest.TestCase):
 
     def test_types(self) -> None:
         packet, header = Packet.parse(bytearray(SAMPLE)), Header.parse(SAMPLE)
-        wide, restarting = WideReceiver(), RestartingReceiver()
+        wide, restarting = WideReceiver(16, 1), RestartingReceiver()
         map = Map({3: Kind.MID})
         taken = restarting.receive(7)
         assert taken is not None
         flags = [packet.marker, packet.has_padding, header.marker, header.has_padding, header.has_extension]
-        flags += [wide.record(9), wide.record(9), wide.accepts(9), Receiver().accepts(9), taken.restarted]
+        flags += [wide.record(9), wide.record(9), wide.accepts(9), Receiver(0).accepts(9), taken.restarted]
         flags += [rtp_wire.is_rtcp(b""), rtp_wire.is_rtcp(b"\x80\xC8")]
         levels = Map({1: Kind.AUDIO_LEVEL})
         silent = Header(has_extension=True, values=Values(voice_activity=False, audio_level=0))
@@ -458,7 +458,7 @@ class Kept(unittest.TestCase):
         made = [header.write(map), header.write_with([]), rtp_wire.write_elements([], 1), values.data_of(Kind.MID)]
         self.assertEqual({type(it) for it in [*made, bytes(packet)]}, {bytes})
         numbers = [packet.ssrc, packet.timestamp, packet.sequence_number, packet.payload_type, header.ssrc, len(packet)]
-        numbers += [packet.header_len, header.header_len, header.wire_len(map), Receiver().number_of(5), taken.number]
+        numbers += [packet.header_len, header.header_len, header.wire_len(map), Receiver(0).number_of(5), taken.number]
         numbers += [wide.highest or 0, rtp_wire.extend_u8(5, 6), rtp_wire.read_original(b"\1\2")]
         numbers += [packet.remove_padding()]
         self.assertEqual({type(it) for it in numbers}, {int})
@@ -488,13 +488,14 @@ class Kept(unittest.TestCase):
             for header in (Header(values=values), Header(has_extension=True, values=values)):
                 self.assertRaises(BadField, header.write, Map())
                 self.assertRaises(BadField, header.wire_len, Map())
-        self.assertEqual(Header(values=Values(mid="a")).write(Map({1: Kind.MID})), b"\x80" + bytes(11))
+        header = Header(has_extension=False, values=Values(mid="a"))
+        self.assertEqual(header.write(Map({1: Kind.MID})), b"\x80" + bytes(11))
         for layers in (Layers((), 1), Layers(((Layer((), Resolution(1, 1, 1)),),), 0)):
             for header in (Header(), Header(has_extension=True)):
                 header.values.layers = layers
                 self.assertRaises(BadField, header.write, Map())
                 self.assertRaises(BadField, header.write_to, bytearray(20), Map({5: Kind.LAYERS}))
-        header = Header(values=Values(layers=Layers((), 0)))
+        header = Header(has_extension=False, values=Values(layers=Layers((), 0)))
         self.assertEqual(header.write(Map({5: Kind.LAYERS})), b"\x80" + bytes(11))
 
     def test_layers(self) -> None:
@@ -691,7 +692,7 @@ class States(unittest.TestCase):
 
     def test_the_number_0_is_taken(self) -> None:
         receiver: Any
-        for receiver in (Receiver(), WideReceiver(1, 0)):
+        for receiver in (Receiver(0), WideReceiver(1, 0)):
             self.assertEqual((receiver.receive(0), receiver.highest, receiver.accepts(0)), (0, 0, False))
             self.assertIsNone(receiver.receive(0))
         self.assertTrue(WideReceiver(1, 0).record(0))
@@ -702,11 +703,11 @@ class States(unittest.TestCase):
 
     def test_what_is_equal(self) -> None:
         receiver: Any
-        for receiver in (Receiver(1), WideReceiver(2), RestartingReceiver()):
+        for receiver in (Receiver(1), WideReceiver(2, 1), RestartingReceiver()):
             self.assertRaises(TypeError, hash, receiver)
-            for other in (None, 5, Receiver(2), WideReceiver(3), RestartingReceiver(5)):
+            for other in (None, 5, Receiver(2), WideReceiver(3, 1), RestartingReceiver(5)):
                 self.assertFalse(receiver == other)
-        wide = WideReceiver(1)
+        wide = WideReceiver(1, 1)
         wide.receive(9)
         for low in (5, 6):
             other = copy.copy(wide)
@@ -715,7 +716,7 @@ class States(unittest.TestCase):
         self.assertEqual(repr(Receiver(3)), "Receiver(rollover_count=3)")
         self.assertEqual(repr(Receiver((1 << 48) - 1)), "Receiver(rollover_count=281474976710655)")
         self.assertEqual(repr(WideReceiver(9, 1 << 47)), "WideReceiver(words=9, rollover_count=140737488355328)")
-        self.assertEqual(repr(WideReceiver()), "WideReceiver(words=16, rollover_count=1)")
+        self.assertEqual(repr(WideReceiver(16, 1)), "WideReceiver(words=16, rollover_count=1)")
 
     def test_numbers_up_to_64_bits(self) -> None:
         receiver: Any
@@ -784,7 +785,7 @@ class States(unittest.TestCase):
         written = Header(has_extension=True, values=Values(layers=rates)).write(map)
         self.assertEqual(Header.parse(written, map).values.layers, rates)
         receiver: Any
-        for receiver in (Receiver(), WideReceiver()):
+        for receiver in (Receiver(0), WideReceiver(16, 1)):
             receiver.record(last)
             self.assertEqual([receiver.accepts(it) for it in (last, last - 1)], [False, True])
             self.assertEqual(receiver.highest, last)

@@ -1,10 +1,5 @@
 -- What bits tested, set and shifted are, as truth values.
-use Rattle.std.proofs.Common.{◌≡◌, ◌≢◌, ◌+◌, ◌-◌, ◌*◌, ◌/◌, ◌%◌, ◌^◌, ◌<◌, ◌≤◌, nat_eq, ℕ, Bool, true, false, ◌||◌, get_or, max, bit_and, bit_or, inl, inr, refl, sym, ap, ◌∙◌, arith}
-use Rattle.std.proofs.lemmas.Nat.{one_shl, div-add-mod', pow_pos}
-use Rattle.std.proofs.lemmas.Nat.Bits.{shr_and_one, and_pow, bit_at_or, bit_at-zero, bit_at-lt, bit_at_above, bit_at_ones, bit_at_cat_low, bit_at_cat_high, bit_at_set_same, bit_at_set_other}
-use Rattle.std.proofs.lemmas.List.FromFn.{get_or-map-range_with_len}
-use Rattle.std.proofs.lemmas.Bool.{cases_lt, cases_eq, eq-eqb, ne_eqb, or_right}
-use Rattle.std.specs.Int.{bit_at, w128}
+use Rattle.rtp_base.proofs.Common.{◌≡◌, ◌≢◌, ◌+◌, ◌-◌, ◌*◌, ◌/◌, ◌%◌, ◌^◌, ◌<◌, ◌≤◌, nat_eq, ℕ, Bool, true, false, ◌||◌, get_or, max, bit_and, bit_or, inl, inr, refl, sym, ap, ◌∙◌, arith, one_shl, div-add-mod', pow_pos, shr_and_one, and_pow, bit_at_or, bit_at-zero, bit_at-lt, bit_at_above, bit_at_ones, bit_at_cat_low, bit_at_cat_high, bit_at_set_same, bit_at_set_other, get_or-map-range_with_len, cases_lt, cases_eq, eq-eqb, ne_eqb, or_right, bit_at, w128}
 use Rattle.rtp_base.specs.Bitmap.{bits_of}
 
 -- the truth value at an index is the bit there

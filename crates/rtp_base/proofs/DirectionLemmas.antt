@@ -1,7 +1,6 @@
 -- Each name is one direction's.
-use Rattle.std.proofs.Common.{◌≡◌, ℕ, ◌+◌, ◌*◌, List, get_or, arith, ap, refl, sym, ◌∙◌}
+use Rattle.rtp_base.proofs.Common.{◌≡◌, ℕ, ◌+◌, ◌*◌, List, get_or, arith, ap, refl, sym, ◌∙◌, SendOnly, RecvOnly, SendRecv, Inactive}
 use Rattle.rtp_base.specs.declared.dir.Direction.{Direction}
-use Rattle.rtp_base.specs.declared.dir.Direction.TheVariants.{SendOnly, RecvOnly, SendRecv, Inactive}
 use Rattle.rtp_base.specs.Direction.{direction_text, IsDirectionName}
 
 -- two letters in which the names differ

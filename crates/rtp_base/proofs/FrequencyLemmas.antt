@@ -1,13 +1,8 @@
 -- Texts of frequencies, and what `parse` reads in them.
-use Rattle.std.proofs.Common.{◌≡◌, ℕ, ◌<◌, ◌^◌, Bool, true, false, eqb, Option, Some, None, Ok, IfOk, List, [], ◌∷◌, ◌++◌, length, drop, get_or, ◌⊎◌, inl, inr, refl, sym, ap, ◌∙◌, subst, arith}
+use Rattle.rtp_base.proofs.Common.{◌≡◌, ℕ, ◌<◌, ◌^◌, Bool, true, false, eqb, Option, Some, None, Ok, IfOk, List, [], ◌∷◌, ◌++◌, length, drop, get_or, ◌⊎◌, inl, inr, refl, sym, ap, ◌∙◌, subst, arith, IsAsciiDigit, All, eqb-true, eqb-false, All-nil, All-cons, All-head, All-tail, IsFrequencyText}
 use Rattle.std.specs.Option.{SomeIff, ok_or}
-use Rattle.std.specs.Char.{IsAsciiDigit}
-use Rattle.std.specs.List.{All}
 use Rattle.std.specs.Str.Parse.{AllDigits, IsNumeral, digits_value, without_leading_plus}
-use Rattle.std.proofs.lemmas.Bool.{eqb-true, eqb-false}
-use Rattle.std.proofs.lemmas.List.Elements.{All-nil, All-cons, All-head, All-tail}
 use Rattle.std.proofs.lemmas.Str.Parse.{IsNumeralModel, IsDigitsTest, numerals_by_value, not_in_digits, without_leading_plus_none, without_leading_plus_plus}
-use Rattle.rtp_base.specs.Frequency.{IsFrequencyText}
 
 digits_test : IsDigitsTest (All IsAsciiDigit)
 digits_test = record {

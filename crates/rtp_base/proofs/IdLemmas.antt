@@ -1,18 +1,7 @@
 -- Identifiers as texts filled up with spaces.
-use Rattle.std.proofs.Common.{◌≡◌, ℕ, ◌+◌, ◌-◌, ◌<◌, ◌≤◌, Bool, false, not, cond, eqb, List, [], ◌∷◌, ◌++◌, length, map, take, drop, get_or, replicate, refl, sym, ap, ◌∙◌, subst, inl, inr, arith, length-append, length-take-le, take_at, drop_at}
-use Rattle.std.specs.Prelude.{IsUtf8}
-use Rattle.std.specs.List.{All, position_or_len, count_by}
-use Rattle.std.specs.Char.{is_ascii_alphanumeric}
-use Rattle.std.specs.Str.{chars, IsAscii}
-use Rattle.std.proofs.lemmas.Bool.{ne_eqb, cases_lt, cases_Bool, false≢true}
-use Rattle.std.proofs.lemmas.Bool.Decides.{nat_tests}
-use Rattle.std.proofs.lemmas.List.{get_or_append_left, get_or-append_right, get_or_past, get_or-replicate, length-replicate, length-take, take-append-drop, drop-replicate, take_all}
-use Rattle.std.proofs.lemmas.List.Elements.{All-nil, All-cons, All-take, All-head, All-tail, All-replicate}
-use Rattle.std.proofs.lemmas.List.Sums.{position_or_len_is, sum_by-cons, sum_by-append}
+use Rattle.rtp_base.proofs.Common.{◌≡◌, ℕ, ◌+◌, ◌-◌, ◌<◌, ◌≤◌, Bool, false, not, cond, eqb, List, [], ◌∷◌, ◌++◌, length, map, take, drop, get_or, replicate, refl, sym, ap, ◌∙◌, subst, inl, inr, arith, length-append, length-take-le, take_at, drop_at, IsUtf8, All, position_or_len, count_by, is_ascii_alphanumeric, chars, IsAscii, ne_eqb, cases_lt, cases_Bool, false≢true, nat_tests, get_or_append_left, get_or-append_right, get_or_past, get_or-replicate, length-replicate, length-take, take-append-drop, drop-replicate, take_all, All-nil, All-cons, All-take, All-head, All-tail, All-replicate, position_or_len_is, sum_by-cons, sum_by-append, IsUtf8-from_ascii, chars-IsAscii, id_char, id_text, padded, IsIdOf, before_padding, IsIdByte, IsIdArray}
 use Rattle.std.proofs.lemmas.List.Folds.{sum_by-replicate}
-use Rattle.std.proofs.lemmas.Str.{IsUtf8-from_ascii, chars-IsAscii}
 use Rattle.std.proofs.lemmas.Str.Ascii.{IsAscii-from_all}
-use Rattle.rtp_base.specs.Id.{id_char, id_text, padded, IsIdOf, before_padding, IsIdByte, IsIdArray}
 
 abbrev pub is_space : ℕ → Bool
 is_space b = eqb b 32

@@ -1,14 +1,6 @@
 -- The text of an id, by the bytes of UTF-8.
-use Rattle.std.proofs.Common.{◌≡◌, ℕ, ◌+◌, ◌/◌, ◌<◌, ◌≤◌, ◌⊎◌, Bool, true, false, ◌||◌, ltb, leb, List, [], ◌∷◌, ◌++◌, length, map, filter, take, drop, get_or, refl, sym, ap, ◌∙◌, inl, inr, arith, length-take-le, take_at}
-use Rattle.std.specs.Prelude.{IsUtf8}
-use Rattle.std.specs.Str.{chars, IsAscii}
-use Rattle.std.proofs.lemmas.Bool.{cases_lt, lt-ltb, le-ltb, le-leb, lt-leb}
-use Rattle.std.proofs.lemmas.Bool.Decides.{nat_tests}
-use Rattle.std.proofs.lemmas.List.{map-append, length-map, take-append-drop, take_all}
-use Rattle.std.proofs.lemmas.List.Elements.{filter-append}
-use Rattle.std.proofs.lemmas.Str.{chars-encodes, chars-IsAscii}
+use Rattle.rtp_base.proofs.Common.{◌≡◌, ℕ, ◌+◌, ◌/◌, ◌<◌, ◌≤◌, ◌⊎◌, Bool, true, false, ◌||◌, ltb, leb, List, [], ◌∷◌, ◌++◌, length, map, filter, take, drop, get_or, refl, sym, ap, ◌∙◌, inl, inr, arith, length-take-le, take_at, IsUtf8, chars, IsAscii, cases_lt, lt-ltb, le-ltb, le-leb, lt-leb, nat_tests, map-append, length-map, take-append-drop, take_all, filter-append, chars-encodes, chars-IsAscii, id_char, id_text}
 use lib.Utf8.{encode, encodes, next}
-use Rattle.rtp_base.specs.Id.{id_char, id_text}
 
 -- a byte of UTF-8 begins a character
 abbrev pub begins : ℕ → Bool

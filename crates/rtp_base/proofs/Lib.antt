@@ -1,4 +1,5 @@
-mod BitmapLemmas
+mod Common
+pub mod BitmapLemmas
 mod DirectionLemmas
 mod FrequencyLemmas
 pub mod IdLemmas

@@ -1,8 +1,5 @@
 -- Times in whole ticks.
-use Rattle.std.proofs.Common.{◌≡◌, ℕ, ◌*◌, ◌<◌, ◌≤◌, subst, arith}
-use Rattle.std.proofs.lemmas.Nat.{le-div}
-use Rattle.std.proofs.Math.Nat.{div-mul-le_self, le_of_mul-le-mul_right, mul-le-mul_right, mul_right_comm}
-use Rattle.rtp_base.specs.MediaTime.{Fraction, per_second, IsAtMost, whole_ticks}
+use Rattle.rtp_base.proofs.Common.{◌≡◌, ℕ, ◌*◌, ◌<◌, ◌≤◌, subst, arith, le-div, div-mul-le_self, le_of_mul-le-mul_right, mul-le-mul_right, mul_right_comm, Fraction, per_second, IsAtMost, whole_ticks}
 
 -- what counts as the ticks in a second is the frequency itself, above 0
 per_second-pos : (a : Fraction) → 0 < a.denom → per_second a ≡ a.denom

@@ -1,6 +1,5 @@
 -- Bytes that are put into a buffer one after the other.
-use Rattle.std.proofs.Common.{◌≡◌, ℕ, ◌+◌, ◌-◌, ◌<◌, ◌≤◌, List, [], ◌∷◌, ◌++◌, length, take, drop, replicate, refl, sym, ap, ◌∙◌, arith, append_assoc, length-append, length-take-le, length-drop, take_at, drop_at, set, suc, add-zero, zero-add}
-use Rattle.std.proofs.lemmas.List.{append-nil, length-replicate, take-append-drop, drop-drop, take-take, take-append-le, take_rest, drop_all, set_split}
+use Rattle.rtp_base.proofs.Common.{◌≡◌, ℕ, ◌+◌, ◌-◌, ◌<◌, ◌≤◌, List, [], ◌∷◌, ◌++◌, length, take, drop, replicate, refl, sym, ap, ◌∙◌, arith, append_assoc, length-append, length-take-le, length-drop, take_at, drop_at, set, suc, add-zero, zero-add, append-nil, length-replicate, take-append-drop, drop-drop, take-take, take-append-le, take_rest, drop_all, set_split}
 use Rattle.rtp_base.specs.Overwriting.{overwritten}
 
 -- what `copy_from_slice` into a part leaves

@@ -1,14 +1,6 @@
 -- Bits in a ring of words: the numbers that share a bit, a word that is changed, and which window the words show.
-use Rattle.std.proofs.Common.{◌≡◌, ◌≢◌, ◌+◌, ◌-◌, ◌*◌, ◌/◌, ◌%◌, ◌^◌, ◌<◌, ◌≤◌, ◌⊎◌, ◌↔◌, IsTrue, nat_eq, ℕ, Bool, true, false, ◌||◌, List, length, get_or, set, replicate, bit_and, bit_or, inl, inr, refl, sym, ap, ◌∙◌, arith}
-use Rattle.std.proofs.lemmas.Nat.{div-add-mod', mod_below, row_fits}
-use Rattle.std.proofs.Math.Nat.{add-mod_right}
-use Rattle.std.proofs.lemmas.Nat.Bits.{shr_and_one, bit_at-zero, bit_at-lt, bit_at_and, bit_at_ones, bit_at_not, bit_at_set_same, bit_at_set_other}
-use Rattle.std.proofs.lemmas.List.{get_or-set_same, get_or-set_other, get_or-replicate, length-set}
-use Rattle.std.proofs.lemmas.List.FromFn.{get_or-map-range_with_len, length-map-range_with_len, fill_by_all}
-use Rattle.std.proofs.lemmas.Bool.{cases_lt, cases_eq, eq-eqb, ne_eqb, or_right}
-use Rattle.std.specs.Int.{bit_at, w64}
+use Rattle.rtp_base.proofs.Common.{◌≡◌, ◌≢◌, ◌+◌, ◌-◌, ◌*◌, ◌/◌, ◌%◌, ◌^◌, ◌<◌, ◌≤◌, ◌⊎◌, ◌↔◌, IsTrue, nat_eq, ℕ, Bool, true, false, ◌||◌, List, length, get_or, set, replicate, bit_and, bit_or, inl, inr, refl, sym, ap, ◌∙◌, arith, div-add-mod', mod_below, row_fits, add-mod_right, shr_and_one, bit_at-zero, bit_at-lt, bit_at_and, bit_at_ones, bit_at_not, bit_at_set_same, bit_at_set_other, get_or-set_same, get_or-set_other, get_or-replicate, length-set, get_or-map-range_with_len, length-map-range_with_len, fill_by_all, cases_lt, cases_eq, eq-eqb, ne_eqb, or_right, bit_at, w64, Numbers, KeepsOf, AcceptsOf}
 use Rattle.rtp_base.specs.Ring.{ring_size, ring_bit, ring_bits}
-use Rattle.rtp_base.specs.Window.{Numbers, KeepsOf, AcceptsOf}
 use Rattle.rtp_base.proofs.BitmapLemmas.{or-none, or-already}
 use Rattle.rtp_base.proofs.WindowLemmas.{AcceptsOf-low}
 

@@ -1,7 +1,6 @@
 -- Worked rows, computed from the definitions.
-use Rattle.std.proofs.Common.{◌≡◌, ℕ, refl, arith}
+use Rattle.rtp_base.proofs.Common.{◌≡◌, ℕ, refl, arith, Fraction, fraction_cmp, IsLess, whole_ticks, in_ticks, sum_of, IsDifference}
 use Rattle.std.specs.declared.cmp.Ordering.TheVariants.{Equal, Greater}
-use Rattle.rtp_base.specs.MediaTime.{Fraction, fraction_cmp, IsLess, whole_ticks, in_ticks, sum_of, IsDifference}
 
 abbrev at : ℕ → ℕ → Fraction
 at numer denom = record { numer = numer; denom = denom }

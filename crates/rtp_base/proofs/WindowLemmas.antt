@@ -1,8 +1,5 @@
 -- Which sets a window keeps: as it is made, as a number is refused, and always some set.
-use Rattle.std.proofs.Common.{◌≡◌, ◌+◌, ◌-◌, ◌^◌, ◌<◌, ◌≤◌, ◌↔◌, nat_eq, ℕ, Bool, true, false, ◌||◌, ◌&&◌, leb, ltb, List, get_or, inl, inr, refl, sym, ap, ◌∙◌, arith}
-use Rattle.std.proofs.lemmas.Bool.{le-leb, leb-true, lt-ltb, and_parts, or_cases, or_left, cases_Bool, cases_lt, cases_eq, eqb-true, eq-eqb, ne_eqb}
-use Rattle.rtp_base.specs.Window.{Numbers, WindowState, window_size, only, up_to, including, IsGreatest, KeepsOf, Keeps, AcceptsOf, Accepts}
-use Rattle.rtp_base.specs.Bitmap.{bits_of}
+use Rattle.rtp_base.proofs.Common.{◌≡◌, ◌+◌, ◌-◌, ◌^◌, ◌<◌, ◌≤◌, ◌↔◌, nat_eq, ℕ, Bool, true, false, ◌||◌, ◌&&◌, leb, ltb, List, get_or, inl, inr, refl, sym, ap, ◌∙◌, arith, le-leb, leb-true, lt-ltb, and_parts, or_cases, or_left, cases_Bool, cases_lt, cases_eq, eqb-true, eq-eqb, ne_eqb, Numbers, WindowState, window_size, only, up_to, including, IsGreatest, KeepsOf, Keeps, AcceptsOf, Accepts, bits_of}
 use Rattle.rtp_base.proofs.BitmapLemmas.{or-none, or-already, one-first, one-others, ones-at}
 
 -- a window in which its greatest number alone is recorded

@@ -115,8 +115,8 @@ impl SeqNoWindow {
         }
     }
 
-    /// Returns the window that [`parts`](Self::parts) took apart. Any two numbers are the parts of a
-    /// window: the greatest number is recorded, whatever its bit says.
+    /// Returns the window that [`parts`](Self::parts) took apart. Any two numbers are the parts of
+    /// a window: the greatest number is recorded, whatever its bit says.
     ///
     /// ```
     /// let window = SeqNoWindow::from_parts(SeqNo::from(1000), 0b1010);

@@ -40,7 +40,8 @@ impl<const N: usize> Model for WideWindow<N> {
 
     ghost view = { λ w. ring_window w.words w.greatest };
 
-    ghost invariant = { λ w. (0 < N) × (length w.words ≡ N) × (slice_index_or (ring_bits w.words w.greatest) 0 false ≡ true) };
+    ghost invariant = { λ w. (0 < N) × (length w.words ≡ N) ×
+        (slice_index_or (ring_bits w.words w.greatest) 0 false ≡ true) };
 }
 
 impl<const N: usize> WideWindow<N> {
@@ -74,8 +75,8 @@ impl<const N: usize> WideWindow<N> {
         }
     }
 
-    /// Returns the window that [`parts`](Self::parts) took apart. Any number and words are the parts of
-    /// a window: the greatest number is recorded, whatever its bit says.
+    /// Returns the window that [`parts`](Self::parts) took apart. Any number and words are the
+    /// parts of a window: the greatest number is recorded, whatever its bit says.
     ///
     /// ```
     /// let window = WideWindow::from_parts(SeqNo::from(70), [0b1000, 0b10]);
@@ -101,9 +102,9 @@ impl<const N: usize> WideWindow<N> {
     }
 
     /// Returns the window taken apart, so that it can be stored and put together again by
-    /// [`from_parts`](Self::from_parts): the greatest recorded number, and the words, in which number
-    /// n has bit n % 64 of word n / 64 % N. Where the greatest is less than 64 * N - 1, the bits that
-    /// no number up to it has stand for no number: they are clear in a window of
+    /// [`from_parts`](Self::from_parts): the greatest recorded number, and the words, in which
+    /// number n has bit n % 64 of word n / 64 % N. Where the greatest is less than 64 * N - 1, the
+    /// bits that no number up to it has stand for no number: they are clear in a window of
     /// [`new`](Self::new), and set in one of [`new_after`](Self::new_after).
     pub fn parts(&self) -> (SeqNo, &[u64; N])
         ensures whole { ring_window result.1.now result.0 ≡ self.now }

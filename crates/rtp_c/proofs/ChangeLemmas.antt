@@ -1,25 +1,6 @@
 -- A packet that is changed where it lies.
-use Rattle.std.proofs.Common.{◌≡◌, ℕ, ◌<◌, List, Bool, Option, None, ℤ, w32, to_z, of_z, sym, ap, ◌∙◌, subst}
-use Rattle.std.specs.Prelude.{slice_index}
-use Rattle.rtp_wire.specs.declared.packet.rtp_packet_mut.RtpPacketMut.{RtpPacketMut}
-use Rattle.rtp_wire.specs.declared.packet.fields.Fields.{Fields}
-use Rattle.rtp_wire.specs.Packet.{PacketParts, IsPacket}
-use Rattle.rtp_wire.specs.GivenFields.{with_header_fields}
-use Rattle.rtp_ext.specs.declared.form.ExtensionsForm.{ExtensionsForm}
-use Rattle.rtp_wire.specs.ChangedPacket.{ChangesBlock}
+use Rattle.rtp_c.proofs.Common.{◌≡◌, ℕ, ◌<◌, List, Bool, Option, None, ℤ, w32, to_z, of_z, ap, ◌∙◌, subst, slice_index, RtpPacketMut, Fields, PacketParts, IsPacket, with_header_fields, ExtensionsForm, ChangesBlock, parts_in, BecomesPacket, ok, one_packet, IsPacket-in}
 use Rattle.rtp_wire.specs.PartsAt.{parts_at}
-use Rattle.rtp_wire.specs.PartsOf.{parts_in}
-use Rattle.rtp_c.specs.ChangedElements.{BecomesPacket}
-use Rattle.rtp_c.specs.Status.{ok}
-use Rattle.rtp_wire.proofs.HeaderFound.{HasHeader-packet_mut, IsWhole-header}
-use Rattle.rtp_wire.proofs.PacketLemmas.{IsPacket-whole, one_packet}
-
--- the buffer of a packet holds a packet of its parts
-pub IsPacket-in : (packet : RtpPacketMut) (bytes : List ℕ) → slice_index bytes 1 < 256 → packet.datagram.now ≡ bytes → IsPacket bytes (parts_in packet)
-IsPacket-in packet bytes fits is =
-    let now = packet.datagram.now in
-    subst (λ (b : List ℕ). IsPacket b (parts_in packet)) is
-    (IsPacket-whole now (subst (λ (b : List ℕ). slice_index b 1 < 256) (sym is) fits) (IsWhole-header now packet.header_len packet.form (HasHeader-packet_mut packet)))
 
 -- the parts of a packet in a buffer
 pub parts-in : (was : List ℕ) (parts : PacketParts) (packet : RtpPacketMut) → IsPacket was parts → packet.datagram.now ≡ was → parts_in packet ≡ parts

@@ -1,14 +1,6 @@
 -- The data of an element, of the values that C gives.
-use Rattle.std.proofs.Common.{◌≡◌, ℕ, ◌<◌, List, [], ◌++◌, length, drop, Option, None, Some, IfSome, refl, sym, ap, ◌∙◌, subst, arith}
-use Rattle.std.specs.Option.{option_map, unwrap_or}
-use Rattle.rtp_values.specs.KnownKind.{extension_of_kind}
-use Rattle.rtp_values.specs.Values.{Reads}
-use Rattle.rtp_values.specs.Spelling.{spelled_data, carried_values}
-use Rattle.rtp_values.specs.declared.known_kind.KnownKind.{KnownKind}
-use Rattle.rtp_values.specs.declared.value.values.ExtensionValues.{ExtensionValues}
+use Rattle.rtp_c.proofs.Common.{◌≡◌, ℕ, ◌<◌, List, [], ◌++◌, length, drop, Option, None, Some, IfSome, refl, sym, ap, ◌∙◌, subst, arith, option_map, unwrap_or, extension_of_kind, Reads, spelled_data, carried_values, KnownKind, ExtensionValues, AreGivenValues, IsNamed, IsKindNumbered, kind_numbered}
 use Rattle.rtp_c.specs.declared.values.ValuesView.{ValuesView}
-use Rattle.rtp_c.specs.Given.{AreGivenValues}
-use Rattle.rtp_c.specs.KindNumbers.{IsNamed, IsKindNumbered, kind_numbered}
 use Rattle.rtp_c.specs.ElementData.{IsAskedFor, HasNoData, AreDataOf, AreTooLongData, AreWrittenData}
 use Rattle.rtp_c.proofs.KindNumberLemmas.{numbered_is}
 use Rattle.rtp_ext.proofs.WrittenBlockLemmas.{none-from_map}

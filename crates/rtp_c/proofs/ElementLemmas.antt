@@ -1,13 +1,7 @@
 -- Where an element lies in the body of a block.
-use Rattle.std.proofs.Common.{◌≡◌, ℕ, ◌-◌, ◌≤◌, List, ◌∷◌, ◌++◌, length, take, drop, replicate, refl, sym, ap, ◌∙◌, subst, append_assoc, length-append, length-take-le, drop_at, arith}
-use Rattle.std.proofs.lemmas.List.{take-append-drop, length-replicate}
-use Rattle.rtp_ext.specs.declared.form.ExtensionsForm.{ExtensionsForm}
+use Rattle.rtp_c.proofs.Common.{◌≡◌, ℕ, ◌-◌, ◌≤◌, List, ◌∷◌, ◌++◌, length, take, drop, replicate, refl, sym, ap, ◌∙◌, subst, append_assoc, length-append, length-take-le, drop_at, arith, take-append-drop, length-replicate, ExtensionsForm, IsElement, element_bytes, AreElements, IsNextPlace, IsLastPlace, ElementView, slice_at}
 use Rattle.rtp_ext.specs.declared.place.Place.{Place}
-use Rattle.rtp_ext.specs.Elements.{IsElement, element_bytes, AreElements}
 use Rattle.rtp_ext.specs.ElementWriting.{element_header}
-use Rattle.rtp_ext.specs.ElementPlaces.{IsNextPlace, IsLastPlace}
-use Rattle.rtp_c.specs.declared.packet.ElementView.{ElementView}
-use Rattle.rtp_c.specs.PacketView.{slice_at}
 use Rattle.rtp_c.specs.ElementView.{IsNextElement, IsLastElement}
 use Rattle.rtp_c.proofs.PacketLemmas.{middle}
 use Rattle.rtp_ext.proofs.PlaceLemmas.{element_bytes-split}

@@ -1,10 +1,5 @@
 -- Where the first numbers end, in the map that C fills.
-use Rattle.std.proofs.Common.{◌≡◌, ◌≤◌, ◌<◌, ◌+◌, ◌-◌, ◌*◌, ◌^◌, ◌/◌, ℕ, zero, suc, List, length, take, drop, get_or, inl, inr, arith, ap, sym, refl, ◌∙◌, subst, None}
-use Rattle.std.proofs.lemmas.List.{get_or-drop, get_or_past, get_or-take, length-drop, length-take}
-use Rattle.std.specs.Int.{w64, byte_worth, from_le_bytes, sum_through, leading_zeros}
-use Rattle.std.proofs.lemmas.Bool.{cases_lt}
-use Rattle.rtp_c.specs.KindNumbers.{kind_numbered}
-use Rattle.std.proofs.lemmas.Nat.{leading_length, pow-add}
+use Rattle.rtp_c.proofs.Common.{◌≡◌, ◌≤◌, ◌<◌, ◌+◌, ◌-◌, ◌*◌, ◌^◌, ◌/◌, ℕ, zero, suc, List, length, take, drop, get_or, inl, inr, arith, ap, sym, refl, ◌∙◌, subst, None, get_or-drop, get_or_past, get_or-take, length-drop, length-take, w64, byte_worth, from_le_bytes, sum_through, leading_zeros, cases_lt, kind_numbered, leading_length, pow-add}
 use Rattle.std.proofs.Math.Nat.{pow-le-pow_right, le-mul_of_pos_right, mul_comm}
 
 -- a part is at most the sum

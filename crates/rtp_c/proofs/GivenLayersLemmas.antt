@@ -1,18 +1,9 @@
 -- Items that are given place by place.
-use Rattle.std.proofs.Common.{◌≡◌, ◌≤◌, List, [], ◌∷◌, map, take, ◌∙◌, ap, sym, refl, Some}
-use Rattle.std.specs.List.{All, AllZip, AllByRecursion}
+use Rattle.rtp_c.proofs.Common.{◌≡◌, ◌≤◌, List, [], ◌∷◌, map, take, ◌∙◌, ap, sym, refl, Some, All, AllZip, AllByRecursion, Layer, Stream, Layers, ExtensionValues, HeaderView, IsGivenHeader, IsGivenLayer, IsGivenStream, IsGivenLayers, AreCarriedLayers, IsGivenWithLayers, HasFewLayers, layer_in, stream_in, allocation_in, recursion_from_All, All-from_recursion}
 use Rattle.rtp_vla.specs.Allocation as vla
-use Rattle.rtp_c.specs.declared.layers.Layer.{Layer}
-use Rattle.rtp_c.specs.declared.layers.Stream.{Stream}
-use Rattle.rtp_c.specs.declared.layers.Layers.{Layers}
-use Rattle.rtp_values.specs.declared.value.values.ExtensionValues.{ExtensionValues}
 use Rattle.rtp_wire.specs.declared.header.rtp_header.RtpHeader.{RtpHeader}
 use Rattle.rtp_wire.specs.Written.{with_values}
-use Rattle.rtp_c.specs.declared.header.HeaderView.{HeaderView}
-use Rattle.rtp_c.specs.Given.{IsGivenHeader}
-use Rattle.rtp_c.specs.GivenLayers.{IsGivenLayer, IsGivenStream, IsGivenLayers, AreCarriedLayers, IsGivenWithLayers, HasFewLayers, layer_in, stream_in, allocation_in}
 use Rattle.rtp_c.proofs.WrittenHeaderLemmas.{type_fits, few_sources}
-use Rattle.std.proofs.lemmas.List.Elements.{recursion_from_All, All-from_recursion}
 
 -- what counts is given, where no count is above four
 AllZip-in : {A B : Type 0} (R : A → B → Type 0) (f : A → B) (P : A → Type 0) → ((x : A) → P x → R x (f x)) → (xs : List A) → AllByRecursion P xs → AllZip R xs (map f xs)

@@ -1,5 +1,5 @@
 -- Texts that end at a zero.
-use Rattle.std.proofs.Common.{◌≡◌, ◌≢◌, ℕ, ◌+◌, ◌<◌, List, ◌∷◌, ◌++◌, length, take, drop, replicate, get_or, sym, ap, ◌∙◌, subst, All, arith, length-append, get_or-append-add, take_at, take-append-drop, Option, Some, None, IfNone}
+use Rattle.std.proofs.Common.{◌≡◌, ◌≢◌, ℕ, ◌+◌, ◌<◌, List, ◌∷◌, ◌++◌, length, take, drop, replicate, get_or, sym, ap, ◌∙◌, subst, All, arith, length-append, get_or-append-add, take_at, take-append-drop, Option, Some, None, IfSome, IfNone}
 use Rattle.std.proofs.lemmas.Bool.{false≢true}
 use Rattle.std.proofs.lemmas.List.{get_or_append_left, drop_more, drop-replicate}
 use Rattle.rtp_base.specs.Id.{IsIdByte, padded}
@@ -8,11 +8,11 @@ use Rattle.rtp_base.proofs.OverwritingLemmas.{overwritten-front}
 use Rattle.rtp_c.specs.Given.{IsGiven, IsTextIn}
 
 -- a zero is none of an id's characters
-zero-no_id_byte : (b : ℕ) → b ≡ 0 → IsIdByte b → ⊥
+pub zero-no_id_byte : (b : ℕ) → b ≡ 0 → IsIdByte b → ⊥
 zero-no_id_byte b none is = false≢true (subst IsIdByte none is)
 
 -- after the text stands a zero
-zero-after : (bytes text : List ℕ) → (is : IsTextIn bytes text) → (length text < length bytes) × (get_or bytes (length text) 0 ≡ 0)
+pub zero-after : (bytes text : List ℕ) → (is : IsTextIn bytes text) → (length text < length bytes) × (get_or bytes (length text) 0 ≡ 0)
 zero-after bytes text is =
     let n : length text ≡ length text + 0 = omega arith in (
       omega (arith, ap length is.bytes_are, length-append text (0 ∷ is.after)),
@@ -72,3 +72,7 @@ none_given has IsIt (Some value) none is = none.1 value is.1
 pub weaker_none : {A X Y : Type 0} (o : Option A) → (X → Y) → IfNone o X → IfNone o Y
 weaker_none None f x = f x
 weaker_none (Some value) f x = tt
+
+pub weaker_some : {A : Type 0} (P Q : A → Type 0) (o : Option A) → ((x : A) → P x → Q x) → IfSome o P → IfSome o Q
+weaker_some P Q None f x = tt
+weaker_some P Q (Some value) f x = f value x

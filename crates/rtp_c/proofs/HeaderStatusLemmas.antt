@@ -1,15 +1,9 @@
 -- The statuses of a header that isn't read.
-use Rattle.std.proofs.Common.{◌≡◌, ℕ, List, ℤ, Option, Some, None, true, refl}
-use Rattle.std.specs.Prelude.{is_some}
-use Rattle.std.proofs.lemmas.Bool.{false≢true}
+use Rattle.rtp_c.proofs.Common.{◌≡◌, ℕ, List, ℤ, Option, Some, None, true, refl, is_some, false≢true, HasNoHeader, no_packet, unknown_form, PacketParts, IsPacket, IsNoPacket-applies, IsFirstHeaderCause-other_form}
 use Rattle.rtp_wire.specs.declared.header.not_a_header.NotAHeader.{NotAHeader as Cause}
 use Rattle.rtp_wire.specs.declared.header.not_a_header.NotAHeader.TheVariants.{NotAPacket, UnknownForm}
 use Rattle.rtp_wire.specs.NoHeaderCause.{AppliesToHeader}
-use Rattle.rtp_wire.specs.NotAHeader.{HasNoHeader, no_packet, unknown_form}
-use Rattle.rtp_wire.specs.Packet.{PacketParts, IsPacket}
 use Rattle.rtp_c.specs.Status.{unknown_form as unknown_form_status, IsHeaderStatus}
-use Rattle.rtp_wire.proofs.NotAPacketLemmas.{IsNoPacket-applies}
-use Rattle.rtp_wire.proofs.NoHeaderLemmas.{IsFirstHeaderCause-other_form}
 
 -- bytes to which a cause applies begin with no header
 pub HasNoHeader-status : (bytes : List ℕ) (status : ℤ) → IsHeaderStatus bytes status → HasNoHeader bytes

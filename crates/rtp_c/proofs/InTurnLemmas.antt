@@ -1,10 +1,6 @@
 -- Lists whose elements are changed in turn, from the first one on.
-use Rattle.std.proofs.Common.{◌≡◌, ℕ, ◌+◌, ◌-◌, ◌<◌, ◌≤◌, List, [], ◌∷◌, ◌++◌, length, take, drop, get_or, set, refl, sym, ap, ◌∙◌, subst, add-zero, arith}
+use Rattle.rtp_c.proofs.Common.{◌≡◌, ℕ, ◌+◌, ◌-◌, ◌<◌, ◌≤◌, List, [], ◌∷◌, ◌++◌, length, take, drop, get_or, set, refl, sym, ap, ◌∙◌, subst, add-zero, arith, AllZip, take_more, take_more_set, drop-set-lt, drop-drop, get_or-drop, length-drop, take_all, AllZip-push, StoredReceiver}
 use Rattle.std.proofs.ResultArms.{subst_both}
-use Rattle.std.specs.List.{AllZip}
-use Rattle.std.proofs.lemmas.List.{take_more, take_more_set, drop-set-lt, drop-drop, get_or-drop, length-drop, take_all}
-use Rattle.std.proofs.lemmas.List.Elements.{AllZip-push}
-use Rattle.rtp_c.specs.declared.receiver.StoredReceiver.{StoredReceiver}
 use Rattle.rtp_c.specs.declared.arrivals.Arrival.{Arrival}
 use Rattle.rtp_c.specs.Arrivals.{IsReceived, AreReceived}
 

@@ -1,10 +1,6 @@
 -- The verdict of a call that passes on the status of another, and the number that comes next.
-use Rattle.std.proofs.Common.{◌≡◌, ℕ, ◌+◌, ◌%◌, ◌^◌, ◌<◌, ℤ, Some, ap, subst, arith, inl, inr, w32, to_z, of_z}
-use Rattle.rtp_base.specs.Window.{Numbers, IsGreatest}
-use Rattle.rtp_receive.specs.Receiver.{IsNumberOf}
+use Rattle.rtp_c.proofs.Common.{◌≡◌, ℕ, ◌+◌, ◌%◌, ◌^◌, ◌<◌, ℤ, Some, ap, subst, arith, inl, inr, w32, to_z, of_z, Numbers, IsGreatest, IsNumberOf, StoredReceiver, HoldsNumbers}
 use Rattle.rtp_receive.specs.Widening.{distance}
-use Rattle.rtp_c.specs.declared.receiver.StoredReceiver.{StoredReceiver}
-use Rattle.rtp_c.specs.StoredReceiver.{HoldsNumbers}
 use Rattle.rtp_c.specs.Judging.{IsJudgedAs, IsJudgedBy}
 
 -- the status is one of 32 bits

@@ -1,3 +1,4 @@
+mod Common
 mod InTurnLemmas
 mod StatusLemmas
 mod HeaderStatusLemmas
@@ -6,6 +7,7 @@ mod ChangeLemmas
 mod PutLemmas
 mod ElementLemmas
 mod KindNumberLemmas
+mod LeftOutLemmas
 mod StoredMapLemmas
 mod NumberedLemmas
 mod WalkLemmas
@@ -16,6 +18,8 @@ mod PlacesLemmas
 mod HeaderViewLemmas
 mod GivenLayersLemmas
 mod GivenLemmas
+mod GivenValuesLemmas
+mod IdBytesLemmas
 mod ElementDataLemmas
 mod WritingLemmas
 mod WrittenHeaderLemmas
@@ -23,6 +27,7 @@ mod JudgingLemmas
 mod StoredLemmas
 mod StoredWideLemmas
 mod RestartingLemmas
+mod WideRestartingLemmas
 mod RetransmissionLemmas
 mod SettingLemmas
 mod StandardLemmas

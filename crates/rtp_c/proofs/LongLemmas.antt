@@ -1,17 +1,5 @@
 -- Whether the one-byte form can't carry a mapped id of the map that C fills, or the longest data of its kind, by the numbers.
-use Rattle.std.proofs.Common.{◌≡◌, ◌≢◌, ℕ, zero, suc, ◌≤◌, ◌<◌, ◌+◌, List, [], ◌∷◌, length, take, drop, get_or, Bool, false, true, Option, None, Some, inl, inr, arith, refl, sym, ap, ◌∙◌, subst, le-ltb}
-use Rattle.std.specs.Prelude.{◌||◌, nat_lt, nat_le, nat_eq}
-use Rattle.std.specs.List.{list_any}
-use Rattle.std.proofs.lemmas.Bool.{cases_lt, ne_eqb, leb-true, ltb-false, or_parts, true_from_ne_false, false≢true}
-use Rattle.std.proofs.lemmas.List.{get_or-take, get_or-drop, get_or_past, length-take}
-use Rattle.rtp_values.specs.Spelling.{longest}
-use Rattle.rtp_values.specs.KnownKind.{extension_of_kind}
-use Rattle.rtp_values.specs.declared.known_kind.KnownKind.{KnownKind}
-use Rattle.rtp_values.specs.declared.known_kind.KnownKind.TheVariants.{VideoLayersAllocation}
-use Rattle.rtp_ext.specs.ExtensionMap.{Entry, Slots, items_from}
-use Rattle.rtp_ext.specs.KindsById.{entry_of_kind, is_long_item}
-use Rattle.rtp_c.specs.KindNumbers.{kind_numbered, numbered_kinds}
-use Rattle.rtp_c.specs.StoredMap.{numbered_slots}
+use Rattle.rtp_c.proofs.Common.{◌≡◌, ◌≢◌, ℕ, zero, suc, ◌≤◌, ◌<◌, ◌+◌, List, [], ◌∷◌, length, take, drop, get_or, Bool, false, true, Option, None, Some, inl, inr, arith, refl, sym, ap, ◌∙◌, subst, le-ltb, ◌||◌, nat_lt, nat_le, nat_eq, list_any, cases_lt, ne_eqb, leb-true, ltb-false, or_parts, true_from_ne_false, false≢true, get_or-take, get_or-drop, get_or_past, length-take, longest, extension_of_kind, KnownKind, VideoLayersAllocation, Entry, Slots, items_from, entry_of_kind, is_long_item, kind_numbered, numbered_kinds, numbered_slots}
 use Rattle.rtp_c.proofs.FewSlotsLemmas.{each_in}
 use Rattle.rtp_c.proofs.KindNumberLemmas.{number_of_kind, number_zero, all_pass, numbered_passes}
 use Rattle.rtp_c.proofs.NumberedLemmas.{slot_numbered}

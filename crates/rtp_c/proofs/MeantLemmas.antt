@@ -1,18 +1,5 @@
 -- What the ids of a map mean by their numbers, and the new ids of these.
-use Rattle.std.proofs.Common.{◌≡◌, ◌≢◌, ℕ, zero, suc, ◌≤◌, ◌<◌, ◌+◌, List, [], ◌∷◌, length, length-set, drop, set, get_or, true, Option, None, Some, inl, inr, ◌⊎◌, arith, refl, sym, ap, ◌∙◌, subst}
-use Rattle.std.specs.Prelude.{nat_le}
-use Rattle.std.specs.Option.{option_map}
-use Rattle.std.proofs.lemmas.Bool.{cases_lt, leb-true}
-use Rattle.std.proofs.lemmas.List.{get_or_past, get_or-set_same, get_or-set_other}
-use Rattle.std.proofs.Math.ListN.{get_or-map}
-use Rattle.rtp_values.specs.KnownKind.{extension_of_kind}
-use Rattle.rtp_values.specs.declared.kind.Extension.{Extension}
-use Rattle.rtp_values.specs.declared.known_kind.KnownKind.{KnownKind}
-use Rattle.rtp_values.proofs.KindLemmas.{one_kind}
-use Rattle.rtp_ext.specs.ExtensionMap.{extension_at}
-use Rattle.rtp_ext.specs.NewIds.{IsNewId, CarriesExtensions, new_id, id_in_byte, ids_in_bytes}
-use Rattle.rtp_c.specs.KindNumbers.{kind_number, kind_numbered, numbered_kinds, IsNamed}
-use Rattle.rtp_c.specs.StoredMap.{IsFirstNumber, Means, IsNumberAt, IsIdOf, IsLowestOf, AreNewIdsOf, CarryKinds, numbered_slots}
+use Rattle.rtp_c.proofs.Common.{◌≡◌, ◌≢◌, ℕ, zero, suc, ◌≤◌, ◌<◌, ◌+◌, List, [], ◌∷◌, length, length-set, drop, set, get_or, true, Option, None, Some, inl, inr, ◌⊎◌, arith, refl, sym, ap, ◌∙◌, subst, nat_le, option_map, cases_lt, leb-true, get_or_past, get_or-set_same, get_or-set_other, get_or-map, extension_of_kind, Extension, KnownKind, one_kind, extension_at, IsNewId, CarriesExtensions, new_id, id_in_byte, ids_in_bytes, kind_number, kind_numbered, numbered_kinds, IsNamed, IsFirstNumber, Means, IsNumberAt, IsIdOf, IsLowestOf, AreNewIdsOf, CarryKinds, numbered_slots}
 use Rattle.rtp_c.proofs.KindNumberLemmas.{number≢0, number_of_kind, all_pass, numbered_passes}
 use Rattle.rtp_c.proofs.NumberedLemmas.{HasKinds-numbered, after_first, numbered_kind, extension_numbered}
 

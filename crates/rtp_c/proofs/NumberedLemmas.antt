@@ -1,24 +1,10 @@
 -- The map that C fills, as it stands: what each id is mapped to, and a walk over the mapped ids.
-use Rattle.std.proofs.Common.{◌≡◌, ◌≢◌, ℕ, zero, suc, ◌≤◌, ◌<◌, ◌+◌, ◌-◌, ◌%◌, List, [], ◌∷◌, length, map, take, drop, get_or, Bool, false, true, Option, None, Some, inl, inr, arith, refl, sym, ap, ◌∙◌, subst, le-ltb}
-use Rattle.std.specs.Prelude.{nat_lt, nat_eq}
-use Rattle.std.specs.Option.{option_map}
-use Rattle.std.proofs.lemmas.Bool.{cases_lt, eqb-true, false≢true}
-use Rattle.std.proofs.lemmas.List.{length-map, length-take, length-drop, drop_all, drop_more, take_all, get_or-take, get_or_past}
-use Rattle.std.proofs.Math.ListN.{get_or-map}
-use Rattle.rtp_values.proofs.KindLemmas.{one_kind}
-use Rattle.rtp_values.specs.KnownKind.{extension_of_kind}
-use Rattle.rtp_values.specs.declared.kind.Extension.{Extension}
+use Rattle.rtp_c.proofs.Common.{◌≡◌, ◌≢◌, ℕ, zero, suc, ◌≤◌, ◌<◌, ◌+◌, ◌-◌, ◌%◌, List, [], ◌∷◌, length, map, take, drop, get_or, Bool, false, true, Option, None, Some, inl, inr, arith, refl, sym, ap, ◌∙◌, subst, le-ltb, nat_lt, option_map, cases_lt, false≢true, length-map, length-take, length-drop, drop_all, drop_more, take_all, get_or-take, get_or_past, get_or-map, one_kind, extension_of_kind, KnownKind, Slots, IsLowest, IsUnmapped, extension_at, extension_of, items_from, entry_of_kind, IsNewId, items_from-empty, length-items_from, HasKinds, IsFirstNumber, numbered_slots}
 use Rattle.rtp_values.specs.declared.kind.Extension.TheVariants as extension
-use Rattle.rtp_values.specs.declared.known_kind.KnownKind.{KnownKind}
-use Rattle.rtp_values.specs.declared.known_kind.KnownKind.TheVariants.{AbsoluteSendTime, AbsoluteCaptureTime, AudioLevel, TransmissionTimeOffset, VideoOrientation, TransportSequenceNumber, PlayoutDelay, VideoContentType, VideoTiming, RtpStreamId, RepairedRtpStreamId, RtpMid, FrameMarking, ColorSpace, VideoLayersAllocation}
-use Rattle.rtp_ext.specs.ExtensionMap.{Slots, IsLowest, IsUnmapped, extension_at, extension_of, items_from}
-use Rattle.rtp_ext.specs.KindsById.{entry_of_kind}
-use Rattle.rtp_ext.specs.NewIds.{IsNewId}
 use Rattle.rtp_ext.proofs.KindsByIdLemmas.{entry_at-kinds}
-use Rattle.rtp_ext.proofs.ListingLemmas.{items_from-empty, length-items_from}
 use Rattle.rtp_c.specs.KindNumbers.{kind_number, kind_numbered, numbered_kinds, IsKindNumbered}
-use Rattle.rtp_c.specs.StoredMap.{HasKinds, IsFirstNumber, numbered_slots}
-use Rattle.rtp_c.proofs.KindNumberLemmas.{number≢0, number_zero, number_of_kind, numbered_is, all_pass, numbered_passes, one_kind as one_number}
+use Rattle.rtp_c.proofs.KindNumberLemmas.{number≢0, number_zero, number_of_kind, numbered_is, all_pass, numbered_passes}
+use Rattle.rtp_ext.proofs.RenamedIdLemmas.{kind_found}
 
 -- ---- the kinds of numbers
 
@@ -74,39 +60,6 @@ no_kind_out (suc before) byte none = elim (cases_lt before 15) [
 -- the number of a kind
 pub number_found : (number : ℕ) (kind : KnownKind) → kind_numbered number ≡ Some kind → number ≡ kind_number kind
 number_found number kind is = sym (subst (IsKindNumbered number) is (numbered_is number))
-
--- the known kind of an extension, and that of the mid for an unknown one
-kind_back : Extension → KnownKind
-kind_back extension.AbsoluteSendTime = AbsoluteSendTime
-kind_back extension.AbsoluteCaptureTime = AbsoluteCaptureTime
-kind_back extension.AudioLevel = AudioLevel
-kind_back extension.TransmissionTimeOffset = TransmissionTimeOffset
-kind_back extension.VideoOrientation = VideoOrientation
-kind_back extension.TransportSequenceNumber = TransportSequenceNumber
-kind_back extension.PlayoutDelay = PlayoutDelay
-kind_back extension.VideoContentType = VideoContentType
-kind_back extension.VideoTiming = VideoTiming
-kind_back extension.RtpStreamId = RtpStreamId
-kind_back extension.RepairedRtpStreamId = RepairedRtpStreamId
-kind_back extension.RtpMid = RtpMid
-kind_back extension.FrameMarking = FrameMarking
-kind_back extension.ColorSpace = ColorSpace
-kind_back extension.VideoLayersAllocation = VideoLayersAllocation
-kind_back (extension.UnknownUri uri) = RtpMid
-
-all_back : all_pass (λ number kind. nat_eq (kind_number (kind_back (extension_of_kind kind))) number) 0 numbered_kinds ≡ true
-unfolding all_pass kind_back
-all_back = refl
-
-kind_there : (kind : KnownKind) → kind_back (extension_of_kind kind) ≡ kind
-kind_there kind = one_number (kind_back (extension_of_kind kind)) kind (eqb-true _ (kind_number kind) (numbered_passes _ all_back (kind_number kind) kind (number_of_kind kind)))
-
-same_kind : (a b : KnownKind) → extension_of_kind a ≡ extension_of_kind b → a ≡ b
-same_kind a b same = sym (kind_there a) ∙ ap kind_back same ∙ kind_there b
-
-kind_of_extension : (found : Option KnownKind) (kind : KnownKind) → option_map extension_of_kind found ≡ Some (extension_of_kind kind) → found ≡ Some kind
-kind_of_extension None kind is = cc
-kind_of_extension (Some found) kind is = ap Some (same_kind found kind (one_kind is))
 
 -- ---- a walk over the mapped ids
 
@@ -223,7 +176,7 @@ pub numbered_kind : (numbers : List ℕ) (id : ℕ) (kind : KnownKind) → exten
     → get_or numbers id 0 ≡ kind_number kind
 numbered_kind numbers zero kind is = cc
 numbered_kind numbers (suc k) kind is =
-    let found = kind_of_extension (kind_numbered (get_or numbers (suc k) 0)) kind (extension_numbered numbers (suc k) _ (omega arith) refl ∙ is) in
+    let found = kind_found (kind_numbered (get_or numbers (suc k) 0)) kind (extension_numbered numbers (suc k) _ (omega arith) refl ∙ is) in
     sym (subst (IsKindNumbered (get_or numbers (suc k) 0)) found (numbered_is (get_or numbers (suc k) 0)))
 
 numbered_lowest : (numbers : List ℕ) (kind : KnownKind) (index : ℕ) → IsFirstNumber (drop 1 numbers) (kind_number kind) index

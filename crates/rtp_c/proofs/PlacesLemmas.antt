@@ -1,5 +1,5 @@
 -- Items in places.
-use Rattle.std.proofs.Common.{◌<◌, List, [], ◌∷◌, ◌++◌, length, get_or, set, arith}
+use Rattle.std.proofs.Common.{◌≡◌, ℕ, zero, suc, ◌-◌, ◌<◌, ◌≤◌, List, [], ◌∷◌, ◌++◌, length, replicate, get_or, set, refl, ap, sym, subst, arith}
 use Rattle.rtp_c.specs.LayersView.{AreInPlaces}
 
 -- the place after the last item has the view of nothing
@@ -33,3 +33,22 @@ AreInPlaces-changed IsViewOf nothing [] old new [] view is are = absurd are
 AreInPlaces-changed IsViewOf nothing [] old new (first ∷ views) view is are = (is, are.1)
 AreInPlaces-changed IsViewOf nothing (i ∷ before) old new [] view is are = absurd are
 AreInPlaces-changed IsViewOf nothing (i ∷ before) old new (first ∷ views) view is are = (are.0, AreInPlaces-changed IsViewOf nothing before old new views view is are.1)
+
+-- numbers before zeros stand in their places
+zeros : (places : ℕ) → AreInPlaces (λ (number t : ℕ). t ≡ number) 0 [] (replicate places 0)
+zeros zero = tt
+zeros (suc places) = (refl, zeros places)
+
+whole : (places : ℕ) → places ≡ places - 0
+whole places = omega arith
+
+pub AreInPlaces-padded : (places : ℕ) (numbers told : List ℕ) → length numbers ≤ places → told ≡ numbers ++ replicate (places - length numbers) 0
+    → AreInPlaces (λ (number t : ℕ). t ≡ number) 0 numbers told
+AreInPlaces-padded places [] told few is =
+    subst (λ (ts : List ℕ). AreInPlaces (λ (number t : ℕ). t ≡ number) 0 [] ts) (sym is)
+    (subst (λ (n : ℕ). AreInPlaces (λ (number t : ℕ). t ≡ number) 0 [] (replicate n 0)) (whole places) (zeros places))
+AreInPlaces-padded zero (number ∷ numbers) told few is = absurd (omega arith)
+AreInPlaces-padded (suc places) (number ∷ numbers) told few is =
+    let left : suc places - suc (length numbers) ≡ places - length numbers = omega arith in
+    subst (λ (ts : List ℕ). AreInPlaces (λ (n t : ℕ). t ≡ n) 0 (number ∷ numbers) ts) (sym is)
+    (refl, AreInPlaces-padded places numbers (numbers ++ replicate (suc places - suc (length numbers)) 0) (omega arith) (ap (λ (n : ℕ). numbers ++ replicate n 0) left))

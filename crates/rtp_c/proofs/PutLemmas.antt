@@ -1,10 +1,6 @@
 -- The statuses of an element that is put into a packet.
-use Rattle.std.proofs.Common.{◌≡◌, w32, to_z, of_z, refl, sym}
-use Rattle.rtp_wire.specs.declared.packet.not_a_packet.NotAPacket.TheVariants.{CutFixedPart, OtherVersion, CutSources, CutBlockHeader, CutBlock}
-use Rattle.rtp_wire.specs.declared.packet.not_put.NotPut.{NotPut}
+use Rattle.rtp_c.proofs.Common.{◌≡◌, w32, to_z, of_z, refl, sym, CutFixedPart, OtherVersion, CutSources, CutBlockHeader, CutBlock, NotPut, ok, put_status}
 use Rattle.rtp_wire.specs.declared.packet.not_put.NotPut.TheVariants.{CutPacket, NotAPacket, ZeroId, LongData, OtherForm, OneByteOnly, LongBlock, NoRoom}
-use Rattle.rtp_c.specs.Status.{ok}
-use Rattle.rtp_c.specs.PutStatus.{put_status}
 use Rattle.rtp_c.proofs.StatusLemmas.{ok≢cause}
 
 -- no cause has the status of success

@@ -1,13 +1,7 @@
 -- A receiver in the memory of C whose sender may start again: what it says of a packet, and that it always holds some set.
-use Rattle.std.proofs.Common.{◌≡◌, ℕ, ℤ, false, inl, inr, refl, sym, subst, arith}
-use Rattle.std.proofs.lemmas.Bool.{cases_eq}
-use Rattle.rtp_base.specs.Ring.{ring_bits}
-use Rattle.rtp_base.specs.Window.{Numbers}
-use Rattle.rtp_receive.specs.Receiver.{IsNothing}
-use Rattle.rtp_receive.specs.Restarting.{Bounds, IsRestartingVerdict, epoch_after}
+use Rattle.rtp_c.proofs.Common.{◌≡◌, ℕ, ℤ, false, inl, inr, refl, sym, subst, arith, cases_eq, ring_bits, Numbers, IsNothing, Bounds, IsRestartingVerdict, epoch_after, StoredRestarting}
 use Rattle.rtp_receive.specs.RestartingState.{RestartingReceiver, bounds_of, Leads, Grows, RowLeads, RowGrows}
 use Rattle.rtp_receive.specs.declared.restarting_verdict.RestartingVerdict.{RestartingVerdict}
-use Rattle.rtp_c.specs.declared.restarting.StoredRestarting.{StoredRestarting}
 use Rattle.rtp_c.specs.StoredRestarting.{bounds_in, HoldsIn, IsTold, IsAnsweredIn}
 use Rattle.rtp_c.proofs.StoredWideLemmas.{HoldsWindow-some}
 
@@ -28,7 +22,7 @@ holds_some stored = elim (cases_eq stored.started 0) [
 
 -- the verdict of the receiver that is stored is that by what is stored
 pub answered : (old new : StoredRestarting) (was is : RestartingReceiver 2) (taken : Numbers) (low : ℕ) (verdict : RestartingVerdict) (status : ℤ) (written : ℕ)
-    → bounds_of 2 was ≡ bounds_in old → (was.in_row ≡ old.in_row) × (was.next ≡ old.next) → (new.in_row ≡ is.in_row) × (new.next ≡ is.next)
+    → bounds_of 2 was ≡ bounds_in old → (was.row.len ≡ old.in_row) × (was.row.next ≡ old.next) → (new.in_row ≡ is.row.len) × (new.next ≡ is.row.next)
     → IsRestartingVerdict (bounds_of 2 was) 1 taken (RowLeads 2 was low) low verdict → RowGrows 2 was taken low verdict is
     → IsTold verdict status written → HoldsIn new (epoch_after taken verdict) → IsAnsweredIn old taken low status written new
 answered old new was is taken low verdict status written bounds row-was row-is judged grows told holds = record {
@@ -36,13 +30,13 @@ answered old new was is taken low verdict status written bounds row-was row-is j
   judged =
       subst (λ (b : Bounds). IsRestartingVerdict b 1 taken (Leads old.in_row old.next low) low verdict) bounds
       (subst (λ (r : ℕ). IsRestartingVerdict (bounds_of 2 was) 1 taken (Leads r old.next low) low verdict) row-was.0
-      (subst (λ (n : ℕ). IsRestartingVerdict (bounds_of 2 was) 1 taken (Leads was.in_row n low) low verdict) row-was.1 judged));
+      (subst (λ (n : ℕ). IsRestartingVerdict (bounds_of 2 was) 1 taken (Leads was.row.len n low) low verdict) row-was.1 judged));
   told = told;
   epoch = holds;
   row =
       subst (λ (b : Bounds). Grows b taken low verdict old.in_row old.next new.in_row new.next) bounds
       (subst (λ (r : ℕ). Grows (bounds_of 2 was) taken low verdict r old.next new.in_row new.next) row-was.0
-      (subst (λ (n : ℕ). Grows (bounds_of 2 was) taken low verdict was.in_row n new.in_row new.next) row-was.1
-      (subst (λ (r : ℕ). Grows (bounds_of 2 was) taken low verdict was.in_row was.next r new.next) (sym row-is.0)
-      (subst (λ (n : ℕ). Grows (bounds_of 2 was) taken low verdict was.in_row was.next is.in_row n) (sym row-is.1) grows))));
+      (subst (λ (n : ℕ). Grows (bounds_of 2 was) taken low verdict was.row.len n new.in_row new.next) row-was.1
+      (subst (λ (r : ℕ). Grows (bounds_of 2 was) taken low verdict was.row.len was.row.next r new.next) (sym row-is.0)
+      (subst (λ (n : ℕ). Grows (bounds_of 2 was) taken low verdict was.row.len was.row.next is.row.len n) (sym row-is.1) grows))));
 }

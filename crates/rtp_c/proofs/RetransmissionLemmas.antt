@@ -1,13 +1,7 @@
 -- The statuses of retransmissions that aren't made, and the ids of their elements.
-use Rattle.std.proofs.Common.{◌≡◌, ℕ, List, Option, ℤ, w32, to_z, of_z, ap, sym, subst, ◌∙◌}
-use Rattle.rtp_values.specs.declared.kind.Extension.{Extension}
-use Rattle.rtp_ext.specs.NewIds.{AreRenamedIds, ids_in_bytes}
-use Rattle.rtp_wire.specs.declared.packet.not_a_packet.NotAPacket.TheVariants.{CutFixedPart, OtherVersion, CutSources, CutBlockHeader, CutBlock}
-use Rattle.rtp_wire.specs.declared.packet.not_retransmitted.NotRetransmitted.{NotRetransmitted}
+use Rattle.rtp_c.proofs.Common.{◌≡◌, ℕ, List, Option, ℤ, w32, to_z, of_z, ap, sym, subst, ◌∙◌, Extension, AreRenamedIds, ids_in_bytes, CutFixedPart, OtherVersion, CutSources, CutBlockHeader, CutBlock, NotRetransmitted, ok, numbered_slots}
 use Rattle.rtp_wire.specs.declared.packet.not_retransmitted.NotRetransmitted.TheVariants.{CutPacket, NotAPacket, PaddingTooLong, NoOriginalNumber, NewIdTooHigh, NoRoom}
 use Rattle.rtp_c.specs.Retransmission.{RenameKinds, retransmission_status}
-use Rattle.rtp_c.specs.Status.{ok}
-use Rattle.rtp_c.specs.StoredMap.{numbered_slots}
 use Rattle.rtp_c.proofs.NumberedLemmas.{HasKinds-numbered}
 
 status_is_no_ok : (cause : NotRetransmitted) → to_z w32 (of_z w32 (retransmission_status cause)) ≡ ok → ⊥

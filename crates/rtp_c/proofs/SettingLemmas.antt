@@ -1,10 +1,7 @@
 -- Streams and layers that are put into what C is told of an allocation.
-use Rattle.std.proofs.Common.{◌≡◌, ℕ, zero, suc, ◌+◌, ◌-◌, ◌<◌, ◌≤◌, List, [], ◌∷◌, ◌++◌, length, get_or, set, refl, ap, subst, sym, ◌∙◌, arith, length-append}
+use Rattle.rtp_c.proofs.Common.{◌≡◌, ℕ, zero, suc, ◌+◌, ◌-◌, ◌<◌, ◌≤◌, List, [], ◌∷◌, ◌++◌, length, get_or, set, refl, ap, subst, sym, ◌∙◌, arith, length-append, Layer, Stream, Layers}
 use Rattle.rtp_vla.specs.Allocation as vla
 use Rattle.rtp_vla.specs.AllocationReading.{and_stream}
-use Rattle.rtp_c.specs.declared.layers.Layer.{Layer}
-use Rattle.rtp_c.specs.declared.layers.Stream.{Stream}
-use Rattle.rtp_c.specs.declared.layers.Layers.{Layers}
 use Rattle.rtp_c.specs.LayersView.{AreInPlaces, IsViewOfLayer, IsViewOfStream, IsViewOfLayers, bare_layer, layer_room}
 use Rattle.rtp_c.proofs.PlacesLemmas.{AreInPlaces-after, AreInPlaces-more, AreInPlaces-last, AreInPlaces-changed}
 

@@ -1,6 +1,5 @@
 -- Data that are put to the front of bytes, and then to the caller's buffer.
-use Rattle.std.proofs.Common.{◌≡◌, ℕ, List, ◌++◌, length, take, drop, Option, Some, None, IfSome, sym, ap, ◌∙◌, take_at}
-use Rattle.std.specs.Option.{option_map}
+use Rattle.rtp_c.proofs.Common.{◌≡◌, ℕ, List, ◌++◌, length, take, drop, Option, Some, None, IfSome, sym, ap, ◌∙◌, take_at, option_map}
 use Rattle.rtp_base.specs.Overwriting.{overwritten}
 use Rattle.rtp_base.proofs.OverwritingLemmas.{overwritten-front}
 use Rattle.rtp_c.specs.StandardData.{StandAtFront}

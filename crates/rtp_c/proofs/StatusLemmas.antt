@@ -1,8 +1,6 @@
 -- The statuses are different numbers.
-use Rattle.std.proofs.Common.{◌≡◌}
+use Rattle.rtp_c.proofs.Common.{◌≡◌, CutFixedPart, OtherVersion, CutSources, CutBlockHeader, CutBlock, ok, none, bad_field, cause_status}
 use Rattle.rtp_wire.specs.declared.packet.not_a_packet.NotAPacket.{NotAPacket}
-use Rattle.rtp_wire.specs.declared.packet.not_a_packet.NotAPacket.TheVariants.{CutFixedPart, OtherVersion, CutSources, CutBlockHeader, CutBlock}
-use Rattle.rtp_c.specs.Status.{ok, none, bad_field, cause_status}
 
 pub none≢ok : none ≡ ok → ⊥
 none≢ok same = cc

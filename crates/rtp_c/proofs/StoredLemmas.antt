@@ -1,25 +1,9 @@
 -- A receiver that is stored: its parts by the window, bit by bit.
-use Rattle.std.proofs.Common.{◌≡◌, ℕ, zero, suc, ◌+◌, ◌-◌, ◌*◌, ◌/◌, ◌^◌, ◌<◌, ◌≤◌, nat_eq, Bool, true, false, ◌||◌, List, get_or, inl, inr, refl, sym, ap, ◌∙◌, subst, arith}
-use Rattle.std.proofs.lemmas.Bool.{eq-eqb, ne_eqb, eqb-true, or_left, or_right, false≢true}
-use Rattle.std.proofs.lemmas.List.FromFn.{get_or-map-range_with_len}
+use Rattle.rtp_c.proofs.Common.{◌≡◌, ℕ, zero, suc, ◌+◌, ◌-◌, ◌*◌, ◌/◌, ◌^◌, ◌<◌, ◌≤◌, nat_eq, Bool, true, false, ◌||◌, List, get_or, inl, inr, refl, sym, ap, ◌∙◌, subst, arith, eq-eqb, ne_eqb, eqb-true, or_left, or_right, false≢true, bit_at, Numbers, WindowState, including, Keeps, ReceiverState, Holds, IsFresh, StaysBelowZeroIn, StoredReceiver, recorded_bits, IsWindowOf, HoldsNumbers, IsStarted, stored_again, HasHalves, IsStored, bit_of, MovesBelowZero}
 use Rattle.std.proofs.lemmas.Nat.Bits.{bit_at_lowest, bit_at-suc, bit_at-lt, same_from_bits_below}
-use Rattle.std.specs.Int.{bit_at}
 use Rattle.rtp_base.specs.Bitmap.{bits_of}
-use Rattle.rtp_base.specs.Window.{Numbers, WindowState, including, Keeps}
-use Rattle.rtp_receive.specs.StreamState.{ReceiverState}
 use Rattle.rtp_receive.specs.declared.receiver.ReceiverState.TheVariants.{Start, Window}
-use Rattle.rtp_receive.specs.Receiver.{Holds, IsFresh, StaysBelowZeroIn}
-use Rattle.rtp_c.specs.declared.receiver.StoredReceiver.{StoredReceiver}
-use Rattle.rtp_c.specs.StoredReceiver.{recorded_bits, IsWindowOf, HoldsNumbers, IsStarted, stored_again, HasHalves, IsStored, bit_of, MovesBelowZero}
-
--- the truth value at an index is the bit there
-bits_of-at : (bits k : ℕ) → k < 128 → get_or (bits_of bits) k false ≡ nat_eq (bit_at bits k) 1
-unfolding bits_of
-bits_of-at bits k below = get_or-map-range_with_len (λ i. nat_eq (bit_at bits i) 1) 0 128 k k false below (omega arith)
-
-or-none : (x y : Bool) → y ≡ false → (x || y) ≡ x
-or-none true y none = refl
-or-none false y none = none
+use Rattle.rtp_base.proofs.BitmapLemmas.{bits_of-at, or-none}
 
 -- a bit that shows as set is 1, and bits that show the same are the same
 one_shown : (bit : ℕ) → nat_eq bit 1 ≡ true → bit ≡ 1

@@ -1,14 +1,5 @@
 -- The map that C fills, as slots.
-use Rattle.std.proofs.Common.{◌≡◌, ℕ, zero, suc, ◌≤◌, List, [], ◌∷◌, map, get_or, set, replicate, true, Option, Some, None, arith, refl, sym, ◌∙◌, subst}
-use Rattle.std.proofs.lemmas.List.{length-map}
-use Rattle.std.proofs.Math.ListN.{get_or-map}
-use Rattle.rtp_values.specs.declared.known_kind.KnownKind.{KnownKind}
-use Rattle.rtp_values.specs.declared.known_kind.KnownKind.TheVariants.{AbsoluteSendTime, AudioLevel, VideoOrientation, TransportSequenceNumber, RtpStreamId, RepairedRtpStreamId, RtpMid}
-use Rattle.rtp_ext.specs.ExtensionMap.{ListsItems, items_from, standard_items}
-use Rattle.rtp_ext.specs.KindsById.{slots_of}
-use Rattle.rtp_ext.proofs.ListingLemmas.{ListsItems-from_slots}
-use Rattle.rtp_c.specs.KindNumbers.{kind_number, IsKindNumbered}
-use Rattle.rtp_c.specs.StoredMap.{HasKinds, AreStandardNumbers}
+use Rattle.rtp_c.proofs.Common.{◌≡◌, ℕ, zero, suc, ◌≤◌, List, [], ◌∷◌, map, get_or, set, replicate, true, Option, Some, None, arith, refl, sym, ◌∙◌, subst, length-map, get_or-map, KnownKind, AbsoluteSendTime, AudioLevel, VideoOrientation, TransportSequenceNumber, RtpStreamId, RepairedRtpStreamId, RtpMid, ListsItems, items_from, standard_items, slots_of, ListsItems-from_slots, kind_number, IsKindNumbered, HasKinds, AreStandardNumbers}
 use Rattle.rtp_c.proofs.KindNumberLemmas.{number≢0}
 
 -- the number of a kind, and 0 for none

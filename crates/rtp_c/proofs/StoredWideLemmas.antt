@@ -1,23 +1,13 @@
 -- A window in words that the caller has: what it accepts, what it keeps once a number is taken, and that it always keeps some set.
-use Rattle.std.proofs.Common.{◌≡◌, ◌≢◌, ℕ, ◌+◌, ◌-◌, ◌*◌, ◌<◌, ◌⊎◌, ◌↔◌, IsTrue, nat_eq, ℤ, to_z, of_z, w32, Bool, true, false, ◌||◌, List, [], ◌∷◌, length, get_or, map, inl, inr, refl, sym, ap, ◌∙◌, subst, arith}
-use Rattle.std.proofs.lemmas.Bool.{eq-eqb, ne_eqb, or_right, false≢true, cases_lt, cases_eq}
-use Rattle.std.proofs.lemmas.List.FromFn.{get_or-map-range_with_len}
-use Rattle.std.specs.List.{range_with_len}
+use Rattle.rtp_c.proofs.Common.{◌≡◌, ◌≢◌, ℕ, ◌+◌, ◌-◌, ◌*◌, ◌<◌, ◌⊎◌, ◌↔◌, IsTrue, nat_eq, ℤ, to_z, of_z, w32, Bool, true, false, ◌||◌, List, [], ◌∷◌, length, get_or, map, inl, inr, refl, sym, ap, ◌∙◌, subst, arith, eq-eqb, ne_eqb, or_right, false≢true, cases_lt, cases_eq, get_or-map-range_with_len, range_with_len, Numbers, WindowState, IsGreatest, KeepsOf, AcceptsOf, only, including, AcceptsOf-low, KeepsOf-first, KeepsOf-shown, IsNothing, IsFreshOf, HoldsWindow, HoldsStored}
 use Rattle.rtp_base.specs.Ring.{ring_size, ring_bit, ring_bits, ring_window}
-use Rattle.rtp_base.specs.Window.{Numbers, WindowState, IsGreatest, KeepsOf, AcceptsOf, only, including}
 use Rattle.rtp_base.proofs.RingLemmas.{ring_bits-near}
-use Rattle.rtp_base.proofs.WindowLemmas.{AcceptsOf-low, KeepsOf-first, KeepsOf-shown}
-use Rattle.rtp_receive.specs.Receiver.{IsNothing, IsFreshOf}
 use Rattle.rtp_c.specs.declared.wide_receiver.StoredWideReceiver.{StoredWideReceiver}
 use Rattle.rtp_c.specs.StoredWideReceiver.{IsReceivedAs}
-use Rattle.rtp_c.specs.StoredWindow.{HoldsWindow, HoldsStored}
-
-or_none : (x y : Bool) → y ≡ false → (x || y) ≡ x
-or_none true y none = refl
-or_none false y none = none
+use Rattle.rtp_base.proofs.BitmapLemmas.{or-none}
 
 -- a set with a greatest number is not empty
-some : (taken : Numbers) (greatest : ℕ) → IsGreatest taken greatest → IsNothing taken → ⊥
+pub some : (taken : Numbers) (greatest : ℕ) → IsGreatest taken greatest → IsNothing taken → ⊥
 some taken greatest is none = false≢true (sym (none greatest) ∙ is.member)
 
 -- ---- which set the words keep
@@ -55,7 +45,7 @@ HoldsWindow-kept words highest taken words-some keeps =
           | inl is ↦
               ap (λ (i : ℕ). get_or (ring_bits words highest) i false) is ∙ first
               ∙ sym (or_right (get_or (ring_bits words highest) k false) (nat_eq k 0) (eq-eqb k 0 is))
-          | inr other ↦ sym (or_none (get_or (ring_bits words highest) k false) (nat_eq k 0) (ne_eqb k 0 other))
+          | inr other ↦ sym (or-none (get_or (ring_bits words highest) k false) (nat_eq k 0) (ne_eqb k 0 other))
         ];
       };
       keeps = keeps;
@@ -99,7 +89,7 @@ own_bit words highest number taken held low near =
     let k : ℕ = highest - number in
     ap (ring_bit words) (let e : number ≡ highest - (highest - number) = omega arith in e)
     ∙ sym (ring_bits-near words highest (highest - number) (omega arith) (omega arith))
-    ∙ sym (or_none (get_or (ring_bits words highest) (highest - number) false) (nat_eq (highest - number) 0) (ne_eqb (highest - number) 0 (λ e. omega arith)))
+    ∙ sym (or-none (get_or (ring_bits words highest) (highest - number) false) (nat_eq (highest - number) 0) (ne_eqb (highest - number) 0 (λ e. omega arith)))
     ∙ sym (held.is_window.recorded_are (highest - number) (omega arith))
     ∙ (kept (ring_size words) highest (ring_bits words highest) taken held).recorded number (omega arith) near
 

@@ -1,10 +1,5 @@
 -- Where a walk over the map that C fills ends.
-use Rattle.std.proofs.Common.{◌≡◌, ℕ, ◌≤◌, ◌<◌, ◌+◌, ◌-◌, List, length, take, drop, get_or, None, arith, sym, ap, ◌∙◌, inl, inr, lt-ltb, le-ltb}
-use Rattle.std.specs.Prelude.{if◌then◌else◌, Bool}
-use Rattle.std.proofs.lemmas.Bool.{cases_lt}
-use Rattle.rtp_ext.specs.ExtensionMap.{items_from}
-use Rattle.rtp_c.specs.KindNumbers.{kind_numbered}
-use Rattle.rtp_c.specs.StoredMap.{numbered_slots, last_end}
+use Rattle.rtp_c.proofs.Common.{◌≡◌, ℕ, ◌≤◌, ◌<◌, ◌+◌, ◌-◌, List, length, take, drop, get_or, None, arith, sym, ap, ◌∙◌, inl, inr, lt-ltb, le-ltb, if◌then◌else◌, Bool, cases_lt, items_from, kind_numbered, numbered_slots, last_end}
 use Rattle.rtp_c.proofs.NumberedLemmas.{numbered-over}
 
 pub last_end-low : (end : ℕ) → end ≤ 14 → last_end end ≡ end

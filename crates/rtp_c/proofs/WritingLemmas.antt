@@ -1,13 +1,6 @@
 -- The elements that C names, as they are written.
-use Rattle.std.proofs.Common.{◌⊎◌, inl, inr, ℤ, w32, to_z, of_z, ◌≡◌, ℕ, List, refl, sym, ap, subst, All, arith, lt_of_not-le, Option, Some, None}
-use Rattle.std.proofs.lemmas.List.Elements.{recursion_from_All}
-use Rattle.rtp_ext.specs.declared.form.ExtensionsForm.{ExtensionsForm}
+use Rattle.rtp_c.proofs.Common.{◌⊎◌, inl, inr, ℤ, w32, to_z, of_z, ◌≡◌, ℕ, List, refl, sym, ap, subst, All, arith, lt_of_not-le, Option, Some, None, recursion_from_All, ExtensionsForm, IsWritable, AreWritableIn, ElementView, form_number, ok, short_buffer, bad_field, LieIn, elements_in, AreTooLong}
 use Rattle.rtp_ext.specs.declared.form.ExtensionsForm.TheVariants.{OneByte, TwoByte}
-use Rattle.rtp_ext.specs.ElementsInARow.{IsWritable, AreWritableIn}
-use Rattle.rtp_c.specs.declared.packet.ElementView.{ElementView}
-use Rattle.rtp_c.specs.PacketView.{form_number}
-use Rattle.rtp_c.specs.Status.{ok, short_buffer, bad_field}
-use Rattle.rtp_c.specs.WrittenElements.{LieIn, elements_in, AreTooLong}
 
 -- elements that the form can carry, for which only the room is short
 pub AreTooLong-carried : (form : ExtensionsForm) (bytes : List ℕ) (views : List ElementView) (room : ℕ) → LieIn bytes views

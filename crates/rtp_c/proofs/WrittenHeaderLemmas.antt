@@ -4,13 +4,14 @@ use Rattle.rtp_ext.specs.declared.form.ExtensionsForm.{ExtensionsForm}
 use Rattle.rtp_ext.specs.Elements.{Element}
 use Rattle.rtp_ext.specs.ExtensionMap.{Slots}
 use Rattle.rtp_ext.specs.ElementsInARow.{form_given, AreNotWritableIn}
+use Rattle.rtp_values.specs.declared.value.values.ExtensionValues.{ExtensionValues}
 use Rattle.rtp_wire.specs.declared.header.rtp_header.RtpHeader.{RtpHeader}
 use Rattle.rtp_wire.specs.Packet.{IsPacket}
-use Rattle.rtp_wire.specs.Written.{wire_bytes, CannotBeWritten, large_payload_type as large_type, many_sources as many, short_room as short}
+use Rattle.rtp_wire.specs.Written.{wire_bytes, with_values, CannotBeWritten, large_payload_type as large_type, many_sources as many, short_room as short}
 use Rattle.rtp_wire.specs.WrittenWith.{wire_bytes_with, parts_with, CannotBeWrittenWith, large_payload_type, many_sources, no_block, short_room}
 use Rattle.rtp_c.specs.declared.header.HeaderView.{HeaderView}
 use Rattle.rtp_c.specs.declared.packet.ElementView.{ElementView}
-use Rattle.rtp_c.specs.Given.{AreGivenFields}
+use Rattle.rtp_c.specs.Given.{AreGivenFields, AreGivenValues, IsGivenHeader}
 use Rattle.rtp_c.specs.WrittenElements.{LieIn, elements_in}
 use Rattle.rtp_c.specs.WrittenHeader.{IsToBeWritten, IsTooLong, CanBeWrittenWith, IsWrittenWith, IsTooLongWith}
 
@@ -102,3 +103,23 @@ type_fits view header fields = omega (arith, fields.payload_type_is, fields.payl
 
 pub few_sources : (view : HeaderView) (header : RtpHeader) → AreGivenFields view header → header.csrc_count ≤ 15
 few_sources view header fields = omega (arith, fields.count_is, fields.few_sources)
+
+-- fields that are given, with values that are given
+pub IsGivenHeader-with : (view : HeaderView) (header : RtpHeader) (values : ExtensionValues) → AreGivenFields view header → AreGivenValues view.values values
+    → IsGivenHeader view (with_values header values)
+IsGivenHeader-with view header values fields are = record {
+  fields = record {
+    padding_is = fields.padding_is;
+    extension_is = fields.extension_is;
+    marker_is = fields.marker_is;
+    payload_type_is = fields.payload_type_is;
+    payload_type_fits = fields.payload_type_fits;
+    number_is = fields.number_is;
+    timestamp_is = fields.timestamp_is;
+    ssrc_is = fields.ssrc_is;
+    count_is = fields.count_is;
+    few_sources = fields.few_sources;
+    sources_are = fields.sources_are;
+  };
+  values = are;
+}

@@ -1,14 +1,17 @@
 -- The header and the values that C gives to be written (RFC 3550, 5.1; RFC 8285, 4).
-use Rattle.std.specs.Prelude.{◌≡◌, ℕ, ◌<◌, ◌≤◌, List, ◌∷◌, ◌++◌, Bool, nat_lt, if◌then◌else◌, Option, Some, None}
-use Rattle.std.specs.List.{All}
+use Rattle.std.specs.Prelude.{◌≡◌, ℕ, ◌<◌, ◌≤◌, List, ◌∷◌, ◌++◌, Bool, nat_lt, ◌==◌, if◌then◌else◌, Option, Some, None}
+use Rattle.std.specs.List.{All, before_first}
 use Rattle.rtp_base.specs.Id.{IsIdByte, padded}
 use Rattle.rtp_base.specs.MediaTime.{Fraction}
 use Rattle.rtp_values.specs.declared.value.values.ExtensionValues.{ExtensionValues}
+use Rattle.rtp_values.specs.declared.value.video_orientation.VideoOrientation.{VideoOrientation}
+use Rattle.rtp_values.specs.declared.value.video_orientation.VideoOrientation.TheVariants.{Deg0, Deg90, Deg180, Deg270}
 use Rattle.rtp_wire.specs.declared.header.rtp_header.RtpHeader.{RtpHeader}
 use Rattle.rtp_c.specs.declared.values.Time.{Time}
 use Rattle.rtp_c.specs.declared.values.ValuesView.{ValuesView}
 use Rattle.rtp_c.specs.declared.header.HeaderView.{HeaderView}
-use Rattle.rtp_c.specs.Told.{degrees_of}
+use Rattle.rtp_c.specs.Told.{degrees_of, fraction_of}
+use Rattle.rtp_c.specs.ValuesView.{timing_in}
 
 -- whether a flag is set: it is where it isn't 0
 abbrev pub is_nonzero : ℕ → Bool
@@ -86,7 +89,44 @@ pub record IsGivenHeader (view : HeaderView) (header : RtpHeader) : Type 0 where
   pub fields : AreGivenFields view header
   pub values : AreGivenValues view.values header.ext_vals
 
--- what the search for a value finds: the value or none as it is given, and nothing where its flag is set and there is no such value
-abbrev pub FindsGiven : {A : Type 0} → ℕ → (A → Type 0) → Option (Option A) → Type 0
-FindsGiven {A} has IsIt None = (0 < has) × ((value : A) → IsIt value → ⊥)
-FindsGiven has IsIt (Some found) = IsGiven has IsIt found
+-- the orientation of these degrees
+abbrev pub turn_of : ℕ → VideoOrientation
+turn_of degrees =
+    if degrees == 90 then Deg90 else (if degrees == 180 then Deg180 else (if degrees == 270 then Deg270 else Deg0))
+
+-- the bytes before the first zero
+abbrev pub text_in : List ℕ → List ℕ
+text_in bytes = before_first (λ b. b == 0) bytes
+
+-- the values as they lie in C's struct: those that are given, where each text, orientation and time is one
+abbrev pub values_in : ValuesView → ExtensionValues
+values_in view = record {
+  audio_level = given view.has_audio_level view.audio_level;
+  voice_activity = given view.has_voice_activity (is_nonzero view.voice_activity);
+  video_orientation = given view.has_video_orientation (turn_of view.video_orientation);
+  video_content_type = given view.has_video_content_type view.video_content_type;
+  tx_time_offs = given view.has_transmission_offset view.transmission_offset;
+  abs_send_time = given view.has_send_time view.send_time;
+  abs_capture_time = given view.has_capture_time (record {
+    capture_time = view.capture_time;
+    clock_offset = given view.has_capture_offset view.capture_offset;
+  });
+  transport_cc = given view.has_transport_number view.transport_number;
+  play_delay_min = given view.has_playout_delay_min (fraction_of view.playout_delay_min);
+  play_delay_max = given view.has_playout_delay_max (fraction_of view.playout_delay_max);
+  video_timing = given view.has_video_timing (timing_in view);
+  rid = given view.has_rid (padded 8 (text_in view.rid));
+  rid_repair = given view.has_repaired_rid (padded 8 (text_in view.repaired_rid));
+  mid = given view.has_mid (padded 16 (text_in view.mid));
+  frame_mark = given view.has_frame_marking view.frame_marking;
+  video_layers_allocation = None;
+}
+
+-- each text, orientation and time that is there is one
+pub record CanBeGiven (view : ValuesView) : Type 0 where
+  pub turn : 0 < view.has_video_orientation → degrees_of (turn_of view.video_orientation) ≡ view.video_orientation
+  pub min : 0 < view.has_playout_delay_min → 0 < view.playout_delay_min.hertz
+  pub max : 0 < view.has_playout_delay_max → 0 < view.playout_delay_max.hertz
+  pub mid : 0 < view.has_mid → IsTextIn view.mid (text_in view.mid)
+  pub rid : 0 < view.has_rid → IsTextIn view.rid (text_in view.rid)
+  pub repaired_rid : 0 < view.has_repaired_rid → IsTextIn view.repaired_rid (text_in view.repaired_rid)

@@ -9,6 +9,8 @@ pub mod Judging
 pub mod Arrivals
 pub mod StoredWideReceiver
 pub mod StoredRestarting
+pub mod Standing
+pub mod StoredWideRestarting
 pub mod ElementView
 pub mod KindNumbers
 pub mod StoredMap
@@ -20,6 +22,7 @@ pub mod HeaderView
 pub mod Datagrams
 pub mod Given
 pub mod GivenLayers
+pub mod LeftOut
 pub mod ElementData
 pub mod SetFields
 pub mod WrittenElements

@@ -11,9 +11,9 @@ use Rattle.rtp_c.specs.declared.restarting.StoredRestarting.{StoredRestarting}
 use Rattle.rtp_c.specs.Status.{ok, refused, restarted}
 use Rattle.rtp_c.specs.StoredWindow.{HoldsWindow, HasStarted}
 
--- what its caller chose: MAX_DROPOUT is 3,000 where 0 is stored
+-- what its caller chose: MAX_DROPOUT is 3,000 where 0 is stored, and MAX_MISORDER the size of the window
 abbrev pub bounds_in : StoredRestarting → Bounds
-bounds_in stored = record { max_dropout = if stored.max_dropout == 0 then 3000 else stored.max_dropout; size = window_size; min_sequential = stored.min_sequential }
+bounds_in stored = record { max_dropout = if stored.max_dropout == 0 then 3000 else stored.max_dropout; max_misorder = window_size; size = window_size; min_sequential = stored.min_sequential }
 
 -- these numbers were taken in the epoch: none yet, or those that the window in its words keeps
 abbrev pub HoldsIn : StoredRestarting → Numbers → Type 0

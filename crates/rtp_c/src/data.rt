@@ -1,32 +1,13 @@
 //! The data of one element, made of the values that C gives.
 
-ghost use Rattle.std.specs.Prelude.{◌≡◌, ◌≢◌, ◌↔◌, ◌≤◌, ◌⊎◌, length, None, IfSome};
-ghost use Rattle.std.specs.Option.{option_map};
-ghost use Rattle.rtp_values.specs.KnownKind.{extension_of_kind};
-ghost use Rattle.rtp_values.specs.Spelling.{spelled_data};
+ghost use Rattle.std.specs.Prelude.{◌≡◌, ◌≢◌, ◌↔◌, ◌≤◌, ◌⊎◌, length};
 ghost use Rattle.rtp_c.specs.ElementData.{IsNothingAskedFor, HasNoData, AreWrittenData, AreTooLongData};
 ghost use Rattle.rtp_c.specs.Status.{ok, short_buffer, bad_field, none};
 
-use super::given::put_given_values;
+use super::given_values::GivenValues;
 use super::numbers::named;
 use super::status::{BAD_FIELD, NONE, OK, SHORT_BUFFER};
 use super::values::ValuesView;
-use rtp_values::{ExtensionValues, KnownKind};
-use std::mem::ManuallyDrop;
-
-// How many bytes of data an element of this kind has for values without a layer allocation, as C's
-// are. It is a call, so that what is told before it costs little.
-#[inline(never)]
-fn len_of(kind: KnownKind, values: &ExtensionValues) -> Option<usize>
-    requires { values.now.video_layers_allocation ≡ None }
-    ensures length { result ≡ option_map length (spelled_data (extension_of_kind kind) values.now) }
-    ensures few { IfSome result (λ len. len ≤ 255) }
-{
-    match kind {
-        KnownKind::VideoLayersAllocation => None,
-        _ => kind.data_len(values),
-    }
-}
 
 /// Writes the data that an element of this kind has for these values to the front of the buffer, as
 /// `rtpw_write` would (RFC 8285, 4.2 and 4.3): for an element that is set where it lies, or written
@@ -56,21 +37,19 @@ pub extern "C" fn rtpw_data_of(
     let Some(known) = named(kind) else {
         return BAD_FIELD;
     };
-    let mut unfreed = ManuallyDrop::new(ExtensionValues::default());
-    let given = &mut *unfreed;
-    let Some(()) = put_given_values(values, given) else {
+    let Some(given) = GivenValues::of(values) else {
         return BAD_FIELD;
     };
     let Some(kind) = known else {
         return NONE;
     };
-    let Some(data_len) = len_of(kind, given) else {
+    let Some(data_len) = kind.data_len_from(&given) else {
         return NONE;
     };
     if buf.len() < data_len {
         return SHORT_BUFFER;
     }
-    kind.write_to(buf, given);
+    kind.write_from(buf, &given);
     *len = data_len;
     OK
 }

@@ -11,6 +11,7 @@ ghost use Rattle.rtp_wire.specs.PartsOf.{parts_of};
 ghost use Rattle.rtp_vla.specs.Allocation.{nothing_sent};
 ghost use Rattle.rtp_c.specs.LayersView.{IsViewOfLayers};
 ghost use Rattle.rtp_c.specs.ValuesView.{IsViewOfValues};
+ghost use Rattle.rtp_c.specs.declared.values.ValuesView.{ValuesView};
 ghost use Rattle.rtp_c.specs.HeaderView.{IsViewOfHeader, IsParsedAs, IsHeaderRead, IsParsedWithLayersAs};
 ghost use Rattle.rtp_c.specs.Status.{ok, IsHeaderStatus};
 
@@ -18,7 +19,7 @@ use super::kinds::StoredMap;
 use super::layers::{Layers, put_no_layers};
 use super::status::{OK, UNKNOWN_FORM, header_status_of};
 use super::values::{ValuesView, flag_number, put_no_values, put_values};
-use rtp_ext::read_layers;
+use rtp_ext::read_apart;
 use rtp_wire::{Csrcs, RtpHeader, RtpPacket};
 
 /// The header of a packet (RFC 3550, 5.1), with the values of its block: `rtpw_header` in C, 224
@@ -80,13 +81,38 @@ fn put_values_of(packet: &RtpPacket<'_>, map: &StoredMap, view: &mut ValuesView)
     }
 }
 
-// Puts what C is told of the packet's header, with the values that its block gives under the map.
+// Puts the values that the packet's block gives under the map, and its layers, those of a sender that
+// sends nothing where it gives none.
 #[inline(always)]
-fn put_header(packet: &RtpPacket<'_>, map: &StoredMap, view: &mut HeaderView)
-    requires sources { length (parts_of packet.now).sources ≤ 15 }
+fn put_values_and_layers_of(
+    packet: &RtpPacket<'_>,
+    map: &StoredMap,
+    view: &mut ValuesView,
+    layers: &mut Layers,
+)
     ensures { (values : ExtensionValues)
         × HasValues (numbered_slots map.now.kind) (parts_of packet.now).block values
-        × IsViewOfHeader (header_of (parts_of packet.now) values) view.new }
+        × IsViewOfValues values view.new
+        × IsViewOfLayers (unwrap_or values.video_layers_allocation nothing_sent) layers.new }
+{
+    put_no_values(view);
+    let Some((form, body)) = packet.block() else {
+        put_no_layers(layers);
+        return;
+    };
+    if read_apart(map, (), body, form, view, layers) {
+        view.has_layers = 1;
+        return;
+    }
+    put_no_layers(layers);
+}
+
+// Puts the fields of the packet's header, and leaves the values.
+#[inline(always)]
+fn put_fields(packet: &RtpPacket<'_>, view: &mut HeaderView)
+    requires sources { length (parts_of packet.now).sources ≤ 15 }
+    ensures { (values : ExtensionValues) (told : ValuesView) → IsViewOfValues values told →
+        IsViewOfHeader (header_of (parts_of packet.now) values) (record view.new { values = told }) }
 {
     view.header_len = packet.header_len();
     view.timestamp = packet.timestamp();
@@ -97,25 +123,6 @@ fn put_header(packet: &RtpPacket<'_>, map: &StoredMap, view: &mut HeaderView)
     view.marker = flag_number(packet.marker());
     view.has_padding = flag_number(packet.has_padding());
     view.has_extension = flag_number(packet.has_extension());
-    put_values_of(packet, map, &mut view.values);
-}
-
-// Puts what C is told of the layers that the packet's block gives under the map. It stays out of
-// line, since few headers have layers.
-#[inline(never)]
-fn put_layers_of(packet: &RtpPacket<'_>, map: &StoredMap, view: &mut Layers)
-    ensures { (values : ExtensionValues)
-        → HasValues (numbered_slots map.now.kind) (parts_of packet.now).block values
-        → IsViewOfLayers (unwrap_or values.video_layers_allocation nothing_sent) view.new }
-{
-    let Some((form, body)) = packet.block() else {
-        put_no_layers(view);
-        return;
-    };
-    if read_layers(map, body, form, view) {
-        return;
-    }
-    put_no_layers(view);
 }
 
 // The status of the first cause for which no header begins the bytes, and `OK` where one does.
@@ -153,7 +160,8 @@ pub fn read_header(buf: &[u8], map: &StoredMap, header: &mut HeaderView) -> i32
 {
     match packet_in(buf) {
         Ok(packet) => {
-            put_header(&packet, map, header);
+            put_fields(&packet, header);
+            put_values_of(&packet, map, &mut header.values);
             OK
         }
         Err(status) => status,
@@ -196,12 +204,8 @@ pub extern "C" fn rtpw_parse_layers(
 {
     match packet_in(buf) {
         Ok(packet) => {
-            put_header(&packet, map, header);
-            if header.values.has_layers == 0 {
-                put_no_layers(layers);
-                return OK;
-            }
-            put_layers_of(&packet, map, layers);
+            put_fields(&packet, header);
+            put_values_and_layers_of(&packet, map, &mut header.values, layers);
             OK
         }
         Err(status) => status,

@@ -1,6 +1,6 @@
 //! The layer allocation of a sender of video.
 
-ghost use Rattle.std.specs.Prelude.{◌≡◌, ◌<◌, ◌+◌, length, slice_index, slice_index_or, slice_set};
+ghost use Rattle.std.specs.Prelude.{◌≡◌, ◌<◌, ◌+◌, length, slice_index_or, slice_set};
 ghost use Rattle.rtp_vla.specs.Allocation.{nothing_sent};
 ghost use Rattle.rtp_c.specs.LayersView as spec;
 ghost use Rattle.rtp_c.specs.declared.layers.Stream.{Stream};
@@ -95,33 +95,17 @@ impl Layers {
     };
 }
 
-// The rate of the temporal layer at this index, and 0 where there is none.
-fn rate_at(rates: &[TemporalLayerAllocation], index: usize) -> TemporalLayerAllocation
-    ensures { result ≡ slice_index rates.now index }
-{
-    match rates.get(index) {
-        Some(rate) => *rate,
-        None => NO_RATE,
-    }
-}
-
 // What C is told of a layer.
 fn view_of_layer(layer: &VideoLayer) -> Layer
     ensures { spec.IsViewOfLayer layer.now result }
 {
-    let rates = layer.temporal_layers();
     let mut view = Layer {
-        kbps: [
-            rate_at(rates, 0),
-            rate_at(rates, 1),
-            rate_at(rates, 2),
-            rate_at(rates, 3),
-        ],
+        kbps: layer.places(),
         width: 0,
         height: 0,
         framerate: 0,
         has_resolution: 0,
-        rates: rates.len() as u8,
+        rates: layer.temporal_layers().len() as u8,
     };
     if let Some(known) = layer.resolution_and_framerate() {
         view.width = known.width;

@@ -1,7 +1,7 @@
 //! Which id means which extension, and the ids that elements get where packets go from one map to
 //! another.
 
-ghost use Rattle.std.specs.Prelude.{◌≡◌, ◌≢◌, ◌↔◌, ◌⊎◌, ℕ, ◌<◌, ◌≤◌, List, All, IfSome, IfNone, slice_index, slice_set};
+ghost use Rattle.std.specs.Prelude.{◌≡◌, ◌≢◌, ◌↔◌, ◌⊎◌, ℕ, ◌<◌, ◌≤◌, ◌++◌, List, length, drop, All, IfSome, IfNone, slice_index, slice_set};
 ghost use Rattle.rtp_values.specs.declared.known_kind.KnownKind.{KnownKind};
 ghost use Rattle.rtp_values.specs.declared.value.values.ExtensionValues.{ExtensionValues};
 ghost use Rattle.rtp_ext.specs.Elements.{Element};
@@ -16,15 +16,17 @@ ghost use Rattle.rtp_wire.specs.PacketElements.{AreElementsOf, HasValues};
 ghost use Rattle.rtp_c.specs.ChangedElements.{BecomesPacket, GivesValues};
 ghost use Rattle.rtp_c.specs.KindNumbers.{kind_number, last_number, first_own, IsNamed, uri_of};
 ghost use Rattle.rtp_c.specs.StoredMap.{AreStandardNumbers, IsNumberAt, IsIdOf, AreNewIdsOf, CarryKinds};
-ghost use Rattle.rtp_c.specs.Status.{ok, bad_field, IsCauseStatus};
+ghost use Rattle.rtp_c.specs.Status.{ok, short_buffer, none, bad_field, IsCauseStatus};
 
 use super::changing::layout_of;
 use super::kinds::StoredMap;
-use super::numbers::{is_named, number_of};
-use super::status::{BAD_FIELD, OK};
+use super::numbers::{is_named, kind_numbered, number_of};
+use super::status::{BAD_FIELD, NONE, OK, SHORT_BUFFER};
+use rtp_base::put;
 use rtp_ext::NewIds;
-use rtp_values::KnownKind;
+use rtp_values::{Extension, KnownKind};
 use rtp_wire::RtpPacketMut;
+use std::mem::ManuallyDrop;
 use std::str;
 
 /// Maps the id to the kind of this number, to an extension of the caller's own that it numbers so,
@@ -98,6 +100,34 @@ pub extern "C" fn rtpw_kind_of_uri(uri: &[u8]) -> u8
         },
         Err(_) => 0,
     }
+}
+
+/// Writes the URI that names the kind of this number in SDP (`a=extmap`; RFC 8285, 5) to the front
+/// of the buffer: at most 73 bytes, and no zero behind them. `OK`, and its length is written too;
+/// `NONE` where the number is that of no kind, as one of the caller's own; or `SHORT_BUFFER`. Where
+/// it isn't `OK` nothing is written.
+#[unsafe(no_mangle)]
+pub extern "C" fn rtpw_uri_of_kind(kind: u8, buf: &mut [u8], len: &mut usize) -> i32
+    ensures written { (k : KnownKind) → kind_number k ≡ kind → result ≡ ok →
+        (buf.new ≡ uri_of k ++ drop len.new buf.old) × (len.new ≡ length (uri_of k)) }
+    ensures within { result ≡ ok → len.new ≤ length buf.new }
+    ensures short { (k : KnownKind) → kind_number k ≡ kind →
+        (result ≡ short_buffer) ↔ (length buf.old < length (uri_of k)) }
+    ensures none { (result ≡ none) ↔ ((k : KnownKind) → kind_number k ≢ kind) }
+    ensures statuses { (result ≡ ok) ⊎ ((result ≡ short_buffer) ⊎ (result ≡ none)) }
+    ensures unchanged { result ≢ ok → (buf.new ≡ buf.old) × (len.new ≡ len.old) }
+{
+    let Some(known) = kind_numbered(kind) else {
+        return NONE;
+    };
+    // A known kind has no text of its own, and so nothing to free.
+    let extension = ManuallyDrop::new(Extension::from(known));
+    let uri = extension.as_uri().as_bytes();
+    if buf.len() < uri.len() {
+        return SHORT_BUFFER;
+    }
+    *len = put(buf, 0, uri);
+    OK
 }
 
 /// The ids that elements get where packets go from one map to another (RFC 8285, 5): `rtpw_new_ids`

@@ -10,7 +10,7 @@ use rtp_values::KnownKind;
 pub(super) const LAYERS: u8 = 15;
 
 // The greatest number of a kind.
-const LAST_NUMBER: u8 = 15;
+pub(super) const LAST_NUMBER: u8 = 15;
 
 // The least number of the caller's own.
 const FIRST_OWN: u8 = 128;

@@ -36,7 +36,7 @@ pub struct StoredReceiver {
 }
 
 // The receiver that is stored there.
-fn receiver_of(stored: &StoredReceiver) -> Receiver
+pub fn receiver_of(stored: &StoredReceiver) -> Receiver
     ensures held { (count : ℕ) (taken : Numbers) → HoldsNumbers stored.now count taken →
         Holds result count taken }
     ensures only { (count : ℕ) (taken : Numbers) → Holds result count taken →

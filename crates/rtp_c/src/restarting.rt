@@ -11,7 +11,7 @@ use rtp_base::{SeqNo, WideWindow};
 use rtp_wire::{RestartingReceiver, RestartingVerdict, WideReceiver};
 
 // RFC 3550's MAX_DROPOUT.
-const MAX_DROPOUT: u16 = 3000;
+pub const MAX_DROPOUT: u16 = 3000;
 
 /// The receive state of one stream: `rtpw_restarting_receiver` in C, 32 bytes. Each value is one;
 /// all zeros have taken nothing yet, with RFC 3550's `MAX_DROPOUT` of 3,000, and take the first
@@ -43,7 +43,7 @@ pub struct StoredRestarting {
 fn receiver_of(stored: &StoredRestarting) -> RestartingReceiver<2>
     ensures bounds { bounds_of 2 result ≡ bounds_in stored.now }
     ensures held { (taken : Numbers) → HoldsIn stored.now taken → HoldsEpoch 2 result 1 taken }
-    ensures row { (result.in_row ≡ stored.now.in_row) × (result.next ≡ stored.now.next) }
+    ensures row { (result.row.len ≡ stored.now.in_row) × (result.row.next ≡ stored.now.next) }
 {
     let epoch = if stored.started == 0 {
         WideReceiver::starting_at(1)
@@ -65,8 +65,8 @@ fn store(receiver: &RestartingReceiver<2>, stored: &mut StoredRestarting)
     ensures held { (taken : Numbers) → HoldsEpoch 2 receiver.now 1 taken →
         HoldsIn stored.new taken }
     ensures started { 0 < stored.new.started → IsStartedIn stored.new }
-    ensures row { (stored.new.in_row ≡ receiver.now.in_row)
-        × (stored.new.next ≡ receiver.now.next) }
+    ensures row { (stored.new.in_row ≡ receiver.now.row.len)
+        × (stored.new.next ≡ receiver.now.row.next) }
     ensures bounds { (stored.new.max_dropout ≡ stored.old.max_dropout)
         × (stored.new.min_sequential ≡ stored.old.min_sequential) }
 {

@@ -31,14 +31,14 @@ pub struct StoredWideReceiver {
 }
 
 // Whether there are as many words as a window may have.
-fn is_window(words: &[u64]) -> bool
+pub fn is_window(words: &[u64]) -> bool
     ensures { IsTrue result ↔ IsWindowLen words.now }
 {
     !words.is_empty() && words.len() <= MOST_WORDS
 }
 
 // Whether the number may be taken.
-fn accepts(receiver: &StoredWideReceiver, words: &[u64], number: u64) -> bool
+pub fn accepts(receiver: &StoredWideReceiver, words: &[u64], number: u64) -> bool
     requires { 0 < length words.now }
     ensures { (count : ℕ) (taken : Numbers) → HoldsIn receiver.now words.now count taken →
         (IsTrue result ↔ IsFreshOf (ring_size words.now) taken number) }
@@ -60,7 +60,7 @@ fn is_usual(highest: u64, number: u64) -> bool
 
 // Takes the number where it may be taken, and returns whether it may.
 #[inline(always)]
-fn take(receiver: &mut StoredWideReceiver, words: &mut [u64], number: u64) -> bool
+pub fn take(receiver: &mut StoredWideReceiver, words: &mut [u64], number: u64) -> bool
     requires { 0 < length words.old }
     ensures judged { (count : ℕ) (taken : Numbers) → HoldsIn receiver.old words.old count taken →
         (IsTrue result ↔ IsFreshOf (ring_size words.old) taken number) }

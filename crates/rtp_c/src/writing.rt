@@ -11,7 +11,8 @@ ghost use Rattle.rtp_c.specs.PacketView.{form_number};
 ghost use Rattle.rtp_c.specs.WrittenElements.{AreWritable, AreWrittenElements, AreTooLong};
 ghost use Rattle.rtp_c.specs.WrittenHeader.{IsLengthOf, IsWrittenHeader, IsTooLong, CanBeWrittenWith, IsWrittenWith, IsTooLongWith};
 
-use super::given::{put_given_fields, put_given_header};
+use super::given::put_given_fields;
+use super::given_values::GivenValues;
 use super::header::HeaderView;
 use super::kinds::StoredMap;
 use super::named_elements::NamedElements;
@@ -138,12 +139,15 @@ pub extern "C" fn rtpw_wire_len(map: &StoredMap, header: &HeaderView, len: &mut 
     ensures statuses { (result ≡ ok) ⊎ (result ≡ bad_field) }
     ensures unchanged { result ≢ ok → len.new ≡ len.old }
 {
-    let mut unfreed = ManuallyDrop::new(RtpHeader::default());
-    let rtp_header = &mut *unfreed;
-    let Some(()) = put_given_header(header, rtp_header) else {
+    let Some(values) = GivenValues::of(&header.values) else {
         return BAD_FIELD;
     };
-    *len = rtp_header.wire_len(map);
+    let mut unfreed = ManuallyDrop::new(RtpHeader::default());
+    let rtp_header = &mut *unfreed;
+    let Some(()) = put_given_fields(header, rtp_header) else {
+        return BAD_FIELD;
+    };
+    *len = rtp_header.values_wire_len(&values, map);
     OK
 }
 
@@ -176,12 +180,15 @@ pub extern "C" fn rtpw_write(
     ensures statuses { (result ≡ ok) ⊎ ((result ≡ short_buffer) ⊎ (result ≡ bad_field)) }
     ensures unchanged { result ≢ ok → (buf.new ≡ buf.old) × (len.new ≡ len.old) }
 {
-    let mut unfreed = ManuallyDrop::new(RtpHeader::default());
-    let rtp_header = &mut *unfreed;
-    let Some(()) = put_given_header(header, rtp_header) else {
+    let Some(values) = GivenValues::of(&header.values) else {
         return BAD_FIELD;
     };
-    let Some(written) = rtp_header.try_write_to(buf, map) else {
+    let mut unfreed = ManuallyDrop::new(RtpHeader::default());
+    let rtp_header = &mut *unfreed;
+    let Some(()) = put_given_fields(header, rtp_header) else {
+        return BAD_FIELD;
+    };
+    let Some(written) = rtp_header.try_write_values(buf, &values, map) else {
         return SHORT_BUFFER;
     };
     *len = written;

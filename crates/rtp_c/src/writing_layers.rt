@@ -7,8 +7,9 @@ ghost use Rattle.rtp_c.specs.Status.{ok, short_buffer, bad_field};
 ghost use Rattle.rtp_c.specs.GivenLayers.{IsGivenWithLayers};
 ghost use Rattle.rtp_c.specs.WrittenHeader.{IsLengthOf, IsWrittenHeader, IsTooLong};
 
-use super::given::put_given_header;
+use super::given::put_given_fields;
 use super::given_layers::with_given_layers;
+use super::given_values::GivenValues;
 use super::header::HeaderView;
 use super::kinds::StoredMap;
 use super::layers::Layers;
@@ -32,16 +33,18 @@ pub extern "C" fn rtpw_wire_len_layers(
     ensures statuses { (result ≡ ok) ⊎ (result ≡ bad_field) }
     ensures unchanged { result ≢ ok → len.new ≡ len.old }
 {
+    let Some(without) = GivenValues::of(&header.values) else {
+        return BAD_FIELD;
+    };
     let mut unfreed = ManuallyDrop::new(RtpHeader::default());
     let rtp_header = &mut *unfreed;
-    let Some(()) = put_given_header(header, rtp_header) else {
+    let Some(()) = put_given_fields(header, rtp_header) else {
         return BAD_FIELD;
     };
-    let given: &RtpHeader = rtp_header;
-    let Some(values) = with_given_layers(&given.ext_vals, layers) else {
+    let Some(values) = with_given_layers(&without, layers) else {
         return BAD_FIELD;
     };
-    *len = given.values_wire_len(&values, map);
+    *len = rtp_header.values_wire_len(&values, map);
     OK
 }
 
@@ -70,16 +73,18 @@ pub extern "C" fn rtpw_write_layers(
     ensures statuses { (result ≡ ok) ⊎ ((result ≡ short_buffer) ⊎ (result ≡ bad_field)) }
     ensures unchanged { result ≢ ok → (buf.new ≡ buf.old) × (len.new ≡ len.old) }
 {
+    let Some(without) = GivenValues::of(&header.values) else {
+        return BAD_FIELD;
+    };
     let mut unfreed = ManuallyDrop::new(RtpHeader::default());
     let rtp_header = &mut *unfreed;
-    let Some(()) = put_given_header(header, rtp_header) else {
+    let Some(()) = put_given_fields(header, rtp_header) else {
         return BAD_FIELD;
     };
-    let given: &RtpHeader = rtp_header;
-    let Some(values) = with_given_layers(&given.ext_vals, layers) else {
+    let Some(values) = with_given_layers(&without, layers) else {
         return BAD_FIELD;
     };
-    let Some(written) = given.try_write_values(buf, &values, map) else {
+    let Some(written) = rtp_header.try_write_values(buf, &values, map) else {
         return SHORT_BUFFER;
     };
     *len = written;

@@ -1,5 +1,5 @@
-//! Receives the packets of an SRTP stream. A packet is authenticated between the test and the record,
-//! so a forged one changes nothing.
+//! Receives the packets of an SRTP stream. A packet is authenticated between the test and the
+//! record, so a forged one changes nothing.
 #![tactic(auto)]
 
 use rtp_wire::{ExtensionMap, Receiver, RtpPacket};

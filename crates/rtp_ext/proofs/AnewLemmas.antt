@@ -1,21 +1,9 @@
 -- A body that is made anew with an element in it.
-use Rattle.std.proofs.Common.{◌≡◌, ◌≢◌, ℕ, ◌+◌, ◌-◌, ◌≤◌, Bool, true, false, not, cond, List, [], ◌∷◌, ◌++◌, length, take, drop, replicate, Option, Some, None, length-take-le, arith, refl, sym, ap, ◌∙◌, subst, inl, inr, ◌⊎◌}
-use Rattle.std.specs.Prelude.{slice_range}
-use Rattle.std.specs.List.{AllByRecursion, filter_map}
-use Rattle.std.proofs.lemmas.Bool.{ne_eqb}
-use Rattle.std.proofs.lemmas.List.{append-nil, take-take, drop-take, length-replicate, drop_all}
-use Rattle.std.proofs.lemmas.List.Elements.{filter-append, All-nil, All-cons, All-from_recursion, recursion_from_All}
+use Rattle.rtp_ext.proofs.Common.{◌≡◌, ◌≢◌, ℕ, ◌+◌, ◌-◌, ◌≤◌, Bool, true, false, not, cond, List, [], ◌∷◌, ◌++◌, length, take, drop, replicate, Option, Some, None, length-take-le, arith, refl, sym, ap, ◌∙◌, subst, inl, inr, ◌⊎◌, slice_range, AllByRecursion, filter_map, ne_eqb, append-nil, take-take, drop-take, length-replicate, drop_all, filter-append, All-nil, All-cons, All-from_recursion, recursion_from_All, ExtensionsForm, OneByte, TwoByte, Element, IsElement, IsPiece, element_bytes, elements_bytes, AreElements, IsWritable, HasNone, HasRows, HasNarrowRows, has_id, without, put_element, carried_in, row_to}
 use Rattle.rtp_base.specs.Overwriting.{overwritten}
-use Rattle.rtp_ext.specs.declared.form.ExtensionsForm.{ExtensionsForm}
-use Rattle.rtp_ext.specs.declared.form.ExtensionsForm.TheVariants.{OneByte, TwoByte}
-use Rattle.rtp_ext.specs.Elements.{Element, IsElement, IsPiece, element_bytes, elements_bytes, AreElements}
-use Rattle.rtp_ext.specs.ElementsInARow.{IsWritable}
-use Rattle.rtp_ext.specs.ElementsInPlace.{HasNone}
-use Rattle.rtp_ext.specs.BodySurvey.{HasRows, HasNarrowRows}
-use Rattle.rtp_ext.specs.PutElement.{has_id, without, put_element, carried_in, row_to}
 use Rattle.rtp_ext.proofs.LastPlaceLemmas.{AreElements-same}
 use Rattle.rtp_ext.proofs.PutLemmas.{put_element-last, put_element-none, without-none}
-use Rattle.rtp_ext.proofs.GatheredLemmas.{elements_bytes-append}
+use Rattle.rtp_ext.proofs.GatheredLemmas.{elements_bytes-append, without-weaker}
 use Rattle.rtp_ext.proofs.WidenAroundLemmas.{length-around}
 use Rattle.rtp_ext.proofs.AroundLemmas.{IsSplit}
 
@@ -30,12 +18,7 @@ pub AreElements-each : (form : ExtensionsForm) (body : List ℕ) (elements : Lis
 AreElements-each form body elements are = subst (AllByRecursion (IsElement form)) (sym are.elements_are) (are_read form are.pieces are.are_pieces)
 
 pub without-each : (P : Element → Type 0) (id : ℕ) (elements : List Element) → AllByRecursion P elements → AllByRecursion P (without id elements)
-without-each P id [] all = tt
-without-each P id (element ∷ elements) all = by_test (has_id id element) (without-each P id elements all.1)
-  where
-    by_test : (b : Bool) → AllByRecursion P (without id elements) → AllByRecursion P (cond (not b) (element ∷ without id elements) (without id elements))
-    by_test true rest = rest
-    by_test false rest = (all.0, rest)
+without-each P id elements all = without-weaker P P id elements (λ element other is. is) all
 
 none_of_0 : (elements : List Element) → AllByRecursion (IsElement TwoByte) elements → HasNone elements 0
 none_of_0 [] all = All-nil (λ (e : Element). e.0 ≢ 0)

@@ -1,17 +1,6 @@
 -- The elements before the last one of an id, and after it, each in a row.
-use Rattle.std.proofs.Common.{◌≡◌, ℕ, ◌+◌, ◌-◌, ◌≤◌, List, [], ◌∷◌, ◌++◌, length, take, drop, Option, Some, None, IfSome, IfNone, append_assoc, length-append, length-drop, length-take-le, arith, refl, sym, ap, ◌∙◌, subst, inl, inr, ◌⊎◌}
-use Rattle.std.specs.Prelude.{slice_range}
-use Rattle.std.proofs.lemmas.List.{take_at, drop_at, take-append-le, take-take, append-nil}
+use Rattle.rtp_ext.proofs.Common.{◌≡◌, ℕ, ◌+◌, ◌-◌, ◌≤◌, List, [], ◌∷◌, ◌++◌, length, take, drop, Option, Some, None, IfSome, IfNone, append_assoc, length-append, length-drop, length-take-le, arith, refl, sym, ap, ◌∙◌, subst, inl, inr, ◌⊎◌, slice_range, take_at, drop_at, take-append-le, take-take, append-nil, put_mid, ExtensionsForm, Place, Survey, Element, AreElements, element_bytes, ended, HasNone, LiesLast, AreWhole, IsSurvey, IsGathered, HasRows, without, put_element}
 use Rattle.std.proofs.lemmas.Slice.{drop-append-drop, take-put_mid_below, between-put_mid}
-use borrow.Rule.Slice.PartMut.{put_mid}
-use Rattle.rtp_ext.specs.declared.form.ExtensionsForm.{ExtensionsForm}
-use Rattle.rtp_ext.specs.declared.place.Place.{Place}
-use Rattle.rtp_ext.specs.declared.survey.Survey.{Survey}
-use Rattle.rtp_ext.specs.Elements.{Element, AreElements, element_bytes, ended}
-use Rattle.rtp_ext.specs.ElementsInPlace.{HasNone}
-use Rattle.rtp_ext.specs.ElementPlaces.{IsLastPlace, LiesLast, AreWhole}
-use Rattle.rtp_ext.specs.BodySurvey.{IsSurvey, IsGathered, HasRows}
-use Rattle.rtp_ext.specs.PutElement.{without, put_element}
 use Rattle.rtp_ext.proofs.PlaceLemmas.{length-lies}
 use Rattle.rtp_ext.proofs.PieceLemmas.{AreElements-after, AreWhole-element, AreWhole-append}
 use Rattle.rtp_ext.proofs.LastPlaceLemmas.{AreElements-same}
@@ -150,19 +139,19 @@ pub IsSplit-surveyed : (form : ExtensionsForm) (body : List ℕ) (id : ℕ) (sur
     → IfSome survey.last (λ place. (start ≡ place.start) × (end ≡ place.end)) → IfNone survey.last ((start ≡ survey.end) × (end ≡ survey.end)) → IsSplit form id body start end
 IsSplit-surveyed form body id survey start end is some none = by_last survey.last is.last_is is.none_is some none
   where
-    by_last : (last : Option Place) → IfSome last (λ place. (place.id ≡ id) × IsLastPlace (AreElements form) id body place × LiesLast form (AreElements form) id body place)
+    by_last : (last : Option Place) → IfSome last (λ place. (place.id ≡ id) × LiesLast form (AreElements form) id body place)
         → IfNone last (HasNone is.elements id)
         → IfSome last (λ place. (start ≡ place.start) × (end ≡ place.end)) → IfNone last ((start ≡ survey.end) × (end ≡ survey.end)) → IsSplit form id body start end
     by_last None known has_none some none =
         subst (λ (s : ℕ). IsSplit form id body s end) (sym none.0) (subst (λ (e : ℕ). IsSplit form id body survey.end e) (sym none.1) (split_read form body id survey is has_none))
     by_last (Some place) known has_none some none =
-        subst (λ (s : ℕ). IsSplit form id body s end) (sym some.0) (subst (λ (e : ℕ). IsSplit form id body place.start e) (sym some.1) (split_at form body id place known.2 known.0))
+        subst (λ (s : ℕ). IsSplit form id body s end) (sym some.0) (subst (λ (e : ℕ). IsSplit form id body place.start e) (sym some.1) (split_at form body id place known.1 known.0))
 
 -- at some offsets
 pub some_split : (form : ExtensionsForm) (body : List ℕ) (id : ℕ) (survey : Survey) → IsSurvey form body id survey → (start : ℕ) × ((end : ℕ) × IsSplit form id body start end)
 some_split form body id survey is = by_last survey.last is.last_is is.none_is
   where
-    by_last : (last : Option Place) → IfSome last (λ place. (place.id ≡ id) × IsLastPlace (AreElements form) id body place × LiesLast form (AreElements form) id body place)
+    by_last : (last : Option Place) → IfSome last (λ place. (place.id ≡ id) × LiesLast form (AreElements form) id body place)
         → IfNone last (HasNone is.elements id) → (start : ℕ) × ((end : ℕ) × IsSplit form id body start end)
     by_last None known has_none = (survey.end, (survey.end, split_read form body id survey is has_none))
-    by_last (Some place) known has_none = (place.start, (place.end, split_at form body id place known.2 known.0))
+    by_last (Some place) known has_none = (place.start, (place.end, split_at form body id place known.1 known.0))

@@ -1,8 +1,5 @@
 -- Bytes between those at the front and others that are moved behind them.
-use Rattle.std.proofs.Common.{◌≡◌, ℕ, ◌+◌, ◌-◌, ◌≤◌, List, ◌++◌, length, take, drop, append_assoc, length-append, length-drop, length-take-le, arith, sym, ap, ◌∙◌}
-use Rattle.std.specs.Prelude.{slice_range}
-use Rattle.std.proofs.lemmas.List.{drop_at, take_at, take-append-le, take-take}
-use lib.Seq.{paste}
+use Rattle.rtp_ext.proofs.Common.{◌≡◌, ℕ, ◌+◌, ◌-◌, ◌≤◌, List, ◌++◌, length, take, drop, append_assoc, length-append, length-drop, length-take-le, arith, sym, ap, ◌∙◌, slice_range, drop_at, take_at, take-append-le, take-take, paste}
 use Rattle.rtp_base.specs.Overwriting.{overwritten}
 
 pub between_is : (body moved new xs : List ℕ) (front at count end : ℕ) → end ≡ front + length xs → front ≤ at → at + count ≤ length body → front + length xs + count ≤ length body

@@ -1,23 +1,10 @@
 -- A copy of a map, or of its entries for one medium, made on a walk over the mapped ids.
-use Rattle.std.proofs.Common.{◌≡◌, ◌⊎◌, inl, inr, ℕ, zero, suc, ◌+◌, ◌-◌, ◌<◌, ◌≤◌, List, [], ◌∷◌, length, get_or, set, drop, map, Bool, true, false, Option, Some, None, All, arith, refl, sym, ap, ◌∙◌, subst, length-set, if◌then◌else◌}
-use Rattle.std.specs.List.{Contains, AllByRecursion}
-use Rattle.std.proofs.lemmas.Bool.{cases_eq, cases_lt}
-use Rattle.std.proofs.lemmas.List.{get_or-set_same, get_or-set_other, get_or_past, get_or_default, same_lists, drop_all}
-use Rattle.std.proofs.lemmas.List.Elements.{All-head, All-tail}
-use Rattle.std.proofs.Math.Seq.{drop-cons}
-use Rattle.rtp_values.specs.declared.kind.Extension.{Extension}
-use Rattle.rtp_ext.specs.ExtensionMap.{Entry, Slots, IsEmpty, IsId, ListsItems, Sets, entry_at, extension_at, extension_of, is_of_medium, of_medium, unlocked, items_from}
-use Rattle.rtp_ext.specs.MapSlots.{IsMapped, mapped_ids}
+use Rattle.rtp_ext.proofs.Common.{◌≡◌, ◌⊎◌, inl, inr, ℕ, zero, suc, ◌+◌, ◌-◌, ◌<◌, ◌≤◌, List, ◌∷◌, length, get_or, set, drop, map, Bool, true, false, Option, Some, None, All, arith, refl, sym, ap, ◌∙◌, subst, length-set, if◌then◌else◌, [], Contains, AllByRecursion, cases_eq, cases_lt, get_or-set_same, get_or-set_other, get_or_past, get_or_default, same_lists, drop_all, All-head, All-tail, drop-cons, Extension, Entry, Slots, IsEmpty, IsId, ListsItems, Sets, entry_at, extension_at, extension_of, is_of_medium, of_medium, unlocked, items_from, IsMapped, mapped_ids}
 use Rattle.rtp_ext.proofs.MapLemmas.{entry_at-slot, entry_at-mapped, entry_at-other}
-use Rattle.rtp_ext.proofs.ListingLemmas.{ListsItems-from_slots}
+use Rattle.rtp_ext.proofs.ListingLemmas.{ListsItems-from_slots, item_or_later}
 use Rattle.rtp_ext.proofs.MappedIdLemmas.{all_mapped}
 
 -- ---- of one medium
-
-item_or_later : (item : ℕ × Extension) (left : List (ℕ × Extension)) (id : ℕ) (extension : Extension) → Contains (item ∷ left) (id, extension)
-    → (item.0 ≡ id) ⊎ Contains left (id, extension)
-item_or_later item left id extension (zero, here, is) = inl (ap (λ (i : ℕ × Extension). i.0) is)
-item_or_later item left id extension (suc k, here, is) = inr (k, omega arith, is)
 
 -- the entries for a medium are in the new map, but for those of the items that are left
 pub record IsOfMediumBut (audio : Bool) (from : Slots) (left : List (ℕ × Extension)) (to : Slots) : Type 0 where

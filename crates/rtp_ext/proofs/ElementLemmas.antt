@@ -1,13 +1,6 @@
 -- The elements of bytes from the front on, as code meets them.
-use Rattle.std.proofs.Common.{◌≡◌, ◌≢◌, ℕ, zero, suc, ◌+◌, ◌/◌, ◌%◌, ◌^◌, ◌<◌, ◌≤◌, ◌⊎◌, inl, inr, List, [], ◌∷◌, ◌++◌, length, take, drop, Some, None, le-ltb, lt-ltb, le-leb, add-one, get_or, take-append-drop, arith, refl, sym, ap, ◌∙◌}
-use Rattle.std.specs.List.{IsFirstAndRest}
-use Rattle.std.specs.Int.{w128, byte_worth, from_le_bytes, sum_through}
+use Rattle.rtp_ext.proofs.Common.{◌≡◌, ◌≢◌, ℕ, zero, suc, ◌+◌, ◌/◌, ◌%◌, ◌^◌, ◌<◌, ◌≤◌, ◌⊎◌, inl, inr, List, [], ◌∷◌, ◌++◌, length, take, drop, Some, None, le-ltb, lt-ltb, le-leb, add-one, get_or, take-append-drop, arith, refl, sym, ap, ◌∙◌, IsFirstAndRest, w128, byte_worth, from_le_bytes, sum_through, cases_lt, lt-leb, length-take-le, ExtensionsForm, OneByte, TwoByte, Element}
 use Rattle.std.proofs.Math.Nat.{one-le-pow, eq_of_mul-eq-mul_right, zero-mul}
-use Rattle.std.proofs.lemmas.Bool.{cases_lt, lt-leb}
-use Rattle.std.proofs.lemmas.List.{length-take-le}
-use Rattle.rtp_ext.specs.declared.form.ExtensionsForm.{ExtensionsForm}
-use Rattle.rtp_ext.specs.declared.form.ExtensionsForm.TheVariants.{OneByte, TwoByte}
-use Rattle.rtp_ext.specs.Elements.{Element}
 use Rattle.rtp_ext.specs.ElementReading.{without_padding, element_at, in_front, elements_after, elements_left}
 
 -- the elements after some bytes are those of what is left without them

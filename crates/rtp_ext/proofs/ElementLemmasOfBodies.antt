@@ -1,11 +1,5 @@
 -- The elements of a block's body, read from the front, are those that it has.
-use Rattle.std.proofs.Common.{◌≡◌, ◌≢◌, ℕ, zero, suc, ◌+◌, ◌-◌, ◌*◌, ◌/◌, ◌%◌, ◌<◌, ◌≤◌, inl, inr, List, [], ◌∷◌, ◌++◌, length, take, drop, replicate, Option, Some, None, get_or, append_assoc, length-append, take-append-drop, arith, refl, sym, ap, ◌∙◌, subst}
-use Rattle.std.specs.List.{AllByRecursion, flat_map, filter_map}
-use Rattle.std.proofs.lemmas.Bool.{cases_lt}
-use Rattle.std.proofs.lemmas.List.{take_at, drop_at, length-replicate, length-take-le}
-use Rattle.rtp_ext.specs.declared.form.ExtensionsForm.{ExtensionsForm}
-use Rattle.rtp_ext.specs.declared.form.ExtensionsForm.TheVariants.{OneByte, TwoByte}
-use Rattle.rtp_ext.specs.Elements.{Element, IsElement, element_bytes, IsPiece, piece_bytes, IsTail, ended, cut_short, stopped, AreElements}
+use Rattle.rtp_ext.proofs.Common.{◌≡◌, ◌≢◌, ℕ, zero, suc, ◌+◌, ◌-◌, ◌*◌, ◌/◌, ◌%◌, ◌<◌, ◌≤◌, inl, inr, List, [], ◌∷◌, ◌++◌, length, take, drop, replicate, Option, Some, None, get_or, append_assoc, length-append, take-append-drop, arith, refl, sym, ap, ◌∙◌, subst, AllByRecursion, flat_map, filter_map, cases_lt, take_at, drop_at, length-replicate, length-take-le, ExtensionsForm, OneByte, TwoByte, Element, IsElement, element_bytes, IsPiece, piece_bytes, IsTail, ended, cut_short, stopped, AreElements}
 use Rattle.rtp_ext.specs.ElementReading.{element_at, in_front, elements_after, elements_left}
 use Rattle.rtp_ext.proofs.ElementLemmas.{elements_left-none, elements_left-padding, one_byte-whole, one_byte-stops, one_byte-cut, two_byte-whole, two_byte-cut, elements_left-one_byte, elements_left-one_byte_end, elements_left-two_byte, elements_left-two_byte_cut, elements_left-two_byte_end}
 

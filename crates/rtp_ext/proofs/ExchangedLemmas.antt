@@ -1,14 +1,5 @@
 -- Two entries that are put in each other's place: in a table of kinds.
-use Rattle.std.proofs.Common.{◌≡◌, ◌≢◌, ℕ, ◌-◌, ◌<◌, zero, suc, List, length, set, get_or, Bool, Option, None, arith, refl, sym, ap, ◌∙◌}
-use Rattle.std.specs.Int.{from_bool}
-use Rattle.std.specs.List.{swap}
-use Rattle.std.specs.Option.{is_some}
-use Rattle.std.proofs.lemmas.List.{get_or-set_other}
-use Rattle.std.proofs.lemmas.List.Edits.{swap_is}
-use Rattle.rtp_values.specs.declared.known_kind.KnownKind.{KnownKind}
-use Rattle.rtp_ext.specs.ExtensionMap.{Entry, IsId, Slots}
-use Rattle.rtp_ext.specs.KindsById.{entry_of_kind, slots_of, is_layers, layers_count}
-use Rattle.rtp_ext.specs.MapSlots.{mapped_ids, updated}
+use Rattle.rtp_ext.proofs.Common.{◌≡◌, ◌≢◌, ℕ, ◌-◌, ◌<◌, zero, suc, List, length, set, get_or, Bool, Option, None, arith, refl, sym, ap, ◌∙◌, from_bool, swap, is_some, get_or-set_other, swap_is, KnownKind, Entry, IsId, Slots, entry_of_kind, slots_of, is_layers, layers_count, mapped_ids, updated}
 use Rattle.rtp_ext.proofs.KindsByIdLemmas.{entry_at-kinds, slots_of-put}
 use Rattle.rtp_ext.proofs.MapLemmas.{entry_at-slot}
 use Rattle.rtp_ext.proofs.TableLemmas.{set-length, set-padding, within_slots, layers_count-put}

@@ -1,10 +1,5 @@
 -- Where the first element of bytes lies, and where reading ends.
-use Rattle.std.proofs.Common.{◌≡◌, ℕ, zero, suc, ◌+◌, ◌-◌, ◌*◌, ◌/◌, ◌%◌, ◌<◌, ◌≤◌, ◌⊎◌, inl, inr, List, [], ◌∷◌, ◌++◌, length, take, drop, replicate, get_or, append_assoc, take-append-drop, arith, refl, sym, ap, ◌∙◌, subst}
-use Rattle.std.specs.List.{IsFirstAndRest, IsSplitAt}
-use Rattle.std.proofs.lemmas.List.{nil_from_length, replicate-append-replicate, take_rest, length-drop}
-use Rattle.rtp_ext.specs.declared.form.ExtensionsForm.{ExtensionsForm}
-use Rattle.rtp_ext.specs.declared.form.ExtensionsForm.TheVariants.{OneByte, TwoByte}
-use Rattle.rtp_ext.specs.Elements.{Element, IsElement, element_bytes, IsTail, ended, stopped}
+use Rattle.rtp_ext.proofs.Common.{◌≡◌, ℕ, zero, suc, ◌+◌, ◌-◌, ◌*◌, ◌/◌, ◌%◌, ◌<◌, ◌≤◌, ◌⊎◌, inl, inr, List, [], ◌∷◌, ◌++◌, length, take, drop, replicate, get_or, append_assoc, take-append-drop, arith, refl, sym, ap, ◌∙◌, subst, IsFirstAndRest, IsSplitAt, nil_from_length, replicate-append-replicate, take_rest, length-drop, ExtensionsForm, OneByte, TwoByte, Element, IsElement, element_bytes, IsTail, ended, stopped}
 use Rattle.rtp_ext.specs.ElementReading.{without_padding, elements_left, BeginsWithElement, BeginsWithNoElement}
 use Rattle.rtp_ext.proofs.ElementLemmas.{elements_left-padding, first_unpadded}
 use Rattle.rtp_ext.proofs.ElementLemmasOfBodies.{elements_left-element, elements_left-tail, IsTail-one_byte, IsTail-two_byte, IsTail-two_byte_end}

@@ -1,24 +1,7 @@
 -- The form that mapped ids and their values need, and the elements that it can carry.
-use Rattle.std.proofs.Common.{◌≡◌, ℕ, zero, suc, ◌+◌, ◌*◌, ◌≤◌, ◌<◌, ◌⊎◌, inl, inr, List, [], ◌∷◌, length, Bool, true, false, Option, Some, None, refl, sym, subst, ◌∙◌, arith}
-use Rattle.std.specs.Prelude.{◌||◌, ◌&&◌, nat_lt, nat_eq, if◌then◌else◌}
-use Rattle.std.specs.Int.{w8, rotate_left}
-use Rattle.std.specs.List.{AllByRecursion, filter_map, list_any}
-use Rattle.std.specs.Option.{option_map}
-use Rattle.std.proofs.lemmas.Bool.{or_parts, and_parts, cases_lt, eqb-true}
-use Rattle.std.proofs.lemmas.Bool.Decides.{nat_tests}
-use Rattle.rtp_ext.specs.declared.form.ExtensionsForm.{ExtensionsForm}
-use Rattle.rtp_ext.specs.declared.form.ExtensionsForm.TheVariants.{OneByte, TwoByte}
-use Rattle.rtp_values.specs.declared.kind.Extension.{Extension}
-use Rattle.rtp_values.specs.declared.known_kind.KnownKind.{KnownKind}
+use Rattle.rtp_ext.proofs.Common.{◌≡◌, ℕ, zero, suc, ◌+◌, ◌*◌, ◌≤◌, ◌<◌, ◌⊎◌, inl, inr, List, [], ◌∷◌, length, Bool, true, false, Option, Some, None, refl, sym, subst, ◌∙◌, arith, ◌||◌, ◌&&◌, nat_lt, nat_eq, if◌then◌else◌, w8, rotate_left, AllByRecursion, filter_map, list_any, option_map, or_parts, and_parts, cases_lt, eqb-true, nat_tests, ExtensionsForm, OneByte, TwoByte, Extension, KnownKind, extension_of_kind, ExtensionValues, Element, has_no_data, spelled_data, longest, CanCarry, Slots, items_from, needs_two, form_of}
 use Rattle.rtp_values.specs.declared.known_kind.KnownKind.TheVariants.{VideoLayersAllocation}
 use Rattle.rtp_values.specs.contracts.known_kind.KnownKindPartialEq.TheImpl as kind_eq
-use Rattle.rtp_values.specs.KnownKind.{extension_of_kind}
-use Rattle.rtp_values.specs.declared.value.values.ExtensionValues.{ExtensionValues}
-use Rattle.rtp_ext.specs.Elements.{Element}
-use Rattle.rtp_values.specs.Spelling.{has_no_data, spelled_data, longest}
-use Rattle.rtp_ext.specs.ElementWriting.{CanCarry}
-use Rattle.rtp_ext.specs.ExtensionMap.{Slots, items_from}
-use Rattle.rtp_ext.specs.WrittenBlock.{needs_two, form_of}
 
 -- a mapped id with its kind
 abbrev pub Item : Type 0

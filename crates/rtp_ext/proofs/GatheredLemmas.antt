@@ -1,19 +1,18 @@
 -- The elements of a body without those of an id, in a row.
-use Rattle.std.proofs.Common.{◌≡◌, ◌≢◌, ℕ, ◌+◌, ◌-◌, ◌≤◌, Bool, not, cond, List, [], ◌∷◌, ◌++◌, length, take, drop, replicate, append_assoc, length-append, length-drop, take-append-drop, arith, refl, sym, ap, ◌∙◌, subst}
-use Rattle.std.proofs.lemmas.Bool.{eq-eqb, ne_eqb}
-use Rattle.std.proofs.lemmas.List.{append-nil, drop_at, take_at, length-replicate, drop-drop, drop-append-le}
-use Rattle.std.proofs.lemmas.List.Concat.{flat_map-append}
-use Rattle.std.proofs.lemmas.List.Elements.{filter-append}
-use lib.Seq.{paste}
-use Rattle.rtp_ext.specs.declared.form.ExtensionsForm.{ExtensionsForm}
-use Rattle.rtp_ext.specs.declared.place.Place.{Place}
-use Rattle.rtp_ext.specs.Elements.{Element, element_bytes, elements_bytes, AreElements}
-use Rattle.rtp_ext.specs.ElementReading.{BeginsWithNoElement}
-use Rattle.rtp_ext.specs.ElementPlaces.{IsNextPlace, AreWhole}
-use Rattle.rtp_ext.specs.BodySurvey.{IsGathered, IsGatheredTo}
-use Rattle.rtp_ext.specs.PutElement.{has_id, without}
+use Rattle.rtp_ext.proofs.Common.{◌≡◌, ◌≢◌, ℕ, ◌+◌, ◌-◌, ◌≤◌, Bool, not, cond, List, [], ◌∷◌, ◌++◌, length, take, drop, replicate, append_assoc, length-append, length-drop, take-append-drop, arith, refl, sym, ap, ◌∙◌, subst, eq-eqb, ne_eqb, append-nil, drop_at, take_at, length-replicate, drop-drop, drop-append-le, flat_map-append, filter-append, paste, ExtensionsForm, Place, Element, element_bytes, elements_bytes, AreElements, BeginsWithNoElement, IsNextPlace, AreWhole, IsGathered, IsGatheredTo, has_id, without, true, false, false≢true, AllByRecursion}
 use Rattle.rtp_ext.proofs.PlaceLemmas.{left_next, length-element}
 use Rattle.rtp_ext.proofs.PieceLemmas.{AreWhole-nil, AreWhole-append, AreWhole-next, AreElements-after, AreElements-none}
+
+-- what all elements but those of an id have
+pub without-weaker : (P Q : Element → Type 0) (id : ℕ) (elements : List Element) → ((element : Element) → element.0 ≢ id → P element → Q element) → AllByRecursion P elements
+    → AllByRecursion Q (without id elements)
+without-weaker P Q id [] weaker all = tt
+without-weaker P Q id (element ∷ elements) weaker all =
+    by_test (has_id id element) (λ other. weaker element (λ same. false≢true (sym other ∙ eq-eqb element.0 id same)) all.0) (without-weaker P Q id elements weaker all.1)
+  where
+    by_test : (b : Bool) → (b ≡ false → Q element) → AllByRecursion Q (without id elements) → AllByRecursion Q (cond (not b) (element ∷ without id elements) (without id elements))
+    by_test true is rest = rest
+    by_test false is rest = (is refl, rest)
 
 -- one more element, of the id or of another
 pub without-this : (id : ℕ) (elements : List Element) (element : Element) → element.0 ≡ id → without id (elements ++ element ∷ []) ≡ without id elements

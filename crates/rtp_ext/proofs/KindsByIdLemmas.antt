@@ -1,22 +1,5 @@
 -- The known extensions by their ids: what a table of kinds shows, and what the known extensions of a map read.
-use Rattle.std.proofs.Common.{◌≡◌, ℕ, ◌+◌, ◌-◌, suc, zero, List, [], ◌∷◌, length, map, replicate, set, get_or, Option, Some, None, All, arith, ap, refl, sym, ◌∙◌, subst}
-use Rattle.std.proofs.Math.ListN.{get_or-map}
-use Rattle.std.proofs.lemmas.List.{map-set}
-use Rattle.rtp_values.specs.declared.kind.Extension.{Extension}
-use Rattle.rtp_values.specs.declared.kind.Extension.TheVariants.{UnknownUri}
-use Rattle.rtp_values.specs.declared.known_kind.KnownKind.{KnownKind}
-use Rattle.rtp_values.specs.declared.value.values.ExtensionValues.{ExtensionValues}
-use Rattle.rtp_values.specs.Kind.{IsKnown}
-use Rattle.rtp_values.specs.Values.{IsWellFormed}
-use Rattle.rtp_values.proofs.KindLemmas.{one_kind}
-use Rattle.rtp_ext.specs.Elements.{Element}
-use Rattle.rtp_ext.specs.ExtensionMap.{Entry, Slots, IsEmpty, IsId, entry_at, extension_at, extension_of}
-use Rattle.rtp_ext.specs.KindsById.{entry_of_kind, slots_of, known_alone, known_entry, known_slots}
-use Rattle.rtp_ext.specs.MapSlots.{IsMapped}
-use Rattle.rtp_values.specs.KnownKind.{extension_of_kind}
-use Rattle.rtp_ext.specs.BlockValues.{Carries, AreFields, last, none, AreValues, ReadElements}
-use Rattle.rtp_ext.specs.Memory.{HasAllocation, ReadUntilRefused}
-use Rattle.rtp_ext.proofs.ListingLemmas.{All-weaker}
+use Rattle.rtp_ext.proofs.Common.{◌≡◌, ℕ, ◌+◌, ◌-◌, suc, zero, List, [], ◌∷◌, length, map, replicate, set, get_or, Option, Some, None, All, arith, ap, refl, sym, ◌∙◌, subst, get_or-map, map-set, Extension, UnknownUri, KnownKind, ExtensionValues, IsKnown, IsWellFormed, one_kind, Element, Entry, Slots, IsEmpty, IsId, entry_at, extension_at, extension_of, entry_of_kind, slots_of, known_alone, known_entry, known_slots, IsMapped, extension_of_kind, Carries, AreFields, last, none, AreValues, ReadElements, HasAllocation, ReadUntilRefused, All-weaker}
 use Rattle.rtp_ext.proofs.MapLemmas.{entry_at-map}
 
 -- ---- the table
@@ -132,8 +115,7 @@ Carries-known exts kind element carries =
 none-known : (exts : Slots) (kind : Extension) (elements : List Element) → All (λ e. Carries (known_slots exts) kind e → ⊥) elements
     → All (λ e. Carries exts kind e → ⊥) elements
 none-known exts kind elements all =
-    All-weaker (λ e. Carries (known_slots exts) kind e → ⊥) (λ e. Carries exts kind e → ⊥) elements
-    (λ element not_carried carries. not_carried (Carries-known exts kind element carries)) all
+    All-weaker (λ e. Carries (known_slots exts) kind e → ⊥) (λ e. Carries exts kind e → ⊥) (λ element not_carried carries. not_carried (Carries-known exts kind element carries)) elements all
 
 pub AreFields-known : (exts : Slots) (elements : List Element) (kind : Extension) (old new : ExtensionValues) → AreFields (known_slots exts) elements kind old new
     → AreFields exts elements kind old new

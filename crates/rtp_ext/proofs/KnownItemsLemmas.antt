@@ -1,20 +1,6 @@
 -- The mapped ids whose extensions are known: what a map writes is what its known extensions do.
-use Rattle.std.proofs.Common.{◌≡◌, ℕ, ◌+◌, ◌≤◌, ◌⊎◌, inl, inr, suc, List, [], ◌∷◌, length, map, Bool, true, false, Some, None, refl, sym, ap, ◌∙◌, arith}
-use Rattle.std.specs.Prelude.{◌||◌, nat_lt, if◌then◌else◌}
-use Rattle.std.specs.List.{list_any, cons_option}
-use Rattle.std.proofs.lemmas.Bool.{or_parts}
-use Rattle.rtp_values.specs.declared.kind.Extension.{Extension}
-use Rattle.rtp_values.specs.declared.kind.Extension.TheVariants.{UnknownUri}
-use Rattle.rtp_values.specs.declared.value.values.ExtensionValues.{ExtensionValues}
-use Rattle.rtp_values.specs.Spelling.{has_no_data, has_empty_text, spelled_data, longest, carried_values}
-use Rattle.rtp_values.specs.Values.{with_fields}
+use Rattle.rtp_ext.proofs.Common.{◌≡◌, ℕ, ◌+◌, ◌≤◌, ◌⊎◌, inl, inr, suc, List, [], ◌∷◌, length, map, Bool, true, false, Some, None, refl, sym, ap, ◌∙◌, arith, ◌||◌, nat_lt, if◌then◌else◌, list_any, cons_option, or_parts, Extension, UnknownUri, ExtensionValues, has_no_data, has_empty_text, spelled_data, longest, carried_values, with_fields, ExtensionsForm, OneByte, TwoByte, Element, Slots, items_from, mapped_count, known_alone, known_slots, is_long_item, has_long_data, has_empty, mapped_ids}
 use Rattle.rtp_values.proofs.EmptyDataLemmas.{no_empty_text}
-use Rattle.rtp_ext.specs.declared.form.ExtensionsForm.{ExtensionsForm}
-use Rattle.rtp_ext.specs.declared.form.ExtensionsForm.TheVariants.{OneByte, TwoByte}
-use Rattle.rtp_ext.specs.Elements.{Element}
-use Rattle.rtp_ext.specs.ExtensionMap.{Slots, items_from, mapped_count}
-use Rattle.rtp_ext.specs.KindsById.{known_alone, known_slots, is_long_item, has_long_data, has_empty}
-use Rattle.rtp_ext.specs.MapSlots.{mapped_ids}
 use Rattle.rtp_ext.specs.WrittenBlock.{written_elements, needs_two, form_of, fields_of_items, image_values}
 use Rattle.rtp_ext.proofs.FormLemmas.{Item, element_of, elements_of}
 

@@ -1,14 +1,5 @@
 -- What a map writes is what its known extensions do.
-use Rattle.std.proofs.Common.{◌≡◌, List, ap, ◌∙◌, subst}
-use Rattle.rtp_ext.specs.ExtensionMap.{Slots, items_from}
-use Rattle.rtp_ext.specs.KindsById.{known_slots}
-use Rattle.rtp_ext.specs.Elements.{Element, elements_bytes}
-use Rattle.rtp_ext.specs.ElementWriting.{items_bytes}
-use Rattle.rtp_ext.specs.WrittenBlock.{written_elements, image_values}
-use Rattle.rtp_ext.specs.BlockValues.{AreValues}
-use Rattle.rtp_values.specs.Values.{no_values}
-use Rattle.rtp_ext.specs.declared.form.ExtensionsForm.{ExtensionsForm}
-use Rattle.rtp_values.specs.declared.value.values.ExtensionValues.{ExtensionValues}
+use Rattle.rtp_ext.proofs.Common.{◌≡◌, List, ap, ◌∙◌, subst, Slots, items_from, known_slots, Element, elements_bytes, items_bytes, written_elements, image_values, AreValues, no_values, ExtensionsForm, ExtensionValues}
 use Rattle.rtp_ext.proofs.WrittenBlockLemmas.{items_bytes-written}
 use Rattle.rtp_ext.proofs.KnownItemsLemmas.{written_known, image_known}
 use Rattle.rtp_ext.proofs.KindsByIdLemmas.{AreValues-known}

@@ -1,27 +1,6 @@
 -- Rows of layer allocations, and the values once the last of a row was read in place of all.
-use Rattle.std.proofs.Common.{◌≡◌, ◌≢◌, ◌≤◌, ℕ, inl, inr, ◌↔◌, Bool, false, not, IsTrue, List, [], ◌∷◌, ◌++◌, length, Option, Some, None, Result, Ok, Err, IsOk, IfOk, All, append-nil, ap, refl, sym, ◌∙◌, subst}
-use Rattle.std.specs.Option.{option_map, option_eq}
-use denote.Enum.Bare.{sameb}
-use Rattle.std.proofs.lemmas.Bool.{false≢true}
-use Rattle.rtp_values.specs.contracts.known_kind.KnownKind.{the_type}
-use Rattle.std.specs.declared.alloc.AllocError.{AllocError}
-use Rattle.std.proofs.lemmas.List.Elements.{All-append, All-cons, All-push, All-nil}
-use Rattle.std.proofs.lemmas.List.{append_assoc}
-use Rattle.rtp_values.specs.declared.kind.Extension.{Extension}
-use Rattle.rtp_values.specs.declared.kind.Extension.TheVariants.{VideoLayersAllocation}
-use Rattle.rtp_values.specs.declared.known_kind.KnownKind.{KnownKind}
+use Rattle.rtp_ext.proofs.Common.{◌≡◌, ◌≢◌, ◌≤◌, ℕ, inl, inr, ◌↔◌, Bool, false, not, IsTrue, List, ◌∷◌, ◌++◌, length, Option, Some, None, Result, Ok, Err, IsOk, IfOk, All, append-nil, ap, refl, sym, ◌∙◌, subst, [], option_map, option_eq, sameb, false≢true, the_type, AllocError, All-append, All-cons, All-push, All-nil, append_assoc, Extension, VideoLayersAllocation, KnownKind, extension_of_kind, ExtensionValues, Reads, SameFields, IsWellFormed, ReadsInto, Reads-same, SameFields-refl, SameFields-trans, SameFields-others, same_or_not, one_kind, Element, Slots, extension_at, Carries, AreFields, last, none, ReadElements, ReadUntilRefused, IsLastAllocation, last_is, none_is, EndsRow, IsReadTo}
 use Rattle.rtp_values.specs.declared.known_kind.KnownKind.TheVariants as known
-use Rattle.rtp_values.specs.KnownKind.{extension_of_kind}
-use Rattle.rtp_values.specs.declared.value.values.ExtensionValues.{ExtensionValues}
-use Rattle.rtp_values.specs.Values.{Reads, SameFields, IsWellFormed}
-use Rattle.rtp_values.specs.KindBytes.{ReadsInto}
-use Rattle.rtp_values.proofs.FieldLemmas.{Reads-same, SameFields-refl, SameFields-trans, SameFields-others}
-use Rattle.rtp_values.proofs.KindLemmas.{same_or_not, one_kind}
-use Rattle.rtp_ext.specs.Elements.{Element}
-use Rattle.rtp_ext.specs.ExtensionMap.{Slots, extension_at}
-use Rattle.rtp_ext.specs.BlockValues.{Carries, AreFields, last, none, ReadElements}
-use Rattle.rtp_ext.specs.Memory.{ReadUntilRefused}
-use Rattle.rtp_ext.specs.LastAllocation.{IsLastAllocation, last_is, none_is, EndsRow, IsReadTo}
 use Rattle.rtp_ext.proofs.ValuesLaws.{ReadElements-none}
 
 -- ---- what an id is mapped to
@@ -113,16 +92,6 @@ EndsRow-taken exts first elements left element bytes long carries was = record {
 pub EndsRow-left : (exts : Slots) (first : List ℕ) (elements left these : List Element) (bytes : List ℕ) → left ≡ these
     → EndsRow exts first elements left bytes → EndsRow exts first elements these bytes
 EndsRow-left exts first elements left these bytes same was = subst (λ es. EndsRow exts first elements es bytes) same was
-
--- an element of an id that is mapped to nothing carries nothing, nor does a malformed allocation
-pub unmapped-carries : (exts : Slots) (element : Element) → extension_at exts element.0 ≡ None → (kind : Extension) → Carries exts kind element → ⊥
-unmapped-carries exts element is kind carries = let both = sym is ∙ carries.0 in cc
-
-pub malformed-carries : (exts : Slots) (element : Element) → extension_at exts element.0 ≡ Some VideoLayersAllocation
-    → (IsWellFormed VideoLayersAllocation element.1 → ⊥) → (kind : Extension) → Carries exts kind element → ⊥
-malformed-carries exts element mapped malformed kind carries =
-    let same : kind ≡ VideoLayersAllocation = one_kind (sym carries.0 ∙ mapped) in
-    malformed (subst (λ k. IsWellFormed k element.1) same carries.1)
 
 -- ---- what is read
 

@@ -1,90 +1,18 @@
 -- The last element of an id, and its place.
-use Rattle.std.proofs.Common.{◌≡◌, ◌≢◌, ℕ, ◌-◌, ◌≤◌, List, [], ◌∷◌, ◌++◌, length, take, drop, replicate, Option, Some, None, IfSome, append_assoc, length-append, arith, refl, sym, ap, ◌∙◌, subst}
-use Rattle.std.proofs.lemmas.List.{append-nil, drop_at, take_at, length-replicate}
-use Rattle.std.proofs.lemmas.List.Elements.{All-nil, All-cons, All-append, All-contains, Contains-append_right}
-use Rattle.rtp_ext.specs.declared.form.ExtensionsForm.{ExtensionsForm}
-use Rattle.rtp_ext.specs.declared.form.ExtensionsForm.TheVariants.{OneByte, TwoByte}
-use Rattle.rtp_base.specs.Overwriting.{overwritten}
-use Rattle.rtp_ext.specs.declared.place.Place.{Place}
-use Rattle.rtp_ext.specs.Elements.{Element, IsElement, element_bytes, AreElements}
-use Rattle.rtp_ext.specs.ElementReading.{BeginsWithNoElement}
-use Rattle.rtp_ext.specs.ElementWriting.{element_header}
-use Rattle.rtp_ext.specs.ElementsInPlace.{HasNone, HasLast, SetsLast}
-use Rattle.rtp_ext.specs.ElementPlaces.{LiesAt, IsNextPlace, AreWhole, IsLastPlace, LiesLast, IsLastOrNone, IsPassed}
+use Rattle.rtp_ext.proofs.Common.{◌≡◌, ◌≢◌, ℕ, ◌-◌, ◌≤◌, List, [], ◌∷◌, ◌++◌, length, take, drop, replicate, Option, Some, None, IfSome, append_assoc, length-append, arith, refl, sym, ap, ◌∙◌, subst, append-nil, drop_at, take_at, length-replicate, All-nil, All-cons, All-append, All-contains, Contains-append_right, ExtensionsForm, OneByte, TwoByte, overwritten, Place, Element, IsElement, element_bytes, AreElements, BeginsWithNoElement, element_header, HasNone, HasLast, SetsLast, LiesAt, IsNextPlace, AreWhole, IsLastPlace, LiesLast, IsLastOrNone, IsPassed}
 use Rattle.rtp_ext.proofs.ElementLemmasOfBodies.{AreElements-only}
 use Rattle.rtp_ext.proofs.PlaceLemmas.{element_bytes-split, length-lies, overwritten-at, passed_next, end_next}
-use Rattle.rtp_ext.proofs.PieceLemmas.{AreWhole-nil, AreWhole-zeros, AreWhole-append, AreElements-after, AreWhole-next, AreElements-none}
+use Rattle.rtp_ext.proofs.PieceLemmas.{AreWhole-nil, AreWhole-zeros, AreWhole-append, AreElements-after, AreWhole-element, AreWhole-next, AreElements-none}
 
 -- a body has one list of elements
 pub AreElements-same : (form : ExtensionsForm) (body : List ℕ) (xs ys : List Element) → AreElements form body xs → AreElements form body ys → xs ≡ ys
 AreElements-same form body xs ys are others = AreElements-only form body xs are ∙ sym (AreElements-only form body ys others)
 
--- an element is followed by another
-IsLastPlace-other : (form : ExtensionsForm) (id : ℕ) (bytes more : List ℕ) (place : Place) (element : Element) → IsLastPlace (AreWhole form) id bytes place
-    → AreWhole form more (element ∷ []) → element.0 ≢ id → IsLastPlace (AreWhole form) id (bytes ++ more) place
-IsLastPlace-other form id bytes more place element is next other = record {
-  front = is.front;
-  was = is.was;
-  rest = is.rest ++ more;
-  before = is.before;
-  after = is.after ++ element ∷ [];
-  bytes_are = ap (λ b. b ++ more) is.bytes_are ∙ (append_assoc is.front (is.was ++ is.rest) more ∙ ap (λ b. is.front ++ b) (append_assoc is.was is.rest more));
-  data_is = is.data_is;
-  end_is = is.end_is;
-  last = All-append (λ (e : Element). e.0 ≢ id) is.after (element ∷ []) is.last
-      (All-cons (λ (e : Element). e.0 ≢ id) element [] other (All-nil (λ (e : Element). e.0 ≢ id)));
-  set = λ others as_many.
-      subst (λ b. AreWhole form b (is.before ++ (id, others) ∷ (is.after ++ element ∷ [])))
-      (append_assoc is.front (others ++ is.rest) more ∙ ap (λ b. is.front ++ b) (append_assoc others is.rest more))
-      (subst (λ es. AreWhole form ((is.front ++ (others ++ is.rest)) ++ more) es) (append_assoc is.before ((id, others) ∷ is.after) (element ∷ []))
-      (AreWhole-append form (is.front ++ (others ++ is.rest)) more (is.before ++ (id, others) ∷ is.after) (element ∷ []) (is.set others as_many) next));
-}
-
--- an element is the last so far
 IsElement-others : (form : ExtensionsForm) (id : ℕ) (bytes others : List ℕ) → length others ≡ length bytes → IsElement form (id, bytes) → IsElement form (id, others)
 IsElement-others OneByte id bytes others as_many is = (omega arith, omega arith, omega arith, omega arith)
 IsElement-others TwoByte id bytes others as_many is = (omega arith, omega arith, omega arith)
 
--- padding, a header and as many bytes of data
-next_bytes : (form : ExtensionsForm) (passed : List ℕ) (padding id len : ℕ) (bytes : List ℕ) → length bytes ≡ len
-    → passed ++ (replicate padding 0 ++ element_bytes form (id, bytes)) ≡ (passed ++ (replicate padding 0 ++ element_header form id len)) ++ (bytes ++ [])
-next_bytes form passed padding id len bytes len_is =
-    let header : List ℕ = element_header form id len in
-    let element : element_bytes form (id, bytes) ≡ header ++ bytes = element_bytes-split form id bytes ∙ ap (λ n. element_header form id n ++ bytes) len_is in
-    ap (λ b. passed ++ (replicate padding 0 ++ b)) element
-    ∙ (ap (λ b. passed ++ b) (sym (append_assoc (replicate padding 0) header bytes))
-    ∙ (sym (append_assoc passed (replicate padding 0 ++ header) bytes)
-    ∙ ap (λ b. (passed ++ (replicate padding 0 ++ header)) ++ b) (sym (append-nil bytes))))
-
-IsLastPlace-this : (form : ExtensionsForm) (body passed : List ℕ) (at : ℕ) (place : Place) (elements : List Element) → at ≡ length passed → AreWhole form passed elements
-    → (next : IsNextPlace form body at place) → IsLastPlace (AreWhole form) place.id (passed ++ (replicate next.padding 0 ++ element_bytes form (place.id, next.bytes))) place
-IsLastPlace-this form body passed at place elements at_is whole next =
-    let header : List ℕ = element_header form place.id (length next.bytes) in
-    record {
-      front = passed ++ (replicate next.padding 0 ++ header);
-      was = next.bytes;
-      rest = [];
-      before = elements;
-      after = [];
-      bytes_are = next_bytes form passed next.padding place.id (length next.bytes) next.bytes refl;
-      data_is = omega (
-        arith,
-        next.start_is,
-        next.data_is,
-        length-append passed (replicate next.padding 0 ++ header),
-        length-append (replicate next.padding 0) header,
-        length-replicate {A = ℕ} next.padding 0,
-      );
-      end_is = next.end_is;
-      last = All-nil (λ (e : Element). e.0 ≢ place.id);
-      set = λ others as_many.
-          subst (λ b. AreWhole form b (elements ++ (place.id, others) ∷ []))
-          (next_bytes form passed next.padding place.id (length next.bytes) others as_many)
-          (AreWhole-append form passed (replicate next.padding 0 ++ element_bytes form (place.id, others)) elements ((place.id, others) ∷ []) whole
-          (AreWhole-next form next.padding (place.id, others) (IsElement-others form place.id next.bytes others as_many next.is_element)));
-    }
-
--- the same of the element that lies there
+-- an element is followed by another
 LiesLast-other : (form : ExtensionsForm) (id : ℕ) (bytes more : List ℕ) (place : Place) (element : Element) → LiesLast form (AreWhole form) id bytes place
     → AreWhole form more (element ∷ []) → element.0 ≢ id → LiesLast form (AreWhole form) id (bytes ++ more) place
 LiesLast-other form id bytes more place element is next other =
@@ -109,6 +37,7 @@ LiesLast-other form id bytes more place element is next other =
           (All-cons (λ (e : Element). e.0 ≢ id) element [] other (All-nil (λ (e : Element). e.0 ≢ id)));
     }
 
+-- an element is the last so far
 LiesLast-this : (form : ExtensionsForm) (body passed : List ℕ) (at : ℕ) (place : Place) (elements : List Element) → at ≡ length passed → AreWhole form passed elements
     → (next : IsNextPlace form body at place) → LiesLast form (AreWhole form) place.id (passed ++ (replicate next.padding 0 ++ element_bytes form (place.id, next.bytes))) place
 LiesLast-this form body passed at place elements at_is whole next =
@@ -150,7 +79,7 @@ IsLastOrNone-other : (form : ExtensionsForm) (id : ℕ) (bytes more : List ℕ) 
 IsLastOrNone-other form id bytes more elements None element is next other =
     All-append (λ (e : Element). e.0 ≢ id) elements (element ∷ []) is (All-cons (λ (e : Element). e.0 ≢ id) element [] other (All-nil (λ (e : Element). e.0 ≢ id)))
 IsLastOrNone-other form id bytes more elements (Some place) element is next other =
-    (IsLastPlace-other form id bytes more place element is.0 next other, is.1, LiesLast-other form id bytes more place element is.2 next other)
+    (is.0, LiesLast-other form id bytes more place element is.1 next other)
 
 passed_by : (form : ExtensionsForm) (body : List ℕ) (at id : ℕ) (last now : Option Place) (place : Place) (was : IsPassed form body at id last) (next : IsNextPlace form body at place)
     → IsLastOrNone form id (was.passed ++ (replicate next.padding 0 ++ element_bytes form (place.id, next.bytes))) (was.elements ++ (place.id, next.bytes) ∷ []) now
@@ -177,70 +106,72 @@ pub IsPassed-this : (form : ExtensionsForm) (body : List ℕ) (at id : ℕ) (las
     → place.id ≡ id → IsPassed form body place.end id (Some place)
 IsPassed-this form body at id last place was next this =
     let bytes : List ℕ = was.passed ++ (replicate next.padding 0 ++ element_bytes form (place.id, next.bytes)) in
-    passed_by form body at id last (Some place) place was next (
-      subst (λ k. IsLastPlace (AreWhole form) k bytes place) this (IsLastPlace-this form body was.passed at place was.elements was.at_is was.are_whole next),
-      this,
-      subst (λ k. LiesLast form (AreWhole form) k bytes place) this (LiesLast-this form body was.passed at place was.elements was.at_is was.are_whole next),
-    )
+    passed_by form body at id last (Some place) place was next
+    (this, subst (λ k. LiesLast form (AreWhole form) k bytes place) this (LiesLast-this form body was.passed at place was.elements was.at_is was.are_whole next))
 
 -- where reading ends
 ended_left : (form : ExtensionsForm) (body : List ℕ) (at id : ℕ) (last : Option Place) (was : IsPassed form body at id last) → BeginsWithNoElement form (drop at body) → AreElements form was.left []
 ended_left form body at id last was none =
     subst (λ b. AreElements form b []) (ap (drop at) was.body_is ∙ drop_at was.passed was.left at (sym was.at_is)) (AreElements-none form (drop at body) none)
 
-pub IsPassed-found : (form : ExtensionsForm) (body : List ℕ) (at id : ℕ) (last : Option Place) → IsPassed form body at id last → BeginsWithNoElement form (drop at body)
-    → IfSome last (IsLastPlace (AreElements form) id body)
-IsPassed-found form body at id None was none = tt
-IsPassed-found form body at id (Some place) was none =
-    let is : IsLastPlace (AreWhole form) id was.passed place = was.last_is.0 in
-    record {
-      front = is.front;
-      was = is.was;
-      rest = is.rest ++ was.left;
-      before = is.before;
-      after = is.after;
-      bytes_are = was.body_is ∙ (ap (λ b. b ++ was.left) is.bytes_are
-          ∙ (append_assoc is.front (is.was ++ is.rest) was.left ∙ ap (λ b. is.front ++ b) (append_assoc is.was is.rest was.left)));
-      data_is = is.data_is;
-      end_is = is.end_is;
-      last = is.last;
-      set = λ others as_many.
-          subst (λ es. AreElements form (is.front ++ (others ++ (is.rest ++ was.left))) es) (append-nil (is.before ++ (id, others) ∷ is.after))
-          (subst (λ b. AreElements form b ((is.before ++ (id, others) ∷ is.after) ++ []))
-          (append_assoc is.front (others ++ is.rest) was.left ∙ ap (λ b. is.front ++ b) (append_assoc others is.rest was.left))
-          (AreElements-after form (is.front ++ (others ++ is.rest)) was.left (is.before ++ (id, others) ∷ is.after) [] (is.set others as_many)
-          (ended_left form body at id (Some place) was none)));
-    }
-
-pub IsPassed-id : (form : ExtensionsForm) (body : List ℕ) (at id : ℕ) (last : Option Place) → IsPassed form body at id last → IfSome last (λ place. place.id ≡ id)
-IsPassed-id form body at id None was = tt
-IsPassed-id form body at id (Some place) was = was.last_is.1
-
 pub IsPassed-lies : (form : ExtensionsForm) (body : List ℕ) (at id : ℕ) (last : Option Place) → IsPassed form body at id last → BeginsWithNoElement form (drop at body)
-    → IfSome last (LiesLast form (AreElements form) id body)
+    → IfSome last (λ place. (place.id ≡ id) × LiesLast form (AreElements form) id body place)
 IsPassed-lies form body at id None was none = tt
 IsPassed-lies form body at id (Some place) was none =
-    let is : LiesLast form (AreWhole form) id was.passed place = was.last_is.2 in
-    let here : List ℕ = element_bytes form (place.id, is.lies.bytes) in
+    let is : LiesLast form (AreWhole form) id was.passed place = was.last_is.1 in
+    let here : List ℕ = element_bytes form (place.id, is.lies.bytes) in (
+      was.last_is.0,
+      record {
+        lies = record {
+          front = is.lies.front;
+          bytes = is.lies.bytes;
+          after = is.lies.after ++ was.left;
+          is_element = is.lies.is_element;
+          body_is = was.body_is ∙ (ap (λ b. b ++ was.left) is.lies.body_is
+              ∙ (append_assoc is.lies.front (here ++ is.lies.after) was.left ∙ ap (λ b. is.lies.front ++ b) (append_assoc here is.lies.after was.left)));
+          start_is = is.lies.start_is;
+          data_is = is.lies.data_is;
+          end_is = is.lies.end_is;
+        };
+        before = is.before;
+        after = is.after;
+        whole = is.whole;
+        left = subst (AreElements form (is.lies.after ++ was.left)) (append-nil is.after)
+            (AreElements-after form is.lies.after was.left is.after [] is.left (ended_left form body at id (Some place) was none));
+        last = is.last;
+      },
+    )
+
+-- the element that lies there may have any data that are as many
+IsLastPlace-here : (form : ExtensionsForm) (body : List ℕ) (place : Place) → LiesLast form (AreElements form) place.id body place → IsLastPlace (AreElements form) place.id body place
+IsLastPlace-here form body place is =
+    let header : List ℕ = element_header form place.id (length is.lies.bytes) in
+    let split : (others : List ℕ) → length others ≡ length is.lies.bytes
+    → is.lies.front ++ (element_bytes form (place.id, others) ++ is.lies.after) ≡ (is.lies.front ++ header) ++ (others ++ is.lies.after) = λ others as_many.
+    ap (λ b. is.lies.front ++ (b ++ is.lies.after)) (element_bytes-split form place.id others ∙ ap (λ n. element_header form place.id n ++ others) as_many)
+    ∙ simp append_assoc in
     record {
-      lies = record {
-        front = is.lies.front;
-        bytes = is.lies.bytes;
-        after = is.lies.after ++ was.left;
-        is_element = is.lies.is_element;
-        body_is = was.body_is ∙ (ap (λ b. b ++ was.left) is.lies.body_is
-            ∙ (append_assoc is.lies.front (here ++ is.lies.after) was.left ∙ ap (λ b. is.lies.front ++ b) (append_assoc here is.lies.after was.left)));
-        start_is = is.lies.start_is;
-        data_is = is.lies.data_is;
-        end_is = is.lies.end_is;
-      };
+      front = is.lies.front ++ header;
+      was = is.lies.bytes;
+      rest = is.lies.after;
       before = is.before;
       after = is.after;
-      whole = is.whole;
-      left = subst (AreElements form (is.lies.after ++ was.left)) (append-nil is.after)
-          (AreElements-after form is.lies.after was.left is.after [] is.left (ended_left form body at id (Some place) was none));
+      bytes_are = is.lies.body_is ∙ split is.lies.bytes refl;
+      data_is = omega (arith, is.lies.start_is, is.lies.data_is, length-append is.lies.front header);
+      end_is = is.lies.end_is;
       last = is.last;
+      set = λ others as_many.
+          subst (λ b. AreElements form b (is.before ++ (place.id, others) ∷ is.after)) (split others as_many)
+          (AreElements-after form is.lies.front (element_bytes form (place.id, others) ++ is.lies.after) is.before ((place.id, others) ∷ is.after) is.whole
+          (AreElements-after form (element_bytes form (place.id, others)) is.lies.after ((place.id, others) ∷ []) is.after
+          (AreWhole-element form (place.id, others) (IsElement-others form place.id is.lies.bytes others as_many is.lies.is_element)) is.left));
     }
+
+pub IsLastPlace-lies : (form : ExtensionsForm) (id : ℕ) (body : List ℕ) (place : Place) → (place.id ≡ id) × LiesLast form (AreElements form) id body place
+    → IsLastPlace (AreElements form) id body place
+IsLastPlace-lies form id body place is =
+    subst (λ k. IsLastPlace (AreElements form) k body place) is.0
+    (IsLastPlace-here form body place (subst (λ k. LiesLast form (AreElements form) k body place) (sym is.0) is.1))
 
 LiesAt-within : (form : ExtensionsForm) (body : List ℕ) (place : Place) → LiesAt form body place → place.end ≤ length body
 LiesAt-within form body place lies =
@@ -253,10 +184,10 @@ LiesAt-within form body place lies =
       length-append (element_bytes form (place.id, lies.bytes)) lies.after,
     )
 
-pub lies-within : (form : ExtensionsForm) (id : ℕ) (body : List ℕ) (last : Option Place) → IfSome last (LiesLast form (AreElements form) id body)
+pub lies-within : (form : ExtensionsForm) (id : ℕ) (body : List ℕ) (last : Option Place) → IfSome last (λ place. (place.id ≡ id) × LiesLast form (AreElements form) id body place)
     → IfSome last (λ place. place.end ≤ length body)
 lies-within form id body None is = tt
-lies-within form id body (Some place) is = LiesAt-within form body place is.lies
+lies-within form id body (Some place) is = LiesAt-within form body place is.1.lies
 
 -- the last of an id is one
 HasNone-absurd : (before after : List Element) (id : ℕ) (bytes : List ℕ) → HasNone (before ++ (id, bytes) ∷ after) id → ⊥

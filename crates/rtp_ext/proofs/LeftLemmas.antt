@@ -1,12 +1,5 @@
 -- Elements found one after another in what is left of a body.
-use Rattle.std.proofs.Common.{◌≡◌, ℕ, ◌+◌, ◌-◌, ◌≤◌, List, ◌++◌, length, take, drop, replicate, append_assoc, length-append, take-append-drop, arith, refl, sym, ap, ◌∙◌, subst}
-use Rattle.std.proofs.lemmas.List.{drop_at}
-use Rattle.rtp_ext.specs.declared.form.ExtensionsForm.{ExtensionsForm}
-use Rattle.rtp_ext.specs.declared.place.Place.{Place}
-use Rattle.rtp_ext.specs.Elements.{element_bytes}
-use Rattle.rtp_ext.specs.ElementReading.{BeginsWithElement, BeginsWithNoElement}
-use Rattle.rtp_ext.specs.ElementWriting.{element_header}
-use Rattle.rtp_ext.specs.ElementPlaces.{IsNextPlace, IsLeft}
+use Rattle.rtp_ext.proofs.Common.{◌≡◌, ℕ, ◌+◌, ◌-◌, ◌≤◌, List, ◌++◌, length, take, drop, replicate, append_assoc, length-append, take-append-drop, arith, refl, sym, ap, ◌∙◌, subst, drop_at, ExtensionsForm, Place, element_bytes, BeginsWithElement, BeginsWithNoElement, element_header, IsNextPlace, IsLeft}
 use Rattle.rtp_ext.proofs.PlaceLemmas.{length-begins, IsNextPlace-begins}
 
 -- nothing is passed over yet

@@ -1,3 +1,4 @@
+mod Common
 -- The elements of a body, as they are read.
 pub mod ElementLemmas
 pub mod ElementLemmasOfBodies
@@ -10,6 +11,7 @@ pub mod ValuesLaws
 mod ValueFacts
 pub mod ValuesFound
 pub mod LastAllocationLemmas
+pub mod ApartLemmas
 pub mod MemoryLemmas
 -- What each id is mapped to.
 mod MapLemmas
@@ -34,12 +36,13 @@ mod ShortBlockLemmas
 pub mod WrittenBlockLemmas
 pub mod WrittenElementsLemmas
 mod WrittenValuesLemmas
+mod LeftOutLemmas
 pub mod RawWritingLemmas
 pub mod ServingFormLemmas
 -- The ids that elements get under another map.
 pub mod NewIdLemmas
 mod NewBytesLemmas
-mod RenamedIdLemmas
+pub mod RenamedIdLemmas
 pub mod RenamesLemmas
 mod RenumberingLemmas
 pub mod RenumberedValuesLemmas
@@ -52,6 +55,9 @@ mod RowLemmas
 mod AroundLemmas
 mod BetweenLemmas
 mod WidenLemmas
+pub mod NarrowLemmas
+mod RowLengthLemmas
+pub mod InRowLemmas
 mod WidenAroundLemmas
 pub mod PutLemmas
 pub mod PutLengthLemmas

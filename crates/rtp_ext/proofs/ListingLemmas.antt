@@ -1,23 +1,6 @@
 -- The entries of a map as a list by rising id.
-use Rattle.std.proofs.Common.{◌≡◌, ℕ, ◌+◌, ◌<◌, ◌≤◌, ◌⊎◌, inl, inr, suc, zero, ◌-◌, List, [], ◌∷◌, ◌++◌, length, get_or, Bool, true, false, Option, Some, None, All, arith, ap, refl, sym, ◌∙◌, subst}
-use Rattle.std.specs.List.{Contains, filter}
-use Rattle.std.proofs.lemmas.Bool.{false≢true, cases_lt}
-use Rattle.std.proofs.lemmas.Bool.Decides.{eqb_tells}
-use Rattle.std.proofs.lemmas.List.Elements.{All-append, All-cons, All-nil, Contains-append_left, Contains-append_right}
-use Rattle.std.specs.Option.{unwrap_or}
-use Rattle.rtp_values.specs.declared.kind.Extension.{Extension}
+use Rattle.rtp_ext.proofs.Common.{◌≡◌, [], ℕ, ◌+◌, ◌<◌, ◌≤◌, ◌⊎◌, inl, inr, suc, zero, ◌-◌, List, ◌∷◌, ◌++◌, length, get_or, Bool, true, false, Option, Some, None, All, arith, ap, refl, sym, ◌∙◌, subst, Contains, filter, false≢true, cases_lt, eqb_tells, All-head, All-tail, All-weaker, All-append, All-cons, All-nil, Contains-append_left, Contains-append_right, unwrap_or, Extension, Entry, Slots, IsEmpty, entry_at, extension_at, extension_of, unlocked, Sets, IsLocked, IsUnlocked, IsRising, ListsItems, items_from, mapped_count, HasNoIdAbove}
 use Rattle.rtp_ext.proofs.MapLemmas.{entry_at-slot}
-use Rattle.rtp_ext.specs.ExtensionMap.{Entry, Slots, IsEmpty, entry_at, extension_at, extension_of, unlocked, Sets, IsLocked, IsUnlocked, IsRising, ListsItems, items_from, mapped_count, HasNoIdAbove}
-
--- the parts of a list of which all hold
-pub All-head : {X : Type 0} (P : X → Type 0) (x : X) (xs : List X) → All P (x ∷ xs) → P x
-All-head P x xs all = all 0 x (omega arith)
-
-All-tail : {X : Type 0} (P : X → Type 0) (x : X) (xs : List X) → All P (x ∷ xs) → All P xs
-All-tail P x xs all = λ k d here. all (suc k) d (omega arith)
-
-pub All-weaker : {X : Type 0} (P Q : X → Type 0) (xs : List X) → ((x : X) → P x → Q x) → All P xs → All Q xs
-All-weaker P Q xs weaker all = λ k d here. weaker (get_or xs k d) (all k d here)
 
 -- one more at the end
 IsRising-snoc : (items : List (ℕ × Extension)) (item : ℕ × Extension) → IsRising items → All (λ i. i.0 < item.0) items → IsRising (items ++ item ∷ [])
@@ -56,7 +39,7 @@ IsListed-set old new items bound id extension above listed sets = record {
     all = all;
   };
   below = All-append (λ item. item.0 < id + 1) items ((id, extension) ∷ [])
-      (All-weaker (λ item. item.0 < id) (λ item. item.0 < id + 1) items (λ item less. omega arith) below)
+      (All-weaker (λ item. item.0 < id) (λ item. item.0 < id + 1) (λ item less. omega arith) items below)
       (All-cons (λ item. item.0 < id + 1) (id, extension) [] (omega arith) (All-nil (λ item. item.0 < id + 1)));
   unlocked = λ j is_locked. elim (eqb_tells j id) [
     | inl is ↦ false≢true (subst IsLocked (ap (entry_at new) is.1 ∙ sets.this) is_locked)
@@ -68,7 +51,7 @@ IsListed-set old new items bound id extension above listed sets = record {
     Mapped item = (extension_at new item.0 ≡ Some item.1) × (true ≡ true)
 
     below : All (λ item. item.0 < id) items
-    below = All-weaker (λ item. item.0 < bound) (λ item. item.0 < id) items (λ item less. omega arith) listed.below
+    below = All-weaker (λ item. item.0 < bound) (λ item. item.0 < id) (λ item less. omega arith) items listed.below
 
     mapped : All Mapped items
     mapped = λ k d here.
@@ -112,8 +95,8 @@ Contains-more passed k items extension found =
 AreItems-none : (passed : ℕ) (left : Slots) (items : List (ℕ × Extension)) → AreItems (passed + 1) left items → AreItems passed (None ∷ left) items
 AreItems-none passed left items rest = record {
   rising = rest.rising;
-  above = All-weaker (λ item. passed + 1 < item.0) (λ item. passed < item.0) items (λ item less. omega arith) rest.above;
-  here = All-weaker (IsItem (passed + 1) left) (IsItem passed (None ∷ left)) items (IsItem-more passed None left) rest.here;
+  above = All-weaker (λ item. passed + 1 < item.0) (λ item. passed < item.0) (λ item less. omega arith) items rest.above;
+  here = All-weaker (IsItem (passed + 1) left) (IsItem passed (None ∷ left)) (IsItem-more passed None left) items rest.here;
   all = all;
 }
   where
@@ -127,9 +110,9 @@ AreItems-some : (passed : ℕ) (entry : Entry) (left : Slots) (items : List (ℕ
 AreItems-some passed entry left items rest = record {
   rising = (rest.above, rest.rising);
   above = All-cons (λ item. passed < item.0) (passed + 1, entry.extension) items (omega arith)
-      (All-weaker (λ item. passed + 1 < item.0) (λ item. passed < item.0) items (λ item less. omega arith) rest.above);
+      (All-weaker (λ item. passed + 1 < item.0) (λ item. passed < item.0) (λ item less. omega arith) items rest.above);
   here = All-cons (IsItem passed (Some entry ∷ left)) (passed + 1, entry.extension) items (0, omega arith, refl)
-      (All-weaker (IsItem (passed + 1) left) (IsItem passed (Some entry ∷ left)) items (IsItem-more passed (Some entry) left) rest.here);
+      (All-weaker (IsItem (passed + 1) left) (IsItem passed (Some entry ∷ left)) (IsItem-more passed (Some entry) left) items rest.here);
   all = all;
 }
   where
@@ -193,8 +176,7 @@ ListsItems-from_slots slots =
     let items = items_from-items 0 slots in
     record {
       rising = items.rising;
-      mapped = All-weaker (IsItem 0 slots) (λ item. (extension_at slots item.0 ≡ Some item.1) × (true ≡ true)) (items_from 0 slots)
-          (λ item found. (ap extension_of (entry_at-slot slots found.0 item.0 (omega (arith, found.1))) ∙ found.2, refl)) items.here;
+      mapped = All-weaker (IsItem 0 slots) (λ item. (extension_at slots item.0 ≡ Some item.1) × (true ≡ true)) (λ item found. (ap extension_of (entry_at-slot slots found.0 item.0 (omega (arith, found.1))) ∙ found.2, refl)) (items_from 0 slots) items.here;
       all = λ id extension is passes. all id extension is;
     }
   where
@@ -243,7 +225,7 @@ IsRising-filter p (item ∷ items) rising =
     let rest = IsRising-filter p items rising.1 in
     elim (true_or_false (p item)) [
       | inl passed ↦ subst IsRising (sym (filter-yes p item items passed)) (
-        All-weaker (λ later. (item.0 < later.0) × (p later ≡ true)) (λ later. item.0 < later.0) (filter p items) (λ later both. both.0)
+        All-weaker (λ later. (item.0 < later.0) × (p later ≡ true)) (λ later. item.0 < later.0) (λ later both. both.0) (filter p items)
             (All-filter p (λ later. item.0 < later.0) items rising.0),
         rest,
       )
@@ -255,8 +237,7 @@ pub ListsItems-filter : (slots : Slots) (passes : Extension → Bool) (items : L
     → ListsItems slots passes (filter (λ item. passes item.1) items)
 ListsItems-filter slots passes items listing = record {
   rising = IsRising-filter (λ item. passes item.1) items listing.rising;
-  mapped = All-weaker (λ item. ((extension_at slots item.0 ≡ Some item.1) × (true ≡ true)) × (passes item.1 ≡ true))
-      (λ item. (extension_at slots item.0 ≡ Some item.1) × (passes item.1 ≡ true)) (filter (λ item. passes item.1) items) (λ item both. (both.0.0, both.1))
+  mapped = All-weaker (λ item. ((extension_at slots item.0 ≡ Some item.1) × (true ≡ true)) × (passes item.1 ≡ true)) (λ item. (extension_at slots item.0 ≡ Some item.1) × (passes item.1 ≡ true)) (λ item both. (both.0.0, both.1)) (filter (λ item. passes item.1) items)
       (All-filter (λ item. passes item.1) (λ item. (extension_at slots item.0 ≡ Some item.1) × (true ≡ true)) items listing.mapped);
   all = λ id extension is passed. Contains-filter (λ item. passes item.1) (id, extension) items (listing.all id extension is refl) passed;
 }
@@ -272,3 +253,9 @@ unmapped_or_item slots id = found (extension_at slots id) refl
     found : (at : Option Extension) → extension_at slots id ≡ at → (extension_at slots id ≡ None) ⊎ ((extension : Extension) × Contains (items_from 0 slots) (id, extension))
     found None missing = inl missing
     found (Some extension) mapped = inr (extension, (ListsItems-from_slots slots).all id extension mapped refl)
+
+-- an item of a list is its first one, or one of the others
+pub item_or_later : (item : ℕ × Extension) (left : List (ℕ × Extension)) (id : ℕ) (extension : Extension) → Contains (item ∷ left) (id, extension)
+    → (item.0 ≡ id) ⊎ Contains left (id, extension)
+item_or_later item left id extension (zero, here, is) = inl (ap (λ (i : ℕ × Extension). i.0) is)
+item_or_later item left id extension (suc k, here, is) = inr (k, omega arith, is)

@@ -1,14 +1,5 @@
 -- The map of extension ids: what an id stands for once slots have changed.
-use Rattle.std.proofs.Common.{◌≡◌, ◌≢◌, ℕ, ◌+◌, ◌-◌, ◌<◌, inl, inr, suc, zero, List, ◌∷◌, length, map, drop, get_or, Option, Some, None, arith, ap, refl, sym, ◌∙◌, subst, ◌==◌, if◌then◌else◌}
-use Rattle.std.proofs.lemmas.List.{get_or_past, get_or_default, length-map}
-use Rattle.std.proofs.Math.ListN.{get_or-map}
-use Rattle.std.proofs.Math.Seq.{drop-cons}
-use Rattle.std.specs.Option.{option_map}
-use Rattle.std.proofs.lemmas.Bool.{cases_lt, eq-eqb, ne_eqb}
-use Rattle.std.proofs.lemmas.Bool.Decides.{eqb_tells}
-use Rattle.rtp_values.specs.declared.kind.Extension.{Extension}
-use Rattle.rtp_ext.specs.MapSlots.{IsMapped, Puts, Swaps}
-use Rattle.rtp_ext.specs.ExtensionMap.{Entry, Slots, IsEmpty, IsId, entry_at, extension_at, extension_of, Sets, Exchanges, IsRenumbered, IsLocked, IsLockedAt, locked, IsLowest, Remaps, AreRemapped, same_slot, moved}
+use Rattle.rtp_ext.proofs.Common.{◌≡◌, ◌≢◌, ℕ, ◌+◌, ◌-◌, ◌<◌, inl, inr, suc, zero, List, ◌∷◌, length, map, drop, get_or, Option, Some, None, arith, ap, refl, sym, ◌∙◌, subst, ◌==◌, if◌then◌else◌, get_or_past, get_or_default, length-map, get_or-map, drop-cons, option_map, cases_lt, eq-eqb, ne_eqb, eqb_tells, Extension, IsMapped, Puts, Swaps, Entry, Slots, IsEmpty, IsId, entry_at, extension_at, extension_of, Sets, Exchanges, IsRenumbered, IsLocked, IsLockedAt, locked, IsLowest, Remaps, AreRemapped, same_slot, moved}
 
 -- nothing stands in a index where nothing does in any
 pub IsEmpty-from_each : (slots : Slots) → ((k : ℕ) → k < length slots → get_or slots k None ≡ None) → IsEmpty slots

@@ -1,20 +1,7 @@
 -- The list of the mapped ids, and one more id in it.
-use Rattle.std.proofs.Common.{◌≡◌, ℕ, ◌+◌, ◌-◌, ◌<◌, ◌≤◌, suc, zero, List, [], ◌∷◌, ◌++◌, length, map, take, drop, set, get_or, Bool, false, Option, Some, None, All, arith, ap, refl, sym, ◌∙◌, le-ltb, lt-ltb, length-take-le, length-append, length-drop}
-use Rattle.std.specs.List.{copy_within}
-use Rattle.std.proofs.Math.Seq.{take-set-lt, drop-append_seam}
-use Rattle.std.specs.Option.{is_some}
-use Rattle.std.proofs.lemmas.List.{get_or_default, drop-take, set_split, take-append-le, take-take}
-use Rattle.std.proofs.lemmas.List.Edits.{take-paste}
-use Rattle.rtp_values.specs.declared.kind.Extension.{Extension}
-use Rattle.rtp_ext.specs.ExtensionMap.{items_from}
-use Rattle.rtp_ext.specs.MapSlots.{mapped_ids, items_at, inserted, IsMapped}
-use Rattle.rtp_ext.specs.ExtensionMap.{Entry, Slots, IsEmpty, entry_at, extension_of}
-use Rattle.rtp_ext.proofs.ListingLemmas.{All-head, above_passed, items_from-empty, ListsItems-from_slots}
+use Rattle.rtp_ext.proofs.Common.{◌≡◌, ℕ, ◌+◌, ◌-◌, ◌<◌, ◌≤◌, suc, zero, List, ◌∷◌, ◌++◌, length, map, take, drop, set, get_or, Bool, false, Option, Some, None, All, arith, ap, refl, sym, ◌∙◌, le-ltb, lt-ltb, length-take-le, length-append, length-drop, [], copy_within, take-set-lt, drop-append_seam, is_some, get_or_default, drop-take, set_split, take-append-le, take-take, take-paste, All-head, Extension, items_from, mapped_ids, items_at, inserted, IsMapped, Entry, Slots, IsEmpty, entry_at, extension_of, ◌↔◌, ◌==◌, IsTrue, option_map, cons_option, AllByRecursion, eqb-true}
+use Rattle.rtp_ext.proofs.ListingLemmas.{above_passed, items_from-empty, ListsItems-from_slots}
 use Rattle.rtp_ext.proofs.MapLemmas.{entry_at-slot}
-use Rattle.std.specs.Prelude.{◌↔◌, ◌==◌, IsTrue}
-use Rattle.std.specs.Option.{option_map}
-use Rattle.std.specs.List.{cons_option, AllByRecursion}
-use Rattle.std.proofs.lemmas.Bool.{eqb-true}
 
 -- what the ids of the slots left stand for, once one more was passed
 here_later : (slots : Slots) (passed : ℕ) (slot : Option Entry) (left : Slots)
@@ -81,7 +68,7 @@ no_ids-tells slots (id ∷ ids) none are is = (
 )
 
 -- the ids of some entries
-abbrev ids_of : List (ℕ × Extension) → List ℕ
+abbrev pub ids_of : List (ℕ × Extension) → List ℕ
 ids_of items = map (λ item. item.0) items
 
 -- an id below all others stands first

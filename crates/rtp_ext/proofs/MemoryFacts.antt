@@ -1,9 +1,5 @@
 -- Worked rows of maps whose copy takes no memory, computed from the definitions.
-use Rattle.std.proofs.Common.{List, ℕ, zero, suc, [], ◌∷◌, Some, None, refl, ap, subst}
-use Rattle.rtp_values.specs.declared.kind.Extension.TheVariants.{AudioLevel, ColorSpace, UnknownUri}
-use Rattle.rtp_values.specs.Kind.{IsKnown}
-use Rattle.rtp_values.proofs.KindLemmas.{one_kind}
-use Rattle.rtp_ext.specs.ExtensionMap.{Slots, HasNoText, IsEmpty, extension_of, locked, unlocked}
+use Rattle.rtp_ext.proofs.Common.{List, ℕ, zero, suc, [], ◌∷◌, Some, None, refl, ap, subst, AudioLevel, ColorSpace, UnknownUri, IsKnown, one_kind, Slots, HasNoText, IsEmpty, extension_of, locked, unlocked}
 
 -- an empty map
 empty_row : (map : Slots) → IsEmpty map → HasNoText map

@@ -1,14 +1,6 @@
 -- The bytes of the new ids, found on a walk over the mapped ids.
-use Rattle.std.proofs.Common.{◌≡◌, ◌⊎◌, inl, inr, ℕ, zero, suc, ◌<◌, List, ◌∷◌, length, get_or, set, replicate, Option, Some, None, IfSome, IfNone, All, arith, refl, sym, ap, ◌∙◌, subst, ⊎_elim, length-set}
-use Rattle.std.specs.List.{Contains}
-use Rattle.std.proofs.lemmas.Bool.{cases_eq}
-use Rattle.std.proofs.lemmas.List.{get_or-set_same, get_or-set_other}
-use Rattle.std.proofs.lemmas.List.Elements.{All-head, All-tail}
-use Rattle.rtp_values.specs.declared.kind.Extension.{Extension}
-use Rattle.rtp_values.proofs.KindLemmas.{one_kind}
-use Rattle.rtp_ext.specs.ExtensionMap.{Slots, IsId, IsLowest, IsUnmapped, extension_at, items_from}
-use Rattle.rtp_ext.specs.NewIds.{IsNewId, id_in_byte, byte_of_id}
-use Rattle.rtp_ext.proofs.ListingLemmas.{items_mapped, unmapped_or_item}
+use Rattle.rtp_ext.proofs.Common.{◌≡◌, ◌⊎◌, inl, inr, ℕ, zero, suc, ◌<◌, List, ◌∷◌, length, get_or, set, replicate, Option, Some, None, IfSome, IfNone, All, arith, refl, sym, ap, ◌∙◌, subst, ⊎_elim, length-set, Contains, cases_eq, get_or-set_same, get_or-set_other, All-head, All-tail, Extension, one_kind, Slots, IsId, IsLowest, IsUnmapped, extension_at, items_from, IsNewId, id_in_byte, byte_of_id}
+use Rattle.rtp_ext.proofs.ListingLemmas.{items_mapped, unmapped_or_item, item_or_later}
 use Rattle.rtp_ext.proofs.NewIdLemmas.{byte_said}
 
 -- the ids have their new ids in a table of bytes, but for those of the items that are left
@@ -35,11 +27,6 @@ HasNewBytesBut-start from to left bytes is zeros =
     unmapped : (id : ℕ) → extension_at from id ≡ None → IsNewId from to id (id_in_byte (get_or (replicate 256 0) id 0))
     unmapped id missing =
         subst (λ (byte : ℕ). IsNewId from to id (id_in_byte byte)) (sym (zero_there 256 id)) (λ extension mapped. let nothing = sym missing ∙ mapped in cc)
-
-item_or_later : (item : ℕ × Extension) (left : List (ℕ × Extension)) (id : ℕ) (extension : Extension) → Contains (item ∷ left) (id, extension)
-    → (item.0 ≡ id) ⊎ Contains left (id, extension)
-item_or_later item left id extension (zero, here, is) = inl (ap (λ (i : ℕ × Extension). i.0) is)
-item_or_later item left id extension (suc k, here, is) = inr (k, omega arith, is)
 
 -- the lowest id of an extension, if there is one
 pub record IsLowestOf (to : Slots) (extension : Extension) (lowest : Option ℕ) : Type 0 where

@@ -1,8 +1,5 @@
 -- The places after the mapped ids hold zeros, also once an id was put in.
-use Rattle.std.proofs.Common.{◌≡◌, ℕ, ◌+◌, ◌-◌, ◌<◌, ◌≤◌, List, length, take, drop, set, replicate, arith, ap, sym, ◌∙◌, length-drop, length-take-le}
-use Rattle.std.specs.List.{copy_within}
-use Rattle.std.proofs.lemmas.List.{drop-drop, drop-replicate, drop-set-lt, length-set}
-use Rattle.std.proofs.lemmas.List.Edits.{drop-paste, length-paste}
+use Rattle.rtp_ext.proofs.Common.{◌≡◌, ℕ, ◌+◌, ◌-◌, ◌<◌, ◌≤◌, List, length, take, drop, set, replicate, arith, ap, sym, ◌∙◌, length-drop, length-take-le, copy_within, drop-drop, drop-replicate, drop-set-lt, length-set, drop-paste, length-paste}
 
 -- places for 255 ids, so many of which are taken, and the others hold zeros
 abbrev pub ArePadded : List ℕ → ℕ → Type 0

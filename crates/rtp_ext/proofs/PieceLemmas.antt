@@ -1,13 +1,5 @@
 -- Whole pieces of a body in a row.
-use Rattle.std.proofs.Common.{ℕ, zero, suc, List, [], ◌∷◌, ◌++◌, replicate, Option, Some, None, append_assoc, refl, sym, ap, ◌∙◌, subst}
-use Rattle.std.specs.List.{AllByRecursion, flat_map, filter_map}
-use Rattle.std.proofs.lemmas.List.{append-nil}
-use Rattle.std.proofs.lemmas.List.Concat.{flat_map-append}
-use Rattle.std.proofs.lemmas.List.Elements.{filter_map-append}
-use Rattle.rtp_ext.specs.declared.form.ExtensionsForm.{ExtensionsForm}
-use Rattle.rtp_ext.specs.Elements.{Element, IsElement, element_bytes, IsPiece, piece_bytes, AreElements}
-use Rattle.rtp_ext.specs.ElementReading.{BeginsWithNoElement}
-use Rattle.rtp_ext.specs.ElementPlaces.{AreWhole}
+use Rattle.rtp_ext.proofs.Common.{ℕ, zero, suc, List, [], ◌∷◌, ◌++◌, replicate, Option, Some, None, append_assoc, refl, sym, ap, ◌∙◌, subst, AllByRecursion, flat_map, filter_map, append-nil, flat_map-append, filter_map-append, ExtensionsForm, Element, IsElement, element_bytes, IsPiece, piece_bytes, AreElements, BeginsWithNoElement, AreWhole}
 
 pub AllByRecursion-append : {X : Type 0} (P : X → Type 0) (xs ys : List X) → AllByRecursion P xs → AllByRecursion P ys → AllByRecursion P (xs ++ ys)
 AllByRecursion-append P [] ys all others = others

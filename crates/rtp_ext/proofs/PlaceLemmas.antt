@@ -1,15 +1,6 @@
 -- Places of elements by offsets, and what is written there.
-use Rattle.std.proofs.Common.{◌≡◌, ℕ, ◌+◌, ◌≤◌, List, ◌++◌, length, take, drop, replicate, Option, append_assoc, length-append, length-drop, length-take-le, take-append-drop, arith, refl, sym, ap, ◌∙◌, subst}
-use Rattle.std.proofs.lemmas.List.{length-replicate, take_at, drop_at}
+use Rattle.rtp_ext.proofs.Common.{◌≡◌, ℕ, ◌+◌, ◌≤◌, List, ◌++◌, length, take, drop, replicate, Option, append_assoc, length-append, length-drop, length-take-le, take-append-drop, arith, refl, sym, ap, ◌∙◌, subst, length-replicate, take_at, drop_at, ExtensionsForm, OneByte, TwoByte, Place, IsElement, element_bytes, BeginsWithElement, element_header, bytes_under, LiesAt, IsNextPlace}
 use Rattle.rtp_base.specs.Overwriting.{overwritten}
-use Rattle.rtp_ext.specs.declared.form.ExtensionsForm.{ExtensionsForm}
-use Rattle.rtp_ext.specs.declared.form.ExtensionsForm.TheVariants.{OneByte, TwoByte}
-use Rattle.rtp_ext.specs.declared.place.Place.{Place}
-use Rattle.rtp_ext.specs.Elements.{IsElement, element_bytes}
-use Rattle.rtp_ext.specs.ElementReading.{BeginsWithElement}
-use Rattle.rtp_ext.specs.ElementWriting.{element_header}
-use Rattle.rtp_ext.specs.ElementsInPlace.{bytes_under}
-use Rattle.rtp_ext.specs.ElementPlaces.{LiesAt, IsNextPlace}
 
 -- an element is its header and its data
 pub element_bytes-split : (form : ExtensionsForm) (id : ℕ) (bytes : List ℕ) → element_bytes form (id, bytes) ≡ element_header form id (length bytes) ++ bytes

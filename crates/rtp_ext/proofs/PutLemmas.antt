@@ -1,19 +1,7 @@
 -- An element in place of the last of its id.
-use Rattle.std.proofs.Common.{◌≡◌, ◌≢◌, ℕ, ◌+◌, ◌-◌, ◌≤◌, Bool, true, false, not, ◌||◌, cond, List, [], ◌∷◌, ◌++◌, length, Option, Some, None, IfSome, IfNone, get_or, length-append, arith, refl, sym, ap, ◌∙◌, subst}
-use Rattle.std.specs.List.{filter, list_any}
-use Rattle.std.proofs.lemmas.Bool.{eq-eqb, ne_eqb, false≢true}
-use Rattle.std.proofs.lemmas.List.Elements.{filter-append, All-nil, All-cons, All-head, All-tail}
+use Rattle.rtp_ext.proofs.Common.{◌≡◌, ◌≢◌, ℕ, ◌+◌, ◌-◌, ◌≤◌, Bool, true, false, not, ◌||◌, cond, List, [], ◌∷◌, ◌++◌, length, Option, Some, None, IfSome, IfNone, get_or, length-append, arith, refl, sym, ap, ◌∙◌, subst, filter, list_any, eq-eqb, ne_eqb, false≢true, filter-append, All-nil, All-cons, All-head, All-tail, overwritten, ExtensionsForm, Place, Survey, Element, AreElements, HasNone, SetsLast, IsLastPlace, LiesLast, IsSurvey, has_id, without, put_element, IsSole}
 use Rattle.std.proofs.lemmas.List.Folds.{list_any_none}
-use Rattle.rtp_base.specs.Overwriting.{overwritten}
-use Rattle.rtp_ext.specs.declared.form.ExtensionsForm.{ExtensionsForm}
-use Rattle.rtp_ext.specs.declared.place.Place.{Place}
-use Rattle.rtp_ext.specs.declared.survey.Survey.{Survey}
-use Rattle.rtp_ext.specs.Elements.{Element, AreElements}
-use Rattle.rtp_ext.specs.ElementsInPlace.{HasNone, SetsLast}
-use Rattle.rtp_ext.specs.ElementPlaces.{IsLastPlace, LiesLast}
-use Rattle.rtp_ext.specs.BodySurvey.{IsSurvey}
-use Rattle.rtp_ext.specs.PutElement.{has_id, without, put_element, IsSole}
-use Rattle.rtp_ext.proofs.LastPlaceLemmas.{AreElements-same, HasLast-place, HasLast-only, SetsLast-at}
+use Rattle.rtp_ext.proofs.LastPlaceLemmas.{AreElements-same, HasLast-place, HasLast-only, SetsLast-at, IsLastPlace-lies}
 
 -- ---- elements of an id, and without it
 
@@ -127,25 +115,24 @@ sole-absent form body id survey elements bytes is are none sole =
     omega (arith, sole-counted elements id bytes sole, ap (λ es. length (filter (has_id id) es)) same, ap length (filter-none id is.elements has_none))
 
 module _ (form : ExtensionsForm) (body : List ℕ) (id : ℕ) (survey : Survey) (place : Place) (is : IsSurvey form body id survey) (found : survey.last ≡ Some place) where
-  known : (place.id ≡ id) × IsLastPlace (AreElements form) id body place × LiesLast form (AreElements form) id body place
-  known = subst (λ (last : Option Place). IfSome last (λ at. (at.id ≡ id) × IsLastPlace (AreElements form) id body at × LiesLast form (AreElements form) id body at)) found is.last_is
-
   pub last_known : IsLastPlace (AreElements form) id body place
-  last_known = known.1
+  last_known =
+      IsLastPlace-lies form id body place
+      (subst (λ (last : Option Place). IfSome last (λ at. (at.id ≡ id) × LiesLast form (AreElements form) id body at)) found is.last_is)
 
   pub data_within : place.data_start ≤ place.end
-  data_within = let e = known.1.end_is in omega arith
+  data_within = let e = last_known.end_is in omega arith
 
   pub data_in_body : place.end ≤ length body
   data_in_body =
-      let l = known.1 in
+      let l = last_known in
       omega (arith, l.data_is, l.end_is, ap length l.bytes_are, length-append l.front (l.was ++ l.rest), length-append l.was l.rest)
 
   -- it is counted once where it is the only one
   pub counted_once : (elements : List Element) (bytes : List ℕ) → AreElements form body elements → IsSole elements (id, bytes) → (survey.count ≡ 1) × (place.end - place.data_start ≡ length bytes)
   counted_once elements bytes are sole =
       let same : is.elements ≡ elements = AreElements-same form body is.elements elements is.are_elements are in
-      let l = known.1 in
+      let l = last_known in
       let one : sole.was ≡ l.was =
       HasLast-only elements id sole.was l.was (record { before = sole.before; after = sole.after; in_order = sole.in_order; last = sole.none_after })
       (HasLast-place form id body place elements l are) in (
@@ -154,29 +141,29 @@ module _ (form : ExtensionsForm) (body : List ℕ) (id : ℕ) (survey : Survey) 
       )
 
   module _ (elements : List Element) (bytes : List ℕ) (are : AreElements form body elements) (once : survey.count ≡ 1) (as_many : place.end - place.data_start ≡ length bytes) where
-    around : elements ≡ known.1.before ++ (id, known.1.was) ∷ known.1.after
-    around = in_order form id body place elements known.1 are
+    around : elements ≡ last_known.before ++ (id, last_known.was) ∷ last_known.after
+    around = in_order form id body place elements last_known are
 
-    none_before : HasNone known.1.before id
+    none_before : HasNone last_known.before id
     none_before =
         let same : is.elements ≡ elements = AreElements-same form body is.elements elements is.are_elements are in
-        none-counted id known.1.before
-        (omega (arith, is.count_is, once, ap (λ es. length (filter (has_id id) es)) (same ∙ around), count-around id known.1.before known.1.after known.1.was))
+        none-counted id last_known.before
+        (omega (arith, is.count_is, once, ap (λ es. length (filter (has_id id) es)) (same ∙ around), count-around id last_known.before last_known.after last_known.was))
 
     pub sole_found : IsSole elements (id, bytes)
     sole_found = record {
-      before = known.1.before;
-      after = known.1.after;
-      was = known.1.was;
+      before = last_known.before;
+      after = last_known.after;
+      was = last_known.was;
       in_order = around;
       none_before = none_before;
-      none_after = known.1.last;
-      as_many = let e = known.1.end_is in omega arith;
+      none_after = last_known.last;
+      as_many = let e = last_known.end_is in omega arith;
     }
 
     pub sole_set : (new : List ℕ) → new ≡ overwritten body place.data_start bytes → AreElements form new (put_element (id, bytes) elements)
     sole_set new new_is =
-        let l = known.1 in
+        let l = last_known in
         let set : SetsLast form id bytes body new = SetsLast-at form id bytes body new place l as_many new_is in
         let listed : elements ≡ set.before ++ (id, set.was) ∷ set.after = AreElements-same form body elements (set.before ++ (id, set.was) ∷ set.after) are set.old_elements in
         let same : is.elements ≡ elements = AreElements-same form body is.elements elements is.are_elements are in

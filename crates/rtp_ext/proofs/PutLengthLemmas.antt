@@ -1,24 +1,10 @@
 -- How long a body's elements are with one put among them, and that they are read.
-use Rattle.std.proofs.Common.{◌≡◌, ◌≢◌, ℕ, ◌+◌, ◌-◌, ◌*◌, ◌≤◌, Bool, true, false, not, cond, List, [], ◌∷◌, ◌++◌, length, drop, replicate, length-append, arith, refl, sym, ap, ◌∙◌, subst, inl, inr, ◌⊎◌}
-use Rattle.std.specs.List.{AllByRecursion, list_any}
-use Rattle.std.proofs.lemmas.Bool.{eq-eqb, false≢true}
-use Rattle.std.proofs.lemmas.List.{append-nil, drop_at}
-use Rattle.std.proofs.lemmas.List.Elements.{filter-append}
-use Rattle.rtp_ext.specs.declared.form.ExtensionsForm.{ExtensionsForm}
-use Rattle.rtp_ext.specs.declared.form.ExtensionsForm.TheVariants.{OneByte, TwoByte}
-use Rattle.rtp_ext.specs.declared.place.Place.{Place}
-use Rattle.rtp_ext.specs.Elements.{Element, IsElement, element_bytes, elements_bytes, AreElements}
-use Rattle.rtp_ext.specs.ElementReading.{BeginsWithNoElement}
-use Rattle.rtp_ext.specs.ElementsInARow.{IsWritable}
-use Rattle.rtp_ext.specs.ElementsInPlace.{HasNone}
-use Rattle.rtp_ext.specs.ElementPlaces.{IsNextPlace}
-use Rattle.rtp_ext.specs.BodySurvey.{IsWidthTo}
-use Rattle.rtp_ext.specs.PutElement.{has_id, without, put_element, carried_in, row_to}
+use Rattle.rtp_ext.proofs.Common.{◌≡◌, ◌≢◌, ℕ, ◌+◌, ◌-◌, ◌*◌, ◌≤◌, Bool, true, false, not, cond, List, [], ◌∷◌, ◌++◌, length, drop, replicate, length-append, arith, refl, sym, ap, ◌∙◌, subst, inl, inr, ◌⊎◌, AllByRecursion, list_any, eq-eqb, append-nil, drop_at, filter-append, ExtensionsForm, OneByte, TwoByte, Place, Element, IsElement, element_bytes, elements_bytes, AreElements, BeginsWithNoElement, IsWritable, HasNone, IsNextPlace, IsWidthTo, has_id, without, put_element, carried_in, row_to}
 use Rattle.rtp_ext.proofs.PlaceLemmas.{passed_next, end_next}
 use Rattle.rtp_ext.proofs.PieceLemmas.{AreWhole-nil, AreWhole-append, AreWhole-next, AreElements-after, AreElements-none}
 use Rattle.rtp_ext.proofs.LastPlaceLemmas.{AreElements-same}
 use Rattle.rtp_ext.proofs.PutLemmas.{without-none}
-use Rattle.rtp_ext.proofs.GatheredLemmas.{elements_bytes-append, without-this, without-other}
+use Rattle.rtp_ext.proofs.GatheredLemmas.{elements_bytes-append, without-this, without-other, without-weaker}
 use Rattle.rtp_ext.proofs.WrittenElementsLemmas.{AreElements-in_a_row}
 use Rattle.rtp_ext.proofs.WidenAroundLemmas.{length-around}
 use Rattle.rtp_ext.proofs.AroundLemmas.{IsSplit}
@@ -89,17 +75,7 @@ put_element-each P new (element ∷ elements) all is = by_tests (has_id new.0 el
     by_tests false b rest = (all.0, rest)
 
 carried_wide : (elements : List Element) → AllByRecursion (IsElement OneByte) elements → AllByRecursion (IsElement TwoByte) (without 0 elements)
-carried_wide [] all = tt
-carried_wide (element ∷ elements) all = by_test (has_id 0 element) refl (carried_wide elements all.1)
-  where
-    by_test : (b : Bool) → has_id 0 element ≡ b → AllByRecursion (IsElement TwoByte) (without 0 elements)
-        → AllByRecursion (IsElement TwoByte) (cond (not (has_id 0 element)) (element ∷ without 0 elements) (without 0 elements))
-    by_test true is rest = subst (λ (b : Bool). AllByRecursion (IsElement TwoByte) (cond (not b) (element ∷ without 0 elements) (without 0 elements))) (sym is) rest
-    by_test false is rest =
-        let other : element.0 ≢ 0 = λ same. false≢true (sym is ∙ eq-eqb element.0 0 same) in
-        let here = all.0 in
-        subst (λ (b : Bool). AllByRecursion (IsElement TwoByte) (cond (not b) (element ∷ without 0 elements) (without 0 elements))) (sym is)
-        ((omega arith, omega arith, omega arith), rest)
+carried_wide elements all = without-weaker (IsElement OneByte) (IsElement TwoByte) 0 elements (λ element other is. (omega arith, omega arith, omega arith)) all
 
 carried-each : (form new_form : ExtensionsForm) (elements : List Element) → (new_form ≡ form) ⊎ (new_form ≡ TwoByte) → AllByRecursion (IsElement form) elements
     → AllByRecursion (IsElement new_form) (carried_in new_form elements)

@@ -1,16 +1,5 @@
 -- Elements that are written one after the other.
-use Rattle.std.proofs.Common.{◌≡◌, ◌↔◌, ℕ, ◌+◌, ◌-◌, ◌≤◌, Option, Some, None, List, [], ◌∷◌, ◌++◌, length, take, drop, replicate, sym, ap, ◌∙◌, subst, arith, length-append, take_at}
-use Rattle.std.specs.Prelude.{slice_get, IfSome, IfNone, SomeIff}
-use Rattle.std.specs.List.{AllByRecursion}
-use Rattle.std.proofs.lemmas.List.{drop_more}
-use Rattle.std.proofs.lemmas.Option.{slice_get_within, get_or_from_slice_get}
-use Rattle.rtp_ext.specs.declared.form.ExtensionsForm.{ExtensionsForm}
-use Rattle.rtp_ext.specs.declared.form.ExtensionsForm.TheVariants.{OneByte, TwoByte}
-use Rattle.rtp_ext.specs.Elements.{Element, IsElement, AreElements, element_bytes, elements_bytes}
-use Rattle.rtp_ext.specs.ElementWriting.{element_header}
-use Rattle.rtp_ext.specs.ElementsInARow.{IsWritable, AreWritableIn}
-use Rattle.rtp_base.specs.Overwriting.{overwritten}
-use Rattle.rtp_base.proofs.OverwritingLemmas.{overwritten-overwritten, overwritten-nil, overwritten-front, length-overwritten}
+use Rattle.rtp_ext.proofs.Common.{◌≡◌, ◌↔◌, ℕ, ◌+◌, ◌-◌, ◌≤◌, Option, Some, None, List, [], ◌∷◌, ◌++◌, length, take, drop, replicate, sym, ap, ◌∙◌, subst, arith, length-append, take_at, slice_get, IfSome, IfNone, SomeIff, AllByRecursion, drop_more, slice_get_within, get_or_from_slice_get, ExtensionsForm, OneByte, TwoByte, Element, IsElement, AreElements, element_bytes, elements_bytes, element_header, IsWritable, AreWritableIn, overwritten, overwritten-overwritten, overwritten-nil, overwritten-front, length-overwritten}
 use Rattle.rtp_ext.proofs.WrittenBlockLemmas.{length-header}
 use Rattle.rtp_ext.proofs.WrittenElementsLemmas.{AreElements-in_a_row}
 

@@ -1,9 +1,6 @@
 -- The mapped ids rise, so an id that is taken out of them stood at one place.
-use Rattle.std.proofs.Common.{◌≡◌, ◌≢◌, ℕ, suc, zero, ◌+◌, ◌-◌, ◌<◌, ◌≤◌, List, [], ◌∷◌, ◌++◌, length, take, drop, set, get_or, replicate, refl, sym, ap, ◌∙◌, arith, length-drop}
-use Rattle.std.specs.List.{copy_within}
-use Rattle.std.proofs.lemmas.List.{drop-drop, drop-set, drop-take, length-set, take-set, take-take}
-use Rattle.std.proofs.lemmas.List.Edits.{drop-paste, length-paste, take-paste}
-use Rattle.rtp_ext.specs.MapSlots.{without, RiseAbove}
+use Rattle.rtp_ext.proofs.Common.{◌≡◌, ◌≢◌, ℕ, suc, zero, ◌+◌, ◌-◌, ◌<◌, ◌≤◌, List, [], ◌∷◌, ◌++◌, length, take, drop, set, get_or, replicate, refl, sym, ap, ◌∙◌, arith, length-drop, copy_within, drop-drop, drop-set, drop-take, length-set, take-set, take-take, drop-paste, length-paste, take-paste, RiseAbove}
+use Rattle.rtp_ext.specs.MapSlots.{without}
 use Rattle.rtp_ext.proofs.PaddedIdLemmas.{ArePadded}
 use Rattle.rtp_ext.proofs.UpdatedIdLemmas.{without-this, without-other}
 

@@ -1,21 +1,6 @@
 -- The lowest id of a kind, found on a walk, and the ids under which elements of one kind become elements of another.
-use Rattle.std.proofs.Common.{◌≡◌, ◌≢◌, ◌⊎◌, inl, inr, ℕ, zero, suc, ◌<◌, List, [], ◌∷◌, length, get_or, map, Option, Some, None, IfSome, IfNone, All, arith, refl, sym, ap, ◌∙◌, subst}
-use Rattle.std.specs.Option.{option_map}
-use Rattle.std.specs.List.{Contains}
-use Rattle.std.proofs.lemmas.Bool.{cases_lt}
-use Rattle.std.proofs.lemmas.List.{get_or_past, length-map}
-use Rattle.std.proofs.lemmas.List.Elements.{All-head, All-tail, All-contains}
-use Rattle.std.proofs.lemmas.Option.{same_Some}
-use Rattle.rtp_values.specs.declared.kind.Extension.{Extension}
-use Rattle.rtp_values.specs.declared.kind.Extension.TheVariants.{AbsoluteSendTime, AbsoluteCaptureTime, AudioLevel, TransmissionTimeOffset, VideoOrientation, TransportSequenceNumber, PlayoutDelay, VideoContentType, VideoTiming, RtpStreamId, RepairedRtpStreamId, RtpMid, FrameMarking, ColorSpace, VideoLayersAllocation, UnknownUri}
-use Rattle.rtp_values.specs.declared.known_kind.KnownKind.{KnownKind}
+use Rattle.rtp_ext.proofs.Common.{◌≡◌, ◌≢◌, ◌⊎◌, inl, inr, ℕ, zero, suc, ◌<◌, List, [], ◌∷◌, length, get_or, map, Option, Some, None, IfSome, IfNone, All, arith, refl, sym, ap, ◌∙◌, subst, option_map, Contains, cases_lt, get_or_past, length-map, All-head, All-tail, All-contains, same_Some, Extension, AbsoluteSendTime, AbsoluteCaptureTime, AudioLevel, TransmissionTimeOffset, VideoOrientation, TransportSequenceNumber, PlayoutDelay, VideoContentType, VideoTiming, RtpStreamId, RepairedRtpStreamId, RtpMid, FrameMarking, ColorSpace, VideoLayersAllocation, UnknownUri, KnownKind, IsKnown, extension_of_kind, one_kind, Slots, IsId, IsLowest, IsUnmapped, IsRising, extension_at, items_from, known_slots, new_id, IsRenamedId, AreRenamedIds, Renames, id_in_byte}
 use Rattle.rtp_values.specs.declared.known_kind.KnownKind.TheVariants as known
-use Rattle.rtp_values.specs.Kind.{IsKnown}
-use Rattle.rtp_values.specs.KnownKind.{extension_of_kind}
-use Rattle.rtp_values.proofs.KindLemmas.{one_kind}
-use Rattle.rtp_ext.specs.ExtensionMap.{Slots, IsId, IsLowest, IsUnmapped, IsRising, extension_at, items_from}
-use Rattle.rtp_ext.specs.KindsById.{known_slots}
-use Rattle.rtp_ext.specs.NewIds.{new_id, IsRenamedId, AreRenamedIds, Renames, id_in_byte}
 use Rattle.rtp_ext.proofs.KindsByIdLemmas.{known_slots-keep, known_slots-back}
 use Rattle.rtp_ext.proofs.ListingLemmas.{ListsItems-from_slots, above_passed}
 use Rattle.rtp_ext.proofs.NewIdLemmas.{new_id-byte}

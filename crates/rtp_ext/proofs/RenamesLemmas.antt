@@ -1,15 +1,5 @@
 -- A table of bytes in which the ids of one kind get a new id, and those of another none.
-use Rattle.std.proofs.Common.{◌≡◌, ◌≢◌, ◌⊎◌, inl, inr, ℕ, ◌+◌, ◌<◌, ◌≤◌, List, [], ◌∷◌, length, get_or, set, Option, Some, None, All, arith, refl, sym, ap, ◌∙◌, subst, ⊎_elim, length-set}
-use Rattle.std.specs.Option.{option_map}
-use Rattle.std.specs.List.{Contains}
-use Rattle.std.proofs.lemmas.Bool.{cases_eq}
-use Rattle.std.proofs.lemmas.List.{get_or-set_same, get_or-set_other}
-use Rattle.std.proofs.lemmas.List.Elements.{All-head, All-tail}
-use Rattle.rtp_values.specs.declared.kind.Extension.{Extension}
-use Rattle.rtp_values.specs.declared.known_kind.KnownKind.{KnownKind}
-use Rattle.rtp_values.specs.KnownKind.{extension_of_kind}
-use Rattle.rtp_ext.specs.ExtensionMap.{Slots, extension_at, items_from}
-use Rattle.rtp_ext.specs.NewIds.{Renames}
+use Rattle.rtp_ext.proofs.Common.{◌≡◌, ◌≢◌, ◌⊎◌, inl, inr, ℕ, ◌+◌, ◌<◌, ◌≤◌, List, [], ◌∷◌, length, get_or, set, Option, Some, None, All, arith, refl, sym, ap, ◌∙◌, subst, ⊎_elim, length-set, option_map, Contains, cases_eq, get_or-set_same, get_or-set_other, All-head, All-tail, Extension, KnownKind, extension_of_kind, Slots, extension_at, items_from, Renames}
 use Rattle.rtp_ext.proofs.ListingLemmas.{items_mapped, unmapped_or_item}
 use Rattle.rtp_ext.proofs.RenamedIdLemmas.{kind_found, later}
 

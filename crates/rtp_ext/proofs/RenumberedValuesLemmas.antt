@@ -1,20 +1,5 @@
 -- What a body says under another map, once its elements have their new ids: what it said, of the kinds that this map has.
-use Rattle.std.proofs.Common.{◌≡◌, ◌≢◌, ℕ, inl, inr, List, [], ◌∷◌, ◌++◌, Option, Some, None, All, get_or, refl, sym, ap, ◌∙◌, subst}
-use Rattle.std.specs.Prelude.{IfSome}
-use Rattle.std.specs.List.{AllByRecursion, filter_map, cons_option}
-use Rattle.std.specs.Option.{option_map}
-use Rattle.std.proofs.lemmas.List.Elements.{All-nil, All-head, All-tail, All-contains, All-from_recursion, filter_map-append}
-use Rattle.rtp_values.specs.declared.kind.Extension.{Extension}
-use Rattle.rtp_values.specs.declared.value.values.ExtensionValues.{ExtensionValues}
-use Rattle.rtp_values.specs.Values.{no_values, SameFields}
-use Rattle.rtp_values.proofs.FieldLemmas.{Reads-same, SameFields-trans}
-use Rattle.rtp_values.proofs.KindLemmas.{one_kind}
-use Rattle.rtp_ext.specs.Elements.{Element}
-use Rattle.rtp_ext.specs.ElementsInPlace.{renumbered}
-use Rattle.rtp_ext.specs.ExtensionMap.{Slots, extension_at, IsUnmapped, IsLowest, items_from}
-use Rattle.rtp_ext.specs.NewIds.{IsNewId, new_id, CarriesExtensions}
-use Rattle.rtp_ext.specs.BlockValues.{Carries, AreFields, last, none, AreValues}
-use Rattle.rtp_ext.specs.WrittenBlock.{fields_of_items, mapped_fields}
+use Rattle.rtp_ext.proofs.Common.{◌≡◌, ◌≢◌, ℕ, inl, inr, List, [], ◌∷◌, ◌++◌, Option, Some, None, All, get_or, refl, sym, ap, ◌∙◌, subst, IfSome, AllByRecursion, filter_map, cons_option, option_map, All-nil, All-head, All-tail, All-contains, All-from_recursion, filter_map-append, Extension, ExtensionValues, no_values, SameFields, Reads-same, SameFields-trans, one_kind, Element, renumbered, Slots, extension_at, IsUnmapped, IsLowest, items_from, IsNewId, new_id, CarriesExtensions, Carries, AreFields, last, none, AreValues, fields_of_items, mapped_fields}
 use Rattle.rtp_ext.proofs.FormLemmas.{Item}
 use Rattle.rtp_ext.proofs.ListingLemmas.{ListsItems-from_slots}
 use Rattle.rtp_ext.proofs.WrittenValuesLemmas.{LastItem, find_last, found-mapped, fields-there, fields-absent, All-cons_option}

@@ -61,7 +61,7 @@ elements_with pieces padding element =
     ∙ ap (λ es. es ++ element ∷ []) (none_in_padding padding))
 
 -- what is read of padding, an element and what follows it
-elements_left-next : (form : ExtensionsForm) (padding : ℕ) (element : Element) (after : List ℕ) → IsElement form element
+pub elements_left-next : (form : ExtensionsForm) (padding : ℕ) (element : Element) (after : List ℕ) → IsElement form element
     → elements_left form (replicate padding 0 ++ (element_bytes form element ++ after)) ≡ element ∷ elements_left form after
 elements_left-next form zero element after is = elements_left-element form element after is
 elements_left-next form (suc padding) element after is =

@@ -1,13 +1,5 @@
 -- A slot of a map that is put in place of another, and the steps of a renegotiation by it.
-use Rattle.std.proofs.Common.{◌≡◌, ◌≢◌, ℕ, ◌+◌, ◌-◌, ◌<◌, zero, suc, List, [], ◌∷◌, length, map, set, get_or, Bool, true, false, Option, Some, None, arith, ap, refl, sym, ◌∙◌, subst}
-use Rattle.std.specs.Option.{is_some, option_map}
-use Rattle.std.specs.List.{swap}
-use Rattle.std.proofs.Math.ListN.{get_or-map}
-use Rattle.std.proofs.lemmas.List.{get_or_default, get_or-set_same, get_or-set_other, length-set, length-map, map-set}
-use Rattle.std.proofs.lemmas.List.Edits.{swap_is}
-use Rattle.rtp_ext.specs.ExtensionMap.{Entry, Slots, entry_at, locked}
-use Rattle.rtp_ext.specs.KindsById.{known_entry, known_slots}
-use Rattle.rtp_ext.specs.MapSlots.{Puts, Swaps, mapped_ids, updated}
+use Rattle.rtp_ext.proofs.Common.{◌≡◌, ◌≢◌, ℕ, ◌+◌, ◌-◌, ◌<◌, zero, suc, List, [], ◌∷◌, length, map, set, get_or, Bool, true, false, Option, Some, None, arith, ap, refl, sym, ◌∙◌, subst, is_some, option_map, swap, get_or-map, get_or_default, get_or-set_same, get_or-set_other, length-set, length-map, map-set, swap_is, Entry, Slots, entry_at, locked, known_entry, known_slots, Puts, Swaps, mapped_ids, updated}
 use Rattle.rtp_ext.proofs.MapLemmas.{entry_at-slot, entry_at-other}
 use Rattle.rtp_ext.proofs.UpdatedIdLemmas.{updated_ids}
 

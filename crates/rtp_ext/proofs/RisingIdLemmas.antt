@@ -1,10 +1,5 @@
 -- The mapped ids rise, so the last of them is the greatest.
-use Rattle.std.proofs.Common.{◌≡◌, ℕ, suc, zero, ◌+◌, ◌-◌, ◌<◌, ◌≤◌, List, [], ◌∷◌, ◌++◌, length, map, Bool, true, false, Some, None, refl, sym, ap, ◌∙◌, arith, ⊎_elim, lt-ltb, le-ltb}
-use Rattle.std.specs.Prelude.{◌||◌, nat_lt, slice_get}
-use Rattle.std.specs.List.{list_any}
-use Rattle.std.proofs.lemmas.Bool.{cases_lt, or_parts}
-use Rattle.rtp_ext.specs.ExtensionMap.{Slots, items_from}
-use Rattle.rtp_ext.specs.MapSlots.{mapped_ids, inserted, RiseAbove}
+use Rattle.rtp_ext.proofs.Common.{◌≡◌, ℕ, suc, zero, ◌+◌, ◌-◌, ◌<◌, ◌≤◌, List, [], ◌∷◌, ◌++◌, length, map, Bool, true, false, Some, None, refl, sym, ap, ◌∙◌, arith, ⊎_elim, lt-ltb, le-ltb, ◌||◌, nat_lt, slice_get, list_any, cases_lt, or_parts, Slots, items_from, mapped_ids, inserted, RiseAbove}
 use Rattle.rtp_ext.proofs.FormLemmas.{at_most}
 use Rattle.rtp_ext.proofs.MappedIdLemmas.{inserted-later}
 

@@ -1,16 +1,5 @@
 -- Elements that stand in a row already, before the last one of an id and after it.
-use Rattle.std.proofs.Common.{◌≡◌, ℕ, ◌+◌, ◌-◌, ◌≤◌, Bool, true, false, not, cond, List, [], ◌∷◌, ◌++◌, length, take, drop, Option, Some, None, IfSome, IfNone, append_assoc, length-append, length-drop, length-take-le, arith, refl, sym, ap, ◌∙◌, subst}
-use Rattle.std.specs.Prelude.{slice_range}
-use Rattle.std.specs.List.{flat_map, filter_map}
-use Rattle.std.proofs.lemmas.List.{take_at, drop_at, take-append-le, drop-append-le, take-take, drop-take, take_all, drop_all, append-nil}
-use Rattle.std.proofs.lemmas.List.Elements.{filter-append}
-use Rattle.rtp_ext.specs.declared.form.ExtensionsForm.{ExtensionsForm}
-use Rattle.rtp_ext.specs.declared.place.Place.{Place}
-use Rattle.rtp_ext.specs.declared.survey.Survey.{Survey}
-use Rattle.rtp_ext.specs.Elements.{Element, AreElements, element_bytes, elements_bytes, piece_bytes}
-use Rattle.rtp_ext.specs.ElementPlaces.{LiesLast, AreWhole, IsLastOrNone}
-use Rattle.rtp_ext.specs.BodySurvey.{IsSurvey, HasRows}
-use Rattle.rtp_ext.specs.PutElement.{has_id, without}
+use Rattle.rtp_ext.proofs.Common.{◌≡◌, ℕ, ◌+◌, ◌-◌, ◌≤◌, Bool, true, false, not, cond, List, [], ◌∷◌, ◌++◌, length, take, drop, Option, Some, None, IfSome, IfNone, append_assoc, length-append, length-drop, length-take-le, arith, refl, sym, ap, ◌∙◌, subst, slice_range, flat_map, filter_map, take_at, drop_at, take-append-le, drop-append-le, take-take, drop-take, take_all, drop_all, append-nil, filter-append, ExtensionsForm, Place, Survey, Element, AreElements, element_bytes, elements_bytes, piece_bytes, LiesLast, AreWhole, IsLastOrNone, IsSurvey, HasRows, has_id, without}
 use Rattle.rtp_ext.proofs.PlaceLemmas.{length-element, length-header-some, length-lies}
 use Rattle.rtp_ext.proofs.PieceLemmas.{AreWhole-nil, AreWhole-append, AreWhole-element, AreElements-after}
 use Rattle.rtp_ext.proofs.LastPlaceLemmas.{AreElements-same}
@@ -157,7 +146,7 @@ rows_read form id bytes elements None start end whole is some none row =
     (rows_of_none form id bytes elements whole none_has))
 rows_read form id bytes elements (Some place) start end whole is some none row =
     subst (λ (s : ℕ). AreRows form id bytes s end) (sym some.0) (subst (λ (e : ℕ). AreRows form id bytes place.start e) (sym some.1)
-    (rows_of_last form id bytes elements place whole is.1 is.2 (let a = some.0 in let b = some.1 in omega arith)))
+    (rows_of_last form id bytes elements place whole is.0 is.1 (let a = some.0 in let b = some.1 in omega arith)))
 
 -- ---- a body at the front of a slice
 

@@ -1,9 +1,6 @@
 -- What a test of two forms says.
-use Rattle.std.proofs.Common.{◌≡◌, ◌≢◌, true, false, refl}
-use Rattle.rtp_ext.specs.declared.form.ExtensionsForm.{ExtensionsForm}
-use Rattle.rtp_ext.specs.declared.form.ExtensionsForm.TheVariants.{OneByte, TwoByte}
+use Rattle.rtp_ext.proofs.Common.{◌≡◌, ◌≢◌, true, false, refl, ExtensionsForm, OneByte, TwoByte, sameb}
 use Rattle.rtp_ext.specs.contracts.form.ExtensionsForm.{the_type}
-use denote.Enum.Bare.{sameb}
 
 pub same_form : (a b : ExtensionsForm) → sameb the_type a b ≡ true → a ≡ b
 same_form OneByte OneByte is = refl

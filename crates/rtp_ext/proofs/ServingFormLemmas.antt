@@ -1,17 +1,8 @@
 -- The form that serves for elements or alone is allowed, and the room that they take in it.
-use Rattle.std.proofs.Common.{◌≡◌, ℕ, zero, suc, ◌+◌, ◌-◌, ◌≤◌, Bool, true, false, List, [], ◌∷◌, Option, None, Some, length, refl, sym, ap, ◌∙◌, subst, arith, inl, inr, length-append}
-use Rattle.std.specs.Prelude.{Any, ◌&&◌, nat_le, if◌then◌else◌, slice_get}
-use Rattle.std.specs.List.{AllByRecursion, list_all}
-use Rattle.std.specs.Option.{unwrap_or}
-use Rattle.std.proofs.lemmas.Bool.{and_parts, leb-true, le-leb}
-use Rattle.std.proofs.lemmas.Option.{slice_get_within, get_or_from_slice_get}
-use Rattle.rtp_ext.specs.declared.form.ExtensionsForm.{ExtensionsForm}
-use Rattle.rtp_ext.specs.declared.form.ExtensionsForm.TheVariants.{OneByte, TwoByte}
-use Rattle.rtp_ext.specs.Elements.{Element, element_bytes, elements_bytes}
-use Rattle.rtp_ext.specs.ElementsInARow.{IsWritable, IsUnwritable, AreWritableIn, AreNotWritableIn, unwritable, short_room, serves_one_byte, form_for, form_given}
+use Rattle.rtp_ext.proofs.Common.{◌≡◌, ℕ, zero, suc, ◌+◌, ◌-◌, ◌≤◌, Bool, true, false, List, [], ◌∷◌, Option, None, Some, length, refl, sym, ap, ◌∙◌, subst, arith, inl, inr, length-append, Any, ◌&&◌, nat_le, if◌then◌else◌, slice_get, AllByRecursion, list_all, unwrap_or, and_parts, leb-true, le-leb, slice_get_within, get_or_from_slice_get, ExtensionsForm, OneByte, TwoByte, Element, element_bytes, elements_bytes, IsWritable, IsUnwritable, AreWritableIn, AreNotWritableIn, unwritable, short_room, serves_one_byte, form_for, form_given}
 
 -- an element that the one-byte form can carry
-IsWritable-one : (element : Element) → serves_one_byte element ≡ true → IsWritable OneByte element
+pub IsWritable-one : (element : Element) → serves_one_byte element ≡ true → IsWritable OneByte element
 IsWritable-one element serves =
     let halves = and_parts (nat_le 1 element.0 && nat_le element.0 14) (nat_le 1 (length element.1) && nat_le (length element.1) 16) serves in
     let id = and_parts (nat_le 1 element.0) (nat_le element.0 14) halves.0 in

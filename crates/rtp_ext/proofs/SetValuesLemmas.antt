@@ -1,15 +1,5 @@
 -- What a body says once the last element of an id has other data: what it said, except for the fields of the kind of that id.
-use Rattle.std.proofs.Common.{◌≡◌, ℕ, inl, inr, List, [], ◌∷◌, ◌++◌, Some, All, get_or, ap, refl, sym, ◌∙◌, subst}
-use Rattle.std.proofs.lemmas.List.Elements.{All-cons, All-head, All-tail, All-same}
-use Rattle.rtp_values.specs.declared.kind.Extension.{Extension}
-use Rattle.rtp_values.specs.declared.value.values.ExtensionValues.{ExtensionValues}
-use Rattle.rtp_values.specs.Values.{no_values, Reads, with_fields, SameFields, IsWellFormed}
-use Rattle.rtp_values.proofs.FieldLemmas.{Reads-same, SameFields-trans, SameFields-sym, SameFields-others, SameFields-taken, same_values}
-use Rattle.rtp_values.proofs.KindLemmas.{same_or_not, one_kind}
-use Rattle.rtp_ext.specs.Elements.{Element}
-use Rattle.rtp_ext.specs.ElementsInPlace.{HasNone}
-use Rattle.rtp_ext.specs.ExtensionMap.{Slots, extension_at, IsOnlyId}
-use Rattle.rtp_ext.specs.BlockValues.{Carries, AreFields, last, none, AreValues}
+use Rattle.rtp_ext.proofs.Common.{◌≡◌, ℕ, inl, inr, List, [], ◌∷◌, ◌++◌, Some, All, get_or, ap, refl, sym, ◌∙◌, subst, All-cons, All-head, All-tail, All-same, Extension, ExtensionValues, no_values, Reads, with_fields, SameFields, IsWellFormed, Reads-same, SameFields-trans, SameFields-sym, SameFields-others, SameFields-taken, same_values, same_or_not, one_kind, Element, HasNone, Slots, extension_at, IsOnlyId, Carries, AreFields, last, none, AreValues}
 use Rattle.rtp_ext.proofs.ValuesLaws.{AreFields-one}
 
 -- it holds of none still where one for which it doesn't hold takes the place of another

@@ -1,22 +1,7 @@
 -- The elements of the one-byte form are short, and so are those of the two-byte form without a layer allocation.
-use Rattle.std.proofs.Common.{refl, ◌≡◌, ℕ, ◌+◌, ◌*◌, ◌≤◌, List, [], ◌∷◌, length, length-append, Bool, false, Option, Some, None, sym, ap, ◌∙◌, arith}
-use Rattle.std.specs.Prelude.{IfSome, nat_lt}
-use Rattle.std.specs.List.{list_any}
-use Rattle.std.proofs.lemmas.Bool.{or_parts}
-use Rattle.rtp_ext.specs.declared.form.ExtensionsForm.TheVariants.{OneByte, TwoByte}
-use Rattle.rtp_values.specs.declared.kind.Extension.{Extension}
-use Rattle.rtp_values.specs.declared.kind.Extension.TheVariants.{VideoLayersAllocation}
-use Rattle.rtp_values.specs.declared.known_kind.KnownKind.{KnownKind}
+use Rattle.rtp_ext.proofs.Common.{refl, ◌≡◌, ℕ, ◌+◌, ◌*◌, ◌≤◌, List, [], ◌∷◌, length, length-append, Bool, false, Option, Some, None, sym, ap, ◌∙◌, arith, IfSome, nat_lt, list_any, or_parts, OneByte, TwoByte, Extension, VideoLayersAllocation, KnownKind, extension_of_kind, ExtensionValues, spelled_data, longest, Element, elements_bytes, element_or_nothing, items_bytes, Slots, items_from, known_slots, is_long_item, TakesAtMost17Each, HasFewData, written_elements}
 use Rattle.rtp_values.specs.declared.known_kind.KnownKind.TheVariants as known
 use Rattle.rtp_values.specs.contracts.known_kind.KnownKindPartialEq.TheImpl as kind_eq
-use Rattle.rtp_values.specs.KnownKind.{extension_of_kind}
-use Rattle.rtp_values.specs.declared.value.values.ExtensionValues.{ExtensionValues}
-use Rattle.rtp_values.specs.Spelling.{spelled_data, longest}
-use Rattle.rtp_ext.specs.Elements.{Element, elements_bytes}
-use Rattle.rtp_ext.specs.ElementWriting.{element_or_nothing, items_bytes}
-use Rattle.rtp_ext.specs.ExtensionMap.{Slots, items_from}
-use Rattle.rtp_ext.specs.KindsById.{known_slots, is_long_item}
-use Rattle.rtp_ext.specs.WrittenBlock.{TakesAtMost17Each, HasFewData, written_elements}
 use Rattle.rtp_ext.proofs.FormLemmas.{Item, at_most, long_kind}
 use Rattle.rtp_ext.proofs.KnownItemsLemmas.{written_known, count_known}
 use Rattle.rtp_ext.proofs.KnownWritingLemmas.{known_bytes}

@@ -1,20 +1,8 @@
 -- What is known of a body's elements from the front up to an offset.
-use Rattle.std.proofs.Common.{◌≡◌, ◌≢◌, ℕ, ◌+◌, ◌-◌, Bool, true, false, cond, List, [], ◌∷◌, ◌++◌, length, drop, Option, Some, None, IfSome, IfNone, length-append, arith, refl, sym, ap, ◌∙◌, subst}
-use Rattle.std.specs.List.{filter}
-use Rattle.std.proofs.lemmas.Bool.{eq-eqb, ne_eqb}
-use Rattle.std.proofs.lemmas.List.{append-nil, drop_at}
-use Rattle.std.proofs.lemmas.List.Elements.{filter-append}
-use Rattle.rtp_ext.specs.declared.form.ExtensionsForm.{ExtensionsForm}
-use Rattle.rtp_ext.specs.declared.place.Place.{Place}
-use Rattle.rtp_ext.specs.Elements.{Element, element_bytes, elements_bytes, AreElements}
-use Rattle.rtp_ext.specs.ElementReading.{BeginsWithNoElement}
-use Rattle.rtp_ext.specs.ElementsInPlace.{HasNone}
-use Rattle.rtp_ext.specs.ElementPlaces.{IsNextPlace, IsLastPlace, LiesLast, IsLastOrNone}
-use Rattle.rtp_ext.specs.BodySurvey.{IsSurvey, IsSurveyedTo}
-use Rattle.rtp_ext.specs.PutElement.{has_id, without}
+use Rattle.rtp_ext.proofs.Common.{◌≡◌, ◌≢◌, ℕ, ◌+◌, ◌-◌, Bool, true, false, cond, List, [], ◌∷◌, ◌++◌, length, drop, Option, Some, None, IfSome, IfNone, length-append, arith, refl, sym, ap, ◌∙◌, subst, filter, eq-eqb, ne_eqb, append-nil, drop_at, filter-append, ExtensionsForm, Place, Element, element_bytes, elements_bytes, AreElements, BeginsWithNoElement, HasNone, IsNextPlace, IsLastOrNone, IsSurvey, IsSurveyedTo, has_id, without}
 use Rattle.rtp_ext.proofs.PlaceLemmas.{length-element, length-header-some}
 use Rattle.rtp_ext.proofs.PieceLemmas.{AreElements-after, AreElements-none}
-use Rattle.rtp_ext.proofs.LastPlaceLemmas.{IsPassed-start, IsPassed-this, IsPassed-other, IsPassed-found, IsPassed-id, IsPassed-lies, elements-start, elements-other, elements-this}
+use Rattle.rtp_ext.proofs.LastPlaceLemmas.{IsPassed-start, IsPassed-this, IsPassed-other, IsPassed-lies, elements-start, elements-other, elements-this}
 use Rattle.rtp_ext.proofs.GatheredLemmas.{without-this, row-other}
 
 pub IsSurveyedTo-start : (form : ExtensionsForm) (body : List ℕ) (id : ℕ) → IsSurveyedTo form body 0 id None 0 0
@@ -74,12 +62,6 @@ IsSurveyedTo-other form body at id last count others_len place was next other =
       others_small = omega (arith, was.others_small, next.start_is, next.data_is, next.end_is);
     }
 
-last_known : (form : ExtensionsForm) (body : List ℕ) (id : ℕ) (last : Option Place) → IfSome last (λ place. place.id ≡ id) → IfSome last (IsLastPlace (AreElements form) id body)
-    → IfSome last (LiesLast form (AreElements form) id body)
-    → IfSome last (λ place. (place.id ≡ id) × IsLastPlace (AreElements form) id body place × LiesLast form (AreElements form) id body place)
-last_known form body id None is found lies = tt
-last_known form body id (Some place) is found lies = (is, found, lies)
-
 none_known : (form : ExtensionsForm) (id : ℕ) (bytes : List ℕ) (elements : List Element) (last : Option Place) → IsLastOrNone form id bytes elements last → IfNone last (HasNone elements id)
 none_known form id bytes elements None none = none
 none_known form id bytes elements (Some place) is = tt
@@ -96,7 +78,7 @@ IsSurvey-end form body at id last count others_len was none =
       are_elements = subst (λ b. AreElements form b p.elements) (sym p.body_is)
           (subst (AreElements form (p.passed ++ p.left)) (append-nil p.elements)
           (AreElements-after form p.passed p.left p.elements [] p.are_whole left));
-      last_is = last_known form body id last (IsPassed-id form body at id last p) (IsPassed-found form body at id last p none) (IsPassed-lies form body at id last p none);
+      last_is = IsPassed-lies form body at id last p none;
       none_is = none_known form id p.passed p.elements last p.last_is;
       count_is = was.count_is;
       others_are = was.others_are;

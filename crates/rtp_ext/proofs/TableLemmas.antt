@@ -1,15 +1,6 @@
 -- What a table of kinds keeps in step with its entries: the list of the mapped ids, and how many layer allocations there are.
-use Rattle.std.proofs.Common.{◌≡◌, ◌≢◌, ℕ, ◌+◌, ◌-◌, ◌<◌, suc, zero, List, [], ◌∷◌, length, drop, set, get_or, Bool, true, false, Option, Some, None, arith, ap, refl, sym, ◌∙◌, lt-ltb, get_or-set_other, length-drop}
-use Rattle.std.specs.Prelude.{nat_lt, map, ◌≤◌, if◌then◌else◌}
-use Rattle.std.specs.Int.{from_bool}
-use Rattle.std.specs.Option.{is_some}
-use Rattle.std.specs.List.{list_any, filter}
-use Rattle.std.proofs.lemmas.List.{length-map, length-set}
-use Rattle.rtp_values.specs.declared.known_kind.KnownKind.{KnownKind}
+use Rattle.rtp_ext.proofs.Common.{◌≡◌, ◌≢◌, ℕ, ◌+◌, ◌-◌, ◌<◌, suc, zero, List, [], ◌∷◌, length, drop, set, get_or, Bool, true, false, Option, Some, None, arith, ap, refl, sym, ◌∙◌, lt-ltb, get_or-set_other, length-drop, nat_lt, map, ◌≤◌, if◌then◌else◌, from_bool, is_some, list_any, filter, length-map, length-set, KnownKind, items_from, entry_of_kind, slots_of, is_layers, has_long_data, layers_count, mapped_ids}
 use Rattle.rtp_values.specs.declared.known_kind.KnownKind.TheVariants as known
-use Rattle.rtp_ext.specs.ExtensionMap.{items_from}
-use Rattle.rtp_ext.specs.KindsById.{entry_of_kind, slots_of, is_layers, has_long_data, layers_count}
-use Rattle.rtp_ext.specs.MapSlots.{mapped_ids}
 use Rattle.rtp_ext.proofs.KindsByIdLemmas.{entry_at-kinds}
 use Rattle.rtp_ext.proofs.MapLemmas.{entry_at-slot}
 use Rattle.rtp_ext.proofs.MappedIdLemmas.{fewer_ids}

@@ -1,20 +1,10 @@
 -- The list of the mapped ids, where what one id is mapped to changes.
-use Rattle.std.proofs.Common.{◌≡◌, ◌≢◌, ℕ, ◌+◌, ◌-◌, ◌<◌, ◌≤◌, suc, zero, List, [], ◌∷◌, length, map, drop, set, get_or, Bool, Option, Some, None, All, arith, ap, refl, sym, ◌∙◌, length-drop}
-use Rattle.std.specs.Option.{is_some}
-use Rattle.std.proofs.lemmas.Bool.{eq-eqb, ne_eqb}
-use Rattle.std.proofs.lemmas.List.{get_or_default, length-map}
-use Rattle.std.proofs.Math.ListN.{get_or-map}
-use Rattle.rtp_values.specs.declared.kind.Extension.{Extension}
-use Rattle.rtp_values.specs.declared.known_kind.KnownKind.{KnownKind}
-use Rattle.rtp_ext.specs.ExtensionMap.{Entry, Slots, items_from}
-use Rattle.rtp_ext.specs.KindsById.{entry_of_kind, slots_of}
-use Rattle.rtp_ext.specs.MapSlots.{mapped_ids, without, updated}
+use Rattle.rtp_ext.proofs.Common.{◌≡◌, ◌≢◌, ℕ, ◌+◌, ◌-◌, ◌<◌, ◌≤◌, suc, zero, List, ◌∷◌, length, map, set, get_or, Bool, Option, Some, None, All, arith, ap, refl, sym, ◌∙◌, [], is_some, eq-eqb, ne_eqb, get_or_default, get_or-map, All-head, Extension, KnownKind, Entry, Slots, items_from, entry_of_kind, slots_of, mapped_ids, updated}
+use Rattle.rtp_ext.specs.MapSlots.{without}
 use Rattle.rtp_ext.proofs.KindsByIdLemmas.{slots_of-put}
-use Rattle.rtp_ext.proofs.ListingLemmas.{All-head, above_passed}
-use Rattle.rtp_ext.proofs.MappedIdLemmas.{mapped_ids-set, mapped_ids-same}
-
-abbrev ids_of : List (ℕ × Extension) → List ℕ
-ids_of items = map (λ item. item.0) items
+use Rattle.rtp_ext.proofs.ListingLemmas.{above_passed}
+use Rattle.rtp_ext.proofs.MappedIdLemmas.{mapped_ids-set, mapped_ids-same, ids_of}
+use Rattle.rtp_ext.proofs.TableLemmas.{within_slots}
 
 pub without-this : (id first : ℕ) (ids : List ℕ) → first ≡ id → without id (first ∷ ids) ≡ without id ids
 without-this id first ids same = rw (eq-eqb first id same) refl
@@ -89,10 +79,6 @@ kind_of_slot (first ∷ kinds) (suc k) other =
 some_kind : (kind : Option KnownKind) → is_some (entry_of_kind kind) ≡ is_some kind
 some_kind None = refl
 some_kind (Some kind) = refl
-
-within_slots : (kinds : List (Option KnownKind)) (id : ℕ) → id ≢ 0 → id < length kinds → id - 1 < length (slots_of kinds)
-within_slots kinds zero other within = absurd (other refl)
-within_slots kinds (suc k) other within = omega (arith, length-map (drop 1 kinds) entry_of_kind, length-drop 1 kinds)
 
 pub updated_kinds : (kinds : List (Option KnownKind)) (ids after : List ℕ) (read at id : ℕ) (seen kind : Option KnownKind) (was is : Bool)
     → length kinds ≡ 256 → ids ≡ mapped_ids (slots_of kinds) → read ≡ id → at ≡ id → id ≢ 0 → id < 256 → was ≡ is_some (get_or kinds read seen)

@@ -1,16 +1,6 @@
 -- Worked rows of blocks, computed from the definitions.
-use Rattle.std.proofs.Common.{◌≡◌, ◌≢◌, ℕ, [], ◌∷◌, replicate, Bool, true, false, neg_ℤ, pos, Some, None, arith, refl, sym, ◌∙◌, subst}
-use Rattle.rtp_ext.specs.declared.form.ExtensionsForm.TheVariants.{OneByte, TwoByte}
-use Rattle.rtp_values.specs.declared.kind.Extension.{Extension}
-use Rattle.rtp_values.specs.declared.kind.Extension.TheVariants.{AudioLevel}
-use Rattle.rtp_values.specs.declared.value.values.ExtensionValues.{ExtensionValues}
-use Rattle.rtp_ext.specs.ExtensionMap.{Slots, extension_at}
-use Rattle.rtp_ext.specs.Elements.{AreElements, ended, cut_short, stopped}
-use Rattle.rtp_values.specs.Values.{Reads, SameFields, IsWellFormed}
-use Rattle.rtp_ext.specs.BlockValues.{AreValues}
+use Rattle.rtp_ext.proofs.Common.{◌≡◌, ◌≢◌, ℕ, [], ◌∷◌, replicate, Bool, true, false, neg_ℤ, pos, Some, None, arith, refl, sym, ◌∙◌, subst, OneByte, TwoByte, Extension, AudioLevel, ExtensionValues, Slots, extension_at, AreElements, ended, cut_short, stopped, Reads, SameFields, IsWellFormed, AreValues, SameFields-refl, one_kind}
 use Rattle.rtp_ext.proofs.ValuesLaws.{AreValues-none, AreValues-read, AreValues-passed}
-use Rattle.rtp_values.proofs.FieldLemmas.{SameFields-refl}
-use Rattle.rtp_values.proofs.KindLemmas.{one_kind}
 
 -- one-byte header: an element and the front of one of eight bytes
 cut_row : AreElements OneByte (16 ∷ 170 ∷ 55 ∷ 0 ∷ []) ((1, 170 ∷ []) ∷ [])

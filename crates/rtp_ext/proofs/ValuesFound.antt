@@ -1,18 +1,6 @@
 -- Each body of a block says some values under each map.
-use Rattle.std.proofs.Common.{◌≡◌, ℕ, zero, suc, inl, inr, List, [], ◌∷◌, ◌++◌, Option, Some, None, append_assoc, append-nil, refl, sym, ◌∙◌, subst, arith}
-use Rattle.std.specs.List.{AllByRecursion, flat_map, filter_map}
-use Rattle.rtp_values.specs.declared.kind.Extension.{Extension}
-use Rattle.rtp_values.specs.declared.value.values.ExtensionValues.{ExtensionValues}
-use Rattle.rtp_values.specs.Values.{no_values, with_fields, IsWellFormed}
-use Rattle.rtp_values.proofs.FieldLemmas.{Reads-same, SameFields-taken, SameFields-others}
-use Rattle.rtp_values.proofs.KindLemmas.{one_kind}
+use Rattle.rtp_ext.proofs.Common.{◌≡◌, ℕ, zero, suc, inl, inr, List, ◌∷◌, ◌++◌, Option, Some, None, append_assoc, append-nil, refl, sym, ◌∙◌, subst, arith, [], AllByRecursion, flat_map, filter_map, Extension, ExtensionValues, no_values, with_fields, IsWellFormed, Reads-same, SameFields-taken, SameFields-others, one_kind, ExtensionsForm, OneByte, TwoByte, Element, element_bytes, piece_bytes, AreElements, elements_left, Slots, extension_at, Carries, AreValues, SaysValues}
 use Rattle.rtp_values.proofs.WellFormedOrNot.{well_formed_or_not}
-use Rattle.rtp_ext.specs.declared.form.ExtensionsForm.{ExtensionsForm}
-use Rattle.rtp_ext.specs.declared.form.ExtensionsForm.TheVariants.{OneByte, TwoByte}
-use Rattle.rtp_ext.specs.Elements.{Element, element_bytes, piece_bytes, AreElements}
-use Rattle.rtp_ext.specs.ElementReading.{elements_left}
-use Rattle.rtp_ext.specs.ExtensionMap.{Slots, extension_at}
-use Rattle.rtp_ext.specs.BlockValues.{Carries, AreValues, SaysValues}
 use Rattle.rtp_ext.proofs.ElementLemmasOfBodies.{AreBytes, AreElements-found}
 use Rattle.rtp_ext.proofs.ValuesLaws.{AreValues-none, AreValues-passed, AreValues-read}
 
@@ -52,17 +40,17 @@ data_of_body form body elements all are =
 abbrev ReadsOn : Slots → List Element → ExtensionValues → Type 0
 ReadsOn exts elements old = (new : ExtensionValues) × AreValues exts elements old new
 
-unmapped : (exts : Slots) (element : Element) → extension_at exts element.0 ≡ None → (kind : Extension) → Carries exts kind element → ⊥
-unmapped exts element none kind carries = let mapped = carries.0 in absurd cc
+pub unmapped-carries : (exts : Slots) (element : Element) → extension_at exts element.0 ≡ None → (kind : Extension) → Carries exts kind element → ⊥
+unmapped-carries exts element none kind carries = let mapped = carries.0 in absurd cc
 
-malformed : (exts : Slots) (element : Element) (kind : Extension) → extension_at exts element.0 ≡ Some kind → (IsWellFormed kind element.1 → ⊥)
+pub malformed-carries : (exts : Slots) (element : Element) (kind : Extension) → extension_at exts element.0 ≡ Some kind → (IsWellFormed kind element.1 → ⊥)
     → (any : Extension) → Carries exts any element → ⊥
-malformed exts element kind mapped not any carries =
+malformed-carries exts element kind mapped not any carries =
     not (subst (λ k. IsWellFormed k element.1) (one_kind (sym carries.0 ∙ mapped)) carries.1)
 
 reads_one_more : (exts : Slots) (done : List Element) (element : Element) (old between : ExtensionValues) (mapped : Option Extension)
     → extension_at exts element.0 ≡ mapped → AreBytes element.1 → AreValues exts done old between → ReadsOn exts (done ++ element ∷ []) old
-reads_one_more exts done element old between None is all values = (between, AreValues-passed exts done element old between (unmapped exts element is) values)
+reads_one_more exts done element old between None is all values = (between, AreValues-passed exts done element old between (unmapped-carries exts element is) values)
 reads_one_more exts done element old between (Some kind) is all values = elim (well_formed_or_not kind element.1 all) [
   | inl read ↦
       let new = with_fields kind between read.0 in (
@@ -70,7 +58,7 @@ reads_one_more exts done element old between (Some kind) is all values = elim (w
         AreValues-read exts done element kind old between new is (Reads-same kind element.1 read.0 new read.1 (SameFields-taken kind between read.0))
             (λ other differs. SameFields-others kind other between read.0 differs) values,
       )
-  | inr not ↦ (between, AreValues-passed exts done element old between (malformed exts element kind is not) values)
+  | inr not ↦ (between, AreValues-passed exts done element old between (malformed-carries exts element kind is not) values)
 ]
 
 reads_on : (exts : Slots) (done left : List Element) (old between : ExtensionValues) → AllByRecursion (λ element. AreBytes element.1) left

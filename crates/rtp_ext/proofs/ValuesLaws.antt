@@ -1,18 +1,5 @@
 -- The values of a block: they are the only ones, and how one more element changes them.
-use Rattle.std.proofs.Common.{◌≡◌, ◌≢◌, inl, inr, List, [], ◌∷◌, ◌++◌, Option, Some, None, Result, Ok, Err, IsOk, IfOk, All, ap, refl, sym, ◌∙◌, subst}
-use Rattle.std.specs.declared.alloc.AllocError.{AllocError}
-use Rattle.std.proofs.lemmas.List.Elements.{All-push, All-nil, All-head, All-tail, All-same}
-use Rattle.std.proofs.lemmas.List.{append_assoc}
-use Rattle.rtp_values.specs.declared.kind.Extension.{Extension}
-use Rattle.rtp_values.specs.declared.value.values.ExtensionValues.{ExtensionValues}
-use Rattle.rtp_ext.specs.Elements.{Element}
-use Rattle.rtp_ext.specs.ExtensionMap.{Slots, extension_at}
-use Rattle.rtp_values.specs.Values.{Reads, SameFields, IsWellFormed}
-use Rattle.rtp_values.specs.KindBytes.{ReadsInto}
-use Rattle.rtp_values.proofs.FieldLemmas.{Reads-one, Reads-same, SameFields-joined, SameFields-refl, SameFields-trans, SameFields-others, same_values}
-use Rattle.rtp_values.proofs.KindLemmas.{same_or_not, one_kind}
-use Rattle.rtp_ext.specs.BlockValues.{Carries, AreFields, last, none, AreValues, ReadElements}
-use Rattle.rtp_ext.specs.Memory.{IsStopped, ReadUntilRefused}
+use Rattle.rtp_ext.proofs.Common.{◌≡◌, ◌≢◌, inl, inr, List, [], ◌∷◌, ◌++◌, Option, Some, None, Result, Ok, Err, IsOk, IfOk, All, ap, refl, sym, ◌∙◌, subst, AllocError, All-push, All-nil, All-head, All-tail, All-same, append_assoc, Extension, ExtensionValues, Element, Slots, extension_at, Reads, SameFields, IsWellFormed, ReadsInto, Reads-one, Reads-same, SameFields-joined, SameFields-refl, SameFields-trans, SameFields-others, same_values, same_or_not, one_kind, Carries, AreFields, last, none, AreValues, ReadElements, IsStopped, ReadUntilRefused}
 
 -- before any element the values are the old ones
 pub AreValues-none : (exts : Slots) (old : ExtensionValues) → AreValues exts [] old old

@@ -1,35 +1,14 @@
 -- Two rows of elements, put in the two-byte form around an element.
-use Rattle.std.proofs.Common.{◌≡◌, ◌≢◌, ℕ, ◌+◌, ◌-◌, ◌≤◌, Bool, true, false, not, cond, List, [], ◌∷◌, ◌++◌, length, take, drop, append_assoc, length-append, length-drop, length-take-le, arith, refl, sym, ap, ◌∙◌, subst}
-use Rattle.std.specs.Prelude.{slice_range}
-use Rattle.std.specs.List.{AllByRecursion}
-use Rattle.std.proofs.lemmas.Bool.{eq-eqb, false≢true}
-use Rattle.std.proofs.lemmas.List.{append-nil, take_at, drop_at, take-append-le, take-take, drop-append-le, drop_all, take_rest, take-append-drop}
-use lib.Seq.{paste}
-use borrow.Rule.Slice.PartMut.{put_mid}
+use Rattle.rtp_ext.proofs.Common.{◌≡◌, ℕ, ◌+◌, ◌-◌, ◌≤◌, List, [], ◌∷◌, ◌++◌, length, take, drop, append_assoc, length-append, length-drop, length-take-le, arith, refl, sym, ap, ◌∙◌, subst, slice_range, AllByRecursion, append-nil, take_at, drop_at, take-append-le, take-take, drop-append-le, drop_all, take_rest, take-append-drop, paste, put_mid, ExtensionsForm, OneByte, TwoByte, Element, IsElement, element_bytes, elements_bytes, AreElements, IsWritable, HasRows, HasNarrowRows, IsWideRow, IsWidened, without}
 use Rattle.rtp_base.specs.Overwriting.{overwritten}
-use Rattle.rtp_ext.specs.declared.form.ExtensionsForm.{ExtensionsForm}
-use Rattle.rtp_ext.specs.declared.form.ExtensionsForm.TheVariants.{OneByte, TwoByte}
-use Rattle.rtp_ext.specs.Elements.{Element, IsElement, element_bytes, elements_bytes, AreElements}
-use Rattle.rtp_ext.specs.ElementsInARow.{IsWritable}
-use Rattle.rtp_ext.specs.BodySurvey.{HasRows, HasNarrowRows, IsWideRow, IsWidened}
-use Rattle.rtp_ext.specs.PutElement.{has_id, without}
 use Rattle.rtp_ext.proofs.LastPlaceLemmas.{AreElements-same}
 use Rattle.rtp_ext.proofs.ServingFormLemmas.{length-two}
-use Rattle.rtp_ext.proofs.GatheredLemmas.{elements_bytes-append}
+use Rattle.rtp_ext.proofs.GatheredLemmas.{elements_bytes-append, without-weaker}
 use Rattle.rtp_ext.proofs.WidenLemmas.{row-read, row-same, are_elements}
 
 -- elements of another id than 0 may be written
 pub without-writable : (elements : List Element) → AllByRecursion (IsElement OneByte) elements → AllByRecursion (IsWritable OneByte) (without 0 elements)
-without-writable [] all = tt
-without-writable (element ∷ elements) all = by_test (has_id 0 element) refl (without-writable elements all.1)
-  where
-    by_test : (zero_id : Bool) → has_id 0 element ≡ zero_id → AllByRecursion (IsWritable OneByte) (without 0 elements)
-        → AllByRecursion (IsWritable OneByte) (cond (not (has_id 0 element)) (element ∷ without 0 elements) (without 0 elements))
-    by_test true is rest = subst (λ (b : Bool). AllByRecursion (IsWritable OneByte) (cond (not b) (element ∷ without 0 elements) (without 0 elements))) (sym is) rest
-    by_test false is rest =
-        let other : element.0 ≢ 0 = λ same. false≢true (sym is ∙ eq-eqb element.0 0 same) in
-        let above : 1 ≤ element.0 = omega arith in
-        subst (λ (b : Bool). AllByRecursion (IsWritable OneByte) (cond (not b) (element ∷ without 0 elements) (without 0 elements))) (sym is) ((above, all.0), rest)
+without-writable elements all = without-weaker (IsElement OneByte) (IsWritable OneByte) 0 elements (λ element other is. (omega arith, is)) all
 
 pub narrow-le : (elements : List Element) → length (elements_bytes OneByte elements) ≤ length (elements_bytes TwoByte elements)
 narrow-le elements = omega (arith, length-two elements)

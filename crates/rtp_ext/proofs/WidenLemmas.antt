@@ -20,9 +20,12 @@ use Rattle.rtp_ext.proofs.WrittenElementsLemmas.{AreElements-in_a_row}
 use Rattle.rtp_ext.proofs.ServingFormLemmas.{length-two}
 use Rattle.rtp_ext.proofs.GatheredLemmas.{elements_bytes-append}
 
+pub each_element : (form : ExtensionsForm) (elements : List Element) → AllByRecursion (IsWritable form) elements → AllByRecursion (IsElement form) elements
+each_element form [] all = tt
+each_element form (element ∷ elements) all = (all.0.1, each_element form elements all.1)
+
 pub are_elements : (elements : List Element) → AllByRecursion (IsWritable OneByte) elements → AllByRecursion (IsElement OneByte) elements
-are_elements [] all = tt
-are_elements (element ∷ elements) all = (all.0.1, are_elements elements all.1)
+are_elements elements all = each_element OneByte elements all
 
 -- a row has one list of elements
 pub row-read : (form : ExtensionsForm) (elements : List Element) → AllByRecursion (IsElement form) elements → AreElements form (elements_bytes form elements) elements
@@ -33,31 +36,37 @@ row-same form xs ys all others same =
     AreElements-same form (elements_bytes form ys) xs ys (subst (λ b. AreElements form b xs) same (row-read form xs all)) (row-read form ys others)
 
 -- the first element of a row is the first one that is read there
-record IsFirstOfRow (left : List Element) (padding : ℕ) (element : Element) (after : List ℕ) : Type 0 where
+pub record IsFirstOfRow (form : ExtensionsForm) (left : List Element) (padding : ℕ) (element : Element) (after : List ℕ) : Type 0 where
   pub more : List Element
   pub no_padding : padding ≡ 0
   pub left_is : left ≡ element ∷ more
-  pub after_is : after ≡ elements_bytes OneByte more
+  pub after_is : after ≡ elements_bytes form more
 
-first_of_row : (left : List Element) (padding : ℕ) (element : Element) (after : List ℕ) → AllByRecursion (IsWritable OneByte) left → IsElement OneByte element
-    → elements_bytes OneByte left ≡ replicate padding 0 ++ (element_bytes OneByte element ++ after) → IsFirstOfRow left padding element after
-first_of_row [] padding element after all is same =
-    absurd (omega (arith, ap length same, length-append (replicate padding 0) (element_bytes OneByte element ++ after), length-append (element_bytes OneByte element) after))
-first_of_row (first ∷ more) (suc padding) element after all is same =
-    let header : first.0 * 16 + (length first.1 - 1) ≡ 0 = cc in
-    let above = all.0.0 in
-    absurd (omega arith)
-first_of_row (first ∷ more) zero element after all is same =
-    let lists : first ∷ elements_left OneByte (elements_bytes OneByte more) ≡ element ∷ elements_left OneByte after =
-    sym (elements_left-element OneByte first (elements_bytes OneByte more) all.0.1) ∙ (ap (elements_left OneByte) same ∙ elements_left-element OneByte element after is) in
+some_bytes : (form : ExtensionsForm) (element : Element) → 1 ≤ length (element_bytes form element)
+some_bytes OneByte element = omega arith
+some_bytes TwoByte element = omega arith
+
+no_zero : (form : ExtensionsForm) (first : Element) (after rest : List ℕ) → IsWritable form first → element_bytes form first ++ after ≡ 0 ∷ rest → ⊥
+no_zero OneByte first after rest is same = let header : first.0 * 16 + (length first.1 - 1) ≡ 0 = cc in let above = is.0 in omega arith
+no_zero TwoByte first after rest is same = let header : first.0 ≡ 0 = cc in let above = is.0 in omega arith
+
+pub first_of_row : (form : ExtensionsForm) (left : List Element) (padding : ℕ) (element : Element) (after : List ℕ) → AllByRecursion (IsWritable form) left → IsElement form element
+    → elements_bytes form left ≡ replicate padding 0 ++ (element_bytes form element ++ after) → IsFirstOfRow form left padding element after
+first_of_row form [] padding element after all is same =
+    absurd (omega (arith, some_bytes form element, ap length same, length-append (replicate padding 0) (element_bytes form element ++ after), length-append (element_bytes form element) after))
+first_of_row form (first ∷ more) (suc padding) element after all is same =
+    absurd (no_zero form first (elements_bytes form more) (replicate padding 0 ++ (element_bytes form element ++ after)) all.0 same)
+first_of_row form (first ∷ more) zero element after all is same =
+    let lists : first ∷ elements_left form (elements_bytes form more) ≡ element ∷ elements_left form after =
+    sym (elements_left-element form first (elements_bytes form more) all.0.1) ∙ (ap (elements_left form) same ∙ elements_left-element form element after is) in
     let one : first ≡ element = cc in
-    let bytes : element_bytes OneByte element ++ after ≡ element_bytes OneByte element ++ elements_bytes OneByte more =
-    sym same ∙ ap (λ (e : Element). element_bytes OneByte e ++ elements_bytes OneByte more) one in
+    let bytes : element_bytes form element ++ after ≡ element_bytes form element ++ elements_bytes form more =
+    sym same ∙ ap (λ (e : Element). element_bytes form e ++ elements_bytes form more) one in
     record {
       more = more;
       no_padding = refl;
       left_is = ap (λ (e : Element). e ∷ more) one;
-      after_is = append_cancel_left (element_bytes OneByte element) after (elements_bytes OneByte more) bytes;
+      after_is = append_cancel_left (element_bytes form element) after (elements_bytes form more) bytes;
     }
 
 pub IsWidenedTo-start : (room : List ℕ) (len : ℕ) → IsWideRow room len → IsWidenedTo room room len (length room - len) 0
@@ -75,8 +84,8 @@ IsWidenedTo-start room len is = record {
 }
 
 module _ (old room : List ℕ) (len at end : ℕ) (place : Place) (was : IsWidenedTo old room len at end) (next : IsNextPlace OneByte room at place) where
-  first : IsFirstOfRow was.left next.padding (place.id, next.bytes) next.after
-  first = first_of_row was.left next.padding (place.id, next.bytes) next.after was.are_left next.is_element (sym was.left_is ∙ next.left_is)
+  first : IsFirstOfRow OneByte was.left next.padding (place.id, next.bytes) next.after
+  first = first_of_row OneByte was.left next.padding (place.id, next.bytes) next.after was.are_left next.is_element (sym was.left_is ∙ next.left_is)
 
   left_len : length (elements_bytes OneByte was.left) ≡ 1 + length next.bytes + length (elements_bytes OneByte first.more)
   left_len =

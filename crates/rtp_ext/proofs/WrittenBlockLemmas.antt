@@ -1,20 +1,6 @@
 -- The elements that a map writes: their bytes, and what those are read as.
-use Rattle.std.proofs.Common.{◌≡◌, ℕ, ◌+◌, ◌*◌, ◌<◌, ◌≤◌, List, [], ◌∷◌, ◌++◌, length, drop, Option, Some, None, refl, sym, ap, ◌∙◌, subst, arith, length-append}
-use Rattle.std.specs.Prelude.{IfSome}
-use Rattle.std.specs.List.{AllByRecursion, cons_option}
-use Rattle.std.specs.Option.{option_map, unwrap_or}
-use Rattle.rtp_ext.specs.declared.form.ExtensionsForm.{ExtensionsForm}
-use Rattle.rtp_ext.specs.declared.form.ExtensionsForm.TheVariants.{OneByte, TwoByte}
-use Rattle.rtp_values.specs.declared.kind.Extension.{Extension}
-use Rattle.rtp_values.specs.declared.value.values.ExtensionValues.{ExtensionValues}
-use Rattle.rtp_ext.specs.Elements.{Element, IsElement, elements_bytes}
+use Rattle.rtp_ext.proofs.Common.{◌≡◌, ℕ, ◌+◌, ◌*◌, ◌<◌, ◌≤◌, List, [], ◌∷◌, ◌++◌, length, drop, Option, Some, None, refl, sym, ap, ◌∙◌, subst, arith, length-append, IfSome, AllByRecursion, cons_option, option_map, unwrap_or, ExtensionsForm, OneByte, TwoByte, Extension, ExtensionValues, Element, IsElement, elements_bytes, Slots, items_from, overwritten, spelled_data, carried_values, longest, Reads, written_elements, overwritten-overwritten, overwritten-before, overwritten-nil, overwritten-front, length-overwritten}
 use Rattle.rtp_ext.specs.ElementWriting.{element_header, element_or_nothing, items_bytes, CanCarry, IsCarried}
-use Rattle.rtp_ext.specs.ExtensionMap.{Slots, items_from}
-use Rattle.rtp_base.specs.Overwriting.{overwritten}
-use Rattle.rtp_values.specs.Spelling.{spelled_data, carried_values, longest}
-use Rattle.rtp_values.specs.Values.{Reads}
-use Rattle.rtp_ext.specs.WrittenBlock.{written_elements}
-use Rattle.rtp_base.proofs.OverwritingLemmas.{overwritten-overwritten, overwritten-before, overwritten-nil, overwritten-front, length-overwritten}
 use Rattle.rtp_values.proofs.ValueLemmas.{longest-fits}
 use Rattle.rtp_ext.proofs.FormLemmas.{Item, elements_of, IsFit}
 

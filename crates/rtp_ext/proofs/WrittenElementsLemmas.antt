@@ -1,19 +1,5 @@
 -- The elements that are read from elements in a row.
-use Rattle.std.proofs.Common.{◌≡◌, ℕ, List, [], ◌∷◌, ◌++◌, replicate, Option, Some, None, refl, sym, ap, ◌∙◌, append_assoc, zero, suc}
-use Rattle.std.specs.Prelude.{IfSome}
-use Rattle.std.specs.List.{AllByRecursion, flat_map, filter_map, cons_option}
-use Rattle.std.specs.Option.{option_map}
-use Rattle.std.proofs.lemmas.List.{append-nil}
-use Rattle.rtp_ext.specs.declared.form.ExtensionsForm.{ExtensionsForm}
-use Rattle.rtp_values.specs.declared.kind.Extension.{Extension}
-use Rattle.rtp_values.specs.declared.value.values.ExtensionValues.{ExtensionValues}
-use Rattle.rtp_ext.specs.Elements.{Element, IsElement, element_bytes, IsPiece, piece_bytes, AreElements, ended, elements_bytes}
-use Rattle.rtp_values.specs.Spelling.{spelled_data, carried_values}
-use Rattle.rtp_ext.specs.ElementWriting.{IsCarried}
-use Rattle.rtp_ext.specs.ExtensionMap.{Slots}
-use Rattle.rtp_ext.specs.ExtensionMap.{items_from}
-use Rattle.rtp_values.specs.Values.{Reads}
-use Rattle.rtp_ext.specs.WrittenBlock.{written_elements}
+use Rattle.rtp_ext.proofs.Common.{◌≡◌, ℕ, List, [], ◌∷◌, ◌++◌, replicate, Option, Some, None, refl, sym, ap, ◌∙◌, append_assoc, zero, suc, IfSome, AllByRecursion, flat_map, filter_map, cons_option, option_map, append-nil, ExtensionsForm, Extension, ExtensionValues, Element, IsElement, element_bytes, IsPiece, piece_bytes, AreElements, ended, elements_bytes, spelled_data, carried_values, IsCarried, Slots, items_from, Reads, written_elements}
 use Rattle.rtp_ext.proofs.FormLemmas.{Item, elements_of}
 
 -- a byte of padding for each zero after the elements

@@ -43,15 +43,15 @@ fields-absent kind (item ∷ items) values all =
     (SameFields-others item.1 kind (fields_of_items items values) values (λ same. all.0 (sym same)))
 
 -- a kind without data carries no value
-map-none : {A B C : Type 0} (f : A → B) (g : A → C) (value : Option A) → option_map f value ≡ None → option_map g value ≡ None
+pub map-none : {A B C : Type 0} (f : A → B) (g : A → C) (value : Option A) → option_map f value ≡ None → option_map g value ≡ None
 map-none f g None is = refl
 map-none f g (Some x) is = cc
 
-is-none : {A B : Type 0} (f : A → B) (value : Option A) → option_map f value ≡ None → value ≡ None
+pub is-none : {A B : Type 0} (f : A → B) (value : Option A) → option_map f value ≡ None → value ≡ None
 is-none f None is = refl
 is-none f (Some x) is = cc
 
-both-none : {A B C D : Type 0} (f : A → B → C) (g : A → B → D) (x : Option A) (y : Option B) → of_both f x y ≡ None → of_both g x y ≡ None
+pub both-none : {A B C D : Type 0} (f : A → B → C) (g : A → B → D) (x : Option A) (y : Option B) → of_both f x y ≡ None → of_both g x y ≡ None
 both-none f g None y is = refl
 both-none f g (Some x) None is = refl
 both-none f g (Some x) (Some y) is = cc
@@ -75,7 +75,7 @@ carried-each values VideoLayersAllocation is = map-none _ _ (element_allocation 
 carried-each values ColorSpace is = tt
 carried-each values (UnknownUri uri) is = tt
 
-carried-none : (values : ExtensionValues) (kind : Extension) → spelled_data kind values ≡ None → SameFields kind no_values (carried_values values)
+pub carried-none : (values : ExtensionValues) (kind : Extension) → spelled_data kind values ≡ None → SameFields kind no_values (carried_values values)
 carried-none values kind is = SameFields-from_each kind no_values (carried_values values) (carried-each values kind is)
 
 -- ---- the last id of a kind
@@ -110,14 +110,14 @@ find_last kind (item ∷ items) = elim (find_last kind items) [
   ]
 ]
 
-image-there : (exts : Slots) (values : ExtensionValues) (kind : Extension) → LastItem kind (items_from 0 exts)
+pub image-there : (exts : Slots) (values : ExtensionValues) (kind : Extension) → LastItem kind (items_from 0 exts)
     → SameFields kind (carried_values values) (image_values exts values)
 unfolding image_values
 image-there exts values kind found =
     subst (λ (items : List Item). SameFields kind (carried_values values) (fields_of_items items (carried_values values))) (sym found.is)
     (fields-there kind found.id found.before found.after (carried_values values))
 
-image-absent : (exts : Slots) (values : ExtensionValues) (kind : Extension) → AllByRecursion (λ item. item.1 ≢ kind) (items_from 0 exts)
+pub image-absent : (exts : Slots) (values : ExtensionValues) (kind : Extension) → AllByRecursion (λ item. item.1 ≢ kind) (items_from 0 exts)
     → SameFields kind no_values (image_values exts values)
 unfolding image_values
 image-absent exts values kind all = fields-absent kind (items_from 0 exts) (carried_values values) all
@@ -166,12 +166,12 @@ none-carry exts kind values (item ∷ items) mapped none_of =
     (carries-none exts kind values item (spelled_data item.1 values) refl mapped.0 none_of.0)
     (none-carry exts kind values items mapped.1 none_of.1)
 
-others : (kind : Extension) (values : ExtensionValues) (items : List Item) → AllByRecursion (λ item. item.1 ≢ kind) items
+pub others : (kind : Extension) (values : ExtensionValues) (items : List Item) → AllByRecursion (λ item. item.1 ≢ kind) items
     → AllByRecursion (λ item. item.1 ≡ kind → spelled_data kind values ≡ None) items
 others kind values [] all = tt
 others kind values (item ∷ items) all = (λ same. absurd (all.0 same), others kind values items all.1)
 
-without_data : (kind : Extension) (values : ExtensionValues) (items : List Item) → spelled_data kind values ≡ None
+pub without_data : (kind : Extension) (values : ExtensionValues) (items : List Item) → spelled_data kind values ≡ None
     → AllByRecursion (λ item. item.1 ≡ kind → spelled_data kind values ≡ None) items
 without_data kind values [] nothing = tt
 without_data kind values (item ∷ items) nothing = (λ same. nothing, without_data kind values items nothing)

@@ -1,5 +1,6 @@
 -- Which element of a block counts for each kind, and the values of a block (RFC 8285, 4.2 and 4.3).
-use Rattle.std.specs.Prelude.{◌≡◌, ℕ, List, ◌∷◌, ◌++◌, Some, All}
+use Rattle.std.specs.Prelude.{◌≡◌, ℕ, List, ◌∷◌, ◌++◌, Bool, Some, None, is_some, IfSome, All}
+use Rattle.rtp_vla.specs.Allocation.{Allocation}
 use Rattle.rtp_values.specs.declared.kind.Extension.{Extension}
 use Rattle.rtp_values.specs.declared.value.values.ExtensionValues.{ExtensionValues}
 use Rattle.rtp_values.specs.Values.{no_values, Reads, SameFields, IsWellFormed}
@@ -34,3 +35,9 @@ pub record SaysValues (form : ExtensionsForm) (exts : Slots) (body : List ℕ) (
   pub elements : List Element
   pub are_elements : AreElements form body elements
   pub are_values : AreValues exts elements no_values values
+
+-- values that are shown in one place without their layer allocation, with layers in another place that show it where it is said that there is one
+pub record ShowsApart {V L : Type 0} (ShowsValues : V → ExtensionValues → Type 0) (ShowsLayers : L → Allocation → Type 0) (places : V × L × Bool) (values : ExtensionValues) : Type 0 where
+  pub values_are : ShowsValues places.0 (record values { video_layers_allocation = None })
+  pub layers_are : IfSome values.video_layers_allocation (ShowsLayers places.1)
+  pub said : places.2 ≡ is_some values.video_layers_allocation

@@ -6,8 +6,9 @@ use Rattle.rtp_ext.specs.declared.form.ExtensionsForm.TheVariants.{OneByte, TwoB
 use Rattle.rtp_ext.specs.declared.place.Place.{Place}
 use Rattle.rtp_ext.specs.declared.survey.Survey.{Survey}
 use Rattle.rtp_ext.specs.Elements.{Element, IsElement, AreElements, elements_bytes}
+use Rattle.rtp_ext.specs.ElementReading.{elements_left}
 use Rattle.rtp_ext.specs.ElementsInPlace.{HasNone}
-use Rattle.rtp_ext.specs.ElementPlaces.{IsLastPlace, LiesLast, IsPassed, AreWhole}
+use Rattle.rtp_ext.specs.ElementPlaces.{LiesLast, IsPassed, AreWhole}
 use Rattle.rtp_ext.specs.ElementsInARow.{IsWritable}
 use Rattle.rtp_ext.specs.PutElement.{has_id, without, row_to}
 
@@ -15,7 +16,7 @@ use Rattle.rtp_ext.specs.PutElement.{has_id, without, row_to}
 pub record IsSurvey (form : ExtensionsForm) (body : List ℕ) (id : ℕ) (survey : Survey) : Type 0 where
   pub elements : List Element
   pub are_elements : AreElements form body elements
-  pub last_is : IfSome survey.last (λ place. (place.id ≡ id) × IsLastPlace (AreElements form) id body place × LiesLast form (AreElements form) id body place)
+  pub last_is : IfSome survey.last (λ place. (place.id ≡ id) × LiesLast form (AreElements form) id body place)
   pub none_is : IfNone survey.last (HasNone elements id)
   pub count_is : survey.count ≡ length (filter (has_id id) elements)
   pub others_are : survey.others_len ≡ length (elements_bytes form (without id elements))
@@ -69,6 +70,43 @@ pub record IsWidened (old new : List ℕ) (len end : ℕ) : Type 0 where
   pub row_was : drop (length old - len) old ≡ elements_bytes OneByte elements
   pub row_is : take end new ≡ elements_bytes TwoByte elements
   pub end_is : end ≡ length (elements_bytes TwoByte elements)
+
+-- the bytes are elements of the two-byte form in a row, each of which the one-byte form can carry
+pub record IsNarrowRow (bytes : List ℕ) : Type 0 where
+  pub elements : List Element
+  pub are_writable : AllByRecursion (IsWritable OneByte) elements
+  pub row_is : bytes ≡ elements_bytes TwoByte elements
+
+-- these elements stand at the front in the one-byte form, in so many bytes
+pub record IsNarrowed (old new : List ℕ) (end : ℕ) : Type 0 where
+  pub elements : List Element
+  pub are_writable : AllByRecursion (IsWritable OneByte) elements
+  pub row_was : old ≡ elements_bytes TwoByte elements
+  pub row_is : take end new ≡ elements_bytes OneByte elements
+  pub end_is : end ≡ length (elements_bytes OneByte elements)
+  pub within : end ≤ length new
+
+-- the same of the elements up to an offset, with those that are left
+pub record IsNarrowedTo (old new : List ℕ) (at end : ℕ) : Type 0 where
+  pub passed : List Element
+  pub left : List Element
+  pub are_passed : AllByRecursion (IsWritable OneByte) passed
+  pub are_left : AllByRecursion (IsWritable OneByte) left
+  pub row_was : old ≡ elements_bytes TwoByte (passed ++ left)
+  pub left_is : drop at new ≡ elements_bytes TwoByte left
+  pub row_is : take end new ≡ elements_bytes OneByte passed
+  pub end_is : end ≡ length (elements_bytes OneByte passed)
+  pub at_is : at + length (elements_bytes TwoByte left) ≡ length new
+  pub behind : end ≤ at
+
+-- how long the elements up to an offset are in a row in another form, without those of the id 0; the form can carry each
+pub record IsRowLengthTo (form new_form : ExtensionsForm) (body : List ℕ) (at len : ℕ) : Type 0 where
+  pub passed : List Element
+  pub elements_are : elements_left form body ≡ passed ++ elements_left form (drop at body)
+  pub len_is : len ≡ length (elements_bytes new_form (without 0 passed))
+  pub are_carried : AllByRecursion (IsWritable new_form) (without 0 passed)
+  pub small : len ≤ 2 * at
+  pub within : at ≤ length body
 
 -- of the bytes before an offset, and between two further ones, the elements of other ids stand in a row at the front, and from the first of these offsets on
 pub record HasRows (form : ExtensionsForm) (id : ℕ) (old new : List ℕ) (start end body_len front count : ℕ) : Type 0 where

@@ -71,8 +71,7 @@ pub record WritesLast (form : ExtensionsForm) (id : ℕ) (bytes old new : List �
 -- the place of the last element of the id in whole pieces with these elements, or that there is none
 abbrev pub IsLastOrNone : ExtensionsForm → ℕ → List ℕ → List Element → Option Place → Type 0
 IsLastOrNone form id bytes elements None = HasNone elements id
-IsLastOrNone form id bytes elements (Some place) =
-    IsLastPlace (AreWhole form) id bytes place × (place.id ≡ id) × LiesLast form (AreWhole form) id bytes place
+IsLastOrNone form id bytes elements (Some place) = (place.id ≡ id) × LiesLast form (AreWhole form) id bytes place
 
 -- a body up to an offset, and the place of the last element of the id there
 pub record IsPassed (form : ExtensionsForm) (body : List ℕ) (at id : ℕ) (last : Option Place) : Type 0 where

@@ -1,5 +1,5 @@
 -- Elements that are written one after the other (RFC 8285, 4.2 and 4.3).
-use Rattle.std.specs.Prelude.{◌≡◌, ℕ, ◌≤◌, ◌<◌, ◌⊎◌, List, map, length, Any, Bool, ◌&&◌, nat_le, if◌then◌else◌, Option, None, Some}
+use Rattle.std.specs.Prelude.{◌≡◌, ℕ, ◌≤◌, ◌<◌, ◌⊎◌, List, [], ◌∷◌, map, length, Any, Bool, ◌&&◌, nat_le, if◌then◌else◌, Option, None, Some}
 use Rattle.std.specs.List.{AllByRecursion, list_all}
 use Rattle.std.specs.Borrow.{Bor}
 use Rattle.rtp_ext.specs.declared.form.ExtensionsForm.{ExtensionsForm}
@@ -9,6 +9,11 @@ use Rattle.rtp_ext.specs.Elements.{Element, IsElement, elements_bytes}
 -- the elements that pairs of an id and its data are
 abbrev pub elements_of : List (ℕ × Bor (List ℕ)) → List Element
 elements_of pairs = map (λ e. (e.0, e.1.now)) pairs
+
+-- the element that is given, if one is
+abbrev pub elements_added : Option (ℕ × Bor (List ℕ)) → List Element
+elements_added None = []
+elements_added (Some element) = (element.0, element.1.now) ∷ []
 
 -- an element that may be written in the form: one that it can carry, of another id than 0, which is padding's
 abbrev pub IsWritable : ExtensionsForm → Element → Type 0

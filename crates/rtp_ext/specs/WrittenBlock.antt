@@ -11,7 +11,8 @@ use Rattle.rtp_values.specs.declared.kind.Extension.{Extension}
 use Rattle.rtp_ext.specs.ExtensionMap.{Slots, items_from, mapped_count}
 use Rattle.rtp_ext.specs.Elements.{Element, elements_bytes}
 use Rattle.rtp_values.specs.Spelling.{spelled_data, has_no_data, longest, carried_values}
-use Rattle.rtp_values.specs.Values.{no_values, with_fields}
+use Rattle.rtp_values.specs.Values.{no_values, with_fields, SameFields}
+use Rattle.rtp_values.specs.KindSet.{HasValue}
 
 -- an element for each mapped id by rising id, where its kind has data to write
 abbrev pub written_elements : Slots → ExtensionValues → List Element
@@ -46,6 +47,10 @@ mapped_fields exts values = fields_of_items (items_from 0 exts) values
 -- what the written elements are read as: the values that the data of each mapped kind carry, and every other value absent
 unfoldable pub image_values : Slots → ExtensionValues → ExtensionValues
 image_values exts values = mapped_fields exts (carried_values values)
+
+-- a value of the kind is there, and none is in what the written bytes are read as
+abbrev pub IsLeftOut : ExtensionValues → ExtensionValues → Extension → Type 0
+IsLeftOut values read kind = HasValue kind values × SameFields kind no_values read
 
 -- as many bytes as the last word lacks
 abbrev pub padding_of : ℕ → ℕ

@@ -1,12 +1,12 @@
 //! The values of a block of header extensions, as the map's kinds read them.
 
-ghost use Rattle.std.specs.Prelude.{◌≡◌, ◌≤◌, ◌∷◌, ℕ, List, false, length, is_some, Some, IsOk, IsErr, IfOk, IfSome, OnOk, OnErr, IsTrue, ◌↔◌};
+ghost use Rattle.std.specs.Prelude.{◌≡◌, ◌≤◌, ◌∷◌, ℕ, List, true, false, length, is_some, Some, IsOk, IsErr, IfOk, IfSome, OnOk, OnErr, IsTrue, ◌↔◌};
 ghost use Rattle.std.specs.Bool.{OnTrue, OnFalse};
 ghost use Rattle.rtp_ext.specs.Elements.{Element, AreElements};
 ghost use Rattle.rtp_ext.specs.Memory.{HasAllocation, IsStopped, ReadUntilRefused};
 ghost use Rattle.rtp_values.specs.declared.value.values.ExtensionValues.{ExtensionValues};
 ghost use Rattle.rtp_values.specs.declared.kind.Extension.TheVariants.{VideoLayersAllocation};
-ghost use Rattle.rtp_ext.specs.BlockValues.{AreValues, ReadElements, SaysValues};
+ghost use Rattle.rtp_ext.specs.BlockValues.{AreValues, ReadElements, SaysValues, ShowsApart};
 ghost use Rattle.rtp_ext.specs.ExtensionMap.{extension_at};
 ghost use Rattle.rtp_vla.specs.Allocation.{Allocation, Means};
 ghost use Rattle.rtp_ext.specs.LastAllocation.{EndsRow, EndsBefore};
@@ -133,6 +133,105 @@ pub fn read_layers<K: Kinds, L: SetLayers>(
         }
     }
     found
+}
+
+/// Reads the elements of a block's body in one walk into values and layers that lie apart: the layer
+/// allocation into the layers, as [`read_layers`] does, and all else into the values, as [`read_values`]
+/// does. Neither takes memory for it. Returns whether the elements give an allocation; where they give
+/// none, the layers are as before.
+#[inline(never)]
+pub fn read_apart<K: Kinds, V: SetValues, L: SetLayers>(
+    exts: &K,
+    memory: V::Memory,
+    buf: &[u8],
+    form: ExtensionsForm,
+    ev: &mut V,
+    layers: &mut L,
+) -> bool
+    ensures read { (elements : List Element) → AreElements form buf.now elements →
+        ReadElements (ShowsApart V.shows L.shows) (K.slots exts.now) elements
+        (ev.old, layers.old, false) (ev.new, layers.new, result) }
+    ensures unchanged { result ≡ false → layers.new ≡ layers.old }
+{
+    match form {
+        ExtensionsForm::OneByte => {
+            read_apart_in(exts, memory, buf, ExtensionsForm::OneByte, ev, layers)
+        }
+        ExtensionsForm::TwoByte => {
+            read_apart_in(exts, memory, buf, ExtensionsForm::TwoByte, ev, layers)
+        }
+    }
+}
+
+// The same. It is inlined, so that each form has a loop of its own.
+#[inline(always)]
+fn read_apart_in<K: Kinds, V: SetValues, L: SetLayers>(
+    exts: &K,
+    memory: V::Memory,
+    buf: &[u8],
+    form: ExtensionsForm,
+    ev: &mut V,
+    layers: &mut L,
+) -> bool
+    ensures read { (elements : List Element) → AreElements form buf.now elements →
+        ReadElements (ShowsApart V.shows L.shows) (K.slots exts.now) elements
+        (ev.old, layers.old, false) (ev.new, layers.new, result) }
+    ensures unchanged { result ≡ false → layers.new ≡ layers.old }
+{
+    let mut found = false;
+    let mut elements = Elements::new(buf, form);
+    while let Some((id, bytes)) = elements.next() {
+        if let Some(kind) = exts.get(id) {
+            match kind {
+                KnownKind::VideoLayersAllocation => {
+                    let last = last_in_row(exts, bytes, &mut elements);
+                    if read_into(last, layers) {
+                        found = true;
+                    }
+                }
+                _ => {
+                    // Data of no other kind take memory.
+                    let _ = kind.parse_value(memory, bytes, ev);
+                }
+            }
+        }
+    }
+    found
+}
+
+// Whether the bytes are too few to mean an allocation: none, or one that isn't 0.
+#[inline(always)]
+fn are_too_few(bytes: &[u8]) -> bool
+    ensures { result ≡ true → (a : Allocation) → Means bytes.now a → ⊥ }
+{
+    match bytes.len() {
+        0 => true,
+        1 => bytes[0] != 0,
+        _ => false,
+    }
+}
+
+// Reads the layer allocation that the bytes mean, if they mean one.
+#[inline(always)]
+fn read_into<L: SetLayers>(bytes: &[u8], layers: &mut L) -> bool
+    ensures found { OnTrue result ((a : Allocation) × Means bytes.now a × L.shows layers.new a) }
+    ensures only { (a : Allocation) → Means bytes.now a → (result ≡ true) × L.shows layers.new a }
+    ensures unchanged { result ≡ false → layers.new ≡ layers.old }
+{
+    if are_too_few(bytes) {
+        return false;
+    }
+    read_long(bytes, layers)
+}
+
+// The same. It is a call, since few blocks have an allocation, and the other kinds need the registers.
+#[inline(never)]
+fn read_long<L: SetLayers>(bytes: &[u8], layers: &mut L) -> bool
+    ensures found { OnTrue result ((a : Allocation) × Means bytes.now a × L.shows layers.new a) }
+    ensures only { (a : Allocation) → Means bytes.now a → (result ≡ true) × L.shows layers.new a }
+    ensures unchanged { result ≡ false → layers.new ≡ layers.old }
+{
+    vla::read_into(bytes, layers)
 }
 
 impl ExtensionMap {

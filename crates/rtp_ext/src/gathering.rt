@@ -9,7 +9,7 @@ use super::raw_writing::clear_after;
 
 // Puts the elements of other ids in a row at the front, in order, and returns how many bytes they
 // take.
-fn gather(form: ExtensionsForm, body: &mut [u8], id: u8) -> usize
+pub(super) fn gather(form: ExtensionsForm, body: &mut [u8], id: u8) -> usize
     ensures { IsGathered form id body.old body.new result }
 {
     match form {

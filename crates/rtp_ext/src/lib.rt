@@ -13,6 +13,7 @@ mod iter;
 mod kinds;
 mod kinds_by_id;
 mod known_ids;
+mod left_out;
 mod map;
 mod mapped_ids;
 mod new_body;
@@ -20,12 +21,13 @@ mod new_ids;
 mod place;
 mod raw_writing;
 mod renamed_ids;
+mod row_in_form;
 mod slots;
 mod survey;
 mod two_byte_rows;
 
 pub use block_elements::{values_form, values_len, values_len_at_most, write_values};
-pub use block_values::{read_layers, read_values};
+pub use block_values::{read_apart, read_layers, read_values};
 pub use element_data::{element_of, set_element, set_sole};
 pub use element_list::ElementList;
 pub use elements::Elements;
@@ -34,13 +36,15 @@ pub use gathering::take_out;
 pub use iter::{Iter, IterByMediaType};
 pub use kinds::Kinds;
 pub use known_ids::{KnownIds, KnownItems};
+pub use left_out::values_left_out;
 pub use map::{ExtensionMap, MAX_ID};
 pub use new_body::{put_anew, put_len};
 pub use new_ids::NewIds;
 pub use place::{Place, can_renumber, last_place, next_place, remove_element, renumber};
 pub use raw_writing::{put_elements, write_elements};
+pub use row_in_form::{remade_len, remake_body};
 pub use rtp_values::{
-    AbsCaptureTime, CarriedLayers, ElementValues, Extension, ExtensionValues, KnownKind, Uri,
-    VideoOrientation, VideoTiming, WithLayers, standard,
+    AbsCaptureTime, CarriedLayers, ElementValues, Extension, ExtensionValues, KindSet, KnownKind,
+    Uri, ValueKinds, VideoOrientation, VideoTiming, WithLayers, standard,
 };
 pub use survey::{Survey, survey_of};

@@ -34,7 +34,7 @@ fn widen_row(room: &mut [u8], len: usize) -> usize
 
 // The same of elements that may be none, as mostly those behind the element that is put.
 #[inline(always)]
-fn widen(room: &mut [u8], len: usize) -> usize
+pub(super) fn widen(room: &mut [u8], len: usize) -> usize
     requires { IsWideRow room.old len }
     ensures { IsWidened room.old room.new len result }
 {

@@ -1,15 +1,5 @@
 -- Whether the first line of a text is hexadecimal.
-use Rattle.std.proofs.Common.{◌≡◌, ℕ, ◌%◌, ◌+◌, ◌-◌, ◌<◌, ◌≤◌, inl, inr, suc, zero, List, [], ◌∷◌, length, take, drop, get_or, Result, Ok, Err, refl, sym, ap, ◌∙◌, subst, arith}
-use Rattle.std.specs.Prelude.{IsOk, IsErr, ◌⊎◌}
-use Rattle.std.specs.List.{All}
-use Rattle.std.specs.Char.{IsAsciiHexdigit, IsNotAsciiHexdigit}
-use Rattle.std.specs.Str.Lines.{lines, strip_carriage_return}
-use Rattle.std.proofs.lemmas.Grind.{common_steps}
-use Rattle.std.proofs.lemmas.Bool.{cases_lt, cases_eq, ne_eqb, eq-eqb}
-use Rattle.std.proofs.lemmas.List.{length-take-le, length-drop, take_all, take-take, get_or-take, drop_more, drop_all, nil_from_length}
-use Rattle.std.proofs.lemmas.List.Elements.{All-from_get_or}
-use Rattle.hex.specs.Hex.{decode_of}
-use Rattle.rtp_listing.specs.Front.{IsHexFirst, IsNotHexFirst, IsLineEnd}
+use Rattle.rtp_listing.proofs.Common.{◌≡◌, ℕ, ◌%◌, ◌+◌, ◌-◌, ◌<◌, ◌≤◌, inl, inr, suc, zero, List, [], ◌∷◌, length, take, drop, get_or, Result, Ok, Err, refl, sym, ap, ◌∙◌, subst, arith, IsOk, IsErr, ◌⊎◌, All, IsAsciiHexdigit, IsNotAsciiHexdigit, lines, strip_carriage_return, common_steps, cases_lt, cases_eq, ne_eqb, eq-eqb, length-take-le, length-drop, take_all, take-take, get_or-take, drop_more, drop_all, nil_from_length, All-from_get_or, decode_of, IsHexFirst, IsNotHexFirst, IsLineEnd}
 use Rattle.rtp_listing.proofs.LineLemmas.{lines-feed, lines-last}
 use Rattle.rtp_listing.proofs.HexLineLemmas.{value, IsOk-digits, digits_from_ok, not_both}
 

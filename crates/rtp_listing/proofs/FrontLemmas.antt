@@ -1,16 +1,7 @@
 -- The map lines at the front, and the map that they make.
-use Rattle.std.proofs.Common.{◌≡◌, ℕ, ◌+◌, List, [], ◌∷◌, ◌++◌, refl, sym, ap, ◌∙◌, subst, arith, append_assoc, Bool, true, false}
-use Rattle.std.specs.Prelude.{◌==◌, Option, Some, if◌then◌else◌}
-use Rattle.std.specs.List.{find}
-use Rattle.std.specs.Str.Lines.{lines}
-use Rattle.std.proofs.lemmas.List.{reverse-append, length_push}
-use Rattle.std.proofs.lemmas.Bool.{eqb-true, eqb-false}
+use Rattle.rtp_listing.proofs.Common.{◌≡◌, ℕ, ◌+◌, List, [], ◌∷◌, ◌++◌, refl, sym, ap, ◌∙◌, subst, arith, append_assoc, Bool, true, false, ◌==◌, Option, Some, if◌then◌else◌, find, lines, reverse-append, length_push, eqb-true, eqb-false, Slots, entry_at, unlocked, IsEmpty, Sets, IsMapLine, Item, AreMapLines, IsEntryOf, AreMapped, last_for, IsFront, MapsFirst}
 use Rattle.rtp_values.specs.declared.kind.Extension.{Extension}
 use Rattle.rtp_values.specs.Kind.{IsNamedBy}
-use Rattle.rtp_ext.specs.ExtensionMap.{Slots, entry_at, unlocked, IsEmpty, Sets}
-use Rattle.rtp_listing.specs.MapLine.{IsMapLine}
-use Rattle.rtp_listing.specs.Input.{Item, AreMapLines, IsEntryOf, AreMapped, last_for}
-use Rattle.rtp_listing.specs.Front.{IsFront, MapsFirst}
 
 -- one more item is the last for its id, and changes nothing for others
 mapped_more : (old new : Slots) (items : List Item) (id k : ℕ) (uri : List ℕ) (extension : Extension) → IsNamedBy uri extension → Sets old new id (unlocked extension)

@@ -1,10 +1,5 @@
 -- Lines of hexadecimal that are decoded one after the other.
-use Rattle.std.proofs.Common.{◌≡◌, ℕ, ◌+◌, ◌<◌, ◌≤◌, List, [], ◌∷◌, ◌++◌, length, map, Result, Ok, refl, sym, ap, ◌∙◌, arith, append_assoc}
-use Rattle.std.specs.Str.Lines.{lines}
-use Rattle.std.proofs.lemmas.List.{map_push, length_push}
-use Rattle.hex.specs.Hex.{decode_of}
-use Rattle.hex.specs.declared.error.FromHexError.{FromHexError}
-use Rattle.rtp_listing.specs.Input.{AreHex}
+use Rattle.rtp_listing.proofs.Common.{◌≡◌, ℕ, ◌+◌, ◌<◌, ◌≤◌, List, [], ◌∷◌, ◌++◌, length, map, Result, Ok, refl, sym, ap, ◌∙◌, arith, append_assoc, lines, map_push, length_push, decode_of, FromHexError, AreHex}
 
 -- the lines before the rest of the text are hexadecimal, and these are their bytes
 pub record SoFar (text rest : List ℕ) (datagrams : List (List ℕ)) (start number : ℕ) : Type 0 where

@@ -1,3 +1,4 @@
+mod Common
 mod HexLineLemmas
 mod LineLemmas
 mod MapLineLemmas

@@ -1,11 +1,5 @@
 -- The first line of a text, and the lines after it.
-use Rattle.std.proofs.Common.{◌≡◌, ℕ, ◌+◌, ◌-◌, ◌<◌, ◌≤◌, Bool, true, false, inl, inr, eqb, List, [], ◌∷◌, ◌++◌, length, take, drop, get_or, refl, sym, ap, ◌∙◌, subst, arith, below_more}
-use Rattle.std.specs.Prelude.{◌&&◌, ◌↔◌, IsTrue}
-use Rattle.std.specs.List.{slice_split, All}
-use Rattle.std.specs.Str.Lines.{lines, lines_of_parts, strip_carriage_return}
-use Rattle.std.proofs.lemmas.Bool.{ne_eqb, cases_lt}
-use Rattle.std.proofs.lemmas.List.{take-append-drop, drop_more, get_or-take, get_or-drop, length-take-le}
-use Rattle.std.proofs.lemmas.List.Elements.{All-from_get_or}
+use Rattle.rtp_listing.proofs.Common.{◌≡◌, ℕ, ◌+◌, ◌-◌, ◌<◌, ◌≤◌, Bool, true, false, inl, inr, eqb, List, [], ◌∷◌, ◌++◌, length, take, drop, get_or, refl, sym, ap, ◌∙◌, subst, arith, below_more, ◌&&◌, ◌↔◌, IsTrue, slice_split, All, lines, lines_of_parts, strip_carriage_return, ne_eqb, cases_lt, take-append-drop, drop_more, get_or-take, get_or-drop, length-take-le, All-from_get_or}
 use Rattle.std.proofs.lemmas.List.Splits.{slice_split_none, slice_split_at, length-slice_split}
 
 abbrev is_feed : ℕ → Bool

@@ -1,17 +1,9 @@
 -- A map line and its parts.
-use Rattle.std.proofs.Common.{◌≡◌, ℕ, ◌+◌, ◌<◌, List, [], ◌∷◌, ◌++◌, length, take, drop, get_or, refl, sym, ap, ◌∙◌, arith, length-append, Bor, Result, Ok, Err, Some, None}
-use Rattle.std.specs.Prelude.{◌≢◌, suc, MatchResult}
+use Rattle.rtp_listing.proofs.Common.{◌≡◌, ℕ, ◌+◌, ◌<◌, List, [], ◌∷◌, ◌++◌, length, take, drop, get_or, refl, sym, ap, ◌∙◌, arith, length-append, Bor, Result, Ok, Err, Some, None, ◌≢◌, suc, MatchResult, All, IsUtf8, IsAsciiDigit, IsAscii-from_digits, get_or_at, take-append-drop, drop_more, get_or-take, length-take-le, All-from_get_or, IsMapLine}
 use Rattle.std.specs.Result.{result_ok}
-use Rattle.std.specs.List.{All}
-use Rattle.std.specs.Str.{IsUtf8}
 use Rattle.std.specs.Str.Parse.{AllDigits}
-use Rattle.std.specs.Char.{IsAsciiDigit}
-use Rattle.std.proofs.lemmas.Fmt.{IsAscii-from_digits}
 use Rattle.std.proofs.lemmas.Str.{IsUtf8-from_ascii}
 use Rattle.std.proofs.lemmas.Str.Parse.{digit_at}
-use Rattle.std.proofs.lemmas.List.{get_or_at, take-append-drop, drop_more, get_or-take, length-take-le}
-use Rattle.std.proofs.lemmas.List.Elements.{All-from_get_or}
-use Rattle.rtp_listing.specs.MapLine.{IsMapLine}
 
 -- digits are text
 pub IsUtf8-digits : (digits : List ℕ) → AllDigits 10 digits → IsUtf8 digits

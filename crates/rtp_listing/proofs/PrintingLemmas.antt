@@ -1,23 +1,11 @@
 -- The lines of datagrams that are printed while the lines of the input are read.
-use Rattle.std.proofs.Common.{◌≡◌, ℕ, ◌+◌, ◌<◌, ◌≤◌, List, [], ◌∷◌, ◌++◌, length, drop, get_or, Option, Ok, refl, ap, ◌∙◌, subst, arith}
-use Rattle.std.specs.Prelude.{IsOk}
-use Rattle.std.specs.Option.{option_map}
-use Rattle.std.specs.Str.Lines.{lines}
-use Rattle.std.specs.Io.KnownBytes.{Appends}
-use Rattle.std.proofs.lemmas.List.{drop_more, length-drop}
-use Rattle.hex.specs.Hex.{decode_of}
+use Rattle.rtp_listing.proofs.Common.{◌≡◌, ℕ, ◌+◌, ◌<◌, ◌≤◌, List, [], ◌∷◌, ◌++◌, length, drop, get_or, Option, Ok, refl, ap, ◌∙◌, subst, arith, IsOk, option_map, lines, Appends, drop_more, length-drop, decode_of, ExtensionMap, RtpHeader, packet_id_of, AreHex, IsHexText, IsHeader, packet_lines}
 use Rattle.rtp_base.specs.Window.{Numbers}
-use Rattle.rtp_ext.specs.declared.map.ExtensionMap.{ExtensionMap}
-use Rattle.rtp_wire.specs.declared.header.rtp_header.RtpHeader.{RtpHeader}
 use Rattle.rtp_receive.specs.declared.receiver.Verdict.{Verdict}
 use Rattle.rtp_receive.specs.Receivers.{ReceiverStates}
 use Rattle.rtp_receive.specs.Verdicts.{IsVerdict}
-use Rattle.rtp_wire.specs.PacketIds.{packet_id_of}
 use Rattle.rtp_receive.specs.Sources.{numbers_beside}
 use Rattle.rtp_receive.specs.EachSource.{HoldsEach, taken_after_each}
-use Rattle.rtp_listing.specs.Input.{AreHex}
-use Rattle.rtp_listing.specs.Front.{IsHexText}
-use Rattle.rtp_listing.specs.Output.{IsHeader, packet_lines}
 use Rattle.rtp_listing.proofs.PrintLemmas.{Printed, Printed-none, Printed-more, Printed-written}
 
 -- the lines of the datagrams so far are printed or in the text, and the rest of the input is the lines of the others

@@ -1,14 +1,7 @@
 -- The whole input: its front and its rest.
-use Rattle.std.proofs.Common.{◌≡◌, ℕ, List, [], ◌∷◌, ◌++◌, length, drop, Result, Ok, Err, refl, sym, ap, ◌∙◌, subst, arith, append_assoc, length-append, Bool, true, false}
-use Rattle.std.specs.Prelude.{◌==◌, IsErr, Option, Some, None, IfSome, if◌then◌else◌, ◌%◌}
-use Rattle.std.specs.Str.Lines.{lines}
+use Rattle.rtp_listing.proofs.Common.{◌≡◌, ℕ, List, [], ◌∷◌, ◌++◌, length, drop, Result, Ok, Err, refl, sym, ap, ◌∙◌, subst, arith, append_assoc, length-append, Bool, true, false, ◌==◌, IsErr, Option, Some, None, IfSome, if◌then◌else◌, ◌%◌, lines, FromHexError, Slots, IsMapLine, Item, AreMapLines, AreHex, AreLines, AreMapped, IsStandardMap, IsMapOf, Spells, IsFirstBadLine, IsInput, HasBadLine, IsFront, IsFirstNotHex, MapsNoneFirst}
 use Rattle.hex.specs.Hex.{decode_of, decode_pairs}
-use Rattle.hex.specs.declared.error.FromHexError.{FromHexError}
 use Rattle.hex.specs.declared.error.FromHexError.TheVariants.{InvalidHexCharacter, OddLength}
-use Rattle.rtp_ext.specs.ExtensionMap.{Slots}
-use Rattle.rtp_listing.specs.MapLine.{IsMapLine}
-use Rattle.rtp_listing.specs.Input.{Item, AreMapLines, AreHex, AreLines, AreMapped, IsStandardMap, IsMapOf, Spells, IsFirstBadLine, IsInput, HasBadLine}
-use Rattle.rtp_listing.specs.Front.{IsFront, IsFirstNotHex, MapsNoneFirst}
 
 -- the first of some lines of hexadecimal, and the others
 hex_first : (line : List ℕ) (others datagrams : List (List ℕ)) → AreHex (line ∷ others) datagrams

@@ -1,14 +1,5 @@
 -- What a run prints, put together.
-use Rattle.std.proofs.Common.{◌≡◌, ℕ, List, [], ◌++◌, Option, Some, None, Result, Ok, Err, refl, sym, append_assoc, ap, ◌∙◌, codes}
-use Rattle.std.specs.Prelude.{IfSome, IfErr, OnOk}
-use Rattle.std.specs.Io.KnownBytes.{Appends}
-use Rattle.std.proofs.KnownBytes.{Appends-nil, Appends-trans}
-use Rattle.rtp_ext.specs.declared.map.ExtensionMap.{ExtensionMap}
-use Rattle.rtp_listing.specs.declared.program.RunEnd.{RunEnd}
-use Rattle.rtp_listing.specs.declared.program.RunEnd.TheVariants.{Done, BadLine, NoMemory, Io}
-use Rattle.rtp_listing.specs.Input.{Spells, IsInput, HasBadLine}
-use Rattle.rtp_listing.specs.Output.{IsListing, IsOutputOf, IsBadLineOf, IsFrontOf, nothing, some, IsWantOf, IsBeginningOf, of_lines, of_want, Prints}
-use Rattle.rtp_listing.specs.Stopping.{IsPartialListing, IsLeft}
+use Rattle.rtp_listing.proofs.Common.{◌≡◌, ℕ, List, [], ◌++◌, Option, Some, None, Result, Ok, Err, refl, sym, append_assoc, ap, ◌∙◌, codes, IfSome, IfErr, OnOk, Appends, Appends-nil, Appends-trans, ExtensionMap, RunEnd, Done, BadLine, NoMemory, Io, Spells, IsInput, HasBadLine, IsListing, IsOutputOf, IsBadLineOf, IsFrontOf, nothing, some, IsWantOf, IsBeginningOf, of_lines, of_want, Prints, IsPartialListing, IsLeft}
 
 -- what follows from a fact on an error, and from one on a known input
 pub on_err : {A : Type 0} (r : Result A RunEnd) (P Q : RunEnd → Type 0) → ((end : RunEnd) → P end → Q end) → IfErr r P → IfErr r Q

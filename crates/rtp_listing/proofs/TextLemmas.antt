@@ -1,12 +1,5 @@
 -- Numbers in decimal, by several of their last digits.
-use Rattle.std.proofs.Common.{◌≡◌, ℕ, ◌+◌, ◌/◌, ◌%◌, ◌<◌, ◌≤◌, ◌^◌, List, [], ◌∷◌, ◌++◌, refl, sym, ap, ◌∙◌, arith, append_assoc, ◌*◌, Bool, true, false, zero, suc, get_or, eqb, inl, inr, length, take, drop}
-use Rattle.std.specs.Prelude.{◌&&◌}
-use Rattle.std.specs.Fmt.{decimal}
-use Rattle.std.proofs.lemmas.List.{drop_more}
-use Rattle.std.proofs.lemmas.Bool.{eqb-true, cases_lt}
-use Rattle.std.proofs.lemmas.Fmt.{decimal_digit, decimal_step}
-use Rattle.rtp_listing.specs.Digits.{two_digits, four_digits}
-use Rattle.rtp_listing.specs.declared.text.TheConstants.{TWO_DIGITS}
+use Rattle.rtp_listing.proofs.Common.{◌≡◌, ℕ, ◌+◌, ◌/◌, ◌%◌, ◌<◌, ◌≤◌, ◌^◌, List, [], ◌∷◌, ◌++◌, refl, sym, ap, ◌∙◌, arith, append_assoc, ◌*◌, Bool, true, false, zero, suc, get_or, eqb, inl, inr, length, take, drop, ◌&&◌, decimal, drop_more, eqb-true, cases_lt, decimal_digit, decimal_step, two_digits, four_digits, TWO_DIGITS}
 
 -- what is put behind a text in two steps
 pub in_two : (old between new a b all : List ℕ) → between ≡ old ++ a → new ≡ between ++ b → all ≡ a ++ b → new ≡ old ++ all

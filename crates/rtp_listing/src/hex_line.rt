@@ -114,7 +114,8 @@ fn is_hex(line: &[u8]) -> bool
 /// Returns `AllocError` only when memory for the bytes is refused; a line that is not hexadecimal
 /// needs none.
 pub fn datagram(alloc: Global, line: &[u8]) -> Result<Option<Vec<u8>>, AllocError>
-    ensures found { IfOk result (λ answer. IfSome answer (λ bytes. decode_of line.now ≡ Ok bytes.items)) }
+    ensures found { IfOk result (λ answer.
+        IfSome answer (λ bytes. decode_of line.now ≡ Ok bytes.items)) }
     ensures only { (bytes : List ℕ) → decode_of line.now ≡ Ok bytes →
         IfOk result (λ answer. IsSomeAnd answer (λ found. found.items ≡ bytes)) }
     ensures none { IsErr (decode_of line.now) → result ≡ Ok None }

@@ -5,9 +5,11 @@ use Rattle.std.proofs.lemmas.Bool.{false≢true, eq-eqb, eqb-true, or_left, or_c
 use Rattle.rtp_base.specs.Window.{Numbers, IsGreatest, including}
 use Rattle.rtp_receive.specs.declared.restarting_verdict.RestartingVerdict.{RestartingVerdict}
 use Rattle.rtp_receive.specs.declared.restarting_verdict.RestartingVerdict.TheVariants.{Taken, Restarted, Refused}
-use Rattle.rtp_receive.specs.Receiver.{IsNothing, IsHighest, IsJudgedOf}
+use Rattle.rtp_receive.specs.Receiver.{IsNothing, IsHighest, IsFreshOf, IsJudgedOf}
 use Rattle.rtp_receive.specs.Widening.{IsNearest}
 use Rattle.rtp_receive.specs.Restarting.{Bounds, IsOfStream, announced, first_number, in_stream, IsRestartingRun, Arrival, epoch_after, taken_in}
+use Rattle.rtp_receive.proofs.ReceiverLemmas.{not_nothing}
+use Rattle.rtp_receive.proofs.TrueNumberLemmas.{one_greatest}
 use Rattle.rtp_receive.specs.EpochRun.{earlier_after, taken_earlier, AreRising}
 
 -- the first number of the present epoch lies above a floor, its later ones at most 32,768 below it, and all numbers of the epochs before it further below
@@ -21,6 +23,13 @@ record IsOver (earlier taken : Numbers) : Type 0 where
 -- a packet of the stream isn't further behind
 near_below : (size highest low number : ℕ) → size ≤ 2 ^ 63 → highest < number + size → IsNearest 16 highest low number → highest ≤ number + 32768
 near_below size highest low number small behind nearest = elim nearest.near [ inl near ↦ omega (arith, near) | inr tie ↦ omega (arith, tie.0) ]
+
+-- nor is a number that may be taken
+fresh_behind : (size : ℕ) (taken : Numbers) (number highest : ℕ) → IsGreatest taken highest → IsFreshOf size taken number → highest < number + size
+fresh_behind size taken number highest top (inl none) = absurd (not_nothing taken highest top none)
+fresh_behind size taken number highest top (inr accepts) =
+    let same : accepts.greatest ≡ highest = one_greatest taken accepts.greatest highest accepts.is_greatest top in
+    elim accepts.above_or_new [ inl above ↦ omega (arith, above, same) | inr new ↦ omega (arith, new.0, same) ]
 
 -- ---- one packet more
 
@@ -38,7 +47,11 @@ with_one earlier taken number highest over top near =
 of_stream : (bounds : Bounds) (earlier taken : Numbers) (low number : ℕ) (verdict : RestartingVerdict) → bounds.size ≤ 2 ^ 63 → IsOver earlier taken → IsOfStream bounds taken low number
     → IsJudgedOf bounds.size taken number (in_stream verdict) → IsOver (earlier_after earlier taken verdict) (epoch_after taken verdict)
 of_stream bounds earlier taken low number (Taken t) small over is judged =
-    with_one earlier taken t is.highest over is.is_highest (let near = near_below bounds.size is.highest low number small is.behind is.nearest in omega (arith, judged.0))
+    with_one earlier taken t is.highest over is.is_highest (
+    let behind = fresh_behind bounds.size taken number is.highest is.is_highest judged.1 in
+    let near = near_below bounds.size is.highest low number small behind is.nearest in
+    omega (arith, judged.0)
+    )
 of_stream bounds earlier taken low number (Restarted t) small over is judged = absurd judged
 of_stream bounds earlier taken low number Refused small over is judged = over
 

@@ -3,7 +3,10 @@ pub mod NearestLemmas
 mod ReceiverLemmas
 pub mod VerdictLemmas
 pub mod TrueNumberLemmas
-mod RestartingLemmas
+mod ReceptionLemmas
+mod ReceptionFacts
+pub mod StandingLemmas
+pub mod RestartingLemmas
 mod EpochOrder
 mod EpochLemmas
 mod PlacesLemmas

@@ -1,18 +1,21 @@
 -- Runs of packets whose sender may start again: the verdicts by what came before, and what follows for whole runs.
-use Rattle.std.proofs.Common.{◌≡◌, ℕ, zero, suc, ◌+◌, ◌%◌, ◌^◌, ◌<◌, ◌≤◌, ◌⊎◌, ◌↔◌, min, false, List, [], ◌∷◌, refl, sym, ◌∙◌, subst, inl, inr, arith}
+use Rattle.std.proofs.Common.{◌≡◌, ℕ, zero, suc, ◌+◌, ◌*◌, ◌%◌, ◌^◌, ◌<◌, ◌≤◌, ◌↔◌, min, false, true, List, [], ◌∷◌, refl, sym, ap, ◌∙◌, subst, inl, inr, arith}
 use Rattle.std.specs.Prelude.{Option, Some, None}
-use Rattle.std.proofs.lemmas.Bool.{cases_Bool}
+use Rattle.std.specs.Option.{is_some}
+use Rattle.std.proofs.lemmas.Bool.{cases_Bool, false≢true}
 use Rattle.rtp_base.specs.Window.{Numbers, IsGreatest}
-use Rattle.rtp_receive.specs.Receiver.{IsHighest, IsNumberOf, IsFreshOf}
+use Rattle.rtp_receive.specs.Receiver.{IsNothing, IsHighest, HoldsOf, IsNumberOf, IsFreshOf}
+use Rattle.rtp_receive.specs.StreamState.{ReceiverState}
+use Rattle.rtp_receive.specs.declared.receiver.ReceiverState.TheVariants.{Start, Window}
 use Rattle.rtp_receive.specs.Widening.{IsNearest}
 use Rattle.rtp_receive.proofs.ReceiverLemmas.{not_nothing}
-use Rattle.rtp_receive.proofs.TrueNumberLemmas.{one_greatest}
+use Rattle.rtp_receive.proofs.TrueNumberLemmas.{one_greatest, one_highest}
 use Rattle.rtp_receive.proofs.NearestLemmas.{only_near}
 use Rattle.rtp_receive.specs.declared.restarting.RestartingStreamReceiver.{RestartingStreamReceiver}
 use Rattle.rtp_receive.specs.declared.restarting_verdict.RestartingVerdict.{RestartingVerdict}
 use Rattle.rtp_receive.specs.declared.restarting_verdict.RestartingVerdict.TheVariants.{Taken, Restarted, Refused}
-use Rattle.rtp_receive.specs.Restarting.{Bounds, announced, first_number, IsOfStream, IsOutside, leading, IsFirst, Begins, IsRestartingVerdict, Arrival, epoch_after, taken_in, LeadUp, IsNext, IsRestartingRun, HasNoPair, IsOneEpoch}
-use Rattle.rtp_receive.specs.RestartingState.{bounds_of_size, HoldsEpochOf, RowLeadsOf, RowGrowsOf, RemembersOf}
+use Rattle.rtp_receive.specs.Restarting.{Bounds, announced, first_number, IsOfStream, IsOutside, leading, leading_after, BeginsAt, IsFirst, Begins, IsRestartingVerdict, Arrival, epoch_after, taken_in, LeadUp, IsNext, IsRestartingRun, HasNoPair, IsOneEpoch}
+use Rattle.rtp_receive.specs.RestartingState.{bounds_of_size, HoldsEpochOf, Leads, RowLeadsOf, RowGrowsOf, RemembersOf}
 
 -- as many as must lead up to an epoch are few
 leading-few : (bounds : Bounds) (highest : Option ℕ) → bounds.min_sequential ≤ 255 → leading bounds highest ≤ 255
@@ -127,18 +130,74 @@ first_not_refused count taken low first = never first.highest first.verdict_is
     never None is = cc
     never (Some h) is = cc
 
+-- ---- a packet outside of the stream
+
+-- where nothing is taken yet the receiver starts at the count that it was given
+starts_there : (size : ℕ) (state : ReceiverState) (count found : ℕ) (taken : Numbers) → HoldsOf size state count taken → IsNothing taken
+    → ((c : ℕ) → state ≡ Start c → found ≡ c) → found ≡ count
+starts_there size (Start start) count found taken holds nothing empty = empty start refl ∙ holds.0
+starts_there size (Window window) count found taken holds nothing empty = absurd (not_nothing taken window.greatest holds.top nothing)
+
+pub first_there : (size : ℕ) (state : ReceiverState) (count found low : ℕ) (taken : Numbers) (highest : Option ℕ) → HoldsOf size state count taken → IsHighest taken highest
+    → ((c : ℕ) → state ≡ Start c → found ≡ c) → first_number found highest low ≡ first_number count highest low
+first_there size state count found low taken None holds nothing empty = ap (λ c. 65536 * c + low % 65536) (starts_there size state count found taken holds nothing empty)
+first_there size state count found low taken (Some h) holds top empty = refl
+
+module _ (bounds : Bounds) (count found : ℕ) (taken : Numbers) (highest : Option ℕ) (Lead : ℕ → Type 0) (low : ℕ)
+    (top : IsHighest taken highest) (there : first_number found highest low ≡ first_number count highest low) where
+  -- the packet that begins an epoch by its row does so
+  pub Begins-from : (number : ℕ) → BeginsAt bounds.min_sequential found highest Lead low number → Begins bounds count taken Lead low (announced highest number)
+  Begins-from number begins =
+      let is : number ≡ first_number count highest low = begins.number_is ∙ there in
+      record {
+        is_first = record { highest = highest; is_highest = top; fits = subst (λ (n : ℕ). n < 2 ^ 64) is begins.fits; verdict_is = ap (announced highest) is };
+        lead = begins.lead;
+      }
+
+  -- and no other does
+  pub Begins-to : (verdict : RestartingVerdict) → Begins bounds count taken Lead low verdict
+      → BeginsAt bounds.min_sequential found highest Lead low (first_number count highest low)
+  Begins-to verdict begins =
+      let same : begins.is_first.highest ≡ highest = one_highest taken begins.is_first.highest highest begins.is_first.is_highest top in
+      record {
+        number_is = sym there;
+        fits = subst (λ (h : Option ℕ). first_number count h low < 2 ^ 64) same begins.is_first.fits;
+        lead = subst (λ (h : Option ℕ). Lead (leading_after bounds.min_sequential h)) same begins.lead;
+      }
+
+-- what is answered to the first packet of all, and to one of a later epoch
+pub announced_new : (highest : Option ℕ) (number : ℕ) → is_some highest ≡ false → announced highest number ≡ Taken number
+announced_new None number is = refl
+announced_new (Some h) number is = absurd (false≢true (sym is))
+
+pub announced_again : (highest : Option ℕ) (number : ℕ) → is_some highest ≡ true → announced highest number ≡ Restarted number
+announced_again None number is = absurd (false≢true is)
+announced_again (Some h) number is = refl
+
+pub some_not_none : (number : ℕ) → ◌≡◌ {A = Option ℕ} (Some number) None → ⊥
+some_not_none number is = cc
+
+pub taken_not_refused : (number : ℕ) → Taken number ≡ Refused → ⊥
+taken_not_refused number is = cc
+
+pub restarted_not_refused : (number : ℕ) → Restarted number ≡ Refused → ⊥
+restarted_not_refused number is = cc
+
+-- one number is in both
+pub some_same : (one other : ℕ) → ◌≡◌ {A = Option ℕ} (Some one) (Some other) → one ≡ other
+some_same one other is = cc
+
 -- what the row that a refused packet makes longer leads up to
-pub row_grown : (in_row next in_row' next' before low later k : ℕ) → suc k ≤ 255 → in_row' ≡ min (before + 1) 255 → next' ≡ (low + 1) % 65536
-    → ((j : ℕ) → ((j ≡ 0) ⊎ ((j ≤ in_row) × (low ≡ next))) ↔ j ≤ before)
-    → ((suc k ≡ 0) ⊎ ((suc k ≤ in_row') × (later ≡ next'))) ↔ ((Refused ≡ Refused) × (later ≡ (low + 1) % 65536) × ((k ≡ 0) ⊎ ((k ≤ in_row) × (low ≡ next))))
-row_grown in_row next in_row' next' before low later k few grown next-is held = (
-  λ leads. elim leads [ inl none ↦ absurd (omega arith) | inr is ↦ (refl, is.1 ∙ next-is, (held k).1 (omega (arith, is.0, grown))) ],
-  λ parts. inr (let le = (held k).0 parts.2 in omega (arith, le, grown), parts.1 ∙ sym next-is),
+pub row_grown : (len next len' next' before low later k : ℕ) → suc k ≤ 255 → len' ≡ min (before + 1) 255 → next' ≡ (low + 1) % 65536
+    → ((j : ℕ) → Leads len next low j ↔ j ≤ before) → Leads len' next' later (suc k) ↔ ((later ≡ (low + 1) % 65536) × Leads len next low k)
+row_grown len next len' next' before low later k few grown next-is held = (
+  λ leads. elim leads [ inl none ↦ absurd (omega arith) | inr is ↦ (is.1 ∙ next-is, (held k).1 (omega (arith, is.0, grown))) ],
+  λ parts. inr (let le = (held k).0 parts.1 in omega (arith, le, grown), parts.0 ∙ sym next-is),
 )
 
 -- the number of a packet of the stream is the one that the receiver gives it
 pub near_number : (bounds : Bounds) (count : ℕ) (taken : Numbers) (low number highest near : ℕ) → highest < 2 ^ 64 → IsGreatest taken highest → IsNumberOf count taken low near
-    → IsOfStream bounds taken low number → (near < highest + bounds.max_dropout) × (highest < near + bounds.size)
+    → IsOfStream bounds taken low number → (near < highest + bounds.max_dropout) × (highest < near + bounds.max_misorder)
 near_number bounds count taken low number highest near fits top (None, none, is) of_stream = absurd (not_nothing taken highest top none)
 near_number bounds count taken low number highest near fits top (Some h, h-top, is) of_stream =
     let here : h ≡ highest = one_greatest taken h highest h-top top in
@@ -149,3 +208,23 @@ near_number bounds count taken low number highest near fits top (Some h, h-top, 
     let ahead = of_stream.ahead in
     let behind = of_stream.behind in
     (omega (arith, same, there, ahead), omega (arith, same, there, behind))
+
+-- no packets lead up to one, whatever the bounds
+lead_none : (one other : Bounds) (low k : ℕ) → LeadUp one [] low k → LeadUp other [] low k
+lead_none one other low zero is = tt
+lead_none one other low (suc k) is = is
+
+-- a receiver that no packets came to has other bounds
+pub no_packets : {W : Type 0} (size : ℕ) (receiver : RestartingStreamReceiver W) (max_misorder : Option ℕ) → RemembersOf size receiver []
+    → RemembersOf size (record receiver { max_misorder = max_misorder }) []
+no_packets size receiver max_misorder remembers =
+    let new = record receiver { max_misorder = max_misorder } in
+    record {
+      run = tt;
+      holds = remembers.holds;
+      few = remembers.few;
+      row = λ low k le. (
+        λ lead. (remembers.row low k le).0 (lead_none (bounds_of_size size new) (bounds_of_size size receiver) low k lead),
+        λ leads. lead_none (bounds_of_size size receiver) (bounds_of_size size new) low k ((remembers.row low k le).1 leads),
+      );
+    }

@@ -7,8 +7,10 @@ pub mod Restarting
 pub mod EpochRun
 pub mod Receivers
 pub mod Sources
+pub mod Reception
 -- What functions inside promise each other.
 pub mod StreamState
 pub mod RestartingState
 pub mod SourcePlaces
 pub mod EachSource
+pub mod ReceptionState

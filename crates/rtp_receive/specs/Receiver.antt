@@ -1,9 +1,12 @@
 -- What one stream's receiver holds, and its rule for a number (RFC 3711, 3.3.1 and 3.3.2).
-use Rattle.std.specs.Prelude.{◌≡◌, ℕ, ◌+◌, ◌*◌, ◌%◌, ◌⊎◌, false, Option, Some, None}
+use Rattle.std.specs.Prelude.{◌≡◌, ℕ, ◌+◌, ◌*◌, ◌%◌, ◌<◌, ◌≤◌, ◌⊎◌, IsTrue, false, Option, Some, None}
 use Rattle.rtp_base.specs.Window.{Numbers, window_size, IsGreatest, KeepsOf, ShowsBelowZeroOf, StaysBelowZeroOf, AcceptsOf, including}
 use Rattle.rtp_receive.specs.Widening.{IsNearest}
 use Rattle.rtp_receive.specs.StreamState.{ReceiverState}
 use Rattle.rtp_receive.specs.declared.receiver.ReceiverState.TheVariants.{Start, Window}
+use Rattle.rtp_receive.specs.declared.standing.Standing.{Standing}
+use Rattle.rtp_receive.specs.declared.standing.Standing.TheVariants.{New, TooOld}
+use Rattle.rtp_receive.specs.declared.standing.Standing.TheVariants as standing
 use Rattle.rtp_receive.specs.declared.receiver.Verdict.{Verdict}
 use Rattle.rtp_receive.specs.declared.receiver.Verdict.TheVariants.{Unreadable, Taken, Refused}
 
@@ -40,6 +43,12 @@ IsNumberOf count taken low number = (highest : Option ℕ) × IsHighest taken hi
 -- the number may be taken: no number is taken yet, or a replay window of this size accepts it
 abbrev pub IsFreshOf : ℕ → Numbers → ℕ → Type 0
 IsFreshOf size taken number = IsNothing taken ⊎ AcceptsOf size taken number
+
+-- what is known of a number, where these are taken: it may be taken, or a window of this size still tells that it was, or it is behind the window
+abbrev pub HasStandingOf : ℕ → Numbers → ℕ → Standing → Type 0
+HasStandingOf size taken number New = IsFreshOf size taken number
+HasStandingOf size taken number standing.Taken = IsTrue (taken number) × ((highest : ℕ) → IsGreatest taken highest → highest < number + size)
+HasStandingOf size taken number TooOld = (highest : ℕ) × IsGreatest taken highest × (number + size ≤ highest)
 
 -- the verdict on a number, where these are taken before it
 abbrev pub IsJudgedOf : ℕ → Numbers → ℕ → Verdict → Type 0

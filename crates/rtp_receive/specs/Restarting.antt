@@ -8,28 +8,33 @@ use Rattle.rtp_receive.specs.declared.receiver.Verdict.TheVariants as plain
 use Rattle.rtp_receive.specs.declared.restarting_verdict.RestartingVerdict.{RestartingVerdict}
 use Rattle.rtp_receive.specs.declared.restarting_verdict.RestartingVerdict.TheVariants.{Taken, Restarted, Refused}
 
--- what a caller chooses: how far ahead of the highest number a packet of the stream is less than, how many numbers there are from the highest down to the last that the window tells apart, and how many packets in a row make a new source valid
+-- what a caller chooses: how far ahead of the highest number a packet of the stream is less than, and how far behind it, how many numbers there are from the highest down to the last that the window tells apart, and how many packets in a row make a new source valid
 pub record Bounds : Type 0 where
   pub max_dropout : ℕ
+  pub max_misorder : ℕ
   pub size : ℕ
   pub min_sequential : ℕ
 
--- the packet is of the stream, with this number: the nearest to the highest one taken, less than MAX_DROPOUT above it, and less than the window's size below it
+-- the packet is of the stream, with this number: the nearest to the highest one taken, less than MAX_DROPOUT above it, or less than MAX_MISORDER below it
 pub record IsOfStream (bounds : Bounds) (taken : Numbers) (low number : ℕ) : Type 0 where
   pub highest : ℕ
   pub is_highest : IsGreatest taken highest
   pub nearest : IsNearest 16 highest low number
   pub ahead : number < highest + bounds.max_dropout
-  pub behind : highest < number + bounds.size
+  pub behind : highest < number + bounds.max_misorder
 
 -- the packet isn't of the stream, or there is none yet
 abbrev pub IsOutside : Bounds → Numbers → ℕ → Type 0
 IsOutside bounds taken low = (number : ℕ) → IsOfStream bounds taken low number → ⊥
 
+-- how many packets outside of the stream lead up to the first one of an epoch, by MIN_SEQUENTIAL
+abbrev pub leading_after : ℕ → Option ℕ → ℕ
+leading_after min_sequential None = min_sequential - 1
+leading_after min_sequential (Some highest) = 1
+
 -- how many packets outside of the stream, each with the number after the one before it, lead up to the first packet of an epoch: one where the sender starts again, and one less than MIN_SEQUENTIAL where the source is new
 abbrev pub leading : Bounds → Option ℕ → ℕ
-leading bounds None = bounds.min_sequential - 1
-leading bounds (Some highest) = 1
+leading bounds = leading_after bounds.min_sequential
 
 -- the number of the first packet of an epoch after one with this highest number: its 16 bits, under the highest one's rollover count and 2 more, so that all numbers of an epoch are above those of the epochs before it
 abbrev pub restarted_number : ℕ → ℕ → ℕ
@@ -39,6 +44,12 @@ restarted_number highest low = 65536 * (highest / 65536 + 2) + low % 65536
 abbrev pub first_number : ℕ → Option ℕ → ℕ → ℕ
 first_number count None low = 65536 * count + low % 65536
 first_number count (Some highest) low = restarted_number highest low
+
+-- an epoch begins with a packet of this number, after this highest one: the number has 64 bits, and as many packets lead up to it as must
+pub record BeginsAt (min_sequential count : ℕ) (highest : Option ℕ) (Lead : ℕ → Type 0) (low number : ℕ) : Type 0 where
+  pub number_is : number ≡ first_number count highest low
+  pub fits : number < 2 ^ 64
+  pub lead : Lead (leading_after min_sequential highest)
 
 -- how the first packet of an epoch is answered
 abbrev pub announced : Option ℕ → ℕ → RestartingVerdict

@@ -1,5 +1,5 @@
 -- What a receiver of a stream whose sender may start again holds of the packets that came.
-use Rattle.std.specs.Prelude.{◌≡◌, ℕ, suc, ◌+◌, ◌*◌, ◌%◌, ◌^◌, ◌≤◌, ◌⊎◌, ◌↔◌, List, ◌∷◌, false}
+use Rattle.std.specs.Prelude.{◌≡◌, ℕ, suc, ◌+◌, ◌*◌, ◌%◌, ◌^◌, ◌≤◌, ◌⊎◌, ◌↔◌, List, ◌∷◌, false, Option, Some, None}
 use Rattle.rtp_base.specs.Window.{Numbers, WindowState}
 use Rattle.rtp_receive.specs.Receiver.{HoldsOf}
 use Rattle.rtp_receive.specs.Restarting.{Bounds, IsOutside, Arrival, taken_in, LeadUp, IsNext, IsRestartingRun, HasNoPair, IsOneEpoch}
@@ -8,9 +8,19 @@ use Rattle.rtp_receive.specs.declared.restarting.RestartingStreamReceiver.{Resta
 use Rattle.rtp_receive.specs.declared.restarting_verdict.RestartingVerdict.{RestartingVerdict}
 use Rattle.rtp_receive.specs.declared.restarting_verdict.RestartingVerdict.TheVariants.{Taken, Refused}
 
+-- MAX_MISORDER: what its caller chose, or else the size of the window
+abbrev pub misorder_in : ℕ → Option ℕ → ℕ
+misorder_in size None = size
+misorder_in size (Some max_misorder) = max_misorder
+
 -- what its caller chose, with a window of this size
 abbrev pub bounds_of_size : {W : Type 0} → ℕ → RestartingStreamReceiver W → Bounds
-bounds_of_size size receiver = record { max_dropout = receiver.max_dropout; size = size; min_sequential = receiver.min_sequential }
+bounds_of_size size receiver = record {
+  max_dropout = receiver.max_dropout;
+  max_misorder = misorder_in size receiver.max_misorder;
+  size = size;
+  min_sequential = receiver.min_sequential;
+}
 
 -- it holds the numbers taken in the epoch; the first epoch starts at this rollover count
 abbrev pub HoldsEpochOf : {W : Type 0} → ℕ → RestartingStreamReceiver W → ℕ → Numbers → Type 0
@@ -27,10 +37,10 @@ Grows bounds taken low verdict old_in_row old_next in_row next = (later k : ℕ)
 
 -- the same of a receiver
 abbrev pub RowLeadsOf : {W : Type 0} → RestartingStreamReceiver W → ℕ → ℕ → Type 0
-RowLeadsOf receiver = Leads receiver.in_row receiver.next
+RowLeadsOf receiver = Leads receiver.row.len receiver.row.next
 
 abbrev pub RowGrowsOf : {W : Type 0} → ℕ → RestartingStreamReceiver W → Numbers → ℕ → RestartingVerdict → RestartingStreamReceiver W → Type 0
-RowGrowsOf size old taken low verdict new = Grows (bounds_of_size size old) taken low verdict old.in_row old.next new.in_row new.next
+RowGrowsOf size old taken low verdict new = Grows (bounds_of_size size old) taken low verdict old.row.len old.row.next new.row.len new.row.next
 
 -- it started at the rollover count 1, and is what these packets have left, of which the latest comes first
 pub record RemembersOf {W : Type 0} (size : ℕ) (receiver : RestartingStreamReceiver W) (before : List Arrival) : Type 0 where

@@ -1,11 +1,10 @@
 //! What begins an epoch of a stream whose sender may start again.
 
-ghost use Rattle.std.specs.Prelude.{◌≡◌, ◌≢◌, ◌↔◌, ◌+◌, ◌*◌, ◌%◌, ◌^◌, ◌≤◌, ℕ, suc, Option, Some, None};
+ghost use Rattle.std.specs.Prelude.{◌≡◌, ◌≢◌, ◌↔◌, ◌+◌, ◌*◌, ◌%◌, ◌^◌, ◌<◌, ◌≤◌, ℕ, suc, Option, Some, None};
 ghost use Rattle.rtp_base.specs.Window.{Numbers};
-ghost use Rattle.rtp_receive.specs.Receiver.{IsHighest, StaysBelowZeroInOf};
-ghost use Rattle.rtp_receive.specs.Restarting.{leading, restarted_number, IsFirst, Begins, BeginsOrRefused, epoch_after};
-ghost use Rattle.rtp_receive.specs.RestartingState.{bounds_of_size, HoldsEpochOf, RowLeadsOf};
-ghost use Rattle.rtp_receive.specs.declared.restarting_verdict.RestartingVerdict.{RestartingVerdict};
+ghost use Rattle.rtp_receive.specs.Receiver.{StaysBelowZeroInOf};
+ghost use Rattle.rtp_receive.specs.Restarting.{leading_after, first_number, BeginsAt, BeginsOrRefused, epoch_after};
+ghost use Rattle.rtp_receive.specs.RestartingState.{bounds_of_size, HoldsEpochOf, Leads, RowLeadsOf};
 ghost use Rattle.rtp_receive.specs.declared.restarting_verdict.RestartingVerdict.TheVariants.{Taken, Restarted, Refused};
 ghost use Rattle.rtp_receive.specs.declared.receiver.ReceiverState.TheVariants.{Start};
 
@@ -14,79 +13,107 @@ use super::restarting::RestartingStreamReceiver;
 use super::restarting_verdict::RestartingVerdict;
 use rtp_base::SeqNo;
 
-// The number of the first packet of the epoch after the one with this highest number.
-fn next_epoch(highest: SeqNo, sequence_number: u16) -> Option<SeqNo>
-    ensures some { (number : ℕ) → result ≡ Some number →
-        number ≡ restarted_number highest sequence_number }
-    ensures none { result ≡ None → 2 ^ 64 ≤ restarted_number highest sequence_number }
-{
-    let rollover_count = highest.roc() + 2;
-    if rollover_count >= 1 << 48 {
-        return None;
-    }
-    Some(SeqNo::from(rollover_count * 65_536 + u64::from(sequence_number)))
+/// The packets outside of a stream that came last, each with the number after the one before it:
+/// what tells that a sender has started again (RFC 3550, appendix A.1), whatever window the stream
+/// is judged by.
+#[derive(Clone, Copy, Debug)]
+pub struct RestartingRow {
+    /// How many they are, at most 255.
+    pub len: u8,
+    /// The 16 bits of the number after the last of them.
+    pub next: u16,
 }
 
-impl<W: ReplayWindow> RestartingStreamReceiver<W> {
-    // How many packets in a row lead up to the first one of an epoch.
-    fn leading(&self) -> u8
-        ensures { (count : ℕ) → (taken : Numbers) → HoldsEpochOf W.size self.now count taken →
-            (highest : Option ℕ) → IsHighest taken highest →
-            result ≡ leading (bounds_of_size W.size self.now) highest }
-    {
-        match self.receiver.highest() {
-            None => self.min_sequential.saturating_sub(1),
-            Some(_) => 1,
-        }
+// How many packets in a row lead up to the first one of an epoch, and the rollover count of that.
+fn first_after(highest: Option<SeqNo>, rollover_count: u64, min_sequential: u8) -> (u8, u64)
+    requires { rollover_count < 2 ^ 48 }
+    ensures leading { result.0 ≡ leading_after min_sequential highest }
+    ensures count { (low : ℕ) →
+        first_number rollover_count highest low ≡ 65536 * result.1 + low % 65536 }
+    ensures fits { result.1 < 2 ^ 48 + 2 }
+{
+    match highest {
+        None => (min_sequential.saturating_sub(1), rollover_count),
+        Some(highest) => (1, highest.roc() + 2),
     }
+}
 
+impl RestartingRow {
     // How many packets lead up to one of these 16 bits.
-    fn row_before(&self, sequence_number: u16) -> u8
-        ensures { (k : ℕ) → RowLeadsOf self.now sequence_number k ↔ k ≤ result }
+    fn before(&self, sequence_number: u16) -> u8
+        ensures { (k : ℕ) → Leads self.now.len self.now.next sequence_number k ↔ k ≤ result }
     {
         if sequence_number == self.next {
-            self.in_row
+            self.len
         } else {
             0
         }
     }
 
-    // Begins an epoch with a packet, where as many lead up to it as must and a number of 64 bits is
-    // left for it. Else nothing changes.
-    fn begin(&mut self, sequence_number: u16) -> Option<RestartingVerdict>
-        ensures begins { (count : ℕ) → (taken : Numbers) →
-            HoldsEpochOf W.size self.old count taken → (verdict : RestartingVerdict) →
-            result ≡ Some verdict → Begins (bounds_of_size W.size self.old) count taken
-            (RowLeadsOf self.old sequence_number) sequence_number verdict }
-        ensures epoch { (count : ℕ) → (taken : Numbers) →
-            HoldsEpochOf W.size self.old count taken → (verdict : RestartingVerdict) →
-            result ≡ Some verdict → HoldsEpochOf W.size self.new count (epoch_after taken verdict) }
-        ensures none { result ≡ None → (count : ℕ) → (taken : Numbers) →
-            HoldsEpochOf W.size self.old count taken →
-            (verdict : RestartingVerdict) → Begins (bounds_of_size W.size self.old) count taken
-            (RowLeadsOf self.old sequence_number) sequence_number verdict → ⊥ }
-        ensures accepted { (verdict : RestartingVerdict) → result ≡ Some verdict →
-            verdict ≢ Refused }
-        ensures below_zero { (number : ℕ) → result ≡ Some (Taken number) →
-            StaysBelowZeroInOf W.size self.old.receiver self.new.receiver }
-        ensures restarted { (number : ℕ) → result ≡ Some (Restarted number) →
-            StaysBelowZeroInOf W.size (Start 0) self.new.receiver }
-        ensures unchanged { result ≡ None → self.new ≡ self.old }
-        ensures bounds { bounds_of_size W.size self.new ≡ bounds_of_size W.size self.old }
+    // The number of the packet as the first one of an epoch, where as many lead up to it as must
+    // and it has one.
+    fn first(
+        &self,
+        sequence_number: u16,
+        min_sequential: u8,
+        highest: Option<SeqNo>,
+        rollover_count: u64,
+    ) -> Option<SeqNo>
+        requires { rollover_count < 2 ^ 48 }
+        ensures begins { (number : ℕ) → result ≡ Some number →
+            BeginsAt min_sequential rollover_count highest
+            (Leads self.now.len self.now.next sequence_number) sequence_number number }
+        ensures none { result ≡ None → (number : ℕ) →
+            BeginsAt min_sequential rollover_count highest
+            (Leads self.now.len self.now.next sequence_number) sequence_number number → ⊥ }
     {
-        if self.row_before(sequence_number) < self.leading() {
+        let (leading, first_count) = first_after(highest, rollover_count, min_sequential);
+        if self.before(sequence_number) < leading || first_count >= 1 << 48 {
             return None;
         }
-        let Some(highest) = self.receiver.highest() else {
-            let number = self.receiver.number_of(sequence_number);
-            self.receiver.record(number);
-            return Some(RestartingVerdict::Taken(number));
-        };
-        let number = next_epoch(highest, sequence_number)?;
-        self.receiver.start_with(number);
-        Some(RestartingVerdict::Restarted(number))
+        Some(SeqNo::from(first_count * 65_536 + u64::from(sequence_number)))
     }
 
+    /// Judges a packet that is outside of the stream: returns the number with which it begins an
+    /// epoch, and the row ends; or `None` where it begins none, and then it is one more of the row.
+    ///
+    /// It begins one where it is the last of `min_sequential` packets in a row, or after a highest
+    /// number the second one, and a number of 64 bits is left for it. The first epoch starts at the
+    /// rollover count that is given, and each later one 2 above the highest number. Precondition:
+    /// the count is below 2^48.
+    pub fn begin(
+        &mut self,
+        sequence_number: u16,
+        min_sequential: u8,
+        highest: Option<SeqNo>,
+        rollover_count: u64,
+    ) -> Option<SeqNo>
+        requires { rollover_count < 2 ^ 48 }
+        ensures begins { (number : ℕ) → result ≡ Some number →
+            BeginsAt min_sequential rollover_count highest
+            (Leads self.old.len self.old.next sequence_number) sequence_number number }
+        ensures none { result ≡ None → (number : ℕ) →
+            BeginsAt min_sequential rollover_count highest
+            (Leads self.old.len self.old.next sequence_number) sequence_number number → ⊥ }
+        ensures row { (later k : ℕ) → suc k ≤ 255 → Leads self.new.len self.new.next later (suc k)
+            ↔ ((result ≡ None) × (later ≡ (sequence_number + 1) % 65536)
+            × Leads self.old.len self.old.next sequence_number k) }
+    {
+        match self.first(sequence_number, min_sequential, highest, rollover_count) {
+            Some(number) => {
+                self.len = 0;
+                Some(number)
+            }
+            None => {
+                self.len = self.before(sequence_number).saturating_add(1);
+                self.next = sequence_number.wrapping_add(1);
+                None
+            }
+        }
+    }
+}
+
+impl<W: ReplayWindow> RestartingStreamReceiver<W> {
     // The verdict on a packet that is outside of the stream.
     pub(super) fn receive_outside(&mut self, sequence_number: u16) -> RestartingVerdict
         ensures judged { (count : ℕ) → (taken : Numbers) →
@@ -105,15 +132,23 @@ impl<W: ReplayWindow> RestartingStreamReceiver<W> {
             StaysBelowZeroInOf W.size (Start 0) self.new.receiver }
         ensures bounds { bounds_of_size W.size self.new ≡ bounds_of_size W.size self.old }
     {
-        match self.begin(sequence_number) {
-            Some(verdict) => {
-                self.in_row = 0;
-                verdict
-            }
-            None => {
-                self.in_row = self.row_before(sequence_number).saturating_add(1);
-                self.next = sequence_number.wrapping_add(1);
-                RestartingVerdict::Refused
+        let highest = self.receiver.highest();
+        let rollover_count = self.receiver.rollover_count();
+        let min_sequential = self.min_sequential;
+        let is_new = highest.is_none();
+        match self
+            .row
+            .begin(sequence_number, min_sequential, highest, rollover_count)
+        {
+            None => RestartingVerdict::Refused,
+            Some(number) => {
+                if is_new {
+                    self.receiver.record(number);
+                    RestartingVerdict::Taken(number)
+                } else {
+                    self.receiver.start_with(number);
+                    RestartingVerdict::Restarted(number)
+                }
             }
         }
     }

@@ -4,11 +4,12 @@ ghost use Rattle.std.specs.Prelude.{◌≡◌, ◌≢◌, ◌↔◌, ◌+◌, �
 ghost use Rattle.rtp_base.specs.Window.{Numbers, window_size};
 ghost use Rattle.rtp_receive.specs.Receiver.{IsHighest, IsJudgedOf, StaysBelowZeroInOf};
 ghost use Rattle.rtp_receive.specs.Restarting.{IsOfStream, IsOutside, in_stream, IsRestartingVerdict, Arrival, epoch_after};
-ghost use Rattle.rtp_receive.specs.RestartingState.{bounds_of_size, HoldsEpochOf, RowLeadsOf, RowGrowsOf, RemembersOf, FollowsOf};
+ghost use Rattle.rtp_receive.specs.RestartingState.{bounds_of_size, misorder_in, HoldsEpochOf, RowLeadsOf, RowGrowsOf, RemembersOf, FollowsOf};
 ghost use Rattle.rtp_receive.specs.declared.restarting_verdict.RestartingVerdict.{RestartingVerdict};
 ghost use Rattle.rtp_receive.specs.declared.restarting_verdict.RestartingVerdict.TheVariants.{Taken, Restarted, Refused};
 ghost use Rattle.rtp_receive.specs.declared.receiver.ReceiverState.TheVariants.{Start};
 
+use super::epoch::RestartingRow;
 use super::receiver::Receiver;
 use super::replay_window::ReplayWindow;
 use super::restarting_verdict::RestartingVerdict;
@@ -23,10 +24,15 @@ use std::fmt;
 /// [`RestartingReceiver`](crate::RestartingReceiver), whose window has 64 * N, are names of.
 ///
 /// A packet is of the stream where its number is less than `max_dropout` above the highest number
-/// taken, and less than the size of the window below it: it is taken or refused as by
-/// [`StreamReceiver`]. Any other is outside of the stream, and is refused; but where the very next
-/// packet has the number after it and is outside of the stream too, the sender has started again.
-/// That second packet is then taken as the first one of a new epoch, with a new window.
+/// taken, or less than `max_misorder` below it: it is taken or refused as by [`StreamReceiver`].
+/// Any other is outside of the stream, and is refused; but where the very next packet has the
+/// number after it and is outside of the stream too, the sender has started again. That second
+/// packet is then taken as the first one of a new epoch, with a new window.
+///
+/// `max_misorder` is the size of the window, unless [`with_max_misorder`](Self::with_max_misorder)
+/// sets it. Two late packets in a row, as retransmissions are, that are behind it look as if the
+/// sender had started again, and what was taken before may then be taken again: so choose it, and
+/// the window, longer than a packet can be late.
 ///
 /// Don't use it for SRTP: there a packet that isn't authentic must change nothing, and a sender
 /// that starts again would use the numbers of its key anew.
@@ -46,11 +52,10 @@ use std::fmt;
 pub struct RestartingStreamReceiver<W: ReplayWindow> {
     pub(super) receiver: StreamReceiver<W>,
     max_dropout: u16,
+    // `None` where it is the size of the window.
+    max_misorder: Option<u16>,
     pub(super) min_sequential: u8,
-    // How many packets outside of the stream came last in a row, at most 255, and the 16 bits of
-    // the number after the last of them.
-    pub(super) in_row: u8,
-    pub(super) next: u16,
+    pub(super) row: RestartingRow,
 }
 
 // The text has the shorter name, whatever the window.
@@ -62,9 +67,10 @@ where
         f.debug_struct("RestartingReceiver")
             .field("receiver", &self.receiver)
             .field("max_dropout", &self.max_dropout)
+            .field("max_misorder", &self.max_misorder)
             .field("min_sequential", &self.min_sequential)
-            .field("in_row", &self.in_row)
-            .field("next", &self.next)
+            .field("in_row", &self.row.len)
+            .field("next", &self.row.next)
             .finish()
     }
 }
@@ -72,7 +78,7 @@ where
 impl<W: ReplayWindow> RestartingStreamReceiver<W> {
     /// The receiver that goes on from these parts: with the same bounds, what
     /// [`epoch`](Self::epoch) lent, and what [`row`](Self::row) returned. An epoch that has taken
-    /// nothing yet may start at any rollover count.
+    /// nothing yet may start at any rollover count. `max_misorder` is the size of the window.
     pub fn from_parts(
         epoch: StreamReceiver<W>,
         max_dropout: u16,
@@ -82,17 +88,41 @@ impl<W: ReplayWindow> RestartingStreamReceiver<W> {
         ensures { result ≡ record {
           receiver = epoch;
           max_dropout = max_dropout;
+          max_misorder = None;
           min_sequential = min_sequential;
-          in_row = row.0;
-          next = row.1;
+          row = record { len = row.0; next = row.1 };
         } }
     {
+        let (len, next) = row;
         RestartingStreamReceiver {
             receiver: epoch,
             max_dropout,
+            max_misorder: None,
             min_sequential,
-            in_row: row.0,
-            next: row.1,
+            row: RestartingRow { len, next },
+        }
+    }
+
+    /// The same receiver with this bound in place of the size of its window: 100 is RFC 3550's
+    /// `MAX_MISORDER`. A packet of the stream is less than `max_misorder` below the highest number
+    /// taken; 32,769 or more is as far as 16 bits tell, and with 0 not even a copy of the highest
+    /// one is of the stream. It may be more than the size of the window: what is then too old to
+    /// tell is refused, and leads up to no new epoch.
+    ///
+    /// ```
+    /// let mut receiver = NarrowRestartingReceiver::new().with_max_misorder(3000);
+    /// assert_eq!(receiver.receive(1999), RestartingVerdict::Taken(SeqNo::from(67_535)));
+    /// assert_eq!(receiver.receive(1800), RestartingVerdict::Refused);
+    /// assert_eq!(receiver.receive(1801), RestartingVerdict::Refused);
+    /// assert_eq!(receiver.receive(2000), RestartingVerdict::Taken(SeqNo::from(67_536)));
+    /// ```
+    pub fn with_max_misorder(self, max_misorder: u16) -> Self
+        ensures same { result ≡ record self { max_misorder = Some max_misorder } }
+        ensures empty { RemembersOf W.size self [] → RemembersOf W.size result [] }
+    {
+        RestartingStreamReceiver {
+            max_misorder: Some(max_misorder),
+            ..self
         }
     }
 
@@ -107,9 +137,9 @@ impl<W: ReplayWindow> RestartingStreamReceiver<W> {
     /// How many packets outside of the stream came last in a row, at most 255, and the 16 bits of
     /// the number after the last of them.
     pub fn row(&self) -> (u8, u16)
-        ensures { (result.0 ≡ self.now.in_row) × (result.1 ≡ self.now.next) }
+        ensures { (result.0 ≡ self.now.row.len) × (result.1 ≡ self.now.row.next) }
     {
-        (self.in_row, self.next)
+        (self.row.len, self.row.next)
     }
 
     /// The highest number taken in the epoch, and `None` where nothing is taken yet.
@@ -171,13 +201,23 @@ impl<W: ReplayWindow> RestartingStreamReceiver<W> {
         }
     }
 
+    // Whether a number so far below the highest one is of the stream.
+    fn reaches(&self, distance: u64) -> bool
+        ensures { IsTrue result ↔ distance < misorder_in W.size self.now.max_misorder }
+    {
+        match self.max_misorder {
+            None => W::spans(distance),
+            Some(max_misorder) => distance < u64::from(max_misorder),
+        }
+    }
+
     // Whether a number is as near to the highest one as those of the stream are.
     fn is_near(&self, highest: u64, number: u64) -> bool
         ensures { IsTrue result ↔ ((number < highest + self.now.max_dropout)
-            × (highest < number + W.size)) }
+            × (highest < number + misorder_in W.size self.now.max_misorder)) }
     {
         let is_ahead = number < highest || number - highest < u64::from(self.max_dropout);
-        let is_behind = highest < number || W::spans(highest - number);
+        let is_behind = highest < number || self.reaches(highest - number);
         is_ahead && is_behind
     }
 
@@ -189,12 +229,12 @@ impl<W: ReplayWindow> RestartingStreamReceiver<W> {
         ensures epoch { (count : ℕ) → (taken : Numbers) → HoldsEpochOf W.size self.old count taken →
             HoldsEpochOf W.size self.new count (epoch_after taken result) }
         ensures same_epoch { (first : ℕ) → result ≢ Restarted first }
-        ensures row { self.new.in_row ≡ 0 }
+        ensures row { self.new.row.len ≡ 0 }
         ensures bounds { bounds_of_size W.size self.new ≡ bounds_of_size W.size self.old }
         ensures refused { result ≡ Refused → self.new.receiver ≡ self.old.receiver }
         ensures below_zero { StaysBelowZeroInOf W.size self.old.receiver self.new.receiver }
     {
-        self.in_row = 0;
+        self.row.len = 0;
         if self.receiver.take(number) {
             RestartingVerdict::Taken(number)
         } else {
@@ -212,7 +252,12 @@ impl NarrowRestartingReceiver {
     /// the first packet of a source.
     pub fn new() -> Self
         ensures bounds { bounds_of_size window_size result
-            ≡ record { max_dropout = 3000; size = window_size; min_sequential = 1 } }
+            ≡ record {
+              max_dropout = 3000;
+              max_misorder = window_size;
+              size = window_size;
+              min_sequential = 1;
+            } }
         ensures empty { RemembersOf window_size result [] }
     {
         Self::with_bounds(3000, 1)
@@ -225,6 +270,7 @@ impl NarrowRestartingReceiver {
     pub fn with_bounds(max_dropout: u16, min_sequential: u8) -> Self
         ensures bounds { bounds_of_size window_size result ≡ record {
           max_dropout = max_dropout;
+          max_misorder = window_size;
           size = window_size;
           min_sequential = min_sequential;
         } }

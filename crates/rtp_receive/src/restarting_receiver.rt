@@ -29,7 +29,12 @@ impl<const N: usize> RestartingReceiver<N> {
     pub fn new() -> Self
         requires { 0 < N }
         ensures bounds { bounds_of N result
-            ≡ record { max_dropout = 3000; size = 64 * N; min_sequential = 1 } }
+            ≡ record {
+              max_dropout = 3000;
+              max_misorder = 64 * N;
+              size = 64 * N;
+              min_sequential = 1;
+            } }
         ensures empty { Remembers N result [] }
     {
         Self::with_bounds(3000, 1)
@@ -43,6 +48,7 @@ impl<const N: usize> RestartingReceiver<N> {
         requires { 0 < N }
         ensures bounds { bounds_of N result ≡ record {
           max_dropout = max_dropout;
+          max_misorder = 64 * N;
           size = 64 * N;
           min_sequential = min_sequential;
         } }

@@ -2,13 +2,14 @@
 
 ghost use Rattle.std.specs.Prelude.{◌≡◌, ◌↔◌, ◌^◌, ◌<◌, ◌/◌, ℕ, IsTrue, false, if◌then◌else◌};
 ghost use Rattle.rtp_base.specs.Window.{Numbers, WindowState, only, including};
-ghost use Rattle.rtp_receive.specs.Receiver.{HoldsOf, IsHighest, IsNumberOf, IsFreshOf, IsJudgedOf, taken_after, StaysBelowZeroInOf};
+ghost use Rattle.rtp_receive.specs.Receiver.{HoldsOf, IsHighest, IsNumberOf, IsFreshOf, HasStandingOf, IsJudgedOf, taken_after, StaysBelowZeroInOf};
 ghost use Rattle.rtp_receive.specs.declared.receiver.ReceiverState.TheVariants.{Start, Window};
 ghost use Rattle.rtp_receive.specs.declared.receiver.Verdict.TheVariants.{Refused};
 ghost use Rattle.rtp_receive.specs.TrueNumbers.{IsTrueNumber};
 
 use super::receiver::{ReceiverState, Verdict};
 use super::replay_window::ReplayWindow;
+use super::standing::Standing;
 use super::widening::extend_u16;
 use rtp_base::SeqNo;
 use std::marker::Model;
@@ -104,6 +105,31 @@ impl<W: ReplayWindow> StreamReceiver<W> {
         match &self.state {
             ReceiverState::Start(_) => true,
             ReceiverState::Window(window) => window.accepts(number),
+        }
+    }
+
+    /// What is known of the number: why [`accepts`](Self::accepts) is false for it, where it is.
+    ///
+    /// ```
+    /// let mut receiver = Receiver::starting_at(1);
+    /// receiver.receive(1000);
+    /// assert_eq!(receiver.standing_of(SeqNo::from(66_536)), Standing::Taken);
+    /// assert_eq!(receiver.standing_of(SeqNo::from(66_409)), Standing::New);
+    /// assert_eq!(receiver.standing_of(SeqNo::from(66_408)), Standing::TooOld);
+    /// ```
+    pub fn standing_of(&self, number: SeqNo) -> Standing
+        ensures { (count : ℕ) → (taken : Numbers) → HoldsOf W.size self.now count taken →
+            HasStandingOf W.size taken number result }
+    {
+        let Some(highest) = self.highest() else {
+            return Standing::New;
+        };
+        if self.accepts(number) {
+            Standing::New
+        } else if W::spans(highest.get().saturating_sub(number.get())) {
+            Standing::Taken
+        } else {
+            Standing::TooOld
         }
     }
 

@@ -5,7 +5,7 @@ use Rattle.rtp_receive.specs.Restarting.{Bounds, Arrival}
 
 -- RFC 3550's MAX_DROPOUT, a window of 1,024 numbers, and a source that is valid with its first packet
 abbrev pub usual_bounds : Bounds
-usual_bounds = record { max_dropout = 3000; size = 1024; min_sequential = 1 }
+usual_bounds = record { max_dropout = 3000; max_misorder = 1024; size = 1024; min_sequential = 1 }
 
 -- these packets and then those of the sequence numbers, with the verdicts on them; the latest comes first
 abbrev pub arrivals_after : List Arrival → List ℕ → List RestartingVerdict → List Arrival

@@ -97,7 +97,8 @@ pub fn is_same_form(a: ExtensionsForm, b: ExtensionsForm) -> bool
     a == b
 }
 
-/// Each known extension equals itself alone, and unknown ones are equal exactly when their URIs are.
+/// Each known extension equals itself alone, and unknown ones are equal exactly when their URIs
+/// are.
 pub fn is_same_extension(a: &Extension, b: &Extension) -> bool
     ensures { IsTrue result ↔ (a.now ≡ b.now) }
 {

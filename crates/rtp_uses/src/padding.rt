@@ -56,8 +56,8 @@ pub fn payload_of<'a>(header: &RtpHeader, after: &'a [u8]) -> Option<&'a [u8]>
     unpad_payload(after)
 }
 
-/// The payload that a receiver finds in a packet of padding: no bytes. `None` where there isn't room
-/// for the packet.
+/// The payload that a receiver finds in a packet of padding: no bytes. `None` where there isn't
+/// room for the packet.
 pub fn payload_of_padding<'a>(
     header: &mut RtpHeader,
     exts: &ExtensionMap,

@@ -15,8 +15,9 @@ use rtp_base::{SeqNo, Ssrc};
 use rtp_wire::{Receiver, Receivers, RtpHeader, RtpPacket, Verdict};
 use std::alloc::{AllocError, Global};
 
-/// Returns the number of a packet of this sequence number that is new and authentic, and records it.
-/// For every other packet returns `None`, and the receiver holds the same numbers (RFC 3711, 3.3).
+/// Returns the number of a packet of this sequence number that is new and authentic, and records
+/// it. For every other packet returns `None`, and the receiver holds the same numbers (RFC 3711,
+/// 3.3).
 pub fn receive_authentic<F: FnOnce(SeqNo) -> bool>(
     receiver: &mut Receiver,
     sequence_number: u16,
@@ -72,8 +73,8 @@ pub fn receive_each(alloc: Global, headers: &[RtpHeader]) -> Result<Vec<Verdict>
 }
 
 /// The verdict on a datagram of a transport that many sources share. A packet's header extensions
-/// aren't looked at, nor is the form of its block: memory is taken for a source without a receiver alone,
-/// so a packet of any other is judged whatever memory is left.
+/// aren't looked at, nor is the form of its block: memory is taken for a source without a receiver
+/// alone, so a packet of any other is judged whatever memory is left.
 pub fn receive_datagram(receivers: &mut Receivers, datagram: &[u8]) -> Result<Verdict, AllocError>
     ensures verdict { (parts : PacketParts) → IsPacket datagram.now parts →
         (count : ℕ) → (taken : Numbers) → Holds (state_of receivers.old parts.ssrc) count taken →
@@ -110,9 +111,9 @@ pub fn receive_first_of_two(
     Ok((first, second))
 }
 
-/// The verdict on a packet of this source and sequence number, of an unauthenticated transport whose
-/// number of sources is limited: `None`, and nothing changes, where the source is new and there are
-/// as many sources as the limit. Otherwise it is that of [`Receivers::receive`].
+/// The verdict on a packet of this source and sequence number, of an unauthenticated transport
+/// whose number of sources is limited: `None`, and nothing changes, where the source is new and
+/// there are as many sources as the limit. Otherwise it is that of [`Receivers::receive`].
 pub fn receive_limited(
     receivers: &mut Receivers,
     ssrc: Ssrc,

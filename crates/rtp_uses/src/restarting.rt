@@ -8,8 +8,8 @@ ghost use Rattle.rtp_uses.specs.Arriving.{usual_bounds, arrivals_of};
 use rtp_wire::{RestartingReceiver, RestartingVerdict};
 use std::alloc::{AllocError, Global};
 
-/// The verdict on each packet of one source, by its sequence number, in the order in which they came
-/// (RFC 3550, appendix A.1). Those of the last epoch are judged as by a
+/// The verdict on each packet of one source, by its sequence number, in the order in which they
+/// came (RFC 3550, appendix A.1). Those of the last epoch are judged as by a
 /// [`WideReceiver`](rtp_wire::WideReceiver) that its first packet is the first one of, and their
 /// numbers are above those of the epochs before it.
 pub fn receive_each_epoch(

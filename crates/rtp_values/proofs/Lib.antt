@@ -4,6 +4,7 @@ pub mod WellFormedOrNot
 pub mod ValueLemmas
 pub mod EmptyDataLemmas
 pub mod DataLengthLemmas
+pub mod KindSetLemmas
 mod WithLayersLemmas
 mod DelayLemmas
 mod SendTimeLemmas

@@ -22,7 +22,7 @@ use Rattle.rtp_values.specs.declared.value.video_orientation.VideoOrientation.Th
 use Rattle.rtp_base.specs.Flag.{bit}
 use Rattle.rtp_values.specs.Values.{Reads, big_endian, offset_of, orientation_of, hundredths}
 use Rattle.rtp_values.specs.Spelling.{bytes_of_number, spelled_data, HasRoom, carried_values, longest, send_ticks, delay_of, offset_bytes, orientation_bits, timing_bytes}
-use Rattle.rtp_values.specs.KindBytes.{WritesData}
+use Rattle.rtp_values.specs.KindBytes.{WritesData, IsTextOf}
 
 -- ---- what is written
 
@@ -84,96 +84,88 @@ orientation_again Deg270 = refl
 
 -- ---- the text of an id
 
--- the text of an id of this size, as `as_str` gives it
-abbrev pub IsTextOf : ℕ → List ℕ → List ℕ → Type 0
-IsTextOf size id str = record { text : str ≡ before_padding id; back : IsIdOf size str id }
-
--- the bytes of a text, as `as_bytes` gives them
-abbrev pub AreBytesOf : List ℕ → List ℕ → Type 0
-AreBytesOf text bytes = record { value : bytes ≡ text; utf8 : IsUtf8 bytes; len : length bytes ≡ length text }
-
--- the bytes of an id's text are the data of a kind that keeps the id, and are read as it
-AreData-id : {kind : Extension} {values : ExtensionValues} (size : ℕ) {id text bytes : List ℕ} → size ≤ longest kind → spelled_data kind values ≡ Some (before_padding id)
-    → ((bytes : List ℕ) → IsUtf8 bytes → IsIdOf size bytes id → Reads kind bytes (carried_values values)) → IsTextOf size id text → AreBytesOf text bytes → AreData kind values bytes
-AreData-id size {id} {text} enough spelled reads is are = record {
-  spelled = spelled ∙ ap Some (sym (are.value ∙ is.text));
-  read_back = reads _ are.utf8 (subst (λ (xs : List ℕ). IsIdOf size xs id) (sym are.value) is.back);
-  few = omega (arith, ap length (are.value ∙ is.text ∙ is.back.text_is), length-take size (map id_char (chars text)));
+-- the text of an id is the data of a kind that keeps the id, and is read as it
+AreData-id : {kind : Extension} {values : ExtensionValues} (size : ℕ) {id text : List ℕ} → size ≤ longest kind → spelled_data kind values ≡ Some (before_padding id)
+    → ((bytes : List ℕ) → IsUtf8 bytes → IsIdOf size bytes id → Reads kind bytes (carried_values values)) → IsTextOf size id text → AreData kind values text
+AreData-id size {id} {text} enough spelled reads is = record {
+  spelled = spelled ∙ ap Some (sym is.text_is);
+  read_back = reads _ is.utf8 is.same;
+  few = omega (arith, ap length (is.text_is ∙ is.same.text_is), length-take size (map id_char (chars text)));
 }
 
--- ---- kind by kind; `shown` is what the fields hold
+-- ---- kind by kind
 
-module _ {shown values : ExtensionValues} (same : shown ≡ values) where
-  pub spelled-send_time : {micros ticks : ℕ} → shown.abs_send_time ≡ Some micros → ticks ≡ send_ticks micros → spelled_data AbsoluteSendTime values ≡ Some (bytes_of_number 3 ticks)
-  spelled-send_time is ticks-is = rw (← same, is, ticks-is) refl
+module _ (values : ExtensionValues) where
+  pub spelled-send_time : {micros ticks : ℕ} → values.abs_send_time ≡ Some micros → ticks ≡ send_ticks micros → spelled_data AbsoluteSendTime values ≡ Some (bytes_of_number 3 ticks)
+  spelled-send_time is ticks-is = rw (is, ticks-is) refl
 
-  pub AreData-send_time : {micros ticks : ℕ} → shown.abs_send_time ≡ Some micros → ticks ≡ send_ticks micros → big_endian (bytes_of_number 3 ticks) ≡ ticks
+  pub AreData-send_time : {micros ticks : ℕ} → values.abs_send_time ≡ Some micros → ticks ≡ send_ticks micros → big_endian (bytes_of_number 3 ticks) ≡ ticks
       → AreData AbsoluteSendTime values (bytes_of_number 3 ticks)
   unfolding carried_values
   AreData-send_time is ticks-is back = record {
     spelled = spelled-send_time is ticks-is;
-    read_back = (omega arith, rw (← same, is) (ap (λ (ticks : ℕ). Some (ticks * 1000000 / 262144)) (sym (back ∙ ticks-is))));
+    read_back = (omega arith, rw is (ap (λ (ticks : ℕ). Some (ticks * 1000000 / 262144)) (sym (back ∙ ticks-is))));
     few = omega arith;
   }
 
-  pub spelled-transmission_offset : {offset : ℕ} → shown.tx_time_offs ≡ Some offset → spelled_data TransmissionTimeOffset values ≡ Some (bytes_of_number 4 offset)
-  spelled-transmission_offset is = rw (← same, is) refl
+  pub spelled-transmission_offset : {offset : ℕ} → values.tx_time_offs ≡ Some offset → spelled_data TransmissionTimeOffset values ≡ Some (bytes_of_number 4 offset)
+  spelled-transmission_offset is = rw is refl
 
-  pub AreData-transmission_offset : {offset : ℕ} → shown.tx_time_offs ≡ Some offset → big_endian (bytes_of_number 4 offset) ≡ offset → AreData TransmissionTimeOffset values (bytes_of_number 4 offset)
+  pub AreData-transmission_offset : {offset : ℕ} → values.tx_time_offs ≡ Some offset → big_endian (bytes_of_number 4 offset) ≡ offset → AreData TransmissionTimeOffset values (bytes_of_number 4 offset)
   unfolding carried_values
   AreData-transmission_offset is back = record {
     spelled = spelled-transmission_offset is;
-    read_back = (omega arith, rw (← same, is) (ap Some (sym back)));
+    read_back = (omega arith, rw is (ap Some (sym back)));
     few = omega arith;
   }
 
-  pub spelled-transport : {number : ℕ} → shown.transport_cc ≡ Some number → spelled_data TransportSequenceNumber values ≡ Some (bytes_of_number 2 number)
-  spelled-transport is = rw (← same, is) refl
+  pub spelled-transport : {number : ℕ} → values.transport_cc ≡ Some number → spelled_data TransportSequenceNumber values ≡ Some (bytes_of_number 2 number)
+  spelled-transport is = rw is refl
 
-  pub AreData-transport : {number : ℕ} → shown.transport_cc ≡ Some number → big_endian (bytes_of_number 2 number) ≡ number → AreData TransportSequenceNumber values (bytes_of_number 2 number)
+  pub AreData-transport : {number : ℕ} → values.transport_cc ≡ Some number → big_endian (bytes_of_number 2 number) ≡ number → AreData TransportSequenceNumber values (bytes_of_number 2 number)
   unfolding carried_values
   AreData-transport is back = record {
     spelled = spelled-transport is;
-    read_back = (omega arith, rw (← same, is) (ap Some (sym back)));
+    read_back = (omega arith, rw is (ap Some (sym back)));
     few = omega arith;
   }
 
-  pub spelled-frame_marking : {marking : ℕ} → shown.frame_mark ≡ Some marking → spelled_data FrameMarking values ≡ Some (bytes_of_number 4 marking)
-  spelled-frame_marking is = rw (← same, is) refl
+  pub spelled-frame_marking : {marking : ℕ} → values.frame_mark ≡ Some marking → spelled_data FrameMarking values ≡ Some (bytes_of_number 4 marking)
+  spelled-frame_marking is = rw is refl
 
-  pub AreData-frame_marking : {marking : ℕ} → shown.frame_mark ≡ Some marking → big_endian (bytes_of_number 4 marking) ≡ marking → AreData FrameMarking values (bytes_of_number 4 marking)
+  pub AreData-frame_marking : {marking : ℕ} → values.frame_mark ≡ Some marking → big_endian (bytes_of_number 4 marking) ≡ marking → AreData FrameMarking values (bytes_of_number 4 marking)
   unfolding carried_values
   AreData-frame_marking is back = record {
     spelled = spelled-frame_marking is;
-    read_back = (omega arith, rw (← same, is) (ap Some (sym back)));
+    read_back = (omega arith, rw is (ap Some (sym back)));
     few = omega arith;
   }
 
-  pub spelled-content : {content : ℕ} → shown.video_content_type ≡ Some content → spelled_data VideoContentType values ≡ Some (content ∷ [])
-  spelled-content is = rw (← same, is) refl
+  pub spelled-content : {content : ℕ} → values.video_content_type ≡ Some content → spelled_data VideoContentType values ≡ Some (content ∷ [])
+  spelled-content is = rw is refl
 
-  pub AreData-content : {content : ℕ} → shown.video_content_type ≡ Some content → AreData VideoContentType values (content ∷ [])
+  pub AreData-content : {content : ℕ} → values.video_content_type ≡ Some content → AreData VideoContentType values (content ∷ [])
   unfolding carried_values
-  AreData-content is = record { spelled = spelled-content is; read_back = (omega arith, rw (← same, is) refl); few = omega arith }
+  AreData-content is = record { spelled = spelled-content is; read_back = (omega arith, rw is refl); few = omega arith }
 
-  pub spelled-orientation : {turn : orientation.VideoOrientation} {byte : ℕ} → shown.video_orientation ≡ Some turn → byte ≡ orientation_bits turn
+  pub spelled-orientation : {turn : orientation.VideoOrientation} {byte : ℕ} → values.video_orientation ≡ Some turn → byte ≡ orientation_bits turn
       → spelled_data VideoOrientation values ≡ Some (byte ∷ [])
-  spelled-orientation is byte-is = rw (← same, is, byte-is) refl
+  spelled-orientation is byte-is = rw (is, byte-is) refl
 
-  pub AreData-orientation : {turn : orientation.VideoOrientation} {byte : ℕ} → shown.video_orientation ≡ Some turn → byte ≡ orientation_bits turn
+  pub AreData-orientation : {turn : orientation.VideoOrientation} {byte : ℕ} → values.video_orientation ≡ Some turn → byte ≡ orientation_bits turn
       → AreData VideoOrientation values (byte ∷ [])
   unfolding carried_values
   AreData-orientation {turn} is byte-is = record {
     spelled = spelled-orientation is byte-is;
-    read_back = (omega arith, rw (← same, is, byte-is) (ap Some (orientation_again turn)));
+    read_back = (omega arith, rw (is, byte-is) (ap Some (orientation_again turn)));
     few = omega arith;
   }
 
-  pub spelled-level : {level : ℤ} {voice : Bool} {byte : ℕ} → shown.audio_level ≡ Some level → shown.voice_activity ≡ Some voice → byte ≡ level_byte level voice
+  pub spelled-level : {level : ℤ} {voice : Bool} {byte : ℕ} → values.audio_level ≡ Some level → values.voice_activity ≡ Some voice → byte ≡ level_byte level voice
       → spelled_data AudioLevel values ≡ Some (byte ∷ [])
-  spelled-level level-is voice-is byte-is = rw (← same, level-is, voice-is, byte-is) refl
+  spelled-level level-is voice-is byte-is = rw (level-is, voice-is, byte-is) refl
 
-  pub AreData-level : {level : ℤ} {voice : Bool} {byte : ℕ} → shown.audio_level ≡ Some level → shown.voice_activity ≡ Some voice → byte ≡ level_byte level voice
+  pub AreData-level : {level : ℤ} {voice : Bool} {byte : ℕ} → values.audio_level ≡ Some level → values.voice_activity ≡ Some voice → byte ≡ level_byte level voice
       → AreData AudioLevel values (byte ∷ [])
   unfolding carried_values
   AreData-level {level} {voice} level-is voice-is byte-is =
@@ -182,17 +174,17 @@ module _ {shown values : ExtensionValues} (same : shown ≡ values) where
         spelled = spelled-level level-is voice-is byte-is;
         read_back = (
           omega arith,
-          rw (← same, level-is, voice-is, byte-is) (ap (λ (n : ℕ). Some (neg_ℤ (pos n))) (sym again.0)),
-          rw (← same, level-is, voice-is, byte-is) (ap Some (sym again.1)),
+          rw (level-is, voice-is, byte-is) (ap (λ (n : ℕ). Some (neg_ℤ (pos n))) (sym again.0)),
+          rw (level-is, voice-is, byte-is) (ap Some (sym again.1)),
         );
         few = omega arith;
       }
 
-  pub spelled-delays : {min max : Fraction} {least most : ℕ} → shown.play_delay_min ≡ Some min → shown.play_delay_max ≡ Some max
+  pub spelled-delays : {min max : Fraction} {least most : ℕ} → values.play_delay_min ≡ Some min → values.play_delay_max ≡ Some max
       → least ≡ delay_of min → most ≡ delay_of max → spelled_data PlayoutDelay values ≡ Some (bytes_of_number 3 (least * 4096 + most))
-  spelled-delays min-is max-is least-is most-is = rw (← same, min-is, max-is, least-is, most-is) refl
+  spelled-delays min-is max-is least-is most-is = rw (min-is, max-is, least-is, most-is) refl
 
-  pub AreData-delays : {min max : Fraction} {least most : ℕ} → shown.play_delay_min ≡ Some min → shown.play_delay_max ≡ Some max
+  pub AreData-delays : {min max : Fraction} {least most : ℕ} → values.play_delay_min ≡ Some min → values.play_delay_max ≡ Some max
       → least ≡ delay_of min → most ≡ delay_of max → big_endian (bytes_of_number 3 (least * 4096 + most)) ≡ least * 4096 + most
       → AreData PlayoutDelay values (bytes_of_number 3 (least * 4096 + most))
   unfolding carried_values
@@ -202,51 +194,51 @@ module _ {shown values : ExtensionValues} (same : shown ≡ values) where
         spelled = spelled-delays min-is max-is least-is most-is;
         read_back = (
           omega arith,
-          rw (← same, min-is, max-is) (ap (λ (n : ℕ). Some (hundredths n)) (sym (ap (λ (n : ℕ). n / 4096) back ∙ div-mul-add least 4096 most below ∙ least-is))),
-          rw (← same, min-is, max-is) (ap (λ (n : ℕ). Some (hundredths n)) (sym (ap (λ (n : ℕ). n % 4096) back ∙ mod-mul-add least 4096 most below ∙ most-is))),
+          rw (min-is, max-is) (ap (λ (n : ℕ). Some (hundredths n)) (sym (ap (λ (n : ℕ). n / 4096) back ∙ div-mul-add least 4096 most below ∙ least-is))),
+          rw (min-is, max-is) (ap (λ (n : ℕ). Some (hundredths n)) (sym (ap (λ (n : ℕ). n % 4096) back ∙ mod-mul-add least 4096 most below ∙ most-is))),
         );
         few = omega arith;
       }
 
-  pub spelled-timing : {t : timing.VideoTiming} {bytes : List ℕ} → shown.video_timing ≡ Some t → bytes ≡ timing_bytes t → spelled_data VideoTiming values ≡ Some bytes
-  spelled-timing is bytes-are = rw (← same, is) (ap Some (sym bytes-are))
+  pub spelled-timing : {t : timing.VideoTiming} {bytes : List ℕ} → values.video_timing ≡ Some t → bytes ≡ timing_bytes t → spelled_data VideoTiming values ≡ Some bytes
+  spelled-timing is bytes-are = rw is (ap Some (sym bytes-are))
 
-  pub AreData-timing : {t : timing.VideoTiming} {bytes : List ℕ} → shown.video_timing ≡ Some t → bytes ≡ timing_bytes t
+  pub AreData-timing : {t : timing.VideoTiming} {bytes : List ℕ} → values.video_timing ≡ Some t → bytes ≡ timing_bytes t
       → big_endian (bytes_of_number 2 t.encode_start) ≡ t.encode_start → big_endian (bytes_of_number 2 t.encode_finish) ≡ t.encode_finish
       → big_endian (bytes_of_number 2 t.packetize_complete) ≡ t.packetize_complete → big_endian (bytes_of_number 2 t.last_left_pacer) ≡ t.last_left_pacer
       → AreData VideoTiming values bytes
   unfolding carried_values
   AreData-timing is bytes-are start finish complete left = record {
     spelled = spelled-timing is bytes-are;
-    read_back = rw bytes-are (omega arith, rw (← same, is) (ap Some (timing_again _ _ _ _ _ start finish complete left)));
+    read_back = rw bytes-are (omega arith, rw is (ap Some (timing_again _ _ _ _ _ start finish complete left)));
     few = rw bytes-are (omega arith);
   }
 
-  pub spelled-capture : {t : capture.AbsCaptureTime} {offset : Option ℤ} → shown.abs_capture_time ≡ Some t → t.clock_offset ≡ offset
+  pub spelled-capture : {t : capture.AbsCaptureTime} {offset : Option ℤ} → values.abs_capture_time ≡ Some t → t.clock_offset ≡ offset
       → spelled_data AbsoluteCaptureTime values ≡ Some (bytes_of_number 8 t.capture_time ++ offset_bytes offset)
-  spelled-capture is offset-is = rw (← same, is, offset-is) refl
+  spelled-capture is offset-is = rw (is, offset-is) refl
 
-  pub AreData-capture : {t : capture.AbsCaptureTime} {offset : Option ℤ} → shown.abs_capture_time ≡ Some t → t.clock_offset ≡ offset
+  pub AreData-capture : {t : capture.AbsCaptureTime} {offset : Option ℤ} → values.abs_capture_time ≡ Some t → t.clock_offset ≡ offset
       → big_endian (bytes_of_number 8 t.capture_time) ≡ t.capture_time → offset_of (offset_bytes offset) ≡ offset
       → AreData AbsoluteCaptureTime values (bytes_of_number 8 t.capture_time ++ offset_bytes offset)
   unfolding carried_values
   AreData-capture {t} {offset} is offset-is word back = record {
     spelled = spelled-capture is offset-is;
-    read_back = (omega arith, rw (← same, is) (ap Some (capture_again _ _ _ word (back ∙ sym offset-is))));
+    read_back = (omega arith, rw is (ap Some (capture_again _ _ _ word (back ∙ sym offset-is))));
     few = omega (arith, length-offset_bytes offset);
   }
 
-  pub AreData-rid : {rid text bytes : List ℕ} → shown.rid ≡ Some rid → IsTextOf 8 rid text → AreBytesOf text bytes → AreData RtpStreamId values bytes
+  pub AreData-rid : {id text : List ℕ} → values.rid ≡ Some id → IsTextOf 8 id text → AreData RtpStreamId values text
   unfolding carried_values
-  AreData-rid is = AreData-id 8 (omega arith) (rw (← same, is) refl) (λ _ utf8 back. (utf8, rw (← same, is) back))
+  AreData-rid is = AreData-id 8 (omega arith) (rw is refl) (λ _ utf8 back. (utf8, rw is back))
 
-  pub AreData-repaired : {rid text bytes : List ℕ} → shown.rid_repair ≡ Some rid → IsTextOf 8 rid text → AreBytesOf text bytes → AreData RepairedRtpStreamId values bytes
+  pub AreData-repaired : {id text : List ℕ} → values.rid_repair ≡ Some id → IsTextOf 8 id text → AreData RepairedRtpStreamId values text
   unfolding carried_values
-  AreData-repaired is = AreData-id 8 (omega arith) (rw (← same, is) refl) (λ _ utf8 back. (utf8, rw (← same, is) back))
+  AreData-repaired is = AreData-id 8 (omega arith) (rw is refl) (λ _ utf8 back. (utf8, rw is back))
 
-  pub AreData-mid : {mid text bytes : List ℕ} → shown.mid ≡ Some mid → IsTextOf 16 mid text → AreBytesOf text bytes → AreData RtpMid values bytes
+  pub AreData-mid : {id text : List ℕ} → values.mid ≡ Some id → IsTextOf 16 id text → AreData RtpMid values text
   unfolding carried_values
-  AreData-mid is = AreData-id 16 (omega arith) (rw (← same, is) refl) (λ _ utf8 back. (utf8, rw (← same, is) back))
+  AreData-mid is = AreData-id 16 (omega arith) (rw is refl) (λ _ utf8 back. (utf8, rw is back))
 
 -- ---- the layer allocation
 

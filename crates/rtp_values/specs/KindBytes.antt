@@ -1,6 +1,7 @@
 -- What reading and writing one kind promises.
-use Rattle.std.specs.Prelude.{◌≡◌, ℕ, ◌≤◌, List, [], ◌++◌, length, drop, unwrap_or, Option, is_some, IfSome, IfNone}
+use Rattle.std.specs.Prelude.{◌≡◌, ℕ, ◌≤◌, List, [], ◌++◌, length, drop, unwrap_or, Option, is_some, IfSome, IfNone, IsUtf8}
 use Rattle.std.specs.Option.{option_map}
+use Rattle.rtp_base.specs.Id.{before_padding, IsIdOf}
 use Rattle.rtp_vla.specs.Allocation.{Allocation}
 use Rattle.rtp_vla.specs.AllocationWritten.{can_be_written, written_of}
 use Rattle.rtp_values.specs.declared.kind.Extension.{Extension}
@@ -31,3 +32,9 @@ pub record WritesData (kind : Extension) (values : ExtensionValues) (old new : L
 pub record IsWireLen (a : Allocation) (len : Option ℕ) : Type 0 where
   pub cases : is_some len ≡ can_be_written a
   pub found : IfSome len (λ n. n ≡ length (written_of a))
+
+-- the bytes are the text of an identifier of this size, whose identifier is the same one
+pub record IsTextOf (size : ℕ) (id text : List ℕ) : Type 0 where
+  pub text_is : text ≡ before_padding id
+  pub same : IsIdOf size text id
+  pub utf8 : IsUtf8 text

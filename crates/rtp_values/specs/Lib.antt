@@ -3,6 +3,7 @@ pub mod Kind
 pub mod KnownKind
 pub mod HeaderValues
 pub mod Values
+pub mod KindSet
 pub mod Spelling
 pub mod WithLayers
 -- A send time over time.

@@ -3,6 +3,7 @@
 #![tactic(auto)]
 
 mod kind;
+mod kind_set;
 mod known_kind;
 pub mod standard;
 mod table;
@@ -10,9 +11,10 @@ mod uri;
 mod value;
 
 pub use kind::Extension;
+pub use kind_set::KindSet;
 pub use known_kind::KnownKind;
 pub use uri::Uri;
 pub use value::{
-    AbsCaptureTime, CarriedLayers, ElementValues, ExtensionValues, SetValues, VideoOrientation,
-    VideoTiming, WithLayers,
+    AbsCaptureTime, CarriedLayers, ElementValues, ExtensionValues, GetValues, SetValues,
+    ValueKinds, VideoOrientation, VideoTiming, WithLayers,
 };

@@ -1,10 +1,5 @@
 -- Streams that are dealt by masks, and the masks and layers that give them back.
-use Rattle.std.proofs.Common.{◌≡◌, ◌≢◌, ℕ, zero, suc, ◌+◌, ◌*◌, ◌/◌, ◌%◌, ◌^◌, ◌<◌, ◌≤◌, ⊎_elim, List, [], ◌∷◌, ◌++◌, length, take, drop, map, Bool, true, false, cond, eqb, None, refl, sym, ap, ◌∙◌, subst, arith, length-append}
-use Rattle.std.specs.List.{AllByRecursion, filter}
-use Rattle.std.proofs.Math.Nat.{pow-suc}
-use Rattle.std.proofs.lemmas.Bool.{cases_eq, eq-eqb, ne_eqb, false≢true}
-use Rattle.std.proofs.lemmas.List.{drop_at, length-drop}
-use Rattle.rtp_vla.specs.Allocation.{Layer, Stream, is_active, active_layers, mask_of, EndsActive, IsBareUnlessActive, IsReadable}
+use Rattle.rtp_vla.proofs.Common.{◌≡◌, ◌≢◌, ℕ, zero, suc, ◌+◌, ◌*◌, ◌/◌, ◌%◌, ◌^◌, ◌<◌, ◌≤◌, ⊎_elim, List, [], ◌∷◌, ◌++◌, length, take, drop, map, Bool, true, false, cond, eqb, None, refl, sym, ap, ◌∙◌, subst, arith, length-append, AllByRecursion, filter, pow-suc, cases_eq, eq-eqb, ne_eqb, false≢true, drop_at, length-drop, Layer, Stream, is_active, active_layers, mask_of, EndsActive, IsBareUnlessActive, IsReadable}
 use Rattle.rtp_vla.specs.AllocationReading.{mask_bits, marks_of, marked, active_in, active_count, idle_layer, dealt, dealt_streams}
 use Rattle.rtp_vla.proofs.AllocationReadingLemmas.{zero_or_more, mask_bits-zero, mask_bits-above}
 

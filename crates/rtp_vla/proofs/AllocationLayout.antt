@@ -1,11 +1,5 @@
 -- The bytes taken apart: one layout, and what none has.
-use Rattle.std.proofs.Common.{◌≡◌, ℕ, zero, suc, ◌+◌, ◌-◌, ◌*◌, ◌/◌, ◌%◌, ◌^◌, ◌<◌, ◌≤◌, inl, inr, List, [], ◌∷◌, ◌++◌, length, take, map, Bool, true, false, eqb, refl, sym, ap, ◌∙◌, subst, arith, length-append, bit_and}
-use Rattle.std.specs.List.{AllByRecursion}
-use Rattle.std.proofs.Math.Nat.{pow-suc}
-use Rattle.std.proofs.lemmas.Bool.{eqb-false}
-use Rattle.std.proofs.lemmas.Nat.{and_mask}
-use Rattle.std.proofs.lemmas.List.{length-take-le}
-use Rattle.rtp_vla.specs.Allocation.{Layer, count_of, AreMasks, AreRates, AreResolutions, IsCounted}
+use Rattle.rtp_vla.proofs.Common.{◌≡◌, ℕ, zero, suc, ◌+◌, ◌-◌, ◌*◌, ◌/◌, ◌%◌, ◌^◌, ◌<◌, ◌≤◌, inl, inr, ⊎_elim, List, [], ◌∷◌, ◌++◌, length, take, map, Bool, true, false, eqb, refl, sym, ap, ◌∙◌, subst, arith, length-append, bit_and, AllByRecursion, pow-suc, eqb-false, and_mask, length-take-le, Layer, count_of, AreMasks, AreRates, AreResolutions, IsCounted}
 use Rattle.rtp_vla.specs.AllocationReading.{quarters, mask_bits, marks_of, marked, active_in, active_count, rates_of, after_rates, after_resolution, FitResolutions, layers_read, rate_count, HasMasks, LacksMasks, IsLaidOut, IsCutShort}
 use Rattle.rtp_vla.proofs.AllocationReadingLemmas.{length-quarters, length-layers_read, mask_bits-above}
 use Rattle.rtp_vla.proofs.AllocationDealing.{AllActive}
@@ -205,3 +199,11 @@ head_parts head streams is =
 pub HasMasks-at : (bytes masks after : List ℕ) (s shared n count : ℕ) → s ≡ shared → n ≡ count → HasMasks bytes s n masks after → HasMasks bytes shared count masks after
 HasMasks-at bytes masks after s shared n count p q h =
     subst (λ (k : ℕ). HasMasks bytes k count masks after) p (subst (λ (k : ℕ). HasMasks bytes s k masks after) q h)
+
+-- a shared mask above 0 is that of each stream
+pub shared_masks : (bytes masks after : List ℕ) (shared given count : ℕ) → given ≡ shared → HasMasks bytes shared count masks after → 0 < given → AllByRecursion (λ mask. mask ≡ given) masks
+shared_masks bytes masks after shared given count is h some =
+    ⊎_elim
+    (λ each. absurd (omega (arith, each.0, is)))
+    (λ all. subst (λ (n : ℕ). AllByRecursion (λ mask. mask ≡ n) masks) (sym is) all.1)
+    h.masks_are

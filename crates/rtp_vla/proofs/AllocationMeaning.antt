@@ -1,9 +1,5 @@
 -- What the bytes mean is what is read from left to right, and the other way round.
-use Rattle.std.proofs.Common.{◌≡◌, ℕ, ◌+◌, ◌-◌, ◌*◌, ◌≤◌, inl, inr, List, [], ◌∷◌, ◌++◌, length, take, map, sym, ap, ◌∙◌, subst, arith}
-use Rattle.std.specs.List.{AllByRecursion}
-use Rattle.std.proofs.lemmas.List.{length-map, take_all}
-use Rattle.rtp_vla.specs.Allocation.{Layer, Stream, Allocation, active_layers, mask_of, count_of, AreMasks, AreQuarters, AreRates, AreResolutions, IsReadable, IsCounted, IsPacked, Means}
-use Rattle.rtp_vla.specs.AllocationReading.{quarters, active_count, dealt_streams, after_rates, FitResolutions, layers_read, rate_count, IsLaidOut}
+use Rattle.rtp_vla.proofs.Common.{◌≡◌, ℕ, ◌+◌, ◌-◌, ◌*◌, ◌≤◌, inl, inr, List, [], ◌∷◌, ◌++◌, length, take, map, sym, ap, ◌∙◌, subst, arith, AllByRecursion, length-map, take_all, Layer, Stream, Allocation, active_layers, mask_of, count_of, AreMasks, AreQuarters, AreRates, AreResolutions, IsReadable, IsCounted, IsPacked, Means, quarters, active_count, dealt_streams, after_rates, FitResolutions, layers_read, rate_count, IsLaidOut}
 use Rattle.rtp_vla.proofs.AllocationDealing.{AllActive, AllActive-active_layers, masks-dealt_streams, active-dealt_streams, length-dealt_streams, dealt_streams-back}
 use Rattle.rtp_vla.proofs.AllocationParts.{AreBytes, AreBytes-parts, AreQuarters-from, AreQuarters-read, rates_in, resolutions_of, resolutions_read, AreResolutions-fit}
 use Rattle.rtp_vla.proofs.AllocationLayout.{AllActive-read, counted_read, counts_read, rates_read, layers_back, read_counts, length-read_counts, one_layout, laid_out_long, laid_out_layers}
@@ -43,7 +39,7 @@ packed_from bytes index masks layers all l =
           (resolutions_read cs l.rate_bytes rest (subst (λ (n : ℕ). FitResolutions n rest) (sym (length-read_counts masks l.count_bytes l.counts_len)) l.resolutions_fit));
     }
 
-counts_fit : (layers : List Layer) → AllByRecursion IsCounted layers → AllByRecursion (λ count. count ≤ 3) (map count_of layers)
+pub counts_fit : (layers : List Layer) → AllByRecursion IsCounted layers → AllByRecursion (λ count. count ≤ 3) (map count_of layers)
 counts_fit [] all = tt
 counts_fit (layer ∷ layers) all = (omega (arith, all.0), counts_fit layers all.1)
 

@@ -1,11 +1,5 @@
 -- Masks, counts, rates and resolutions: what is read is what stands there, and the other way round.
-use Rattle.std.proofs.Common.{◌≡◌, ℕ, zero, suc, ◌+◌, ◌*◌, ◌/◌, ◌%◌, ◌<◌, ◌≤◌, inl, inr, List, [], ◌∷◌, ◌++◌, length, take, get_or, map, true, None, Some, Option, refl, sym, ap, ◌∙◌, subst, arith}
-use Rattle.std.specs.List.{AllByRecursion, flat_map}
-use Rattle.std.proofs.lemmas.List.{length-take-le}
-use Rattle.rtp_vla.specs.declared.allocation.ResolutionAndFramerate.{ResolutionAndFramerate}
-use Rattle.rtp_vla.specs.LebReading.{leb_rest}
-use Rattle.rtp_vla.specs.Allocation.{Layer, AreHalves, AreMasks, AreQuarters, AreRates, AreResolutions}
-use Rattle.rtp_vla.specs.AllocationReading.{next_len, halves, quarters, rates_of, after_rates, resolution_in, after_resolution, FitResolutions, layers_read, HasMasks}
+use Rattle.rtp_vla.proofs.Common.{◌≡◌, ℕ, zero, suc, ◌+◌, ◌*◌, ◌/◌, ◌%◌, ◌<◌, ◌≤◌, inl, inr, List, [], ◌∷◌, ◌++◌, length, take, get_or, map, true, None, Some, Option, refl, sym, ap, ◌∙◌, subst, arith, AllByRecursion, flat_map, length-take-le, ResolutionAndFramerate, leb_rest, Layer, AreHalves, AreMasks, AreQuarters, AreRates, AreResolutions, next_len, halves, quarters, rates_of, after_rates, resolution_in, after_resolution, FitResolutions, layers_read, HasMasks}
 use Rattle.rtp_vla.proofs.LebLemmas.{ReadsLeb-read, read-ReadsLeb}
 
 -- ---- Lists

@@ -1,15 +1,11 @@
 -- The parts of an allocation, read one after another.
-use Rattle.std.proofs.Common.{◌≡◌, ℕ, zero, suc, ◌+◌, ◌-◌, ◌*◌, ◌/◌, ◌%◌, ◌^◌, ◌<◌, ◌≤◌, ◌&&◌, ◌↔◌, ◌⊎◌, inl, inr, ⊎_elim, List, [], ◌∷◌, ◌++◌, length, take, drop, get_or, Bool, true, false, leb, eqb, refl, sym, ap, ◌∙◌, subst, arith, bit_and}
+use Rattle.rtp_vla.proofs.Common.{◌≡◌, ℕ, zero, suc, ◌+◌, ◌-◌, ◌*◌, ◌/◌, ◌%◌, ◌^◌, ◌<◌, ◌≤◌, ◌&&◌, ◌↔◌, ◌⊎◌, inl, inr, ⊎_elim, List, [], ◌∷◌, ◌++◌, length, take, drop, get_or, Bool, true, false, leb, eqb, refl, sym, ap, ◌∙◌, subst, arith, bit_and, pow-suc, agree_below_at, and_parts, eqb-true, leb-true, ne_eqb, append_assoc, append-nil, and_mask, leb_value, leb_rest, Layer}
 use Rattle.std.specs.Bool.{OnTrue}
-use Rattle.std.proofs.Math.Nat.{pow-suc}
-use Rattle.std.proofs.lemmas.Bool.{agree_below_at, and_parts, eqb-true, leb-true, ne_eqb}
-use Rattle.std.proofs.lemmas.List.{append_assoc, append-nil}
-use Rattle.std.proofs.lemmas.Nat.{and_mask}
+use Rattle.std.specs.List.{AllByRecursion}
+use Rattle.std.proofs.Math.Nat.{suc-mul}
 use Rattle.std.specs.Int.{w8, leading_zeros}
 use Rattle.std.specs.Int.Count.{ones, count_leading_zeros}
-use Rattle.rtp_vla.specs.LebReading.{leb_value, leb_rest}
-use Rattle.rtp_vla.specs.AllocationReading.{halves, quarters, mask_bits, marks_of, marked, active_in, idle_layer, dealt, Deals, DealsOn, rates_of, after_rates, after_resolution, FitResolutions, layers_read}
-use Rattle.rtp_vla.specs.Allocation.{Layer}
+use Rattle.rtp_vla.specs.AllocationReading.{halves, quarters, mask_bits, marks_of, marked, active_in, active_count, idle_layer, dealt, Deals, DealsOn, rates_of, after_rates, after_resolution, FitResolutions, layers_read}
 
 -- ---- Masks and counts
 
@@ -43,6 +39,11 @@ length-halves (byte ∷ bytes) = omega (arith, length-halves bytes)
 pub length-quarters : (bytes : List ℕ) → length (quarters bytes) ≡ 4 * length bytes
 length-quarters [] = refl
 length-quarters (byte ∷ bytes) = omega (arith, length-quarters bytes)
+
+-- where all masks are one, each marks as many layers
+pub active_shared : (masks : List ℕ) (shared : ℕ) → AllByRecursion (λ mask. mask ≡ shared) masks → active_count masks ≡ length masks * active_in shared
+active_shared [] shared all = omega arith
+active_shared (mask ∷ masks) shared all = omega (arith, ap active_in all.0, active_shared masks shared all.1, suc-mul (length masks) (active_in shared))
 
 -- ---- Rates
 

@@ -1,12 +1,5 @@
 -- Masks, counts, rates and resolutions as they are written mean what they spell.
-use Rattle.std.proofs.Common.{◌≡◌, ℕ, ◌<◌, ◌≤◌, ◌&&◌, inl, inr, ⊎_elim, List, [], ◌∷◌, ◌++◌, length, Bool, true, false, not, cond, eqb, leb, ltb, None, Some, Option, refl, sym, subst, arith, append_assoc}
-use Rattle.std.specs.Option.{is_none}
-use Rattle.std.specs.List.{AllByRecursion, flat_map, list_all}
-use Rattle.std.proofs.lemmas.Bool.{and_parts, and_from, le-leb, lt-ltb, leb-true, ltb-true, eq-eqb, eqb-true, cases_eq, ne_eqb, false≢true}
-use Rattle.rtp_vla.specs.declared.allocation.ResolutionAndFramerate.{ResolutionAndFramerate}
-use Rattle.rtp_vla.specs.Leb.{ReadsLeb, spelled, unspelled, shortest_of}
-use Rattle.rtp_vla.specs.Allocation.{Layer, AreHalves, AreMasks, AreQuarters, AreRates, AreResolutions, IsCounted}
-use Rattle.rtp_vla.specs.AllocationWritten.{rates_fit, resolution_fits, resolutions_in_front, shared_of, halves_of, mask_bytes, quarters_of, rate_bytes, resolution_field, resolution_bytes}
+use Rattle.rtp_vla.proofs.Common.{◌≡◌, ℕ, ◌<◌, ◌≤◌, ◌&&◌, inl, inr, ⊎_elim, List, [], ◌∷◌, ◌++◌, length, Bool, true, false, not, cond, eqb, leb, ltb, None, Some, Option, refl, sym, subst, arith, append_assoc, is_none, AllByRecursion, flat_map, list_all, and_parts, and_from, le-leb, lt-ltb, leb-true, ltb-true, eq-eqb, eqb-true, cases_eq, ne_eqb, false≢true, ResolutionAndFramerate, ReadsLeb, spelled, unspelled, shortest_of, Layer, AreHalves, AreMasks, AreQuarters, AreRates, AreResolutions, IsCounted, rates_fit, resolution_fits, resolutions_in_front, shared_of, halves_of, mask_bytes, quarters_of, rate_bytes, resolution_field, resolution_bytes}
 use Rattle.rtp_vla.proofs.LebLemmas.{read_below}
 use Rattle.rtp_vla.proofs.LebSpellingLemmas.{IsShortest-shortest_of, shortest_of-bytes}
 use Rattle.rtp_vla.proofs.AllocationParts.{AreBytes, AreBytes-parts, rates_in, resolutions_of}

@@ -1,11 +1,5 @@
 -- Without its trailing bare layers an allocation has the same masks and active layers, and can be read.
-use Rattle.std.proofs.Common.{◌≡◌, ℕ, ◌+◌, ◌*◌, ◌&&◌, ◌||◌, ⊎_elim, List, [], ◌∷◌, ◌++◌, map, Bool, true, false, not, cond, leb, None, Some, Option, refl, sym, ap, ◌∙◌, arith}
-use Rattle.std.specs.Option.{is_none}
-use Rattle.std.specs.List.{AllByRecursion, filter, list_all}
-use Rattle.std.proofs.lemmas.Bool.{and_parts, and_from, le-leb, leb-true, false≢true, cases_Bool, or_right, or_left}
-use Rattle.rtp_vla.specs.declared.allocation.ResolutionAndFramerate.{ResolutionAndFramerate}
-use Rattle.rtp_vla.specs.Allocation.{Layer, Stream, is_active, active_layers, mask_of, EndsActive, IsBareUnlessActive, IsReadable}
-use Rattle.rtp_vla.specs.AllocationWritten.{in_front_of, without_bare_tail, bare_or_active, stream_fits}
+use Rattle.rtp_vla.proofs.Common.{◌≡◌, ℕ, ◌+◌, ◌*◌, ◌&&◌, ◌||◌, ⊎_elim, List, [], ◌∷◌, ◌++◌, map, Bool, true, false, not, cond, leb, None, Some, Option, refl, sym, ap, ◌∙◌, arith, is_none, AllByRecursion, filter, list_all, and_parts, and_from, le-leb, leb-true, false≢true, cases_Bool, or_right, or_left, ResolutionAndFramerate, Layer, Stream, is_active, active_layers, mask_of, EndsActive, IsBareUnlessActive, IsReadable, in_front_of, without_bare_tail, bare_or_active, stream_fits}
 
 -- ---- Trimming leaves the masks and the active layers
 
@@ -46,7 +40,7 @@ active-trimmed (stream ∷ streams) = λ i. filter-trimmed stream i ++ active-tr
 
 -- ---- What is kept can be read, and the other way round
 
-none_is : (o : Option ResolutionAndFramerate) → is_none o ≡ true → o ≡ None
+pub none_is : (o : Option ResolutionAndFramerate) → is_none o ≡ true → o ≡ None
 none_is None is = refl
 none_is (Some r) is = absurd (false≢true is)
 

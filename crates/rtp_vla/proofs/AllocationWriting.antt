@@ -1,17 +1,10 @@
 -- What is written means the allocation without its trailing bare layers, and what can be written is what some bytes mean.
-use Rattle.std.proofs.Common.{◌≡◌, ℕ, ◌+◌, ◌-◌, ◌*◌, ◌<◌, ◌≤◌, ◌&&◌, inl, inr, ⊎_elim, List, [], ◌∷◌, ◌++◌, length, map, Bool, true, false, not, eqb, leb, ltb, None, Some, Option, refl, sym, ap, ◌∙◌, subst, arith}
-use Rattle.std.specs.Option.{is_none, is_some, IfSome, IfNone, unwrap_or}
-use Rattle.std.specs.List.{AllByRecursion, flat_map, list_all}
-use Rattle.std.proofs.lemmas.Bool.{and_parts, and_from, le-leb, leb-true, ltb-true, eq-eqb, eqb-true, false≢true}
-use Rattle.std.proofs.lemmas.List.{length-map, nil_from_length}
-use Rattle.rtp_vla.specs.declared.allocation.ResolutionAndFramerate.{ResolutionAndFramerate}
-use Rattle.rtp_vla.specs.Allocation.{Layer, Stream, Allocation, active_layers, mask_of, count_of, AreMasks, AreQuarters, AreRates, AreResolutions, IsCounted, IsPacked, Means}
-use Rattle.rtp_vla.specs.AllocationWritten.{without_bare_tail, trimmed, Writable, bare_or_active, stream_fits, resolution_fits, resolutions_in_front, layers_fit, streams_fit, can_be_written, shared_of, mask_bytes, quarters_of, rate_bytes, resolution_field, resolution_bytes, packed_bytes, streams_bytes, written_of}
-use Rattle.rtp_vla.specs.AllocationPutting.{HasSmallRates, IsSized, HasSizedResolution}
+use Rattle.rtp_vla.proofs.Common.{◌≡◌, ℕ, ◌+◌, ◌-◌, ◌*◌, ◌<◌, ◌≤◌, ◌&&◌, inl, inr, ⊎_elim, List, [], ◌∷◌, ◌++◌, length, map, Bool, true, false, not, eqb, leb, ltb, None, Some, Option, refl, sym, ap, ◌∙◌, subst, arith, is_none, is_some, IfSome, IfNone, unwrap_or, AllByRecursion, flat_map, list_all, and_parts, and_from, le-leb, leb-true, ltb-true, eq-eqb, eqb-true, false≢true, length-map, nil_from_length, ResolutionAndFramerate, Layer, Stream, Allocation, active_layers, mask_of, count_of, AreMasks, AreQuarters, AreRates, AreResolutions, IsCounted, IsPacked, Means, without_bare_tail, trimmed, Writable, bare_or_active, stream_fits, resolution_fits, resolutions_in_front, layers_fit, streams_fit, can_be_written, shared_of, mask_bytes, quarters_of, rate_bytes, resolution_field, resolution_bytes, packed_bytes, streams_bytes, written_of, HasSmallRates, IsSized, HasSizedResolution}
 use Rattle.rtp_vla.proofs.AllocationWritingLemmas.{written-bytes, streams_bytes-some}
 use Rattle.rtp_vla.proofs.AllocationParts.{AreBytes, AreBytes-parts, rates_in, resolutions_of}
-use Rattle.rtp_vla.proofs.AllocationTrimming.{masks-trimmed, active-trimmed, readable_from, fits_from}
+use Rattle.rtp_vla.proofs.AllocationTrimming.{masks-trimmed, active-trimmed, readable_from, fits_from, none_is}
 use Rattle.rtp_vla.proofs.AllocationSpelling.{shared_small, AreMasks-of, AreQuarters-of, layer_fits, AreRates-layers, counted_from, layers_small, sizes, AreResolutions-of, front_from, AreBytes-append, AreBytes-masks, AreBytes-quarters, AreBytes-layers, AreBytes-resolutions, after_bytes}
+use Rattle.rtp_vla.proofs.AllocationMeaning.{counts_fit}
 
 -- ---- All of it
 
@@ -20,10 +13,6 @@ small_masks [] all = tt
 small_masks (stream ∷ streams) all =
     let parts = and_parts (stream_fits stream) (list_all stream_fits streams) all in
     (leb-true (mask_of stream) 15 (and_parts (leb (mask_of stream) 15) (list_all bare_or_active stream) parts.0).0, small_masks streams parts.1)
-
-small_counts : (layers : List Layer) → AllByRecursion IsCounted layers → AllByRecursion (λ count. count ≤ 3) (map count_of layers)
-small_counts [] all = tt
-small_counts (layer ∷ layers) all = (omega (arith, all.0), small_counts layers all.1)
 
 packed_means : (index : ℕ) (streams : List Stream) → index ≤ 3 → 1 ≤ length streams → length streams ≤ 4 → list_all stream_fits streams ≡ true → layers_fit (active_layers streams) ≡ true
     → IsPacked (packed_bytes index streams) (record { current_simulcast_stream_index = index; simulcast_streams = map without_bare_tail streams }) × AreBytes (packed_bytes index streams)
@@ -55,7 +44,7 @@ packed_means index streams low some few fits layers_ok =
       (
         omega (arith, low, few, shared_small masks small),
         AreBytes-append (mask_bytes masks) (quarters_of (map count_of layers) ++ (flat_map rate_bytes layers ++ flat_map resolution_bytes layers)) (AreBytes-masks (eqb (shared_of masks) 0) masks small)
-            (AreBytes-append (quarters_of (map count_of layers)) (flat_map rate_bytes layers ++ flat_map resolution_bytes layers) (AreBytes-quarters (map count_of layers) (small_counts layers (counted_from layers ok.0)))
+            (AreBytes-append (quarters_of (map count_of layers)) (flat_map rate_bytes layers ++ flat_map resolution_bytes layers) (AreBytes-quarters (map count_of layers) (counts_fit layers (counted_from layers ok.0)))
             (AreBytes-append (flat_map rate_bytes layers) (flat_map resolution_bytes layers) (AreBytes-layers layers) (AreBytes-resolutions false layers ok.1))),
       ),
     )
@@ -176,15 +165,11 @@ none_by_test None false e = absurd (false≢true e)
 none_by_test (Some r) true e = absurd (false≢true (sym e))
 none_by_test (Some r) false e = refl
 
-none_there : (o : Option ResolutionAndFramerate) → is_none o ≡ true → o ≡ None
-none_there None e = refl
-none_there (Some r) e = absurd (false≢true e)
-
 -- where the first layer has no resolution, no bytes are left
 pub none_left : (all rest : List Layer) (layer : Layer) → all ≡ layer ∷ rest → is_none layer.resolution_and_framerate ≡ true → resolutions_in_front false all ≡ true
     → flat_map resolution_bytes all ≡ []
 none_left all rest layer is absent front =
-    let none = none_there layer.resolution_and_framerate absent in
+    let none = none_is layer.resolution_and_framerate absent in
     let parts = and_parts (resolution_fits false layer.resolution_and_framerate) (resolutions_in_front (is_none layer.resolution_and_framerate) rest) (subst (λ (ls : List Layer). resolutions_in_front false ls ≡ true) is front) in
     let after : resolutions_in_front true rest ≡ true = subst (λ (o : Option ResolutionAndFramerate). resolutions_in_front (is_none o) rest ≡ true) none parts.1 in
     ap (λ (ls : List Layer). flat_map resolution_bytes ls) is ∙ (λ i. resolution_field (none i) ++ none_all rest after i)

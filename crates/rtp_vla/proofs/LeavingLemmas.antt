@@ -1,9 +1,6 @@
 -- Bytes that are put into a buffer step by step.
-use Rattle.std.proofs.Common.{◌≡◌, ℕ, ◌+◌, ◌<◌, ◌≤◌, List, [], ◌∷◌, ◌++◌, length, take, drop, set, refl, sym, ap, ◌∙◌, arith, append_assoc, length-append}
-use Rattle.std.proofs.lemmas.List.{take_more_set, drop-set-lt, length-set}
+use Rattle.rtp_vla.proofs.Common.{◌≡◌, ℕ, ◌+◌, ◌<◌, ◌≤◌, List, [], ◌∷◌, ◌++◌, length, take, drop, set, refl, sym, ap, ◌∙◌, arith, append_assoc, length-append, take_more_set, drop-set-lt, length-set, overwritten-nil, overwritten-overwritten, length-overwritten, Leaves}
 use Rattle.rtp_base.specs.Overwriting.{overwritten}
-use Rattle.rtp_base.proofs.OverwritingLemmas.{overwritten-nil, overwritten-overwritten, length-overwritten}
-use Rattle.rtp_vla.specs.Leaving.{Leaves}
 
 -- one byte, and then the rest
 pub set-overwritten : (buf bytes : List ℕ) (at byte : ℕ) → at < length buf → overwritten (set buf at byte) (at + 1) bytes ≡ overwritten buf at (byte ∷ bytes)

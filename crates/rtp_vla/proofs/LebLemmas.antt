@@ -1,12 +1,5 @@
 -- LEB128: what is read is spelled, and what is spelled is read.
-use Rattle.std.proofs.Common.{◌≡◌, ℕ, zero, suc, ◌+◌, ◌-◌, ◌*◌, ◌%◌, ◌^◌, ◌<◌, ◌≤◌, ◌⊎◌, inl, inr, ⊎_elim, List, [], ◌∷◌, ◌++◌, length, take, drop, get_or, Option, Some, None, MatchOption, refl, sym, ap, ◌∙◌, subst, arith, length-append, bit_and}
-use Rattle.std.specs.Option.{option_map}
-use Rattle.std.specs.List.{AllByRecursion}
-use Rattle.std.proofs.Math.Nat.{mod-eq_of_lt, pow-suc, pow-le-pow_right}
-use Rattle.std.proofs.lemmas.Bool.{lt-ltb, le-ltb, cases_lt}
-use Rattle.std.proofs.lemmas.List.{drop_more, drop_all, take-append-drop, drop_at}
-use Rattle.std.proofs.lemmas.Nat.{and_mask, mul-le}
-use Rattle.rtp_vla.specs.Leb.{base128_value, IsLeb, BeginsNoLeb, ReadsLeb, spelled, unspelled}
+use Rattle.rtp_vla.proofs.Common.{◌≡◌, ℕ, zero, suc, ◌+◌, ◌-◌, ◌*◌, ◌%◌, ◌^◌, ◌<◌, ◌≤◌, ◌⊎◌, inl, inr, ⊎_elim, List, [], ◌∷◌, ◌++◌, length, take, drop, get_or, Option, Some, None, MatchOption, refl, sym, ap, ◌∙◌, subst, arith, length-append, bit_and, option_map, AllByRecursion, mod-eq_of_lt, pow-suc, pow-le-pow_right, lt-ltb, le-ltb, cases_lt, drop_more, drop_all, take-append-drop, drop_at, and_mask, mul-le, base128_value, IsLeb, BeginsNoLeb, ReadsLeb, spelled, unspelled}
 use Rattle.rtp_vla.specs.LebReading.{leb_number, weighed, leb_read, leb_value, leb_rest}
 
 abbrev read_as : ℕ → ℕ → Option (ℕ × ℕ)

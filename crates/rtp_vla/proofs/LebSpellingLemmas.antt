@@ -1,11 +1,6 @@
 -- LEB128: the shortest spelling.
-use Rattle.std.proofs.Common.{◌≡◌, ℕ, zero, suc, ◌+◌, ◌/◌, ◌%◌, ◌^◌, ◌<◌, ◌≤◌, inl, ⊎_elim, List, [], ◌∷◌, ◌++◌, length, refl, sym, ap, ◌∙◌, subst, arith, length-append, set}
-use Rattle.std.specs.List.{AllByRecursion}
-use Rattle.std.proofs.Math.Nat.{mod-eq_of_lt, pow-suc}
-use Rattle.std.proofs.lemmas.Bool.{lt-ltb, le-ltb, cases_lt}
+use Rattle.rtp_vla.proofs.Common.{◌≡◌, ℕ, zero, suc, ◌+◌, ◌/◌, ◌%◌, ◌^◌, ◌<◌, ◌≤◌, inl, ⊎_elim, List, [], ◌∷◌, ◌++◌, length, refl, sym, ap, ◌∙◌, subst, arith, length-append, set, AllByRecursion, mod-eq_of_lt, pow-suc, lt-ltb, le-ltb, cases_lt, overwritten, Leaves}
 use Rattle.rtp_vla.specs.Leb.{base128_value, IsShortest, leb_of, shortest_of}
-use Rattle.rtp_base.specs.Overwriting.{overwritten}
-use Rattle.rtp_vla.specs.Leaving.{Leaves}
 use Rattle.rtp_vla.proofs.LeavingLemmas.{Leaves-start, Leaves-byte, Leaves-end}
 use Rattle.rtp_vla.proofs.LebLemmas.{base128_value-below}
 

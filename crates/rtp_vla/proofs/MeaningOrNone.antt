@@ -1,9 +1,5 @@
 -- Bytes mean an allocation, or they mean none.
-use Rattle.std.proofs.Common.{◌≡◌, ℕ, zero, suc, ◌+◌, ◌-◌, ◌*◌, ◌/◌, ◌%◌, ◌<◌, ◌≤◌, ◌⊎◌, inl, inr, ⊎_elim, List, [], ◌∷◌, ◌++◌, length, take, drop, refl, sym, ap, ◌∙◌, subst, arith}
-use Rattle.std.proofs.lemmas.Bool.{cases_lt}
-use Rattle.std.proofs.lemmas.List.{take-append-drop, length-take-le}
-use Rattle.rtp_vla.specs.Allocation.{Layer, Allocation, nothing_sent, IsPacked, Means}
-use Rattle.rtp_vla.specs.AllocationReading.{halves, active_count, rate_count, after_rates, FitResolutions, layers_read, HasMasks, LacksMasks, IsLaidOut, IsCutShort, dealt_streams}
+use Rattle.rtp_vla.proofs.Common.{◌≡◌, ℕ, zero, suc, ◌+◌, ◌-◌, ◌*◌, ◌/◌, ◌%◌, ◌<◌, ◌≤◌, ◌⊎◌, inl, inr, ⊎_elim, List, [], ◌∷◌, ◌++◌, length, take, drop, refl, sym, ap, ◌∙◌, subst, arith, cases_lt, take-append-drop, length-take-le, Layer, Allocation, nothing_sent, IsPacked, Means, halves, active_count, rate_count, after_rates, FitResolutions, layers_read, HasMasks, LacksMasks, IsLaidOut, IsCutShort, dealt_streams}
 use Rattle.rtp_vla.proofs.AllocationReadingLemmas.{zero_or_more, length-halves}
 use Rattle.rtp_vla.proofs.AllocationParts.{AreBytes, AreBytes-parts, HasMasks-halves, HasMasks-shared}
 use Rattle.rtp_vla.proofs.AllocationLayout.{read_counts, cut_empty, cut_masks, cut_counts, cut_resolutions, HasMasks-at}

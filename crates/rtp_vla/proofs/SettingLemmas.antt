@@ -1,8 +1,5 @@
 -- Layers that are put after the others of the last stream.
-use Rattle.std.proofs.Common.{◌≡◌, ℕ, ◌+◌, ◌-◌, ◌<◌, ◌≤◌, drop, get_or, List, [], ◌∷◌, ◌++◌, length, refl, ap, ◌∙◌, sym, subst, arith, length-append}
-use Rattle.rtp_vla.specs.Allocation.{Layer, Stream, Allocation}
-use Rattle.std.proofs.lemmas.List.{append_assoc, drop_more}
-use Rattle.rtp_vla.specs.AllocationReading.{layer_room, and_stream, marks_of, active_in, dealt, dealt_streams}
+use Rattle.rtp_vla.proofs.Common.{◌≡◌, ℕ, ◌+◌, ◌-◌, ◌<◌, ◌≤◌, drop, get_or, List, [], ◌∷◌, ◌++◌, length, refl, ap, ◌∙◌, sym, subst, arith, length-append, Layer, Stream, Allocation, append_assoc, drop_more, layer_room, and_stream, marks_of, active_in, dealt, dealt_streams}
 
 pub layer_room-last : (before : List Stream) (stream : Stream) → layer_room (before ++ stream ∷ []) ≡ 4 - length stream
 layer_room-last [] stream = refl

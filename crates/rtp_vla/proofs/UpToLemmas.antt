@@ -1,6 +1,5 @@
 -- The places after the items hold what isn't used, also once an item was put in.
-use Rattle.std.proofs.Common.{◌≡◌, ℕ, ◌+◌, ◌-◌, ◌<◌, ◌≤◌, List, length, take, drop, set, replicate, arith, ap, sym, ◌∙◌}
-use Rattle.std.proofs.lemmas.List.{drop-drop, drop-replicate, drop-set-lt, length-set, length-take-le}
+use Rattle.rtp_vla.proofs.Common.{◌≡◌, ℕ, ◌+◌, ◌-◌, ◌<◌, ◌≤◌, List, length, take, drop, set, replicate, arith, ap, sym, ◌∙◌, drop-drop, drop-replicate, drop-set-lt, length-set, length-take-le}
 
 -- so many items in front, and what isn't used after them
 abbrev pub ArePadded : {A : Type 0} → ℕ → A → List A → ℕ → Type 0

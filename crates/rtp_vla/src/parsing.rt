@@ -8,7 +8,7 @@ ghost use Rattle.rtp_vla.specs.AllocationReading as reading;
 use super::allocation::VideoLayersAllocation;
 use super::counts::Counts;
 use super::layers::LayerReader;
-use super::parts::{active_count, after_rates, half_at, resolutions_fit};
+use super::parts::{active_under, after_rates, half_at, resolutions_fit};
 use super::set_layers::SetLayers;
 use super::streams::{put_streams, streams_of};
 use super::video_layers::VideoLayers;
@@ -64,7 +64,7 @@ fn layout_of<'a>(buf: &'a [u8], masks: &mut [u8; 4]) -> Option<Layout<'a>>
 {
     let (head, after) = buf.split_first()?;
     let (streams, after) = read_masks(*head, after, masks)?;
-    let active = active_count(&masks[..streams]);
+    let active = active_under(*head & 15, &masks[..streams]);
     let (counts, rates) = after.split_at_checked((active + 3) / 4)?;
     let layer_counts = Counts::new(counts, active);
     let resolutions = after_rates(rates, layer_counts.rate_count());

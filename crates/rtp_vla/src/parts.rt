@@ -10,7 +10,7 @@ use super::up_to::UpTo;
 
 /// Where the rates of a layer are put, one after the other.
 pub(super) trait Rates {
-    ghost use Rattle.std.specs.Prelude.{ℕ, ◌≡◌, ◌+◌, ◌≤◌, ◌++◌, ◌∷◌, [], List};
+    ghost use Rattle.std.specs.Prelude.{ℕ, ◌≡◌, ◌+◌, ◌≤◌, ◌++◌, ◌∷◌, [], List, length};
 
     // The rates so far.
     ghost rates: { Self → List ℕ };
@@ -18,8 +18,11 @@ pub(super) trait Rates {
     // How many more there is room for.
     ghost room: { Self → ℕ };
 
-    fn put(&mut self, rate: TemporalLayerAllocation)
-        requires { 1 ≤ room self.old }
+    // Puts a rate after the others, of which there are so many: a list knows it, and elsewhere it is
+    // in a register.
+    fn put(&mut self, count: usize, rate: TemporalLayerAllocation)
+        requires room { 1 ≤ room self.old }
+        requires after { length (rates self.old) ≡ count }
         ensures rates { rates self.new ≡ rates self.old ++ rate ∷ [] }
         ensures room { room self.new + 1 ≡ room self.old };
 }
@@ -31,7 +34,8 @@ impl Rates for Vec<TemporalLayerAllocation> {
 
     ghost room = { λ list. vec_capacity list - vec_len list };
 
-    fn put(&mut self, rate: TemporalLayerAllocation) {
+    #[inline(always)]
+    fn put(&mut self, _count: usize, rate: TemporalLayerAllocation) {
         self.push_reserved(rate);
     }
 }
@@ -43,8 +47,9 @@ impl Rates for UpTo<TemporalLayerAllocation, 4> {
 
     ghost room = { λ list. 4 - length list };
 
-    fn put(&mut self, rate: TemporalLayerAllocation) {
-        self.push(rate);
+    #[inline(always)]
+    fn put(&mut self, count: usize, rate: TemporalLayerAllocation) {
+        self.push_at(count, rate);
     }
 }
 
@@ -56,9 +61,9 @@ pub(super) fn put_rates<'a, R: Rates>(bytes: &'a [u8], count: usize, rates: &mut
     ensures after { result.now ≡ reading.after_rates count bytes.now }
 {
     let mut after = bytes;
-    for _i in 0..count {
+    for i in 0..count {
         let (cumulative_kbps, next) = parse_leb_u63(after);
-        rates.put(TemporalLayerAllocation { cumulative_kbps });
+        rates.put(i, TemporalLayerAllocation { cumulative_kbps });
         after = next;
     }
     after
@@ -156,4 +161,20 @@ pub(super) fn active_count(masks: &[u8]) -> usize
         active += active_in(*mask);
     }
     active
+}
+
+// The same, where a shared mask above 0 is each of them.
+#[inline(always)]
+pub(super) fn active_under(shared: u8, masks: &[u8]) -> usize
+    requires within { shared ≤ 15 }
+    requires shared { 0 < shared → AllByRecursion (λ mask. mask ≡ shared) masks.now }
+    requires fit { AllByRecursion (λ mask. mask ≤ 15) masks.now }
+    requires few { length masks.now ≤ 4 }
+    ensures active { result ≡ reading.active_count masks.now }
+    ensures few { result ≤ 16 }
+{
+    if shared == 0 {
+        return active_count(masks);
+    }
+    masks.len() * active_in(shared)
 }

@@ -3,6 +3,7 @@
 ghost use Rattle.std.specs.Prelude.{◌≡◌, ◌<◌, ◌≤◌, ◌∷◌, ◌++◌, List, [], length};
 ghost use Rattle.rtp_vla.specs.Allocation.{Stream};
 ghost use Rattle.rtp_vla.specs.AllocationReading.{layer_room};
+ghost use Rattle.rtp_vla.specs.UpTo.{padded};
 
 use super::video_layers::{VideoLayer, VideoStream};
 use std::alloc::AllocError;
@@ -76,6 +77,25 @@ impl<T: Unused, const N: usize> UpTo<T, N> {
     {
         self.items[self.len] = item;
         self.len += 1;
+    }
+
+    // The same, where there are so many.
+    #[inline(always)]
+    pub(super) fn push_at(&mut self, len: usize, item: T)
+        requires room { length self.old < N }
+        requires len { length self.old ≡ len }
+        ensures { self.new ≡ self.old ++ item ∷ [] }
+    {
+        self.items[len] = item;
+        self.len = len + 1;
+    }
+
+    // The items, and after them what isn't used.
+    #[inline(always)]
+    pub(super) fn places(&self) -> [T; N]
+        ensures { result ≡ padded N T.UNUSED self.now }
+    {
+        self.items
     }
 
     // The items.

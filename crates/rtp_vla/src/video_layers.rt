@@ -1,6 +1,6 @@
 //! The allocation in a value of fixed size.
 
-ghost use Rattle.std.specs.Prelude.{◌≡◌, ◌+◌, ◌<◌, ◌≤◌, ◌∷◌, ◌++◌, [], length};
+ghost use Rattle.std.specs.Prelude.{◌≡◌, ◌+◌, ◌-◌, ◌<◌, ◌≤◌, ◌∷◌, ◌++◌, [], length, replicate};
 ghost use Rattle.rtp_vla.specs.Allocation.{Allocation, Stream};
 ghost use Rattle.rtp_vla.specs.AllocationReading.{and_stream, layer_room};
 
@@ -105,6 +105,15 @@ impl VideoLayer {
         ensures few { length result.now ≤ 4 }
     {
         self.temporal_layers.as_slice()
+    }
+
+    /// The temporal layers in four places; a place after the last has the rate 0.
+    #[inline(always)]
+    pub fn places(&self) -> [TemporalLayerAllocation; 4]
+        ensures { result ≡ self.now.temporal_layers
+            ++ replicate (4 - length self.now.temporal_layers) 0 }
+    {
+        self.temporal_layers.places()
     }
 
     /// The resolution, where the sender tells it.

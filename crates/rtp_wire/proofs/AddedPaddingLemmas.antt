@@ -1,14 +1,7 @@
 -- A packet in a buffer that gets padding: its bytes, and what they say.
-use Rattle.std.proofs.Common.{◌≡◌, ℕ, zero, suc, ◌+◌, ◌-◌, ◌*◌, ◌/◌, ◌%◌, ◌<◌, ◌≤◌, true, List, [], ◌∷◌, ◌++◌, length, take, drop, inl, inr, refl, sym, ap, subst, ◌∙◌, arith, append_assoc, length-append, length-take-le, take_at, drop_at}
-use Rattle.std.specs.Prelude.{slice_index, replicate}
-use Rattle.std.proofs.lemmas.Bool.{cases_lt}
-use Rattle.std.proofs.lemmas.List.{length-replicate}
+use Rattle.rtp_wire.proofs.Common.{◌≡◌, ℕ, zero, suc, ◌+◌, ◌-◌, ◌*◌, ◌/◌, ◌%◌, ◌<◌, ◌≤◌, true, List, [], ◌∷◌, ◌++◌, length, take, drop, inl, inr, refl, sym, ap, subst, ◌∙◌, arith, append_assoc, length-append, length-take-le, take_at, drop_at, slice_index, replicate, cases_lt, length-replicate, ChangesOnly, PacketParts, IsPacket, padding_bytes, with_padding_bit, IsPaddingLength, is_set, form_in, header_end, parts_at}
 use Rattle.rtp_base.specs.Overwriting.{overwritten}
 use Rattle.rtp_wire.specs.AddedPadding.{with_padding}
-use Rattle.rtp_wire.specs.ChangedPacket.{ChangesOnly}
-use Rattle.rtp_wire.specs.Packet.{PacketParts, IsPacket}
-use Rattle.rtp_wire.specs.Padding.{padding_bytes, with_padding_bit, IsPaddingLength}
-use Rattle.rtp_wire.specs.PartsAt.{is_set, form_in, header_end, parts_at}
 use Rattle.rtp_wire.proofs.FlagLemmas.{bit-once}
 use Rattle.rtp_wire.proofs.HeaderFound.{HasHeader, IsWhole-header}
 use Rattle.rtp_wire.proofs.PacketLemmas.{bit-is_set, IsPacket-whole, whole_and_parts}

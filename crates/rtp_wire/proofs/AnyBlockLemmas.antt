@@ -1,11 +1,5 @@
 -- The block that X announces, whatever its form: its word and its body.
-use Rattle.std.proofs.Common.{◌≡◌, ℕ, ◌+◌, ◌*◌, Bool, true, false, List, drop, Option, Some, None, IfSome, is_some, not, ◌&&◌, refl, sym, ap, subst, ◌∙◌, add-zero}
-use Rattle.std.specs.Prelude.{slice_index, slice_range, option_map, if◌then◌else◌}
-use Rattle.std.proofs.lemmas.List.{get_or-drop}
-use Rattle.rtp_ext.specs.declared.form.ExtensionsForm.{ExtensionsForm}
-use Rattle.rtp_ext.specs.Form.{IsFormWord}
-use Rattle.rtp_wire.specs.Block.{word_at}
-use Rattle.rtp_wire.specs.NotAHeader.{sources_end}
+use Rattle.rtp_wire.proofs.Common.{◌≡◌, ℕ, ◌+◌, ◌*◌, Bool, true, false, List, drop, Option, Some, None, IfSome, is_some, not, ◌&&◌, refl, sym, ap, subst, ◌∙◌, add-zero, slice_index, slice_range, option_map, if◌then◌else◌, get_or-drop, ExtensionsForm, IsFormWord, word_at, sources_end}
 use Rattle.rtp_wire.specs.PartsAt.{form_of_word, has_block, form_in, profile_in, other_in, header_end, parts_at}
 use Rattle.rtp_wire.proofs.BlockLemmas.{word_at-cells}
 use Rattle.rtp_wire.proofs.PacketLemmas.{IsFormWord-form_of_word}

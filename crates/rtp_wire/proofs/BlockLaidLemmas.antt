@@ -1,17 +1,5 @@
 -- X is set, and a packet has another block.
-use Rattle.std.proofs.Common.{◌≡◌, ℕ, ◌+◌, ◌*◌, ◌/◌, ◌%◌, ◌≤◌, Bool, true, false, List, [], ◌∷◌, ◌++◌, length, take, drop, max, set, get_or, bit_or, Option, Some, None, refl, sym, ap, subst, ◌∙◌, arith, append_assoc, length-append, take_at, drop_at}
-use Rattle.std.specs.Prelude.{slice_index}
-use Rattle.std.specs.List.{concat}
-use Rattle.std.specs.Int.{w16, w32, from_be_bytes, to_be_bytes}
-use Rattle.std.proofs.lemmas.Nat.{or_shr, or_mod, from_be_bytes-to_be_bytes_2}
-use Rattle.std.proofs.lemmas.Nat.Bits.{bit_at_or}
-use Rattle.std.proofs.lemmas.List.{length-map}
-use Rattle.rtp_ext.specs.declared.form.ExtensionsForm.{ExtensionsForm}
-use Rattle.rtp_ext.specs.declared.form.ExtensionsForm.TheVariants.{OneByte, TwoByte}
-use Rattle.rtp_ext.specs.Form.{IsFormWord, form_word}
-use Rattle.rtp_wire.specs.Block.{IsBlock, word_at}
-use Rattle.rtp_wire.specs.Packet.{PacketParts, IsFirstByte, IsFixedPart, IsAnnouncedBlock, IsPacket}
-use Rattle.rtp_wire.specs.GrowingPacket.{with_extension_bit}
+use Rattle.rtp_wire.proofs.Common.{◌≡◌, ℕ, ◌+◌, ◌*◌, ◌/◌, ◌%◌, ◌≤◌, Bool, true, false, List, [], ◌∷◌, ◌++◌, length, take, drop, max, set, get_or, bit_or, Option, Some, None, refl, sym, ap, subst, ◌∙◌, arith, append_assoc, length-append, take_at, drop_at, slice_index, concat, w16, w32, from_be_bytes, to_be_bytes, or_shr, or_mod, from_be_bytes-to_be_bytes_2, bit_at_or, length-map, ExtensionsForm, OneByte, TwoByte, IsFormWord, form_word, IsBlock, word_at, PacketParts, IsFirstByte, IsFixedPart, IsAnnouncedBlock, IsPacket, with_extension_bit}
 use Rattle.rtp_wire.proofs.GroupLemmas.{length-concat}
 use Rattle.rtp_wire.proofs.PaddingLemmas.{or-zero}
 

@@ -1,10 +1,5 @@
 -- Words of two bytes, and parts of a list of bytes.
-use Rattle.std.proofs.Common.{◌≡◌, ℕ, ◌+◌, ◌-◌, ◌*◌, ◌<◌, ◌≤◌, List, take, drop, get_or, sym, ap, ◌∙◌, arith, length-take, add-zero, inl, inr}
-use Rattle.std.specs.Prelude.{slice_index, slice_range}
-use Rattle.std.proofs.lemmas.Bool.{cases_lt}
-use Rattle.std.proofs.lemmas.List.{get_or-take, get_or-drop, get_or_past, drop-take, take-take}
-use Rattle.std.specs.Int.{w16, from_be_bytes}
-use Rattle.rtp_wire.specs.Block.{word_at}
+use Rattle.rtp_wire.proofs.Common.{◌≡◌, ℕ, ◌+◌, ◌-◌, ◌*◌, ◌<◌, ◌≤◌, List, take, drop, get_or, sym, ap, ◌∙◌, arith, length-take, add-zero, inl, inr, slice_index, slice_range, cases_lt, get_or-take, get_or-drop, get_or_past, drop-take, take-take, w16, from_be_bytes, word_at}
 
 -- a part of a front is that part of the whole
 pub slice_range-take : (xs : List ℕ) (a b n : ℕ) → a ≤ b → b ≤ n → slice_range (take n xs) a b ≡ slice_range xs a b

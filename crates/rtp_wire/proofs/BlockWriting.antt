@@ -1,22 +1,6 @@
 -- A block as it is put into a buffer, and that it is a block.
-use Rattle.std.proofs.Common.{◌≡◌, ℕ, ◌+◌, ◌-◌, ◌/◌, ◌%◌, ◌<◌, ◌≤◌, List, ◌++◌, length, take, drop, replicate, refl, sym, ap, ◌∙◌, arith, length-append, true, Some}
-use Rattle.std.specs.Int.{w16, to_be_bytes}
-use Rattle.std.proofs.lemmas.List.{length-replicate}
-use Rattle.std.proofs.lemmas.Nat.{from_be_bytes-to_be_bytes_2}
-use Rattle.rtp_ext.specs.declared.form.ExtensionsForm.{ExtensionsForm}
-use Rattle.rtp_ext.specs.declared.form.ExtensionsForm.TheVariants.{OneByte, TwoByte}
-use Rattle.rtp_values.specs.declared.value.values.ExtensionValues.{ExtensionValues}
-use Rattle.rtp_ext.specs.ExtensionMap.{Slots}
-use Rattle.rtp_ext.specs.Form.{form_word}
-use Rattle.rtp_ext.specs.Elements.{AreElements, elements_bytes}
-use Rattle.rtp_ext.specs.BlockValues.{AreValues}
-use Rattle.rtp_values.specs.Values.{no_values}
-use Rattle.rtp_wire.specs.Block.{IsBlock}
-use Rattle.rtp_wire.specs.Header.{IsExtensionPart}
-use Rattle.rtp_base.specs.Overwriting.{overwritten}
-use Rattle.rtp_ext.specs.WrittenBlock.{written_elements, padding_of, filled, block_of, image_values}
+use Rattle.rtp_wire.proofs.Common.{◌≡◌, ℕ, ◌+◌, ◌-◌, ◌/◌, ◌%◌, ◌<◌, ◌≤◌, List, ◌++◌, length, take, drop, replicate, refl, sym, ap, ◌∙◌, arith, length-append, true, Some, w16, to_be_bytes, length-replicate, from_be_bytes-to_be_bytes_2, ExtensionsForm, OneByte, TwoByte, ExtensionValues, Slots, form_word, AreElements, elements_bytes, AreValues, no_values, IsBlock, IsExtensionPart, overwritten, written_elements, padding_of, filled, block_of, image_values, overwritten-overwritten, overwritten-before, overwritten-front, overwritten-rest, length-overwritten}
 use Rattle.rtp_wire.specs.WrittenInForm.{block_bytes_in}
-use Rattle.rtp_base.proofs.OverwritingLemmas.{overwritten-overwritten, overwritten-before, overwritten-front, overwritten-rest, length-overwritten}
 
 pub length-filled : (row : List ℕ) (n : ℕ) → n ≡ length row → length (filled row) ≡ n + padding_of n
 length-filled row n is =

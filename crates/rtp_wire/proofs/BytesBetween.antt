@@ -1,15 +1,6 @@
 -- Bytes that are changed between two offsets, while all before and after them stay.
-use Rattle.std.proofs.Common.{◌≡◌, ℕ, ◌+◌, ◌-◌, ◌<◌, ◌≤◌, List, [], ◌∷◌, ◌++◌, length, take, drop, refl, sym, ap, ◌∙◌, arith, subst, Option, None, Some, append_assoc, length-append, length-drop, length-take-le, take_at, drop_at, add-zero}
-use Rattle.std.specs.Prelude.{slice_index, slice_range}
-use Rattle.std.specs.Option.{IfSome}
-use Rattle.std.proofs.lemmas.List.{drop-drop, take-take, take-append-le, get_or-take, get_or-drop}
-use Rattle.std.proofs.lemmas.Slice.{take-put_mid_below, drop-put_mid}
-use borrow.Rule.Slice.PartMut.{put_mid}
+use Rattle.rtp_wire.proofs.Common.{◌≡◌, ℕ, ◌+◌, ◌-◌, ◌<◌, ◌≤◌, List, [], ◌∷◌, ◌++◌, length, take, drop, refl, sym, ap, ◌∙◌, arith, subst, Option, None, Some, append_assoc, length-append, length-drop, length-take-le, take_at, drop_at, add-zero, slice_index, slice_range, IfSome, drop-drop, take-take, take-append-le, get_or-take, get_or-drop, take-put_mid_below, drop-put_mid, put_mid, length-overwritten, Fields, ChangesOnly, LieBetween}
 use Rattle.rtp_base.specs.Overwriting.{overwritten}
-use Rattle.rtp_base.proofs.OverwritingLemmas.{length-overwritten}
-use Rattle.rtp_wire.specs.declared.packet.fields.Fields.{Fields}
-use Rattle.rtp_wire.specs.ChangedPacket.{ChangesOnly}
-use Rattle.rtp_wire.specs.GivenFields.{LieBetween}
 use Rattle.rtp_wire.proofs.BlockLemmas.{slice_range-take}
 
 -- bytes after those that were put

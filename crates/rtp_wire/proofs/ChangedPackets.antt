@@ -1,22 +1,6 @@
 -- A packet that is changed in its buffer: what is known of its header stays, and what becomes of the body of its block.
-use Rattle.std.proofs.Common.{◌≡◌, ℕ, ◌+◌, ◌-◌, ◌≤◌, List, [], length, drop, Option, Some, None, refl, sym, ap, subst, ◌∙◌, arith, length-drop, length-take-le}
-use Rattle.std.specs.Prelude.{is_some, option_map, slice_range, if◌then◌else◌}
-use Rattle.std.specs.Option.{IfSome, IfNone}
-use Rattle.std.proofs.lemmas.Slice.{between-put_mid}
-use borrow.Rule.Slice.PartMut.{put_mid}
-use Rattle.rtp_ext.specs.declared.form.ExtensionsForm.{ExtensionsForm}
-use Rattle.rtp_values.specs.declared.value.values.ExtensionValues.{ExtensionValues}
-use Rattle.rtp_ext.specs.Elements.{Element, AreElements}
-use Rattle.rtp_ext.specs.ExtensionMap.{Slots}
-use Rattle.rtp_ext.specs.BlockValues.{SaysValues}
-use Rattle.rtp_wire.specs.declared.packet.rtp_packet.RtpPacket.{RtpPacket}
-use Rattle.rtp_wire.specs.declared.packet.rtp_packet_mut.RtpPacketMut.{RtpPacketMut}
-use Rattle.rtp_wire.specs.NotAHeader.{sources_end}
-use Rattle.rtp_wire.specs.Packet.{PacketParts, IsPacket}
+use Rattle.rtp_wire.proofs.Common.{◌≡◌, ℕ, ◌+◌, ◌-◌, ◌≤◌, List, [], length, drop, Option, Some, None, refl, sym, ap, subst, ◌∙◌, arith, length-drop, length-take-le, is_some, option_map, slice_range, if◌then◌else◌, IfSome, IfNone, between-put_mid, put_mid, ExtensionsForm, ExtensionValues, Element, AreElements, Slots, SaysValues, RtpPacket, RtpPacketMut, sources_end, PacketParts, IsPacket, parts_of, parts_in, AreElementsOf, HasValues, ChangesBlock, ChangesOnly, ChangesOnlyBody}
 use Rattle.rtp_wire.specs.PartsAt.{HasLayout, form_in, profile_in, other_in, header_end, parts_at}
-use Rattle.rtp_wire.specs.PartsOf.{parts_of, parts_in}
-use Rattle.rtp_wire.specs.PacketElements.{AreElementsOf, HasValues}
-use Rattle.rtp_wire.specs.ChangedPacket.{ChangesBlock, ChangesOnly, ChangesOnlyBody}
 use Rattle.rtp_wire.proofs.PacketLemmas.{whole_and_parts}
 use Rattle.rtp_wire.proofs.HeaderFound.{HasHeader, HasHeader-packet, HasHeader-packet_mut}
 use Rattle.rtp_wire.proofs.PartsLemmas.{has_block-form, body_within, block-header}

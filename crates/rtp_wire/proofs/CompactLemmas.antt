@@ -1,23 +1,6 @@
 -- A packet whose block is made as short as its elements allow.
-use Rattle.std.proofs.Common.{◌≡◌, ℕ, ◌+◌, ◌-◌, ◌*◌, ◌%◌, ◌<◌, ◌≤◌, Bool, true, not, cond, List, [], ◌∷◌, ◌++◌, length, take, drop, replicate, Option, Some, None, refl, sym, ap, subst, ◌∙◌, arith, length-append, length-take-le}
-use Rattle.std.specs.Prelude.{slice_range}
-use Rattle.std.specs.List.{AllByRecursion}
-use Rattle.std.proofs.lemmas.Bool.{ne_eqb}
-use Rattle.std.proofs.lemmas.List.{take-append-drop, take-take, take_all, take-append-le, take-replicate, length-replicate}
-use Rattle.std.proofs.Math.Seq.{take-append-add}
-use borrow.Rule.Slice.PartMut.{put_mid}
-use Rattle.rtp_ext.specs.declared.form.ExtensionsForm.{ExtensionsForm}
-use Rattle.rtp_ext.specs.Elements.{Element, IsElement, AreElements, elements_bytes}
-use Rattle.rtp_ext.specs.PutElement.{without, row_to}
-use Rattle.rtp_ext.specs.BodySurvey.{IsTakenOut}
-use Rattle.rtp_ext.specs.WrittenBlock.{padding_of, whole_words, filled}
-use Rattle.rtp_ext.proofs.AnewLemmas.{AreElements-each}
+use Rattle.rtp_wire.proofs.Common.{◌≡◌, ℕ, ◌+◌, ◌-◌, ◌*◌, ◌%◌, ◌<◌, ◌≤◌, Bool, true, not, cond, List, [], ◌∷◌, ◌++◌, length, take, drop, replicate, Option, Some, None, refl, sym, ap, subst, ◌∙◌, arith, length-append, length-take-le, slice_range, AllByRecursion, ne_eqb, take-append-drop, take-take, take_all, take-append-le, take-replicate, length-replicate, take-append-add, put_mid, ExtensionsForm, Element, IsElement, AreElements, elements_bytes, without, row_to, IsTakenOut, padding_of, whole_words, filled, AreElements-each, sources_end, PacketParts, IsPacket, header_len_of, block_len, AreElementsOf, form_of_block, body_of_block, compact_block, Compacts, resized}
 use Rattle.rtp_ext.proofs.WrittenElementsLemmas.{AreElements-in_a_row}
-use Rattle.rtp_wire.specs.NotAHeader.{sources_end}
-use Rattle.rtp_wire.specs.Packet.{PacketParts, IsPacket, header_len_of, block_len}
-use Rattle.rtp_wire.specs.PacketElements.{AreElementsOf}
-use Rattle.rtp_wire.specs.PutIntoPacket.{form_of_block, body_of_block, compact_block, Compacts}
-use Rattle.rtp_wire.specs.GrowingPacket.{resized}
 use Rattle.rtp_wire.proofs.PartsLemmas.{length-packet}
 use Rattle.rtp_wire.proofs.ResizedLemmas.{sources_end-is, no_other-announced, extension-announced, whole-announced}
 use Rattle.rtp_wire.proofs.GrowthLemmas.{IsLaid, IsLaid-announced, middle-laid, length-middle, word-new as word-laid, IsPacket-new as IsPacket-laid}

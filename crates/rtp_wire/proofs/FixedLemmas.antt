@@ -1,12 +1,6 @@
 -- The fixed bytes of a header, put together.
-use Rattle.std.proofs.Common.{◌≡◌, ℕ, ◌+◌, ◌*◌, List, ◌∷◌, ◌++◌, length, drop, replicate, ap, ◌∙◌, arith, length-append, append_assoc}
-use Rattle.std.specs.Int.{w16, w32, to_be_bytes}
-use Rattle.std.proofs.lemmas.List.{append-nil}
-use Rattle.rtp_base.specs.Flag.{bit}
+use Rattle.rtp_wire.proofs.Common.{◌≡◌, ℕ, ◌+◌, ◌*◌, List, ◌∷◌, ◌++◌, length, drop, replicate, ap, ◌∙◌, arith, length-append, append_assoc, w16, w32, to_be_bytes, append-nil, bit, overwritten-overwritten, RtpHeader, fixed_bytes}
 use Rattle.rtp_base.specs.Overwriting.{overwritten}
-use Rattle.rtp_base.proofs.OverwritingLemmas.{overwritten-overwritten}
-use Rattle.rtp_wire.specs.declared.header.rtp_header.RtpHeader.{RtpHeader}
-use Rattle.rtp_wire.specs.Written.{fixed_bytes}
 
 -- ten bytes after the first two
 ten_put : (first second : ℕ) (ten : List ℕ) → length ten ≡ 10 → overwritten (first ∷ second ∷ replicate 10 0) 2 ten ≡ first ∷ second ∷ ten

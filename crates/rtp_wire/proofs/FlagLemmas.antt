@@ -1,12 +1,6 @@
 -- Flags of a byte, tested by a mask.
-use Rattle.std.proofs.Common.{◌≡◌, ℕ, zero, suc, ◌*◌, ◌/◌, ◌%◌, ◌^◌, ◌<◌, Bool, true, false, nat_eq, bit_and, refl, ap, ◌∙◌, arith}
+use Rattle.rtp_wire.proofs.Common.{◌≡◌, ℕ, zero, suc, ◌*◌, ◌/◌, ◌%◌, ◌^◌, ◌<◌, Bool, true, false, nat_eq, bit_and, refl, ap, ◌∙◌, arith, zero-mul, one-mul, ne_eqb, pow_pos, and_pow, bit_at-lt, bit, IsFirstByte, IsSecondByte}
 use Rattle.std.proofs.Math.Bool.{not}
-use Rattle.std.proofs.Math.Nat.{zero-mul, one-mul}
-use Rattle.std.proofs.lemmas.Bool.{ne_eqb}
-use Rattle.std.proofs.lemmas.Nat.{pow_pos}
-use Rattle.std.proofs.lemmas.Nat.Bits.{and_pow, bit_at-lt}
-use Rattle.rtp_base.specs.Flag.{bit}
-use Rattle.rtp_wire.specs.Packet.{IsFirstByte, IsSecondByte}
 
 -- one digit of base 2, by its test
 bit-digit : (digit worth : ℕ) → digit < 2 → 0 < worth → bit (not (nat_eq (digit * worth) 0)) ≡ digit

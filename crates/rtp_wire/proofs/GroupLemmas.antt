@@ -1,10 +1,6 @@
 -- Groups of four bytes, one after the other.
-use Rattle.std.proofs.Common.{◌≡◌, ℕ, zero, suc, ◌+◌, ◌*◌, ◌<◌, ◌≤◌, List, [], ◌∷◌, ◌++◌, length, map, get_or, set, take, drop, refl, sym, ap, ◌∙◌, append_assoc, length-append, length-drop, length-take, length-take-le, take_at, drop_at, take-add, arith}
+use Rattle.rtp_wire.proofs.Common.{◌≡◌, ℕ, zero, suc, ◌+◌, ◌*◌, ◌<◌, ◌≤◌, List, [], ◌∷◌, ◌++◌, length, map, get_or, set, take, drop, refl, sym, ap, ◌∙◌, append_assoc, length-append, length-drop, length-take, length-take-le, take_at, drop_at, take-add, arith, take_more, drop_more, append-nil, length-map, set_at, map_more, take-take, drop-take, concat, flat_map, AllByRecursion, w32, to_be_bytes, first_chunks}
 use Rattle.std.proofs.lemmas.List.Concat.{flat_map-append}
-use Rattle.std.proofs.lemmas.List.{take_more, drop_more, append-nil, length-map, set_at, map_more, take-take, drop-take}
-use Rattle.std.specs.List.{concat, flat_map, AllByRecursion}
-use Rattle.std.specs.Int.{w32, to_be_bytes}
-use Rattle.std.specs.Simd.{first_chunks}
 
 -- each group has four bytes
 abbrev pub AreFours : List (List ℕ) → Type 0

@@ -1,18 +1,6 @@
 -- What an element that is put into a packet makes of it.
-use Rattle.std.proofs.Common.{◌≡◌, ℕ, ◌+◌, ◌-◌, ◌*◌, ◌/◌, ◌%◌, ◌≤◌, Bool, true, List, ◌++◌, length, take, drop, Some, None, refl, sym, ap, subst, ◌∙◌, arith, append_assoc, length-append, length-drop, length-take-le, take_at, drop_at}
-use Rattle.std.specs.Prelude.{slice_index, slice_range}
-use Rattle.std.specs.List.{concat}
-use Rattle.std.specs.Int.{w16, from_be_bytes, to_be_bytes}
-use Rattle.std.proofs.Math.Seq.{take-add}
-use Rattle.std.proofs.lemmas.List.{drop-drop}
-use borrow.Rule.Slice.PartMut.{put_mid}
+use Rattle.rtp_wire.proofs.Common.{◌≡◌, ℕ, ◌+◌, ◌-◌, ◌*◌, ◌/◌, ◌%◌, ◌≤◌, Bool, true, List, ◌++◌, length, take, drop, Some, None, refl, sym, ap, subst, ◌∙◌, arith, append_assoc, length-append, length-drop, length-take-le, take_at, drop_at, slice_index, slice_range, concat, w16, from_be_bytes, to_be_bytes, take-add, drop-drop, put_mid, ExtensionsForm, IsFormWord, form_word, sources_end, PacketParts, IsPacket, IsFirstByte, header_len_of, form_of_block, with_extension_bit, resized}
 use Rattle.rtp_base.specs.Overwriting.{overwritten}
-use Rattle.rtp_ext.specs.declared.form.ExtensionsForm.{ExtensionsForm}
-use Rattle.rtp_ext.specs.Form.{IsFormWord, form_word}
-use Rattle.rtp_wire.specs.NotAHeader.{sources_end}
-use Rattle.rtp_wire.specs.Packet.{PacketParts, IsPacket, IsFirstByte, header_len_of}
-use Rattle.rtp_wire.specs.PutIntoPacket.{form_of_block}
-use Rattle.rtp_wire.specs.GrowingPacket.{with_extension_bit, resized}
 use Rattle.rtp_wire.proofs.BlockLaidLemmas.{length-with_extension_bit, with_extension_bit-append, with_extension_bit-same, IsFormWord-written, IsPacket-laid}
 use Rattle.rtp_wire.proofs.ResizedLemmas.{head_of, length-head, sources_end-is, extension-announced, take-head, IsFormWord-here, resized-pieces, len-is}
 

@@ -1,15 +1,5 @@
 -- What `parse` finds of a header step by step, and that the bytes then are whole.
-use Rattle.std.proofs.Common.{◌≡◌, ℕ, ◌+◌, ◌*◌, ◌/◌, ◌%◌, ◌<◌, ◌≤◌, true, false, List, length, take, drop, Option, Some, None, bit_and, nat_eq, refl, sym, ap, ◌∙◌, subst, arith, length-drop}
-use Rattle.std.specs.Prelude.{slice_index, IfSome}
-use Rattle.std.proofs.lemmas.Bool.{eq-eqb, ne_eqb}
-use Rattle.std.proofs.lemmas.Option.{none-some}
-use Rattle.std.proofs.lemmas.Nat.Bits.{and_pow}
-use Rattle.rtp_ext.specs.Form.{IsFormWord}
-use Rattle.rtp_ext.specs.declared.form.ExtensionsForm.{ExtensionsForm}
-use Rattle.rtp_wire.specs.declared.packet.rtp_packet.RtpPacket.{RtpPacket}
-use Rattle.rtp_wire.specs.declared.packet.rtp_packet_mut.RtpPacketMut.{RtpPacketMut}
-use Rattle.rtp_wire.specs.Block.{word_at}
-use Rattle.rtp_wire.specs.NotAHeader.{sources_end}
+use Rattle.rtp_wire.proofs.Common.{◌≡◌, ℕ, ◌+◌, ◌*◌, ◌/◌, ◌%◌, ◌<◌, ◌≤◌, true, false, List, length, take, drop, Option, Some, None, bit_and, nat_eq, refl, sym, ap, ◌∙◌, subst, arith, length-drop, slice_index, IfSome, eq-eqb, ne_eqb, none-some, and_pow, IsFormWord, ExtensionsForm, RtpPacket, RtpPacketMut, word_at, sources_end}
 use Rattle.rtp_wire.specs.PartsAt.{form_of_word, has_block, form_in, header_end}
 use Rattle.rtp_wire.proofs.BlockLemmas.{header_word}
 use Rattle.rtp_wire.proofs.PacketLemmas.{IsWhole, form_of_word-is, no_form_of_word}

@@ -1,24 +1,11 @@
 -- The header of a packet is one, bytes that are refused begin with none, and its values are one.
-use Rattle.std.proofs.Common.{◌≡◌, ◌≤◌, ℕ, List, length, Option, Some, None, arith, sym, ap, ◌∙◌, subst}
-use Rattle.rtp_ext.specs.declared.form.ExtensionsForm.{ExtensionsForm}
-use Rattle.rtp_ext.specs.declared.map.ExtensionMap.{ExtensionMap}
-use Rattle.rtp_values.specs.declared.value.values.ExtensionValues.{ExtensionValues}
-use Rattle.rtp_wire.specs.declared.header.rtp_header.RtpHeader.{RtpHeader}
-use Rattle.rtp_ext.specs.Elements.{Element}
-use Rattle.rtp_ext.specs.BlockValues.{AreValues}
-use Rattle.rtp_values.specs.Values.{no_values}
-use Rattle.rtp_wire.specs.NotAHeader.{HasNoHeader}
-use Rattle.rtp_wire.specs.Packet.{PacketParts, IsPacket}
-use Rattle.rtp_wire.specs.PacketElements.{AreElementsOf, HasValues}
-use Rattle.rtp_wire.specs.Header.{header_of, IsHeaderOf, IsWire}
-use Rattle.rtp_ext.proofs.ElementLemmasOfBodies.{AreElements-only}
-use Rattle.rtp_ext.proofs.ValuesLaws.{one_values}
+use Rattle.rtp_wire.proofs.Common.{◌≡◌, ◌≤◌, ℕ, List, length, Option, Some, None, arith, sym, ap, ◌∙◌, subst, ExtensionsForm, ExtensionMap, ExtensionValues, RtpHeader, Element, AreValues, no_values, HasNoHeader, PacketParts, IsPacket, AreElementsOf, HasValues, header_of, IsHeaderOf, IsWire, AreElements-only, one_values}
 use Rattle.rtp_wire.proofs.NoHeaderLemmas.{header_there}
 use Rattle.rtp_wire.proofs.PacketLemmas.{one_packet}
 use Rattle.rtp_wire.proofs.PartsLemmas.{length-packet}
 
 -- a block has one list of elements
-one_list : (block : Option (ExtensionsForm × List ℕ)) (a b : List Element) → AreElementsOf block a → AreElementsOf block b → a ≡ b
+pub one_list : (block : Option (ExtensionsForm × List ℕ)) (a b : List Element) → AreElementsOf block a → AreElementsOf block b → a ≡ b
 one_list None a b a-is b-is = a-is ∙ sym b-is
 one_list (Some block) a b a-are b-are = AreElements-only block.0 block.1 a a-are ∙ sym (AreElements-only block.0 block.1 b b-are)
 

@@ -1,15 +1,6 @@
 -- A packet begins with a header under each map.
-use Rattle.std.proofs.Common.{◌≡◌, ℕ, Bool, true, false, List, ◌++◌, take, drop, Option, Some, None, refl, sym, subst, take-append-drop}
-use Rattle.std.specs.List.{concat}
-use Rattle.rtp_ext.specs.declared.form.ExtensionsForm.{ExtensionsForm}
-use Rattle.rtp_ext.specs.declared.map.ExtensionMap.{ExtensionMap}
-use Rattle.rtp_ext.proofs.ElementLemmasOfBodies.{AreBytes}
+use Rattle.rtp_wire.proofs.Common.{◌≡◌, ℕ, Bool, true, false, List, ◌++◌, take, drop, Option, Some, None, refl, sym, subst, take-append-drop, concat, ExtensionsForm, ExtensionMap, AreBytes, ExtensionValues, no_values, PacketParts, IsAnnounced, IsPacket, HasValues, header_of, IsWire}
 use Rattle.rtp_ext.proofs.ValuesFound.{AreBytes-front, AreBytes-back, values_found}
-use Rattle.rtp_values.specs.declared.value.values.ExtensionValues.{ExtensionValues}
-use Rattle.rtp_values.specs.Values.{no_values}
-use Rattle.rtp_wire.specs.Packet.{PacketParts, IsAnnounced, IsPacket}
-use Rattle.rtp_wire.specs.PacketElements.{HasValues}
-use Rattle.rtp_wire.specs.Header.{header_of, IsWire}
 use Rattle.rtp_wire.proofs.PartsLemmas.{announced}
 use Rattle.rtp_wire.proofs.ValuesLemmas.{HasValues-none}
 

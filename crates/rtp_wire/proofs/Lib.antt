@@ -1,3 +1,4 @@
+mod Common
 mod FlagLemmas
 mod FixedLemmas
 mod GroupLemmas
@@ -16,6 +17,7 @@ mod AnyBlockLemmas
 pub mod NotAPacketLemmas
 pub mod NoHeaderLemmas
 pub mod ValuesLemmas
+mod LeftOutLemmas
 mod HeaderLemmas
 mod HeaderUnderEachMap
 mod BlockWriting
@@ -29,6 +31,10 @@ mod GrowthLemmas
 mod PutPlanLemmas
 mod SetInPlaceLemmas
 mod PutElementLemmas
+mod SplicedLemmas
+mod ReplacedLemmas
+mod RemadeLemmas
+mod RemadePacketLemmas
 pub mod CompactLemmas
 mod StandardFacts
 mod PacketIdLemmas
@@ -36,5 +42,5 @@ mod SendingLemmas
 pub mod RunLemmas
 mod RetransmissionBytes
 mod RetransmissionCauses
-mod RetransmissionHeaders
+pub mod RetransmissionHeaders
 mod RetransmissionLemmas

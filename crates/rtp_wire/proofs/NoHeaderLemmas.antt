@@ -1,19 +1,8 @@
 -- Bytes that begin with no header: they are no packet, or a packet whose block is of another form.
-use Rattle.std.proofs.Common.{◌≡◌, ℕ, ◌+◌, ◌*◌, ◌/◌, ◌%◌, ◌<◌, ◌≤◌, Bool, true, false, List, length, drop, Option, Some, None, refl, sym, ap, ◌∙◌, arith, inl, inr, length-drop}
-use Rattle.std.specs.Prelude.{◌⊎◌, ◌↔◌, IfSome, IsSome, slice_index, slice_range, is_some, option_map, not, ◌&&◌, if◌then◌else◌}
+use Rattle.rtp_wire.proofs.Common.{◌≡◌, ℕ, ◌+◌, ◌*◌, ◌/◌, ◌%◌, ◌<◌, ◌≤◌, Bool, true, false, List, length, drop, Option, Some, None, refl, sym, ap, ◌∙◌, arith, inl, inr, length-drop, ◌⊎◌, ◌↔◌, IfSome, IsSome, slice_index, slice_range, is_some, option_map, not, ◌&&◌, if◌then◌else◌, false≢true, eq-eqb, cases_eq, cases_lt, none-some, bit, ExtensionsForm, NotAPacket, CutSources, CutBlockHeader, CutBlock, word_at, IsNoPacket, cut_fixed, other_version, cut_sources, cut_block, cut_words, HasUnknownForm, HasNoHeader, no_packet, unknown_form, sources_end, place_of, IsFirstCause, PacketParts, IsPacket, HasOtherForm}
 use Rattle.std.specs.Bool.{then_some}
-use Rattle.std.proofs.lemmas.Bool.{false≢true, eq-eqb, cases_eq, cases_lt}
-use Rattle.std.proofs.lemmas.Option.{none-some}
-use Rattle.rtp_base.specs.Flag.{bit}
-use Rattle.rtp_ext.specs.declared.form.ExtensionsForm.{ExtensionsForm}
 use Rattle.rtp_wire.specs.declared.header.not_a_header.NotAHeader as not_a_header
-use Rattle.rtp_wire.specs.declared.packet.not_a_packet.NotAPacket.{NotAPacket}
-use Rattle.rtp_wire.specs.declared.packet.not_a_packet.NotAPacket.TheVariants.{CutFixedPart, OtherVersion, CutSources, CutBlockHeader, CutBlock}
-use Rattle.rtp_wire.specs.Block.{word_at}
-use Rattle.rtp_wire.specs.NotAHeader.{IsNoPacket, cut_fixed, other_version, cut_sources, cut_block, cut_words, HasUnknownForm, HasNoHeader, no_packet, unknown_form, sources_end}
-use Rattle.rtp_wire.specs.NotAPacket.{place_of, IsFirstCause}
 use Rattle.rtp_wire.specs.NoHeaderCause.{AppliesToHeader, header_place_of, IsFirstHeaderCause}
-use Rattle.rtp_wire.specs.Packet.{PacketParts, IsPacket, HasOtherForm}
 use Rattle.rtp_wire.specs.PartsAt.{has_block, form_of_word, form_in, profile_in, other_in, header_end, parts_at}
 use Rattle.rtp_wire.proofs.AnyBlockLemmas.{is_some-other}
 use Rattle.rtp_wire.proofs.HeaderFound.{HasHeader, IsWhole-header}

@@ -1,11 +1,5 @@
 -- The causes for which a datagram is no packet, and the first of them.
-use Rattle.std.proofs.Common.{◌≡◌, ℕ, ◌/◌, ◌%◌, ◌<◌, ◌≤◌, List, length, drop, bit_and, ap, ◌∙◌, arith}
-use Rattle.std.specs.Prelude.{slice_index}
-use Rattle.rtp_wire.specs.declared.packet.not_a_packet.NotAPacket.{NotAPacket}
-use Rattle.rtp_wire.specs.declared.packet.not_a_packet.NotAPacket.TheVariants.{CutFixedPart, OtherVersion, CutSources, CutBlockHeader, CutBlock}
-use Rattle.rtp_wire.specs.NotAHeader.{cut_header, cut_words, IsNoPacket, cut_fixed, other_version, cut_sources, cut_block, sources_end}
-use Rattle.rtp_wire.specs.NotAPacket.{AppliesToBlock, Applies, place_of, IsFirstOf, IsFirstCause}
-use Rattle.rtp_wire.specs.Packet.{PacketParts, IsPacket}
+use Rattle.rtp_wire.proofs.Common.{◌≡◌, ℕ, ◌/◌, ◌%◌, ◌<◌, ◌≤◌, List, length, drop, bit_and, ap, ◌∙◌, arith, slice_index, NotAPacket, CutFixedPart, OtherVersion, CutSources, CutBlockHeader, CutBlock, cut_header, cut_words, IsNoPacket, cut_fixed, other_version, cut_sources, cut_block, sources_end, AppliesToBlock, Applies, place_of, IsFirstOf, IsFirstCause, PacketParts, IsPacket}
 use Rattle.rtp_wire.proofs.HeaderFound.{x_set}
 use Rattle.rtp_wire.proofs.PacketLemmas.{no_packet}
 

@@ -61,7 +61,7 @@ IsKept-laid buf len header_len form room layout =
       within = header.within;
     }
 
-IsKept-parts : (buf : List ℕ) (len header_len : ℕ) (form : Option ExtensionsForm) (parts : PacketParts) → len ≤ length buf → IsPacket (take len buf) parts → header_len ≡ header_len_of parts
+pub IsKept-parts : (buf : List ℕ) (len header_len : ℕ) (form : Option ExtensionsForm) (parts : PacketParts) → len ≤ length buf → IsPacket (take len buf) parts → header_len ≡ header_len_of parts
     → form ≡ form_of_block parts.block → IsKept buf len header_len form
 IsKept-parts buf len header_len form parts room is len-is form-is =
     IsKept-laid buf len header_len form room (record { parts = parts; is_packet = is; form_is = form-is; len_is = omega (arith, len-is, length-packet (take len buf) parts is) })
@@ -84,7 +84,7 @@ form-padded zero parts = refl
 form-padded (suc count) parts = refl
 
 module _ (packet : RtpPacketBuf) where
-  length-bytes : length (bytes_of packet) ≡ packet.len
+  pub length-bytes : length (bytes_of packet) ≡ packet.len
   length-bytes = length-take-le packet.len packet.buf.now packet.room
 
   pub held : HasLayout (bytes_of packet) packet.header_len packet.form
@@ -95,7 +95,7 @@ module _ (packet : RtpPacketBuf) where
       (IsPacket-whole (bytes_of packet) packet.second (IsWhole-header (bytes_of packet) packet.header_len packet.form header)) header
 
   -- what is kept says of the parts
-  kept-parts : (parts : PacketParts) → IsPacket (bytes_of packet) parts → (packet.header_len ≡ header_len_of parts) × (packet.form ≡ form_of_block parts.block)
+  pub kept-parts : (parts : PacketParts) → IsPacket (bytes_of packet) parts → (packet.header_len ≡ header_len_of parts) × (packet.form ≡ form_of_block parts.block)
   kept-parts parts is =
       let same : held.parts ≡ parts = sym (one_packet (bytes_of packet) held.parts held.is_packet) ∙ one_packet (bytes_of packet) parts is in (
         omega (arith, held.len_is, ap (λ (p : PacketParts). length p.payload) same, length-packet (bytes_of packet) parts is),

@@ -1,24 +1,10 @@
 -- A packet whose bytes are changed where they lie: what says where its parts are stays, and in the fixed part each field changes alone.
-use Rattle.std.proofs.Common.{◌≡◌, ℕ, ◌+◌, ◌*◌, ◌/◌, ◌%◌, ◌<◌, ◌≤◌, ◌^◌, Bool, true, false, bit_and, List, [], ◌∷◌, length, map, take, drop, Option, Some, None, is_some, refl, sym, ap, subst, ◌∙◌, arith}
-use Rattle.std.specs.Prelude.{slice_index, slice_range, option_map, if◌then◌else◌}
-use Rattle.std.specs.Int.{w16, w32, from_be_bytes, to_be_bytes}
-use Rattle.std.specs.Simd.{first_chunks}
-use Rattle.std.proofs.lemmas.Bool.{eq-eqb, ne_eqb}
-use Rattle.std.proofs.lemmas.Nat.{from_be_bytes-to_be_bytes_2, from_be_bytes-to_be_bytes_4, and_mask}
-use Rattle.std.proofs.lemmas.Nat.Bits.{and_pow}
-use Rattle.std.proofs.lemmas.List.{drop-take}
-use Rattle.rtp_base.specs.Flag.{bit}
-use Rattle.rtp_base.specs.Overwriting.{overwritten}
-use Rattle.rtp_ext.specs.declared.form.ExtensionsForm.{ExtensionsForm}
-use Rattle.rtp_wire.specs.Block.{word_at}
-use Rattle.rtp_wire.specs.NotAHeader.{sources_end}
-use Rattle.rtp_wire.specs.Packet.{IsSecondByte}
+use Rattle.rtp_wire.proofs.Common.{◌≡◌, ℕ, ◌+◌, ◌*◌, ◌/◌, ◌%◌, ◌<◌, ◌≤◌, ◌^◌, Bool, true, false, bit_and, List, [], ◌∷◌, length, map, take, drop, Option, Some, None, is_some, refl, sym, ap, subst, ◌∙◌, arith, slice_index, slice_range, option_map, if◌then◌else◌, w16, w32, from_be_bytes, to_be_bytes, first_chunks, eq-eqb, ne_eqb, from_be_bytes-to_be_bytes_2, from_be_bytes-to_be_bytes_4, and_mask, and_pow, drop-take, bit, overwritten, ExtensionsForm, word_at, sources_end, IsSecondByte, ChangesOnly}
 use Rattle.rtp_wire.specs.PartsAt.{is_set, form_of_word, form_in, profile_in, other_in, header_end, parts_at}
 use Rattle.rtp_wire.proofs.BlockLemmas.{word_at-take}
 use Rattle.rtp_wire.proofs.FlagLemmas.{fields_from_second}
 use Rattle.rtp_wire.proofs.PacketLemmas.{bit-is_set, same_parts}
 use Rattle.rtp_wire.proofs.HeaderFound.{HasHeader}
-use Rattle.rtp_wire.specs.ChangedPacket.{ChangesOnly}
 use Rattle.rtp_wire.proofs.BytesBetween.{ChangesOnly-put, index_before, range_before, drop_after, range_after, index-put, range-put}
 
 -- where the block and the header end, and the form, by the first byte and the first four bytes after the sources

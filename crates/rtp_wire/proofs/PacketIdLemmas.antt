@@ -1,13 +1,5 @@
 -- The packet ids of datagrams: each has one, or none, and the same under each map.
-use Rattle.std.proofs.Common.{◌≡◌, ℕ, List, [], ◌∷◌, refl, sym, ap, ◌∙◌}
-use Rattle.std.specs.Prelude.{Option, Some, None}
-use Rattle.rtp_receive.specs.Verdicts.{PacketId}
-use Rattle.rtp_ext.specs.declared.map.ExtensionMap.{ExtensionMap}
-use Rattle.rtp_ext.proofs.ElementLemmasOfBodies.{AreBytes}
-use Rattle.rtp_wire.specs.declared.header.rtp_header.RtpHeader.{RtpHeader}
-use Rattle.rtp_wire.specs.Packet.{PacketParts, IsPacket}
-use Rattle.rtp_wire.specs.Header.{header_of, IsWire}
-use Rattle.rtp_wire.specs.PacketIds.{packet_id_of, IsPacketId, ArePacketIds}
+use Rattle.rtp_wire.proofs.Common.{◌≡◌, ℕ, List, [], ◌∷◌, refl, sym, ap, ◌∙◌, Option, Some, None, PacketId, ExtensionMap, AreBytes, RtpHeader, PacketParts, IsPacket, header_of, IsWire, packet_id_of, IsPacketId, ArePacketIds}
 use Rattle.rtp_wire.proofs.PacketLemmas.{one_packet}
 use Rattle.rtp_wire.proofs.HeaderUnderEachMap.{header_found}
 

@@ -1,22 +1,5 @@
 -- Every list of bytes is a packet with exactly one set of parts or, for a cause, with none.
-use Rattle.std.proofs.Common.{◌≡◌, ℕ, ◌+◌, ◌-◌, ◌*◌, ◌/◌, ◌%◌, ◌<◌, ◌≤◌, Bool, true, false, List, ◌++◌, length, map, take, drop, Option, Some, None, refl, sym, ap, ◌∙◌, subst, arith, inl, inr, length-append, length-drop, length-take-le, take_at, drop_at}
-use Rattle.std.specs.Prelude.{slice_index, slice_range, is_some, option_map, if◌then◌else◌}
-use Rattle.std.specs.List.{concat}
-use Rattle.std.specs.Int.{w16, w32, from_be_bytes}
-use Rattle.std.specs.Simd.{first_chunks}
-use Rattle.std.proofs.lemmas.Bool.{false≢true, eq-eqb, ne_eqb, le-leb, lt-leb, cases_lt, cases_eq}
-use Rattle.std.proofs.lemmas.List.{take-append-drop, drop-drop, drop-take, get_or-take, length-map}
-use Rattle.std.proofs.lemmas.Option.{none-some, same_Some}
-use Rattle.rtp_ext.specs.declared.form.ExtensionsForm.{ExtensionsForm}
-use Rattle.rtp_ext.specs.declared.form.ExtensionsForm.TheVariants.{OneByte, TwoByte}
-use Rattle.rtp_ext.specs.Form.{IsFormWord}
-use Rattle.rtp_base.specs.Flag.{bit}
-use Rattle.rtp_wire.specs.Block.{word_at, IsNoFormWord}
-use Rattle.rtp_wire.specs.NotAHeader.{sources_end}
-use Rattle.rtp_wire.specs.declared.packet.not_a_packet.NotAPacket.{NotAPacket}
-use Rattle.rtp_wire.specs.declared.packet.not_a_packet.NotAPacket.TheVariants.{CutFixedPart, OtherVersion, CutSources, CutBlockHeader, CutBlock}
-use Rattle.rtp_wire.specs.NotAPacket.{Applies}
-use Rattle.rtp_wire.specs.Packet.{PacketParts, IsFirstByte, IsSecondByte, IsAnnouncedBlock, IsPacket}
+use Rattle.rtp_wire.proofs.Common.{◌≡◌, ℕ, ◌+◌, ◌-◌, ◌*◌, ◌/◌, ◌%◌, ◌<◌, ◌≤◌, Bool, true, false, List, ◌++◌, length, map, take, drop, Option, Some, None, refl, sym, ap, ◌∙◌, subst, arith, inl, inr, length-append, length-drop, length-take-le, take_at, drop_at, slice_index, slice_range, is_some, option_map, if◌then◌else◌, concat, w16, w32, from_be_bytes, first_chunks, false≢true, eq-eqb, ne_eqb, le-leb, lt-leb, cases_lt, cases_eq, take-append-drop, drop-drop, drop-take, get_or-take, length-map, none-some, same_Some, ExtensionsForm, OneByte, TwoByte, IsFormWord, bit, word_at, IsNoFormWord, sources_end, NotAPacket, CutFixedPart, OtherVersion, CutSources, CutBlockHeader, CutBlock, Applies, PacketParts, IsFirstByte, IsSecondByte, IsAnnouncedBlock, IsPacket}
 use Rattle.rtp_wire.specs.PartsAt.{is_set, form_of_word, has_block, form_in, profile_in, other_in, header_end, parts_at}
 use Rattle.rtp_wire.proofs.FlagLemmas.{bit-once, HasFlags, flags_from_first, fields_from_second}
 use Rattle.rtp_wire.proofs.GroupLemmas.{concat-first_chunks, length-first_chunks, AreFours-first_chunks, length-concat, first_chunks-concat}

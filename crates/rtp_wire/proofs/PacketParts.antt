@@ -1,18 +1,9 @@
 -- A packet that is changed after the fixed part: in its CSRC list, or in the body of its block.
-use Rattle.std.proofs.Common.{◌≡◌, ℕ, zero, suc, ◌+◌, ◌*◌, ◌%◌, ◌<◌, ◌≤◌, List, [], ◌∷◌, ◌++◌, ◌^◌, length, map, take, drop, Option, refl, sym, ap, ◌∙◌, arith, set, length-drop, length-take-le, take_at, drop_at}
-use Rattle.std.specs.Prelude.{slice_index, slice_range}
-use Rattle.std.specs.Int.{w16, w32, from_be_bytes, to_be_bytes}
-use Rattle.std.specs.Simd.{first_chunks}
-use Rattle.std.proofs.lemmas.List.{drop-drop, drop-take, drop-append-le, length-map}
-use Rattle.std.proofs.lemmas.Nat.{from_be_bytes-to_be_bytes_4}
-use Rattle.rtp_ext.specs.declared.form.ExtensionsForm.{ExtensionsForm}
+use Rattle.rtp_wire.proofs.Common.{◌≡◌, ℕ, zero, suc, ◌+◌, ◌*◌, ◌%◌, ◌<◌, ◌≤◌, List, [], ◌∷◌, ◌++◌, ◌^◌, length, map, take, drop, Option, refl, sym, ap, ◌∙◌, arith, set, length-drop, length-take-le, take_at, drop_at, slice_index, slice_range, w16, w32, from_be_bytes, to_be_bytes, first_chunks, drop-drop, drop-take, drop-append-le, length-map, from_be_bytes-to_be_bytes_4, ExtensionsForm, overwritten-front, sources_end, ChangesOnly}
 use Rattle.rtp_base.specs.Overwriting.{overwritten}
-use Rattle.rtp_base.proofs.OverwritingLemmas.{overwritten-front}
-use Rattle.rtp_wire.specs.NotAHeader.{sources_end}
 use Rattle.rtp_wire.specs.PartsAt.{is_set, form_in, other_in, header_end, parts_at}
 use Rattle.rtp_wire.proofs.GroupLemmas.{length-first_chunks, first_chunks-take}
 use Rattle.rtp_wire.proofs.PacketLemmas.{same_parts}
-use Rattle.rtp_wire.specs.ChangedPacket.{ChangesOnly}
 use Rattle.rtp_wire.proofs.BytesBetween.{ChangesOnly-put, index_before, take_before, range_before, take-overwritten}
 use Rattle.rtp_wire.proofs.PacketChanges.{block_by, block-stays, other_block-stays, payload-stays, stays-in_body}
 

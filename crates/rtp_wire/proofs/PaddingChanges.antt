@@ -1,22 +1,6 @@
 -- A packet whose padding bit is set or cleared, and the packet without its padding.
-use Rattle.std.proofs.Common.{◌≡◌, ℕ, ◌+◌, ◌*◌, ◌/◌, ◌%◌, ◌<◌, ◌≤◌, Bool, true, false, List, [], ◌∷◌, ◌++◌, length, map, take, drop, Option, None, refl, sym, ap, subst, ◌∙◌, arith, bit_and, append_assoc, length-append, length-drop, take_at}
-use Rattle.std.specs.Prelude.{slice_index, slice_range, Some, is_some, if◌then◌else◌}
-use Rattle.std.specs.List.{concat}
-use Rattle.std.specs.Int.{w16, w32, from_be_bytes}
-use Rattle.std.specs.Simd.{first_chunks}
-use Rattle.std.proofs.lemmas.Nat.{and_mask}
-use Rattle.std.proofs.lemmas.List.{append-nil, get_or-take, get_or-drop}
-use Rattle.rtp_base.specs.Flag.{bit}
-use Rattle.rtp_base.specs.Overwriting.{overwritten}
-use Rattle.rtp_base.proofs.OverwritingLemmas.{overwritten-front}
-use Rattle.rtp_ext.specs.declared.form.ExtensionsForm.{ExtensionsForm}
-use Rattle.rtp_wire.specs.Block.{word_at}
-use Rattle.rtp_wire.specs.NotAHeader.{sources_end}
-use Rattle.rtp_wire.specs.declared.packet.rtp_packet_mut.RtpPacketMut.{RtpPacketMut}
-use Rattle.rtp_wire.specs.Packet.{PacketParts, IsPacket, IsSecondByte, IsWithoutPadding}
+use Rattle.rtp_wire.proofs.Common.{◌≡◌, ℕ, ◌+◌, ◌*◌, ◌/◌, ◌%◌, ◌<◌, ◌≤◌, Bool, true, false, List, [], ◌∷◌, ◌++◌, length, map, take, drop, Option, None, refl, sym, ap, subst, ◌∙◌, arith, bit_and, append_assoc, length-append, length-drop, take_at, slice_index, slice_range, Some, is_some, if◌then◌else◌, concat, w16, w32, from_be_bytes, first_chunks, and_mask, append-nil, get_or-take, get_or-drop, bit, overwritten, overwritten-front, ExtensionsForm, word_at, sources_end, RtpPacketMut, PacketParts, IsPacket, IsSecondByte, IsWithoutPadding, parts_in, ChangesOnly, HasUnpadded}
 use Rattle.rtp_wire.specs.PartsAt.{is_set, has_block, form_of_word, form_in, profile_in, other_in, header_end, parts_at}
-use Rattle.rtp_wire.specs.PartsOf.{parts_in}
-use Rattle.rtp_wire.specs.ChangedPacket.{ChangesOnly, HasUnpadded}
 use Rattle.rtp_wire.proofs.FlagLemmas.{bit-once}
 use Rattle.rtp_wire.proofs.PacketLemmas.{bit-is_set, same_parts, IsPacket-whole}
 use Rattle.rtp_wire.proofs.HeaderFound.{HasHeader, HasHeader-packet_mut, IsWhole-header}

@@ -1,15 +1,6 @@
 -- Padding: its length in whole blocks, its bytes put into a buffer and cut off, and the bit that announces it.
-use Rattle.std.proofs.Common.{◌≡◌, ℕ, zero, suc, Bool, true, false, subst, ◌+◌, ◌-◌, ◌*◌, ◌/◌, ◌%◌, ◌<◌, ◌≤◌, List, [], ◌∷◌, length, take, drop, replicate, min, max, set, get_or, bit_or, refl, sym, ap, ◌∙◌, inl, inr, arith, length-drop}
-use Rattle.std.specs.Prelude.{slice_index}
-use Rattle.std.proofs.Math.Nat.{mul-le-mul_right, suc-mul}
-use Rattle.std.proofs.lemmas.Bool.{cases_lt}
-use Rattle.std.proofs.lemmas.List.{length-replicate, take-append-drop}
-use Rattle.std.proofs.lemmas.Nat.{div-add-mod', and_le_r, or_disjoint, or_shr, or_mod}
-use Rattle.std.proofs.lemmas.Nat.Bits.{bit_at_or}
+use Rattle.rtp_wire.proofs.Common.{◌≡◌, ℕ, zero, suc, Bool, true, false, subst, ◌+◌, ◌-◌, ◌*◌, ◌/◌, ◌%◌, ◌<◌, ◌≤◌, List, [], ◌∷◌, length, take, drop, replicate, min, max, set, get_or, bit_or, refl, sym, ap, ◌∙◌, inl, inr, arith, length-drop, slice_index, mul-le-mul_right, suc-mul, cases_lt, length-replicate, take-append-drop, div-add-mod', and_le_r, or_disjoint, or_shr, or_mod, bit_at_or, length-overwritten, overwritten-overwritten, overwritten-set, IsFirstByte, padding_bytes, with_padding_bit, padding_count, IsInBlocks, IsPaddingLength, IsUnpadded}
 use Rattle.rtp_base.specs.Overwriting.{overwritten}
-use Rattle.rtp_base.proofs.OverwritingLemmas.{length-overwritten, overwritten-overwritten, overwritten-set}
-use Rattle.rtp_wire.specs.Packet.{IsFirstByte}
-use Rattle.rtp_wire.specs.Padding.{padding_bytes, with_padding_bit, padding_count, IsInBlocks, IsPaddingLength, IsUnpadded}
 
 -- ---- the length
 

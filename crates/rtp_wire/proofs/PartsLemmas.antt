@@ -1,16 +1,5 @@
 -- The parts of a packet, as the calls on it find them.
-use Rattle.std.proofs.Common.{◌≡◌, ℕ, ◌+◌, ◌-◌, ◌*◌, ◌/◌, ◌%◌, ◌≤◌, Bool, true, false, List, length, take, drop, Option, Some, None, refl, sym, ap, subst, ◌∙◌, arith, ◌++◌, length-append, length-drop, length-take-le}
-use Rattle.std.specs.Prelude.{slice_index, slice_range, is_some, option_map, if◌then◌else◌}
-use Rattle.std.specs.Int.{w32, from_be_bytes}
-use Rattle.std.specs.List.{concat}
-use Rattle.std.specs.Simd.{first_chunks}
-use Rattle.std.proofs.lemmas.List.{length-map}
-use Rattle.std.proofs.lemmas.Option.{none-some}
-use Rattle.rtp_ext.specs.declared.form.ExtensionsForm.{ExtensionsForm}
-use Rattle.rtp_wire.specs.declared.packet.rtp_packet.RtpPacket.{RtpPacket}
-use Rattle.rtp_wire.specs.NotAHeader.{sources_end}
-use Rattle.rtp_wire.specs.Packet.{PacketParts, IsAnnounced, IsAnnouncedBlock, IsPacket, HasOtherForm, block_len, header_len_of}
-use Rattle.rtp_wire.specs.PartsOf.{parts_of}
+use Rattle.rtp_wire.proofs.Common.{◌≡◌, ℕ, ◌+◌, ◌-◌, ◌*◌, ◌/◌, ◌%◌, ◌≤◌, Bool, true, false, List, length, take, drop, Option, Some, None, refl, sym, ap, subst, ◌∙◌, arith, ◌++◌, length-append, length-drop, length-take-le, slice_index, slice_range, is_some, option_map, if◌then◌else◌, w32, from_be_bytes, concat, first_chunks, length-map, none-some, ExtensionsForm, RtpPacket, sources_end, PacketParts, IsAnnounced, IsAnnouncedBlock, IsPacket, HasOtherForm, block_len, header_len_of, parts_of}
 use Rattle.rtp_wire.specs.PartsAt.{has_block, form_in, header_end, parts_at}
 use Rattle.rtp_wire.proofs.GroupLemmas.{length-concat, first_chunks-take}
 use Rattle.rtp_wire.proofs.PacketLemmas.{one_packet, IsPacket-whole}

@@ -7,7 +7,6 @@ use Rattle.rtp_ext.specs.Elements.{Element, elements_bytes}
 use Rattle.rtp_ext.specs.ElementsInARow.{IsWritable}
 use Rattle.rtp_ext.specs.PutElement.{needed_form, allowed_form}
 use Rattle.rtp_ext.specs.WrittenBlock.{whole_words}
-use Rattle.rtp_ext.proofs.LastPlaceLemmas.{AreElements-same}
 use Rattle.rtp_wire.specs.declared.packet.putting.Plan.{Plan}
 use Rattle.rtp_wire.specs.declared.packet.not_put.NotPut.{NotPut}
 use Rattle.rtp_wire.specs.declared.packet.not_put.NotPut.TheVariants.{CutPacket, NotAPacket, ZeroId, LongData, OtherForm, OneByteOnly, LongBlock, NoRoom}
@@ -21,18 +20,15 @@ use Rattle.rtp_wire.proofs.ResizedLemmas.{sources_end-is, len-is}
 use Rattle.rtp_wire.proofs.PutPlanLemmas.{body-fits, none_of_packet}
 use Rattle.rtp_wire.proofs.PartsLemmas.{length-packet}
 use Rattle.rtp_wire.proofs.SetInPlaceLemmas.{body-ends, block_len-announced}
+use Rattle.rtp_wire.proofs.HeaderLemmas.{one_list}
 
 -- ---- a packet becomes one thing
-
-AreElementsOf-same : (block : Option (ExtensionsForm × List ℕ)) (xs ys : List Element) → AreElementsOf block xs → AreElementsOf block ys → xs ≡ ys
-AreElementsOf-same None xs ys are others = are ∙ sym others
-AreElementsOf-same (Some block) xs ys are others = AreElements-same block.0 block.1 xs ys are others
 
 pub same-growth : (bytes : List ℕ) (element : Element) (allowed : Option ExtensionsForm) (g h : IsGrowth bytes element allowed) → (g.body_len ≡ h.body_len) × (g.len ≡ h.len)
 same-growth bytes element allowed g h =
     let parts : g.parts ≡ h.parts = sym (one_packet bytes g.parts g.is_packet) ∙ one_packet bytes h.parts h.is_packet in
     let elements : g.elements ≡ h.elements =
-    AreElementsOf-same h.parts.block g.elements h.elements (subst (λ (p : PacketParts). AreElementsOf p.block g.elements) parts g.are_elements) h.are_elements in
+    one_list h.parts.block g.elements h.elements (subst (λ (p : PacketParts). AreElementsOf p.block g.elements) parts g.are_elements) h.are_elements in
     let form : g.form ≡ h.form =
     same_Some _ _ (sym g.form_is ∙ ap (λ (p : PacketParts). allowed_form allowed (needed_form (form_of_block p.block) element)) parts ∙ h.form_is) in
     let size : g.body_len ≡ h.body_len =

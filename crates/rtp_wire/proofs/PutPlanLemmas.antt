@@ -1,9 +1,9 @@
 -- What is known of a packet into which an element is put, and of what it becomes.
-use Rattle.std.proofs.Common.{◌≡◌, ℕ, ◌+◌, ◌-◌, ◌*◌, ◌%◌, ◌<◌, ◌≤◌, Bool, true, false, List, [], length, drop, max, Option, Some, None, refl, sym, ap, subst, ◌∙◌, arith, length-take}
-use Rattle.std.specs.Prelude.{slice_index, slice_range, option_map, unwrap_or, if◌then◌else◌, ◌↔◌, IsTrue, ◌&&◌, nat_le}
+use Rattle.std.proofs.Common.{◌≡◌, ℕ, ◌+◌, ◌-◌, ◌*◌, ◌%◌, ◌<◌, ◌≤◌, Bool, true, false, List, length, drop, max, Option, Some, None, refl, sym, ap, subst, ◌∙◌, arith, length-take, []}
+use Rattle.std.specs.Prelude.{slice_index, slice_range, option_map, unwrap_or, if◌then◌else◌, ◌↔◌, IsTrue}
 use Rattle.std.specs.Option.{option_eq}
 use Rattle.std.specs.Borrow.{Bor}
-use Rattle.std.proofs.lemmas.Bool.{false≢true, leb-true}
+use Rattle.std.proofs.lemmas.Bool.{false≢true}
 use denote.Enum.Bare.{sameb}
 use Rattle.rtp_ext.specs.contracts.form.ExtensionsForm.{the_type}
 use Rattle.std.proofs.lemmas.List.{get_or-drop}
@@ -34,6 +34,7 @@ use Rattle.rtp_wire.specs.PacketElements.{AreElementsOf}
 use Rattle.rtp_wire.specs.PutIntoPacket.{IsGrowth, form_of_block, body_of_block, elements_with, AppliesToPacket, put_place}
 use Rattle.rtp_wire.specs.GrowingPacket.{IsFormOfBody}
 use Rattle.rtp_wire.proofs.ResizedLemmas.{whole-announced}
+use Rattle.rtp_ext.proofs.ServingFormLemmas.{IsWritable-one}
 
 -- the elements of a block are those of its body, and there are none without one
 pub body-elements : (block : Option (ExtensionsForm × List ℕ)) (elements : List Element) (new_form form : ExtensionsForm) → IsFormOfBody block new_form form
@@ -52,7 +53,7 @@ words-high n whole is = omega (arith, is)
 pub words-whole : (n whole : ℕ) → whole ≡ whole_words n → whole % 4 ≡ 0
 words-whole n whole is = omega (arith, is)
 
-whole-words : (n : ℕ) → (whole_words n % 4 ≡ 0) × (n ≤ whole_words n)
+pub whole-words : (n : ℕ) → (whole_words n % 4 ≡ 0) × (n ≤ whole_words n)
 whole-words n = (omega arith, omega arith)
 
 module _ (bytes : List ℕ) (element : Element) (allowed : Option ExtensionsForm) (growth : IsGrowth bytes element allowed) where
@@ -179,19 +180,6 @@ form-tested (Some TwoByte) OneByte test is = (λ yes. absurd (false≢true (sym 
 
 -- ---- the form
 
-and_parts : (a b : Bool) → (a && b) ≡ true → (a ≡ true) × (b ≡ true)
-and_parts true b e = (refl, e)
-and_parts false b e = absurd cc
-
--- what serves in the one-byte form may be written in it
-IsWritable-serves : (element : Element) → serves_one_byte element ≡ true → IsWritable OneByte element
-IsWritable-serves element serves =
-    let halves = and_parts (nat_le 1 element.0 && nat_le element.0 14) (nat_le 1 (length element.1) && nat_le (length element.1) 16) serves in
-    let id = and_parts (nat_le 1 element.0) (nat_le element.0 14) halves.0 in
-    let len = and_parts (nat_le 1 (length element.1)) (nat_le (length element.1) 16) halves.1 in
-    let above = leb-true 1 element.0 id.0 in
-    (above, (leb-true element.0 14 id.1, leb-true 1 (length element.1) len.0, leb-true (length element.1) 16 len.1, omega arith))
-
 serves-needed : (block : Option ExtensionsForm) (element : Element) → needed_form block element ≡ OneByte → serves_one_byte element ≡ true
 serves-needed (Some TwoByte) element is = absurd cc
 serves-needed (Some OneByte) element is = by_test (serves_one_byte element) is
@@ -215,7 +203,7 @@ needed-allowed (Some OneByte) TwoByte is = absurd cc
 pub IsWritable-allowed : (block allowed : Option ExtensionsForm) (element : Element) (form : ExtensionsForm) → 1 ≤ element.0 → element.0 ≤ 255 → length element.1 ≤ 255
     → allowed_form allowed (needed_form block element) ≡ Some form → IsWritable form element
 IsWritable-allowed block allowed element TwoByte above below short is = (above, (above, below, short))
-IsWritable-allowed block allowed element OneByte above below short is = IsWritable-serves element (serves-needed block element (needed-allowed allowed (needed_form block element) is))
+IsWritable-allowed block allowed element OneByte above below short is = IsWritable-one element (serves-needed block element (needed-allowed allowed (needed_form block element) is))
 
 -- ---- the causes
 

@@ -1,18 +1,6 @@
 -- The pieces of a packet in a buffer, and the buffer once its block has a body of another length.
-use Rattle.std.proofs.Common.{◌≡◌, ℕ, ◌+◌, ◌-◌, ◌*◌, ◌/◌, ◌%◌, ◌≤◌, Bool, true, false, List, ◌++◌, length, take, drop, Option, Some, None, refl, sym, ap, subst, ◌∙◌, arith, append_assoc, length-append, length-drop, length-take-le, take_at, drop_at}
-use Rattle.std.specs.Prelude.{slice_range}
-use Rattle.std.specs.List.{concat}
-use Rattle.std.specs.Int.{w16, w32, from_be_bytes, to_be_bytes}
-use Rattle.std.proofs.lemmas.List.{length-map, take-append-drop, drop-drop, take-take, take-append-le, drop-append-le}
-use Rattle.std.proofs.lemmas.Option.{none-some}
-use Rattle.std.proofs.Math.Seq.{take-add}
-use lib.Seq.{paste}
+use Rattle.rtp_wire.proofs.Common.{◌≡◌, ℕ, ◌+◌, ◌-◌, ◌*◌, ◌/◌, ◌%◌, ◌≤◌, Bool, true, false, List, ◌++◌, length, take, drop, Option, Some, None, refl, sym, ap, subst, ◌∙◌, arith, append_assoc, length-append, length-drop, length-take-le, take_at, drop_at, slice_range, concat, w16, w32, from_be_bytes, to_be_bytes, length-map, take-append-drop, drop-drop, take-take, take-append-le, drop-append-le, none-some, take-add, paste, ExtensionsForm, IsFormWord, sources_end, PacketParts, IsAnnouncedBlock, IsPacket, header_len_of, block_len, form_of_block, body_of_block}
 use Rattle.rtp_base.specs.Overwriting.{overwritten}
-use Rattle.rtp_ext.specs.declared.form.ExtensionsForm.{ExtensionsForm}
-use Rattle.rtp_ext.specs.Form.{IsFormWord}
-use Rattle.rtp_wire.specs.NotAHeader.{sources_end}
-use Rattle.rtp_wire.specs.Packet.{PacketParts, IsAnnouncedBlock, IsPacket, header_len_of, block_len}
-use Rattle.rtp_wire.specs.PutIntoPacket.{form_of_block, body_of_block}
 use Rattle.rtp_wire.specs.GrowingPacket.{resized}
 use Rattle.rtp_wire.proofs.GroupLemmas.{length-concat}
 use Rattle.rtp_wire.proofs.PacketLemmas.{one_packet}

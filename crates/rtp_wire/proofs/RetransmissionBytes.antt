@@ -1,17 +1,9 @@
 -- The bytes of a packet that becomes a retransmission in a buffer, or is one no longer: where its parts lie, and a payload that is moved.
-use Rattle.std.proofs.Common.{◌≡◌, ℕ, ◌+◌, ◌-◌, ◌≤◌, List, [], ◌++◌, length, take, drop, refl, sym, ap, subst, ◌∙◌, arith, append_assoc, length-append, length-take-le, take_at, drop_at, ◌*◌, ◌%◌, true}
-use Rattle.std.specs.Prelude.{slice_range, slice_index}
-use Rattle.std.specs.List.{concat, copy_within}
-use Rattle.std.proofs.lemmas.List.{take-append-drop, drop-drop, get_or-take}
+use Rattle.rtp_wire.proofs.Common.{◌≡◌, ℕ, ◌+◌, ◌-◌, ◌≤◌, List, [], ◌++◌, length, take, drop, refl, sym, ap, subst, ◌∙◌, arith, append_assoc, length-append, length-take-le, take_at, drop_at, ◌*◌, ◌%◌, true, slice_range, slice_index, concat, copy_within, take-append-drop, drop-drop, get_or-take, Layout, PacketParts, IsPacket, IsWithoutPadding, header_len_of, IsLaidOut, sources_end, KeepsBlockHeader}
 use Rattle.rtp_base.specs.Overwriting.{overwritten}
-use Rattle.rtp_wire.specs.declared.packet.retransmission.Layout.{Layout}
-use Rattle.rtp_wire.specs.Packet.{PacketParts, IsPacket, IsWithoutPadding, header_len_of}
 use Rattle.rtp_wire.specs.PartsAt.{HasLayout, is_set, has_block, header_end}
-use Rattle.rtp_wire.specs.RetransmissionParts.{IsLaidOut}
 use Rattle.rtp_wire.proofs.PartsLemmas.{length-packet}
 use Rattle.rtp_wire.proofs.PaddingChanges.{IsPacket-front, unpadded_front}
-use Rattle.rtp_wire.specs.NotAHeader.{sources_end}
-use Rattle.rtp_wire.specs.Retransmission.{KeepsBlockHeader}
 use Rattle.rtp_wire.proofs.PacketLemmas.{whole_and_parts}
 use Rattle.rtp_wire.proofs.BlockLemmas.{slice_range-take}
 

@@ -1,14 +1,9 @@
 -- Why a packet in a buffer doesn't become a retransmission, or a retransmission the packet that it repeats.
-use Rattle.std.proofs.Common.{◌≡◌, ℕ, ◌+◌, ◌<◌, ◌≤◌, ◌↔◌, Bool, true, false, List, [], length, take, Option, sym, ap, subst, ◌∙◌, arith, length-append}
+use Rattle.rtp_wire.proofs.Common.{◌≡◌, ℕ, ◌+◌, ◌<◌, ◌≤◌, ◌↔◌, Bool, true, false, List, [], length, take, Option, sym, ap, subst, ◌∙◌, arith, length-append, CutPacket, PaddingTooLong, NoOriginalNumber, NewIdTooHigh, NoRoom, Layout, IsFirstCause, PacketParts, IsPacket, IsWithoutPadding, header_len_of, padding_count, IsPacketWith, HasLongPadding, HasPayload, HasHighId, KeepsFromSending, KeepsFromRestoring, IsLaidOut, HasNoLayout}
+use Rattle.rtp_wire.specs.declared.packet.not_retransmitted.NotRetransmitted.TheVariants.{NotAPacket}
+use Rattle.rtp_wire.specs.Retransmission.{IsFirstOf, place_of}
 use Rattle.rtp_wire.specs.declared.packet.not_a_packet.NotAPacket as not_a_packet
 use Rattle.rtp_wire.specs.declared.packet.not_retransmitted.NotRetransmitted.{NotRetransmitted}
-use Rattle.rtp_wire.specs.declared.packet.not_retransmitted.NotRetransmitted.TheVariants.{CutPacket, NotAPacket, PaddingTooLong, NoOriginalNumber, NewIdTooHigh, NoRoom}
-use Rattle.rtp_wire.specs.declared.packet.retransmission.Layout.{Layout}
-use Rattle.rtp_wire.specs.NotAPacket.{IsFirstCause}
-use Rattle.rtp_wire.specs.Packet.{PacketParts, IsPacket, IsWithoutPadding, header_len_of}
-use Rattle.rtp_wire.specs.Padding.{padding_count}
-use Rattle.rtp_wire.specs.Retransmission.{IsPacketWith, HasLongPadding, HasPayload, HasHighId, KeepsFromSending, KeepsFromRestoring, IsFirstOf, place_of}
-use Rattle.rtp_wire.specs.RetransmissionParts.{IsLaidOut, HasNoLayout}
 use Rattle.rtp_wire.proofs.PacketLemmas.{one_packet, no_packet}
 use Rattle.rtp_wire.proofs.RetransmissionBytes.{header_alone_in}
 

@@ -50,7 +50,7 @@ elements_there bytes parts all is =
 -- ---- the header
 
 -- the header in a buffer is a packet of its parts
-IsPacket-in : (packet : RtpPacketMut) (bytes : List ℕ) → slice_index bytes 1 < 256 → packet.datagram.now ≡ bytes → IsPacket bytes (parts_in packet)
+pub IsPacket-in : (packet : RtpPacketMut) (bytes : List ℕ) → slice_index bytes 1 < 256 → packet.datagram.now ≡ bytes → IsPacket bytes (parts_in packet)
 IsPacket-in packet bytes fits is =
     let now = packet.datagram.now in
     subst (λ (b : List ℕ). IsPacket b (parts_in packet)) is

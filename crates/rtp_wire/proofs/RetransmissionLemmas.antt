@@ -1,20 +1,7 @@
 -- A packet that becomes a retransmission in a buffer, and a retransmission that becomes the packet that it repeats.
-use Rattle.std.proofs.Common.{◌≡◌, ℕ, ◌+◌, ◌-◌, ◌<◌, ◌≤◌, Bool, true, false, List, [], ◌++◌, length, take, drop, Option, refl, sym, ap, subst, ◌∙◌, arith, append_assoc, length-append, length-take-le, take_at, drop_at}
-use Rattle.std.specs.List.{copy_within}
-use Rattle.std.specs.Int.{w16, to_be_bytes, from_be_bytes}
-use Rattle.std.proofs.lemmas.List.{take-take, take-append-drop, drop-drop}
-use Rattle.std.proofs.lemmas.Nat.{from_be_bytes-to_be_bytes_2}
-use Rattle.rtp_base.specs.Overwriting.{overwritten}
-use Rattle.rtp_ext.specs.declared.form.ExtensionsForm.{ExtensionsForm}
-use Rattle.rtp_wire.specs.declared.packet.fields.Fields.{Fields}
-use Rattle.rtp_wire.specs.declared.packet.retransmission.Layout.{Layout}
+use Rattle.rtp_wire.proofs.Common.{◌≡◌, ℕ, ◌+◌, ◌-◌, ◌<◌, ◌≤◌, Bool, true, false, List, [], ◌++◌, length, take, drop, Option, refl, sym, ap, subst, ◌∙◌, arith, append_assoc, length-append, length-take-le, take_at, drop_at, copy_within, w16, to_be_bytes, from_be_bytes, take-take, take-append-drop, drop-drop, from_be_bytes-to_be_bytes_2, overwritten, ExtensionsForm, Fields, Layout, with_header_fields, HasOriginalNumber, PacketParts, IsPacket, IsWithoutPadding, header_len_of, IsBlockUnder, IsRetransmissionOf, IsOriginalOf, IsRestored, IsPacketWith, Becomes, Sends, Restores, IsLaidOut, IsChangedHeader}
 use Rattle.rtp_wire.specs.declared.packet.retransmission.RetransmissionFields.{RetransmissionFields}
 use Rattle.rtp_wire.specs.declared.packet.retransmission.OriginalFields.{OriginalFields}
-use Rattle.rtp_wire.specs.GivenFields.{with_header_fields}
-use Rattle.rtp_wire.specs.OriginalNumber.{HasOriginalNumber}
-use Rattle.rtp_wire.specs.Packet.{PacketParts, IsPacket, IsWithoutPadding, header_len_of}
-use Rattle.rtp_wire.specs.Retransmission.{IsBlockUnder, IsRetransmissionOf, IsOriginalOf, IsRestored, IsPacketWith, Becomes, Sends, Restores}
-use Rattle.rtp_wire.specs.RetransmissionParts.{IsLaidOut, IsChangedHeader}
 use Rattle.rtp_wire.proofs.PacketLemmas.{one_packet, same_parts}
 use Rattle.rtp_wire.proofs.PaddingChanges.{IsPacket-longer}
 use Rattle.rtp_wire.proofs.RetransmissionBytes.{moved_on, moved_back, in_row, header_front, header_alone_in, lie_within, KeepsBlockHeader-front}

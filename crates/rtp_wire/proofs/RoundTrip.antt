@@ -1,22 +1,9 @@
 -- What is written, followed by anything, is read as the image of the header.
-use Rattle.std.proofs.Common.{◌≡◌, ℕ, suc, get_or, ◌+◌, ◌-◌, ◌*◌, ◌^◌, ◌<◌, ◌≤◌, List, [], ◌∷◌, ◌++◌, length, take, drop, refl, sym, ap, ◌∙◌, arith, append_assoc, length-append, length-take-le, Option}
-use Rattle.std.specs.Prelude.{map, replicate, slice_index}
-use Rattle.std.specs.List.{flat_map, concat, AllByRecursion}
-use Rattle.std.specs.Int.{w32, to_be_bytes, from_be_bytes}
-use Rattle.std.proofs.lemmas.Nat.{from_be_bytes-to_be_bytes_2, from_be_bytes-to_be_bytes_4}
-use Rattle.rtp_ext.specs.declared.map.ExtensionMap.{ExtensionMap}
-use Rattle.rtp_ext.specs.ExtensionMap.{Slots}
-use Rattle.rtp_wire.specs.declared.header.rtp_header.RtpHeader.{RtpHeader}
-use Rattle.rtp_values.specs.declared.value.values.ExtensionValues.{ExtensionValues}
-use Rattle.rtp_ext.specs.declared.form.ExtensionsForm.{ExtensionsForm}
-use Rattle.rtp_wire.specs.Header.{IsExtensionPart, header_of, IsWire}
-use Rattle.rtp_wire.specs.Packet.{IsFirstByte, IsFixedPart, IsAnnounced, IsPacket, header_len_of}
+use Rattle.rtp_wire.proofs.Common.{◌≡◌, ℕ, suc, get_or, ◌+◌, ◌-◌, ◌*◌, ◌^◌, ◌<◌, ◌≤◌, List, [], ◌∷◌, ◌++◌, length, take, drop, refl, sym, ap, ◌∙◌, arith, append_assoc, length-append, length-take-le, Option, map, replicate, slice_index, flat_map, concat, AllByRecursion, w32, to_be_bytes, from_be_bytes, from_be_bytes-to_be_bytes_2, from_be_bytes-to_be_bytes_4, ExtensionMap, Slots, RtpHeader, ExtensionValues, ExtensionsForm, IsExtensionPart, header_of, IsWire, IsFirstByte, IsFixedPart, IsAnnounced, IsPacket, header_len_of, overwritten, overwritten-three}
 use Rattle.rtp_wire.proofs.HeaderLemmas.{IsHeaderOf-read}
 use Rattle.rtp_wire.proofs.PartsLemmas.{length-announced}
-use Rattle.rtp_base.specs.Overwriting.{overwritten}
 use Rattle.rtp_wire.specs.Written.{fixed_bytes, source_bytes, header_bytes, parts_written, extension_bytes, wire_bytes, carried_image, image_of}
 use Rattle.rtp_wire.proofs.GroupLemmas.{AreFours}
-use Rattle.rtp_base.proofs.OverwritingLemmas.{overwritten-three}
 use Rattle.rtp_wire.proofs.GroupLemmas.{length-numbers}
 
 -- how large the fields of a header are that can be written

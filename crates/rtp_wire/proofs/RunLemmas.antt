@@ -1,23 +1,7 @@
 -- Runs of datagrams: the verdicts on them, all together and each source by itself.
-use Rattle.std.proofs.Common.{◌≡◌, ℕ, ◌+◌, ◌<◌, ◌≤◌, Bool, true, false, if◌then◌else◌, eqb, List, [], ◌∷◌, ◌++◌, length, take, get_or, refl, sym, ap, ◌∙◌, subst, arith}
-use Rattle.std.specs.Prelude.{Option, Some}
-use Rattle.std.specs.List.{AllZip, AllByRecursion}
-use Rattle.std.proofs.lemmas.Bool.{eq-eqb, false≢true}
-use Rattle.std.proofs.lemmas.List.{length-map, take_all, take_more}
+use Rattle.rtp_wire.proofs.Common.{◌≡◌, ℕ, ◌+◌, ◌<◌, ◌≤◌, Bool, true, false, if◌then◌else◌, eqb, List, [], ◌∷◌, ◌++◌, length, take, get_or, refl, sym, ap, ◌∙◌, subst, arith, Option, Some, AllZip, AllByRecursion, eq-eqb, false≢true, length-map, take_all, take_more, Verdict, PacketId, IsRun, AreTrueNumbers, AreTrueVerdicts, at_source, SoFar, AreTrueVerdicts-run, SoFarEach, AllZip-at_source, ExtensionMap, RtpHeader, packet_id_of, IsPacketId, ArePacketIds, IsOfSource, packet_ids_of, AreSent, AreVerdicts, AreVerdictsBySource}
 use Rattle.rtp_receive.specs.StreamState.{ReceiverState}
-use Rattle.rtp_receive.specs.declared.receiver.Verdict.{Verdict}
 use Rattle.rtp_receive.specs.Receivers.{ReceiverStates}
-use Rattle.rtp_receive.specs.Verdicts.{PacketId, IsRun}
-use Rattle.rtp_receive.specs.TrueNumbers.{AreTrueNumbers, AreTrueVerdicts}
-use Rattle.rtp_receive.specs.Sources.{at_source}
-use Rattle.rtp_receive.proofs.VerdictLemmas.{SoFar}
-use Rattle.rtp_receive.proofs.TrueNumberLemmas.{AreTrueVerdicts-run}
-use Rattle.rtp_receive.proofs.SourceLemmas.{SoFarEach, AllZip-at_source}
-use Rattle.rtp_ext.specs.declared.map.ExtensionMap.{ExtensionMap}
-use Rattle.rtp_wire.specs.declared.header.rtp_header.RtpHeader.{RtpHeader}
-use Rattle.rtp_wire.specs.PacketIds.{packet_id_of, IsPacketId, ArePacketIds}
-use Rattle.rtp_wire.specs.Sending.{IsOfSource, packet_ids_of, AreSent}
-use Rattle.rtp_wire.specs.Runs.{AreVerdicts, AreVerdictsBySource}
 use Rattle.rtp_wire.proofs.PacketIdLemmas.{one_packet_ids}
 use Rattle.rtp_wire.proofs.SendingLemmas.{packet_ids_sent}
 

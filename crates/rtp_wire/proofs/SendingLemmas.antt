@@ -1,17 +1,6 @@
 -- What arrives of a sender's headers has the packet ids of those headers.
-use Rattle.std.proofs.Common.{◌≡◌, ℕ, List, [], ◌∷◌, map, refl, sym, subst}
-use Rattle.std.specs.Prelude.{Option, Some}
-use Rattle.std.specs.List.{AllZip}
-use Rattle.rtp_receive.specs.declared.receiver.Verdict.{Verdict}
-use Rattle.rtp_receive.specs.Verdicts.{PacketId, IsRun}
-use Rattle.rtp_receive.specs.TrueNumbers.{AreTrueVerdicts}
-use Rattle.rtp_receive.proofs.TrueNumberLemmas.{AreTrueVerdicts-run}
-use Rattle.rtp_ext.specs.declared.map.ExtensionMap.{ExtensionMap}
-use Rattle.rtp_wire.specs.declared.header.rtp_header.RtpHeader.{RtpHeader}
+use Rattle.rtp_wire.proofs.Common.{◌≡◌, ℕ, List, [], ◌∷◌, map, refl, sym, subst, Option, Some, AllZip, Verdict, PacketId, IsRun, AreTrueVerdicts, AreTrueVerdicts-run, ExtensionMap, RtpHeader, packet_id_of, IsPacketId, ArePacketIds, AreVerdicts, Arrives, packet_ids_of, AreSent}
 use Rattle.rtp_wire.specs.Written.{image_of}
-use Rattle.rtp_wire.specs.PacketIds.{packet_id_of, IsPacketId, ArePacketIds}
-use Rattle.rtp_wire.specs.Runs.{AreVerdicts}
-use Rattle.rtp_wire.specs.Sending.{Arrives, packet_ids_of, AreSent}
 use Rattle.rtp_wire.proofs.PacketIdLemmas.{one_packet_ids}
 
 packet_id-image : (exts : ExtensionMap) (h : RtpHeader) → packet_id_of (image_of exts h) ≡ packet_id_of h

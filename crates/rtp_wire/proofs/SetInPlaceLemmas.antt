@@ -1,21 +1,5 @@
 -- A packet in which the data of an element are set where they lie.
-use Rattle.std.proofs.Common.{◌≡◌, ℕ, ◌+◌, ◌-◌, ◌*◌, ◌≤◌, Bool, true, false, List, [], ◌∷◌, ◌++◌, length, take, drop, Option, Some, None, refl, sym, ap, subst, ◌∙◌, arith, append_assoc, length-append, length-drop, length-take-le, take_at, drop_at}
-use Rattle.std.specs.Prelude.{slice_index}
-use Rattle.std.specs.List.{concat, flat_map, filter_map}
-use Rattle.std.proofs.lemmas.List.{take-append-drop, take_all}
-use Rattle.std.proofs.lemmas.Slice.{take-put_mid_below}
-use borrow.Rule.Slice.PartMut.{put_mid}
-use Rattle.rtp_ext.specs.declared.form.ExtensionsForm.{ExtensionsForm}
-use Rattle.rtp_ext.specs.Form.{IsFormWord}
-use Rattle.rtp_ext.specs.Elements.{Element, AreElements, element_bytes, elements_bytes, piece_bytes}
-use Rattle.rtp_ext.specs.ElementsInPlace.{SetsLast}
-use Rattle.rtp_ext.specs.PutElement.{put_element, IsSole}
-use Rattle.rtp_ext.proofs.AnewLemmas.{AreElements-each, carried_all}
-use Rattle.rtp_wire.specs.Block.{IsBlock, word_at}
-use Rattle.rtp_wire.specs.NotAHeader.{sources_end}
-use Rattle.rtp_wire.specs.Packet.{PacketParts, IsFirstByte, IsFixedPart, IsAnnounced, IsAnnouncedBlock, IsPacket, block_len, header_len_of}
-use Rattle.rtp_wire.specs.PutIntoPacket.{IsGrowth, PutsElement, in_place, form_of_block, body_of_block, elements_with}
-use Rattle.rtp_wire.specs.GrowingPacket.{IsFormOfBody}
+use Rattle.rtp_wire.proofs.Common.{◌≡◌, ℕ, ◌+◌, ◌-◌, ◌*◌, ◌≤◌, Bool, true, false, List, [], ◌∷◌, ◌++◌, length, take, drop, Option, Some, None, refl, sym, ap, subst, ◌∙◌, arith, append_assoc, length-append, length-drop, length-take-le, take_at, drop_at, slice_index, concat, flat_map, filter_map, take-append-drop, take_all, take-put_mid_below, put_mid, ExtensionsForm, IsFormWord, Element, AreElements, element_bytes, elements_bytes, piece_bytes, SetsLast, put_element, IsSole, AreElements-each, carried_all, IsBlock, word_at, sources_end, PacketParts, IsFirstByte, IsFixedPart, IsAnnounced, IsAnnouncedBlock, IsPacket, block_len, header_len_of, IsGrowth, PutsElement, in_place, form_of_block, body_of_block, elements_with, IsFormOfBody}
 use Rattle.rtp_wire.proofs.BlockLemmas.{word_at-take}
 use Rattle.rtp_wire.proofs.PartsLemmas.{announced, length-announced, length-packet}
 use Rattle.rtp_wire.proofs.ResizedLemmas.{head_of, length-head, sources_end-is, no_other-announced, extension-announced, whole-announced}

@@ -1,21 +1,8 @@
 -- Worked rows, computed from the definitions.
-use Rattle.std.proofs.Common.{◌≡◌, ℕ, None, Some, true, false, List, [], ◌∷◌, ◌++◌, length, replicate, refl, rules, arith}
-use Rattle.rtp_ext.specs.declared.form.ExtensionsForm.{ExtensionsForm}
-use Rattle.rtp_ext.specs.declared.form.ExtensionsForm.TheVariants.{OneByte, TwoByte}
-use Rattle.rtp_ext.specs.declared.map.ExtensionMap.{ExtensionMap}
-use Rattle.rtp_ext.specs.Form.{IsFormWord}
-use Rattle.rtp_wire.specs.Header.{IsWire, default_header}
-use Rattle.rtp_wire.specs.Packet.{IsPacket}
-use Rattle.rtp_wire.specs.NotAHeader.{cut_header, cut_words, IsNoPacket, cut_fixed, other_version, cut_sources, cut_block, HasNoHeader, unknown_form}
-use Rattle.rtp_ext.specs.ExtensionMap.{Slots}
+use Rattle.rtp_wire.proofs.Common.{◌≡◌, ℕ, None, Some, true, false, List, [], ◌∷◌, ◌++◌, length, replicate, refl, rules, arith, ExtensionsForm, OneByte, TwoByte, ExtensionMap, IsFormWord, IsWire, default_header, IsPacket, cut_header, cut_words, IsNoPacket, cut_fixed, other_version, cut_sources, cut_block, HasNoHeader, unknown_form, Slots, padding_bytes, with_padding_bit, IsPaddingLength, IsUnpadded, HasOriginalNumber, ended, no_values, AreValues-none}
 use Rattle.rtp_values.specs.Spelling.{carried_values}
 use Rattle.rtp_ext.specs.WrittenBlock.{block_bytes, image_values}
 use Rattle.rtp_wire.specs.Written.{wire_bytes, image_of}
-use Rattle.rtp_wire.specs.Padding.{padding_bytes, with_padding_bit, IsPaddingLength, IsUnpadded}
-use Rattle.rtp_wire.specs.OriginalNumber.{HasOriginalNumber}
-use Rattle.rtp_ext.specs.Elements.{ended}
-use Rattle.rtp_values.specs.Values.{no_values}
-use Rattle.rtp_ext.proofs.ValuesLaws.{AreValues-none}
 
 abbrev zeros : ℕ → List ℕ
 zeros n = replicate n 0

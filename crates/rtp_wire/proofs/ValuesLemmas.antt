@@ -1,16 +1,7 @@
 -- What the reading of a block's elements tells of its values.
-use Rattle.std.proofs.Common.{◌≡◌, List, [], ℕ, Option, Some, None, Result, Ok, Err, OnOk, OnErr, refl, sym, subst}
+use Rattle.rtp_wire.proofs.Common.{◌≡◌, List, [], ℕ, Option, Some, None, Result, Ok, Err, OnOk, OnErr, refl, sym, subst, ExtensionsForm, ExtensionMap, ExtensionValues, Element, AreElements, AreValues, no_values, AreValues-none, HasValues, BlockHasAllocation, AreValuesStopped}
 use Rattle.std.specs.declared.alloc.AllocError.{AllocError}
-use Rattle.rtp_ext.specs.declared.form.ExtensionsForm.{ExtensionsForm}
-use Rattle.rtp_ext.specs.declared.map.ExtensionMap.{ExtensionMap}
-use Rattle.rtp_values.specs.declared.value.values.ExtensionValues.{ExtensionValues}
-use Rattle.rtp_ext.specs.Elements.{Element, AreElements}
-use Rattle.rtp_ext.specs.BlockValues.{AreValues}
 use Rattle.rtp_ext.specs.Memory.{IsStopped}
-use Rattle.rtp_values.specs.Values.{no_values}
-use Rattle.rtp_ext.proofs.ValuesLaws.{AreValues-none}
-use Rattle.rtp_wire.specs.PacketElements.{HasValues}
-use Rattle.rtp_wire.specs.RefusedMemory.{BlockHasAllocation, AreValuesStopped}
 
 pub HasValues-none : (exts : ExtensionMap) (block : Option (ExtensionsForm × List ℕ)) (values : ExtensionValues) → None ≡ block → values ≡ no_values → HasValues exts block values
 HasValues-none exts block values block-is none =

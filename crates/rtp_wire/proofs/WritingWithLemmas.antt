@@ -1,15 +1,7 @@
 -- A header and a block of any elements, as they are written.
-use Rattle.std.proofs.Common.{◌≡◌, ◌⊎◌, ℕ, ◌+◌, ◌-◌, ◌*◌, ◌≤◌, ◌<◌, List, ◌++◌, length, take, drop, Option, Some, refl, sym, ap, ◌∙◌, subst, arith, inl, inr, length-take-le}
-use Rattle.rtp_ext.specs.declared.form.ExtensionsForm.{ExtensionsForm}
-use Rattle.rtp_ext.specs.Elements.{Element, elements_bytes}
+use Rattle.rtp_wire.proofs.Common.{◌≡◌, ◌⊎◌, ℕ, ◌+◌, ◌-◌, ◌*◌, ◌≤◌, ◌<◌, List, ◌++◌, length, take, drop, Option, Some, refl, sym, ap, ◌∙◌, subst, arith, inl, inr, length-take-le, ExtensionsForm, Element, elements_bytes, filled, block_of, overwritten, length-overwritten, overwritten-rest, RtpHeader, IsPacket, fixed_bytes, source_bytes, header_bytes}
 use Rattle.rtp_ext.specs.ElementsInARow.{form_given, AreWritableIn, AreNotWritableIn}
-use Rattle.rtp_ext.specs.WrittenBlock.{filled, block_of}
 use Rattle.rtp_ext.proofs.ServingFormLemmas.{AreNotWritableIn-not}
-use Rattle.rtp_base.specs.Overwriting.{overwritten}
-use Rattle.rtp_base.proofs.OverwritingLemmas.{length-overwritten, overwritten-rest}
-use Rattle.rtp_wire.specs.declared.header.rtp_header.RtpHeader.{RtpHeader}
-use Rattle.rtp_wire.specs.Packet.{IsPacket}
-use Rattle.rtp_wire.specs.Written.{fixed_bytes, source_bytes, header_bytes}
 use Rattle.rtp_wire.specs.WrittenWith.{with_block, body_with, wire_bytes_with, parts_with, CannotBeWrittenWith, large_payload_type, many_sources, no_block, short_room}
 use Rattle.rtp_wire.proofs.BlockWriting.{length-block_of, IsBlock-made}
 use Rattle.rtp_wire.proofs.GroupLemmas.{length-numbers}

@@ -1,15 +1,7 @@
 -- What stands after the sources in the form that X announces, and how long a written header is.
-use Rattle.std.proofs.Common.{◌≡◌, ℕ, ◌+◌, ◌*◌, ◌%◌, ◌≤◌, List, [], length, Bool, true, false, Some, None, refl, sym, ap, ◌∙◌, subst, arith}
-use Rattle.rtp_ext.specs.declared.form.ExtensionsForm.{ExtensionsForm}
-use Rattle.rtp_values.specs.declared.value.values.ExtensionValues.{ExtensionValues}
-use Rattle.rtp_wire.specs.declared.header.rtp_header.RtpHeader.{RtpHeader}
-use Rattle.rtp_ext.specs.ExtensionMap.{Slots, mapped_count, HasNoIdAbove}
-use Rattle.rtp_ext.specs.Elements.{elements_bytes}
+use Rattle.rtp_wire.proofs.Common.{◌≡◌, ℕ, ◌+◌, ◌*◌, ◌%◌, ◌≤◌, List, [], length, Bool, true, false, Some, None, refl, sym, ap, ◌∙◌, subst, arith, ExtensionsForm, ExtensionValues, RtpHeader, Slots, mapped_count, HasNoIdAbove, elements_bytes, no_values, IsExtensionPart, extension_bytes, wire_bytes, carried_image}
 use Rattle.rtp_ext.specs.WrittenBlock.{form_of, written_elements, whole_words, image_values, block_bytes}
 use Rattle.rtp_ext.proofs.ListingLemmas.{mapped_count-few}
-use Rattle.rtp_values.specs.Values.{no_values}
-use Rattle.rtp_wire.specs.Header.{IsExtensionPart}
-use Rattle.rtp_wire.specs.Written.{extension_bytes, wire_bytes, carried_image}
 use Rattle.rtp_wire.specs.WrittenInForm.{announced_form, block_bytes_in, IsWithinMap}
 use Rattle.rtp_wire.proofs.BlockWriting.{length-block}
 use Rattle.rtp_wire.proofs.RoundTrip.{length-wire_bytes}

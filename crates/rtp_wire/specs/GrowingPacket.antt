@@ -1,6 +1,7 @@
 -- A packet whose block gets another body: what the functions that make it promise each other.
-use Rattle.std.specs.Prelude.{◌≡◌, ℕ, ◌+◌, ◌-◌, ◌*◌, ◌/◌, ◌%◌, ◌≤◌, ◌↔◌, List, [], ◌∷◌, ◌++◌, length, drop, take, slice_range, true, IsTrue, Option, Some, None}
+use Rattle.std.specs.Prelude.{◌≡◌, ℕ, ◌+◌, ◌-◌, ◌*◌, ◌/◌, ◌%◌, ◌≤◌, ◌↔◌, List, [], ◌∷◌, ◌++◌, length, drop, take, slice_range, Bool, true, IsTrue, Option, Some, None}
 use Rattle.std.specs.Int.{w16, to_be_bytes}
+use Rattle.rtp_base.specs.Flag.{bit}
 use Rattle.rtp_ext.specs.declared.form.ExtensionsForm.{ExtensionsForm}
 use Rattle.rtp_ext.specs.Form.{form_word}
 use Rattle.rtp_ext.specs.Elements.{Element, AreElements}
@@ -8,9 +9,11 @@ use Rattle.rtp_ext.specs.ElementsInARow.{IsWritable}
 use Rattle.rtp_ext.specs.PutElement.{row_to}
 use Rattle.rtp_ext.specs.BodySurvey.{IsSurvey}
 use Rattle.rtp_wire.specs.declared.packet.putting.Plan.{Plan}
+use Rattle.rtp_wire.specs.declared.packet.remaking_block.Remaking.{Remaking}
 use Rattle.rtp_wire.specs.NotAHeader.{sources_end}
 use Rattle.rtp_wire.specs.Packet.{IsPacket, header_len_of}
 use Rattle.rtp_wire.specs.PutIntoPacket.{IsGrowth, form_of_block, body_of_block, elements_with}
+use Rattle.rtp_wire.specs.RemadeBlock.{IsRemade}
 
 -- the packet with X set: the two bits of V, P, X, and the four bits of CC
 abbrev pub with_extension_bit : List ℕ → List ℕ
@@ -25,6 +28,19 @@ resized buf len block_at payload_at body_len =
     ++ (slice_range buf (block_at + 4) (block_at + 4 + body_len)
     ++ (slice_range buf payload_at len
     ++ drop (block_at + 4 + body_len + (len - payload_at)) buf)))
+
+-- the packet with this X
+abbrev pub with_extension : Bool → List ℕ → List ℕ
+with_extension x [] = []
+with_extension x (first ∷ rest) = (first / 32 * 32 + bit x * 16 + first % 16) ∷ rest
+
+-- the buffer with these bytes in place of those between two offsets in its first bytes, so many of them, and what was behind as it was
+unfoldable pub spliced : List ℕ → ℕ → ℕ → ℕ → List ℕ → List ℕ
+spliced buf len start end part = take start buf ++ (part ++ (slice_range buf end len ++ drop (start + length part + (len - end)) buf))
+
+-- a block of these 16 bits and this body
+abbrev pub block_bytes : ℕ → List ℕ → List ℕ
+block_bytes profile body = to_be_bytes w16 profile ++ (to_be_bytes w16 (length body / 4) ++ body)
 
 -- the form of the body, which is that of the block, and where there is no block the one that it gets
 abbrev pub IsFormOfBody : Option (ExtensionsForm × List ℕ) → ExtensionsForm → ExtensionsForm → Type 0
@@ -53,3 +69,14 @@ pub record MakesAnew (bytes : List ℕ) (element : Element) (allowed : Option Ex
   pub word_is : form_of_block growth.parts.block ≡ Some growth.form → take (sources_end bytes + 2) new ≡ take (sources_end bytes + 2) old
   pub new_word_is : (form_of_block growth.parts.block ≡ Some growth.form → ⊥) → take 2 (drop (sources_end bytes) new) ≡ to_be_bytes w16 (form_word growth.form)
   pub behind_is : drop growth.len new ≡ drop growth.len old
+
+-- what is known of the packet of these bytes, whose block is made anew with these elements behind its own, and of what it becomes
+pub record IsRemaking (bytes : List ℕ) (added : List Element) (remaking : Remaking) : Type 0 where
+  pub remade : IsRemade bytes remaking.form added
+  pub block_is : remaking.block_at ≡ sources_end bytes
+  pub payload_is : remaking.payload_at ≡ header_len_of remade.parts
+  pub body_is : remaking.body_len ≡ length (body_of_block remade.parts.block)
+  pub was_form : IsFormOfBody remade.parts.block remaking.form remaking.was
+  pub announced : IsTrue remaking.is_announced ↔ (form_of_block remade.parts.block ≡ Some remaking.form)
+  pub new_body_is : remaking.new_body_len ≡ remade.body_len
+  pub few : remaking.new_body_len ≤ 4 * 65535

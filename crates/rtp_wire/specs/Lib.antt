@@ -38,6 +38,8 @@ pub mod PartsOf
 pub mod ChangedPacket
 pub mod GivenFields
 pub mod PutIntoPacket
+pub mod ReplacedBlock
+pub mod RemadeBlock
 pub mod InPlace
 pub mod PacketBuf
 pub mod AddedPadding

@@ -9,7 +9,7 @@ mod run;
 
 pub use header::{NotAHeader, RtpHeader};
 pub use packet::{
-    Csrcs, Fields, NotAPacket, NotInBuffer, NotPut, NotRetransmitted, OriginalFields,
+    BlockNotPut, Csrcs, Fields, NotAPacket, NotInBuffer, NotPut, NotRetransmitted, OriginalFields,
     RetransmissionFields, RtpPacket, RtpPacketBuf, RtpPacketMut, compact, from_retransmission,
     is_rtcp, put_element, to_retransmission,
 };
@@ -19,14 +19,15 @@ pub use payload::{
 };
 pub use rtp_ext::{
     AbsCaptureTime, CarriedLayers, ElementList, ElementValues, Elements, Extension, ExtensionMap,
-    ExtensionValues, ExtensionsForm, Iter, IterByMediaType, Kinds, KnownKind, MAX_ID,
-    MAX_ID_ONE_BYTE_FORM, NewIds, Uri, VideoOrientation, VideoTiming, WithLayers, standard,
-    write_elements,
+    ExtensionValues, ExtensionsForm, Iter, IterByMediaType, KindSet, Kinds, KnownKind, MAX_ID,
+    MAX_ID_ONE_BYTE_FORM, NewIds, Uri, ValueKinds, VideoOrientation, VideoTiming, WithLayers,
+    standard, write_elements,
 };
 pub use rtp_receive::{
-    NarrowRestartingReceiver, Receiver, Receivers, ReplayWindow, RestartingReceiver,
-    RestartingStreamReceiver, RestartingVerdict, StreamReceiver, Verdict, WideReceiver, extend_u7,
-    extend_u8, extend_u15, extend_u16, extend_u32,
+    NarrowRestartingReceiver, Receiver, Receivers, ReceptionReport, ReceptionStatistics,
+    ReplayWindow, RestartingReceiver, RestartingRow, RestartingStreamReceiver, RestartingVerdict,
+    Standing, StreamReceiver, Verdict, WideReceiver, extend_u7, extend_u8, extend_u15, extend_u16,
+    extend_u32,
 };
 pub use rtp_vla::vla;
 pub use run::{receive_run, receive_run_one};

@@ -182,8 +182,8 @@ fn transmission_offsets(rt: HostRuntime) {
     }
 }
 
-// A body, and the level that it sets where ids 1 and 5 are audio levels: the last well-formed element
-// of the kind counts, whichever of its ids it has.
+// A body, and the level that it sets where ids 1 and 5 are audio levels: the last well-formed
+// element of the kind counts, whichever of its ids it has.
 const TWO_IDS: [(ExtensionsForm, &str, Set); 4] = [
     (OneByte, "50851005", Set::Level(-5, false)),
     (OneByte, "10055085", Set::Level(-5, true)),

@@ -56,7 +56,8 @@ fn empty_mid(rt: HostRuntime) {
     check_block(&rt, rt.alloc(), map, unnamed(), &block, unnamed());
 }
 
-// The id of a send time, and the block of 1,000 seconds: read back the time is known modulo 64 seconds.
+// The id of a send time, and the block of 1,000 seconds: read back the time is known modulo 64
+// seconds.
 const SEND_TIMES: [(u8, &[u8]); 2] = [
     (4, &[190, 222, 0, 1, 0x42, 0xA0, 0, 0]),
     (16, &[16, 0, 0, 2, 0x10, 3, 0xA0, 0, 0, 0, 0, 0]),

@@ -1,6 +1,6 @@
-//! Tests of the library: ids, numbers, times and the replay window; layer allocations, the kinds of header
-//! extension and their values, elements, and maps; headers, packets where they lie, padding, receivers and
-//! runs of datagrams; and what stands where memory is refused.
+//! Tests of the library: ids, numbers, times and the replay window; layer allocations, the kinds of
+//! header extension and their values, elements, and maps; headers, packets where they lie, padding,
+//! receivers and runs of datagrams; and what stands where memory is refused.
 #![tactic(auto)]
 
 #[cfg(test)]

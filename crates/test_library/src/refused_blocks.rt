@@ -192,8 +192,8 @@ fn a_run(rt: HostRuntime) {
     have_verdicts(&rt, rt.alloc(), &datagrams, &map(), &due());
 }
 
-// Two packets of one source, each with an allocation: beside them memory is asked for the list of the
-// verdicts, and in the run by source for the receiver of their source.
+// Two packets of one source, each with an allocation: beside them memory is asked for the list of
+// the verdicts, and in the run by source for the receiver of their source.
 #[test]
 fn a_run_of_two_packets(rt: HostRuntime) {
     let packets = datagrams(&rt, rt.alloc(), &[&WITH_ALLOCATION, &WITH_ALLOCATION]);

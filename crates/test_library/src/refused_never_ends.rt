@@ -1,5 +1,5 @@
-//! The ends of a packet: its padding, and the original sequence number of a retransmission. No call asks
-//! for memory: `.ci/run` sees that a test of this file asks for none.
+//! The ends of a packet: its padding, and the original sequence number of a retransmission. No call
+//! asks for memory: `.ci/run` sees that a test of this file asks for none.
 
 use crate::checks::same;
 use rtp_base::SeqNo;

@@ -1,5 +1,5 @@
-//! The moments of absolute send times that were read. No call asks for memory: `.ci/run` sees that a test
-//! of this file asks for none.
+//! The moments of absolute send times that were read. No call asks for memory: `.ci/run` sees that
+//! a test of this file asks for none.
 
 use crate::checks::holds;
 use crate::fixtures::full;

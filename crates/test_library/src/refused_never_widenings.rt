@@ -1,4 +1,5 @@
-//! Low bits widened to 64. No call asks for memory: `.ci/run` sees that a test of this file asks for none.
+//! Low bits widened to 64. No call asks for memory: `.ci/run` sees that a test of this file asks
+//! for none.
 
 use crate::checks::same;
 use rtp_base::SeqNo;

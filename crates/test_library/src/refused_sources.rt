@@ -60,8 +60,8 @@ fn recorded(rt: HostRuntime) {
     stays(&rt, &receivers, SOURCES);
 }
 
-// Sources that come back, so that hints on their places are made and grow. Where memory for these is refused
-// the calls go on without.
+// Sources that come back, so that hints on their places are made and grow. Where memory for these
+// is refused the calls go on without.
 #[test]
 fn received_again(rt: HostRuntime) {
     let mut receivers = Receivers::new(rt.alloc());
@@ -80,7 +80,8 @@ fn received_again(rt: HostRuntime) {
     stays(&rt, &receivers, SOURCES);
 }
 
-// Sources that all come before one comes back: rows of hints are made while they are looked up, and none is owed.
+// Sources that all come before one comes back: rows of hints are made while they are looked up, and
+// none is owed.
 #[test]
 fn received_in_turn(rt: HostRuntime) {
     let mut receivers = Receivers::new(rt.alloc());

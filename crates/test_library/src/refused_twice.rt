@@ -1,5 +1,6 @@
-//! Blocks with several layer allocations where memory may be refused twice in a row: what stands each time,
-//! and that a call with memory gives all of it. `.ci/run` refuses each growth in turn, and each two in a row.
+//! Blocks with several layer allocations where memory may be refused twice in a row: what stands
+//! each time, and that a call with memory gives all of it. `.ci/run` refuses each growth in turn,
+//! and each two in a row.
 
 use crate::checks::{holds, same};
 use crate::fixtures::{is_written, level};
@@ -8,8 +9,8 @@ use rtp_wire::{Extension, ExtensionValues};
 use std::alloc::Global;
 use std::process::Abort;
 
-// Reads the body, and returns whether memory was there. Where it wasn't, the level stands alone, or beside the
-// allocation of these data.
+// Reads the body, and returns whether memory was there. Where it wasn't, the level stands alone, or
+// beside the allocation of these data.
 fn is_read(rt: &impl Abort, alloc: Global, body: &[u8], before: Option<&[u8]>) -> bool {
     let mut values = ExtensionValues::default();
     if read(alloc, body, &mut values).is_ok() {

@@ -12,8 +12,8 @@ pub(crate) fn check(rt: &impl Abort, window: &SeqNoWindow, numbers: &[(u64, bool
     }
 }
 
-// The first number that a window records, those that it records after it, numbers that it then accepts
-// or not, and the highest that it has recorded.
+// The first number that a window records, those that it records after it, numbers that it then
+// accepts or not, and the highest that it has recorded.
 const WINDOWS: [(u64, &[u64], &[(u64, bool)], u64); 13] = [
     // One number.
     (
@@ -87,8 +87,8 @@ const WINDOWS: [(u64, &[u64], &[(u64, bool)], u64); 13] = [
     ),
 ];
 
-// Once the window has recorded these numbers too, it accepts numbers or not, as it says, and this is the
-// highest.
+// Once the window has recorded these numbers too, it accepts numbers or not, as it says, and this
+// is the highest.
 fn records(
     rt: &impl Abort,
     mut window: SeqNoWindow,

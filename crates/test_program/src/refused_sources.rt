@@ -1,5 +1,5 @@
-//! A packet of a known source where memory may be refused: none is asked for. `.ci/run` refuses each
-//! growth in turn.
+//! A packet of a known source where memory may be refused: none is asked for. `.ci/run` refuses
+//! each growth in turn.
 
 use crate::checks::same;
 use rtp_base::{SeqNo, Ssrc};

@@ -100,6 +100,8 @@ func printPacket(out io.Writer, count int, datagram []byte, m *rtpwire.Map, rece
 	printHeader(out, count, &packet)
 	receiver, isKnown := receivers[packet.SSRC]
 	if !isKnown {
+		// From the rollover count 0, as the program rtp_lines has it. NewReceiver(1) also has a number for a packet
+		// from before the first one.
 		receiver = new(rtpwire.Receiver)
 		receivers[packet.SSRC] = receiver
 	}

@@ -9,7 +9,7 @@ from . import _library
 from ._color_space import ChromaSiting, Chromaticity, ColorRange, ColorSpace, HdrMetadata
 from ._column import Column, TextColumn
 from ._columns import Columns, Verdict, Verdicts
-from ._errors import BadField, Cause, NoElement, NotAPacket, OtherForm, RtpError, ShortBuffer, Status
+from ._errors import BadField, Cause, LeftOut, NoElement, NotAPacket, OtherForm, RtpError, ShortBuffer, Status
 from ._growing import compact, put_element
 from ._header import Header, write_elements
 from ._layers import Layer, Layers, Resolution
@@ -30,6 +30,7 @@ from ._payload import from_retransmission, pad, read_original, to_retransmission
 from ._receiver import (
     Receiver,
     RestartingReceiver,
+    Standing,
     Taken,
     WideReceiver,
     extend_u8,
@@ -37,6 +38,7 @@ from ._receiver import (
     extend_u16,
     extend_u32,
 )
+from ._reception import ReceptionReport, ReceptionStatistics
 from ._standard import (
     Camera,
     DependencyDescriptor,
@@ -72,6 +74,7 @@ __all__ = [
     "Kind",
     "Layer",
     "Layers",
+    "LeftOut",
     "Map",
     "NewIds",
     "NoElement",
@@ -80,10 +83,13 @@ __all__ = [
     "OtherForm",
     "Packet",
     "Receiver",
+    "ReceptionReport",
+    "ReceptionStatistics",
     "Resolution",
     "RestartingReceiver",
     "RtpError",
     "ShortBuffer",
+    "Standing",
     "Status",
     "Taken",
     "TextColumn",

@@ -12,7 +12,7 @@ from . import _library
 from ._buffers import address_of, place_of
 from ._column import Column, TextColumn
 from ._errors import BadField, Status
-from ._map import Map
+from ._map import Map, raw_map
 from ._receiver import Receiver
 
 if TYPE_CHECKING:
@@ -229,7 +229,7 @@ class Columns:
         _library.columns_parse(
             first,
             len(columns._data),
-            (map or Map())._raw,
+            raw_map(Map() if map is None else map),
             columns._at.buffer_info()[0],
             columns._lengths.buffer_info()[0],
             count,

@@ -4,7 +4,10 @@ from __future__ import annotations
 
 from enum import IntEnum
 from operator import index
-from typing import Optional
+from typing import TYPE_CHECKING, FrozenSet, Iterable, Optional
+
+if TYPE_CHECKING:
+    from ._map import Kind
 
 
 class Status(IntEnum):
@@ -84,6 +87,20 @@ class OtherForm(RtpError):
 
 class BadField(RtpError):
     """An argument or a field is out of its range."""
+
+
+class LeftOut(BadField):
+    """Values of these kinds would be left out where a header is written (`Header.write_all`)."""
+
+    kinds: FrozenSet[Kind]
+
+    def __init__(self, kinds: Iterable[Kind]) -> None:
+        self.kinds = frozenset(kinds)
+        names = ", ".join(kind.name for kind in sorted(self.kinds))
+        super().__init__(Status.BAD_FIELD, f"values that no element carries: {names}")
+
+    def __reduce__(self) -> tuple[object, ...]:
+        return type(self), (sorted(self.kinds),)
 
 
 class ShortBuffer(RtpError):

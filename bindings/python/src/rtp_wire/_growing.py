@@ -7,7 +7,7 @@ from typing import TYPE_CHECKING, Optional
 
 from . import _library
 from ._buffers import address_of, copy_of, writable_view_of
-from ._errors import check, unsigned, within
+from ._errors import BadField, Status, check, within
 from ._packet import Form
 
 if TYPE_CHECKING:
@@ -32,10 +32,15 @@ def put_element(
     form that isn't allowed, or more than 65,535 words; NotAPacket; OtherForm; ShortBuffer where there is no room.
     Nothing changes then.
     """
-    view, count = writable_view_of(buffer), c_size_t(unsigned("length", length, 64))
-    copy, number = copy_of(data), unsigned("id", id, 8)
+    view = writable_view_of(buffer)
+    count, number = c_size_t(within("length", length, 0, len(view))), within("id", id, 1, 255)
+    copy = copy_of(data)
+    within("the length of data", len(copy), 0, 255)
     form = Form.NONE if allowed is None else within("allowed", allowed, Form.NONE, Form.TWO_BYTE)
-    check(_library.put_element(address_of(view), len(view), count, number, copy, len(copy), form))
+    status = _library.put_element(address_of(view), len(view), count, number, copy, len(copy), form)
+    if status == Status.BAD_FIELD:
+        raise BadField(status, "the block needs a form that isn't allowed, or more than 65535 words")
+    check(status)
     return count.value
 
 

@@ -2,15 +2,15 @@
 
 from __future__ import annotations
 
-from ctypes import c_size_t
+from ctypes import c_size_t, c_uint32
 from dataclasses import dataclass, field
-from typing import TYPE_CHECKING, Iterable, Optional, Tuple
+from typing import TYPE_CHECKING, FrozenSet, Iterable, Optional, Tuple, cast
 
 from . import _library
 from ._buffers import address_of, place_of, view_of, writable_view_of
-from ._errors import BadField, Status, check, unsigned
+from ._errors import BadField, LeftOut, Status, check, unsigned, within
 from ._layers import Layers, layers_of, raw_layers_of
-from ._map import Map
+from ._map import Kind, Map, raw_map
 from ._values import Values, put_values, values_of
 
 if TYPE_CHECKING:
@@ -24,7 +24,7 @@ BLOCK_HEADER, WORD = 4, 4
 def read_layers(address: Address, length: int, map: Map) -> Layers:
     """The layer allocation of the header that the bytes begin with, which has one under the map."""
     header, layers = _library.RawHeader(), _library.RawLayers()
-    check(_library.parse_layers(address, length, map._raw, header, layers))
+    check(_library.parse_layers(address, length, raw_map(map), header, layers))
     return layers_of(layers)
 
 
@@ -33,8 +33,8 @@ class Header:
     """The header of a packet, with the values of its block: read by `parse`, or filled and written by `write`.
 
     >>> from rtp_wire import Kind
-    >>> header = Header(payload_type=33, sequence_number=47000, has_extension=True, values=Values(mid="1"))
-    >>> header.write(Map({3: Kind.MID})).hex(" ", 4)
+    >>> header = Header(payload_type=33, sequence_number=47000, values=Values(mid="1"))
+    >>> header.write_all(Map({3: Kind.MID})).hex(" ", 4)
     '9021b798 00000000 00000000 bede0001 30310000'
     """
 
@@ -52,12 +52,17 @@ class Header:
     """M."""
     has_padding: bool = False
     """P."""
-    has_extension: bool = False
-    """X, whether there is a block: without one no value is written."""
+    has_extension: bool = cast(bool, None)
+    """X, whether there is a block: without one no value is written. Where it isn't given, it is set exactly where one
+    of the values is there."""
     values: Values = field(default_factory=Values)
     """What the elements of the block say."""
     header_len: int = field(default=0, compare=False)
     """How many bytes the header took that was read: the payload begins there. Nothing is written of it."""
+
+    def __post_init__(self) -> None:
+        if self.has_extension is None:
+            self.has_extension = self.values != Values()
 
     @classmethod
     def parse(cls, datagram: Buffer, map: Optional[Map] = None) -> Header:
@@ -65,7 +70,7 @@ class Header:
         looked at. NotAPacket as Packet.parse, and OtherForm, before a block is found cut short."""
         data, at = place_of(datagram)
         map, raw = Map() if map is None else map, _library.RawHeader()
-        check(_library.parse(at, len(data), map._raw, raw))
+        check(_library.parse(at, len(data), raw_map(map), raw))
         values = values_of(raw.values)
         if raw.values.has[-1]:
             values.layers = read_layers(at, len(data), map)
@@ -101,7 +106,7 @@ class Header:
 
     def _calls(self, map: Map) -> Tuple[_library.Function, _library.Function, Tuple[object, ...]]:
         """The calls that tell the length and write, and what both are given."""
-        given = (map._raw, self._raw())
+        given = (raw_map(map), self._raw())
         if self.values.layers is None:
             return _library.wire_len, _library.write, given
         return _library.wire_len_layers, _library.write_layers, (*given, raw_layers_of(self.values.layers))
@@ -134,6 +139,42 @@ class Header:
         check(write(*given, address_of(view), len(view), length))
         return length.value
 
+    def left_out(self, map: Map) -> FrozenSet[Kind]:
+        """The kinds of which there is a value that `write` leaves out: all that are there where has_extension is
+        False, and else those that aren't mapped, and those of which a second value is absent, as an audio level without
+        voice or one of two playout delays. BadField as `write`.
+
+        >>> header = Header(values=Values(audio_level=-42, mid="1"))
+        >>> [kind.name for kind in sorted(header.left_out(Map({3: Kind.AUDIO_LEVEL})))]
+        ['AUDIO_LEVEL', 'MID']
+        >>> header.values.voice_activity = False
+        >>> [kind.name for kind in header.left_out(Map({3: Kind.AUDIO_LEVEL}))]
+        ['MID']
+        """
+        kinds, given = c_uint32(), (raw_map(map), self._raw())
+        if self.values.layers is None:
+            check(_library.left_out(*given, kinds))
+        else:
+            check(_library.left_out_layers(*given, raw_layers_of(self.values.layers), kinds))
+        return frozenset(kind for kind in Kind if kind < Kind.OWN and kinds.value >> kind & 1)
+
+    def _all_is_written(self, map: Map) -> None:
+        kinds = self.left_out(map)
+        if kinds:
+            raise LeftOut(kinds)
+
+    def write_all(self, map: Map) -> bytes:
+        """The bytes of the header, as `write` has them, where no value is left out. BadField as `write`; LeftOut, with
+        the kinds, where `left_out` tells any."""
+        self._all_is_written(map)
+        return self.write(map)
+
+    def write_all_to(self, buf: WritableBuffer, map: Map) -> int:
+        """Writes the header to the front of the buffer as `write_to` does, where no value is left out. BadField and
+        LeftOut as `write_all`, and else ShortBuffer; nothing is written then."""
+        self._all_is_written(map)
+        return self.write_to(buf, map)
+
     def write_with(self, elements: Iterable[Tuple[int, Buffer]], form: Optional[int] = None) -> bytes:
         """The bytes of the header with a block of these elements, pairs of an id and its data, whatever has_extension
         and the values hold: in the one-byte form where that can carry each of them, or in the form that is given alone,
@@ -148,7 +189,7 @@ class Header:
         if form is None:
             check(_library.write_with(*given, *into))
         else:
-            check(_library.write_with_form(*given, unsigned("a form", form, 8), *into))
+            check(_library.write_with_form(*given, within("a form", form, 0, 2), *into))
         return bytes(memoryview(buf)[: length.value])
 
 
@@ -157,7 +198,7 @@ def _gather(elements: Iterable[Tuple[int, Buffer]]) -> Tuple[bytes, _library.Pla
     data, places = bytearray(), []
     for id, part in elements:
         view = view_of(part)
-        places.append(_library.RawElement(len(data), len(view), 0, unsigned("an id", id, 8)))
+        places.append(_library.RawElement(len(data), len(view), 0, within("an id", id, 1, 255)))
         data += view
     return bytes(data), (_library.RawElement * len(places))(*places)
 
@@ -172,7 +213,7 @@ def write_elements(elements: Iterable[Tuple[int, Buffer]], form: int) -> bytes:
     the form is none of the two, or can't carry one of them."""
     data, places = _gather(elements)
     buf, length = bytearray(_room(data, places)), c_size_t()
-    form = unsigned("a form", form, 8)
+    form = within("a form", form, 1, 2)
     view = memoryview(buf)
     check(
         _library.write_elements(

@@ -230,12 +230,33 @@ class RawWideReceiver(Structure):
 class RawRestartingReceiver(Structure):
     _fields_ = [
         ("highest", c_uint64),
-        ("words", c_uint64 * 2),
         ("max_dropout", c_uint16),
+        ("max_misorder", c_uint16),
         ("next", c_uint16),
         ("min_sequential", c_uint8),
         ("in_row", c_uint8),
         ("started", c_uint8),
+    ]
+
+
+class RawReception(Structure):
+    _fields_ = [
+        ("first", c_uint64),
+        ("highest", c_uint64),
+        ("received", c_uint64),
+        ("received_before", c_uint64),
+        ("expected_before", c_uint64),
+        ("scaled_jitter", c_uint64),
+        ("transit", c_uint32),
+    ]
+
+
+class RawReport(Structure):
+    _fields_ = [
+        ("fraction_lost", c_uint8),
+        ("cumulative_lost", c_int32),
+        ("extended_highest", c_uint32),
+        ("jitter", c_uint32),
     ]
 
 
@@ -380,6 +401,7 @@ next_element = _declare(_STATUS, "rtpw_next_element", _BYTES, _SIZE, c_uint8, _S
 last_element = _declare(_STATUS, "rtpw_last_element", _BYTES, _SIZE, c_uint8, c_uint8, POINTER(RawElement))
 
 kind_of_uri = _declare(c_uint8, "rtpw_kind_of_uri", _BYTES, _SIZE)
+uri_of_kind = _declare(_STATUS, "rtpw_uri_of_kind", c_uint8, _BYTES, _SIZE, POINTER(c_size_t))
 map_set = _declare(_STATUS, "rtpw_map_set", POINTER(RawMap), c_uint8, c_uint8)
 map_get = _declare(c_uint8, "rtpw_map_get", POINTER(RawMap), c_uint8)
 id_of = _declare(c_uint8, "rtpw_id_of", POINTER(RawMap), c_uint8)
@@ -413,6 +435,17 @@ write_layers = _declare(
     _BYTES,
     _SIZE,
     POINTER(c_size_t),
+)
+left_out = _declare(
+    _STATUS, "rtpw_left_out", POINTER(RawMap), POINTER(RawHeader), POINTER(c_uint32)
+)
+left_out_layers = _declare(
+    _STATUS,
+    "rtpw_left_out_layers",
+    POINTER(RawMap),
+    POINTER(RawHeader),
+    POINTER(RawLayers),
+    POINTER(c_uint32),
 )
 write_with = _declare(
     _STATUS,
@@ -515,6 +548,7 @@ from_retransmission = _declare(
 receiver_start = _declare(_STATUS, "rtpw_receiver_start", POINTER(RawReceiver), c_uint64)
 receiver_number_of = _declare(c_uint64, "rtpw_receiver_number_of", POINTER(RawReceiver), c_uint16)
 receiver_accepts = _declare(c_bool, "rtpw_receiver_accepts", POINTER(RawReceiver), c_uint64)
+receiver_standing_of = _declare(c_uint8, "rtpw_receiver_standing_of", POINTER(RawReceiver), c_uint64)
 receiver_record = _declare(None, "rtpw_receiver_record", POINTER(RawReceiver), c_uint64)
 receiver_receive = _declare(
     _STATUS, "rtpw_receiver_receive", POINTER(RawReceiver), c_uint16, POINTER(c_uint64)
@@ -526,6 +560,9 @@ wide_receiver_number_of = _declare(
 )
 wide_receiver_accepts = _declare(
     c_bool, "rtpw_wide_receiver_accepts", POINTER(RawWideReceiver), POINTER(c_uint64), _SIZE, c_uint64
+)
+wide_receiver_standing_of = _declare(
+    c_uint8, "rtpw_wide_receiver_standing_of", POINTER(RawWideReceiver), POINTER(c_uint64), _SIZE, c_uint64
 )
 wide_receiver_record = _declare(
     _STATUS, "rtpw_wide_receiver_record", POINTER(RawWideReceiver), POINTER(c_uint64), _SIZE, c_uint64
@@ -540,8 +577,30 @@ wide_receiver_receive = _declare(
     POINTER(c_uint64),
 )
 
-restarting_receive = _declare(
-    _STATUS, "rtpw_restarting_receive", POINTER(RawRestartingReceiver), c_uint16, POINTER(c_uint64)
+wide_restarting_receive = _declare(
+    _STATUS,
+    "rtpw_wide_restarting_receive",
+    POINTER(RawRestartingReceiver),
+    POINTER(c_uint64),
+    _SIZE,
+    c_uint16,
+    POINTER(c_uint64),
+)
+
+reception_record = _declare(
+    None, "rtpw_reception_record", POINTER(RawReception), c_uint64, c_uint32, c_uint32
+)
+reception_report = _declare(_STATUS, "rtpw_reception_report", POINTER(RawReception), POINTER(RawReport))
+write_report = _declare(
+    _STATUS,
+    "rtpw_write_report",
+    POINTER(RawReport),
+    c_uint32,
+    c_uint32,
+    c_uint32,
+    _BYTES,
+    _SIZE,
+    POINTER(c_size_t),
 )
 
 packet_parse_many = _declare(None, "rtpw_packet_parse_many", _BYTES, _SIZE, POINTER(RawDatagram), _SIZE)

@@ -3,11 +3,13 @@
 from __future__ import annotations
 
 import re
+from ctypes import c_size_t
 from enum import IntEnum
 from typing import Any, Iterable, Iterator, Mapping, MutableMapping, Optional, Tuple, TypeVar, Union
 
 from . import _library
-from ._errors import check, unsigned, within
+from ._buffers import address_of
+from ._errors import BadField, Status, check, unsigned, within
 
 
 class Kind(IntEnum):
@@ -51,6 +53,17 @@ class Kind(IntEnum):
         data = uri.encode()
         return cls(_library.kind_of_uri(data, len(data)))
 
+    @property
+    def uri(self) -> Optional[str]:
+        """The URI that names the kind in SDP, as an answer says it; None of NONE, and of your own kinds.
+
+        >>> Kind.MID.uri
+        'urn:ietf:params:rtp-hdrext:sdes:mid'
+        """
+        buf, length = bytearray(_LONGEST_URI), c_size_t()
+        status = _library.uri_of_kind(self, address_of(memoryview(buf)), len(buf), length)
+        return None if status else buf[: length.value].decode()
+
     def keeps(self, text: str) -> bool:
         """Whether `Values` have this text of an element of the kind as it is: MID up to 16 ASCII letters, digits and
         underscores, and RID and REPAIRED_RID up to 8. They have "cam_1" of "cam_1", "cam-1" and "cam.1", and the first
@@ -61,6 +74,9 @@ class Kind(IntEnum):
         """
         return len(text) <= _MOST.get(self, -1) and re.fullmatch("[A-Za-z0-9_]*", text) is not None
 
+
+# How many bytes a URI has at most.
+_LONGEST_URI = 73
 
 # How many characters of a text there may be.
 _MOST = {Kind.MID: 16, Kind.RID: 8, Kind.REPAIRED_RID: 8}
@@ -136,10 +152,21 @@ class Map(_Table[Kind]):
     def __setitem__(self, id: int, kind: Kind) -> None:
         """The id means the kind from now on, or nothing with Kind.NONE. BadField where the id isn't 1 to 255, or the
         kind is one of 16 to 127."""
-        check(_library.map_set(self._raw, unsigned("an id", id, 8), unsigned("a kind", kind, 8)))
+        id, number = within("an id", id, 1, 255), unsigned("a kind", kind, 8)
+        if Kind.LAYERS < number < Kind.OWN:
+            raise BadField(Status.BAD_FIELD, f"a kind is {number}, and not 0 to 15 or 128 to 255")
+        check(_library.map_set(self._raw, id, number))
 
     def _remove(self, id: int) -> None:
         self[id] = Kind.NONE
+
+
+def raw_map(map: Map) -> _library.RawMap:
+    """The map as the library has it; TypeError where it is none."""
+    if not isinstance(map, Map):
+        raise TypeError(f"a map is {type(map).__name__}, and not Map")
+    raw: _library.RawMap = map._raw
+    return raw
 
 
 class NewIds(_Table[int]):

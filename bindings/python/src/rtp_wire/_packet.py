@@ -12,7 +12,7 @@ from ._buffers import address_of, copy_of, place_of, view_of, writable_view_of
 from ._errors import Status, check, error_of, unsigned
 from ._header import read_layers
 from ._library import whole_packet_parse
-from ._map import Map, NewIds
+from ._map import Map, NewIds, raw_map
 from ._standard import token_of
 from ._values import Values, values_of
 
@@ -92,7 +92,7 @@ class Packet:
         """Reads the packet as it is now."""
         map = self._map
         raw = _library.WholePacket()
-        status = whole_packet_parse(at, self._len, None if map is None else map._raw, raw)
+        status = whole_packet_parse(at, self._len, None if map is None else raw_map(map), raw)
         if status:
             raise error_of(status)
         self._raw, self._values = raw, None

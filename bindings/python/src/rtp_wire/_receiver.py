@@ -3,6 +3,7 @@
 from __future__ import annotations
 
 from ctypes import c_uint64
+from enum import IntEnum
 from typing import Any, NamedTuple, Optional, Tuple
 
 from . import _library
@@ -36,18 +37,35 @@ class _State:
         return self._state()
 
 
+class Standing(IntEnum):
+    """What a receiver knows of a number: why it isn't accepted."""
+
+    NEW = 0
+    """It may be taken."""
+    TAKEN = 1
+    """It is in the window and was taken: the packet is a replay."""
+    TOO_OLD = 2
+    """It is behind the window, which doesn't tell any more whether it was taken."""
+
+
 class Receiver(_State):
     """The receive state of one stream: a replay window of 128 numbers (RFC 3711, 3.3.1 and 3.3.2). Keep one for each
     SSRC.
 
-    With SRTP: `number_of`, `accepts`, authenticate the packet, `record`; a forged packet then changes nothing. Where
-    nothing is authenticated: `receive`, and a rollover count of 1, so that a packet from before the first one has a
-    number too. With 0 it gets one near 2^64, and once that is taken nearly all later ones are refused.
+    With SRTP: `number_of`, `accepts`, authenticate the packet, `record`; a forged packet then changes nothing. The
+    rollover count is the one that was signalled, or 0: a stream's packet indices begin there.
+
+    Where nothing is authenticated: `receive`, and a rollover count of 1, so that a packet from before the first one has
+    a number too. With 0 it gets one near 2^64, and once that is taken nearly all later ones are refused.
+
+    >>> receiver = Receiver(1)
+    >>> [receiver.receive(it) for it in (5, 65533, 6, 6)]
+    [65541, 65533, 65542, None]
     """
 
     __slots__ = ()
 
-    def __init__(self, rollover_count: int = 0) -> None:
+    def __init__(self, rollover_count: int) -> None:
         """The first packet has this rollover count, below 2^48; BadField otherwise."""
         self._raw = _library.RawReceiver()
         check(_library.receiver_start(self._raw, unsigned("rollover_count", rollover_count, 64)))
@@ -61,6 +79,17 @@ class Receiver(_State):
         """Whether the number may be taken: none is yet, or it is above the highest, or less than 128 below it and not
         taken."""
         return bool(_library.receiver_accepts(self._raw, unsigned("number", number, 64)))
+
+    def standing_of(self, number: int) -> Standing:
+        """What is known of the number. A packet that was refused changed nothing, so it can be asked afterwards.
+
+        >>> receiver = Receiver(1)
+        >>> receiver.receive(1000), receiver.receive(872)
+        (66536, None)
+        >>> receiver.standing_of(receiver.number_of(872)).name, receiver.standing_of(66536).name
+        ('TOO_OLD', 'TAKEN')
+        """
+        return Standing(_library.receiver_standing_of(self._raw, unsigned("number", number, 64)))
 
     def record(self, number: int) -> None:
         """Records that the number is taken. One that isn't accepted changes nothing."""
@@ -94,8 +123,9 @@ class WideReceiver(_State):
 
     __slots__ = ("_words",)
 
-    def __init__(self, words: int = 16, rollover_count: int = 1) -> None:
-        """The first packet has this rollover count, below 2^48. BadField otherwise, or where words isn't 1 to 512."""
+    def __init__(self, words: int, rollover_count: int) -> None:
+        """The first packet has this rollover count, below 2^48, as `Receiver` says. BadField otherwise, or where words
+        isn't 1 to 512."""
         self._words = (c_uint64 * within("words", words, 1, MOST_WORDS))()
         self._raw = _library.RawWideReceiver()
         check(_library.wide_receiver_start(self._raw, unsigned("rollover_count", rollover_count, 64)))
@@ -109,6 +139,11 @@ class WideReceiver(_State):
         """Whether the number may be taken: none is yet, or it is above the highest, or in the window and not taken."""
         number = unsigned("number", number, 64)
         return bool(_library.wide_receiver_accepts(self._raw, self._words, len(self._words), number))
+
+    def standing_of(self, number: int) -> Standing:
+        """As `Receiver.standing_of`."""
+        number = unsigned("number", number, 64)
+        return Standing(_library.wide_receiver_standing_of(self._raw, self._words, len(self._words), number))
 
     def record(self, number: int) -> bool:
         """Records that the number is taken, and says whether it is accepted. One that isn't changes nothing."""
@@ -146,52 +181,76 @@ class Taken(NamedTuple):
 
 class RestartingReceiver(_State):
     """The receive state of one stream that isn't authenticated and whose sender may start again under the same SSRC
-    (RFC 3550, appendix A.1). Not for SRTP: there a packet that isn't authentic must change nothing. Nor for a stream
-    with retransmissions under its own SSRC: two that are 128 and more below the highest number, one after the other,
-    look as if the sender had started again.
+    (RFC 3550, appendix A.1), with a window of 64 numbers for each of 1 to 512 words. Not for SRTP: there a packet that
+    isn't authentic must change nothing.
 
-    A packet is of the stream where its number is less than max_dropout above the highest one taken, or less than 128
-    below it: it is judged by the window, as by `Receiver`. Any other is outside of the stream, and is refused; but
-    where the very next packet has the number after it and is outside of the stream too, the sender has started again.
-    That second packet is taken as the first one of a new epoch, with a new window.
+    A packet is of the stream where its number is less than max_dropout above the highest one taken, or less than
+    max_misorder below it: it is judged by the window, as by `WideReceiver`. Any other is outside of the stream, and is
+    refused; but where the very next packet has the number after it and is outside of the stream too, the sender has
+    started again. That second packet is taken as the first one of a new epoch, with a new window.
+
+    The bounds are safe where packets are sent again under the stream's own SSRC: late packets are no restart, copies
+    are refused, and no packet of a source is lost. A sender that starts again less than max_misorder below the highest
+    number, or less than max_dropout above it, isn't seen: its packets are refused until they pass the highest number.
+    RFC 3550 has a MAX_MISORDER of 100 and a MIN_SEQUENTIAL of 2.
 
     The first packet of all has the rollover count 1, and the first one of each later epoch 2 more than the highest
     number before it, so all numbers of an epoch are above those of the epochs before it.
     """
 
-    __slots__ = ()
+    __slots__ = ("_words",)
 
-    def __init__(self, max_dropout: int = MAX_DROPOUT, min_sequential: int = 1) -> None:
+    def __init__(
+        self,
+        max_dropout: int = MAX_DROPOUT,
+        min_sequential: int = 1,
+        max_misorder: Optional[int] = None,
+        words: int = 16,
+    ) -> None:
         """A new source's first packet is taken with the last of min_sequential packets in a row, up to 255; 0 is as 1.
-        BadField where that is more, or max_dropout isn't 1 to 65,535."""
+        Without a max_misorder it is 3,000, or the size of the window where that is more. BadField where min_sequential
+        is more, max_dropout or max_misorder isn't 1 to 65,535, or words isn't 1 to 512."""
+        self._words = (c_uint64 * within("words", words, 1, MOST_WORDS))()
+        if max_misorder is None:
+            max_misorder = max(MAX_DROPOUT, 64 * len(self._words))
         self._raw = _library.RawRestartingReceiver(
             max_dropout=within("max_dropout", max_dropout, 1, 0xFFFF),
+            max_misorder=within("max_misorder", max_misorder, 1, 0xFFFF),
             min_sequential=unsigned("min_sequential", min_sequential, 8),
         )
 
     def receive(self, sequence_number: int) -> Optional[Taken]:
         """Judges the next packet of the source: its number, and whether its sender has started again. None where it is
-        a replay or outside of the stream."""
+        a replay, too old to tell, or outside of the stream.
+
+        >>> receiver = RestartingReceiver()
+        >>> [receiver.receive(it).number for it in (1999, 1800)]  # a late one
+        [67535, 67336]
+        >>> receiver.receive(30000)
+        >>> receiver.receive(30001)
+        Taken(number=226609, restarted=True)
+        """
         low, number = unsigned("sequence_number", sequence_number, 16), c_uint64()
-        status = _library.restarting_receive(self._raw, low, number)
+        status = _library.wide_restarting_receive(self._raw, self._words, len(self._words), low, number)
         if status == Status.REFUSED:
             return None
         return Taken(number.value, restarted=status == Status.RESTARTED)
 
     def __repr__(self) -> str:
         raw = self._raw
+        bounds = f"max_dropout={raw.max_dropout}, min_sequential={raw.min_sequential}"
         taken = f", highest={self.highest}" if raw.started else ""
-        return (
-            f"RestartingReceiver(max_dropout={raw.max_dropout}, min_sequential={raw.min_sequential}{taken})"
-        )
+        return f"RestartingReceiver({bounds}, max_misorder={raw.max_misorder}, words={len(self._words)}{taken})"
 
-    def _state(self) -> Tuple[int, Tuple[int, ...], int, int, int, int, bool]:
+    def _state(self) -> Tuple[int, Tuple[int, ...], int, int, int, int, int, bool]:
         raw = self._raw
         row = (raw.next if raw.in_row else 0), raw.min_sequential, raw.in_row
-        return (raw.highest, tuple(raw.words), raw.max_dropout, *row, raw.started != 0)
+        return (raw.highest, tuple(self._words), raw.max_dropout, raw.max_misorder, *row, raw.started != 0)
 
-    def __setstate__(self, state: Tuple[int, Tuple[int, ...], int, int, int, int, bool]) -> None:
-        self._raw = _library.RawRestartingReceiver(*state)
+    def __setstate__(self, state: Tuple[int, Tuple[int, ...], int, int, int, int, int, bool]) -> None:
+        highest, words, *others = state
+        self._raw = _library.RawRestartingReceiver(highest, *others)
+        self._words = (c_uint64 * len(words))(*words)
 
 
 def extend_u8(previous: int, number: int) -> int:

@@ -2,17 +2,18 @@
 
 from __future__ import annotations
 
+import re
 from ctypes import c_size_t
 from dataclasses import dataclass, fields
 from functools import lru_cache
-from operator import attrgetter
+from operator import attrgetter, index
 from typing import TYPE_CHECKING, Any, Callable, Dict, NamedTuple, Optional, Tuple
 
 from . import _library
 from ._buffers import address_of, place_of
 from ._errors import BadField, Status, check, unsigned, within
 from ._layers import Layers
-from ._map import Kind, Map
+from ._map import Kind, Map, raw_map
 
 if TYPE_CHECKING:
     from ._buffers import Buffer
@@ -95,7 +96,7 @@ class Values:
         a whole packet. BadField where the form is none of the two."""
         data, at = place_of(body)
         raw = _library.RawValues()
-        check(_library.values_read(at, len(data), unsigned("a form", form, 8), map._raw, raw))
+        check(_library.values_read(at, len(data), unsigned("a form", form, 8), raw_map(map), raw))
         return values_of(raw)
 
     def data_of(self, kind: Kind) -> bytes:
@@ -157,7 +158,7 @@ def values_of(raw: Raw) -> Values:
 
 def _text(name: str, text: str, most: int) -> bytes:
     data = text.encode("ascii", "replace")
-    if len(data) > most or b"\0" in data:
+    if len(data) > most or re.fullmatch(b"[A-Za-z0-9_]*", data) is None:
         raise BadField(
             Status.BAD_FIELD, f"{name} is {text!r}, and not up to {most} letters, digits and underscores"
         )
@@ -166,7 +167,13 @@ def _text(name: str, text: str, most: int) -> bytes:
 
 def _raw_time(name: str, time: Time) -> _library.RawTime:
     ticks, hertz = time
-    return _library.RawTime(unsigned(name, ticks, 64), unsigned(name, hertz, 32))
+    return _library.RawTime(unsigned(name, ticks, 64), within(f"hertz of {name}", hertz, 1, (1 << 32) - 1))
+
+
+def _degrees(value: int) -> int:
+    if value not in (0, 90, 180, 270):
+        raise BadField(Status.BAD_FIELD, f"video_orientation is {value}, and not 0, 90, 180 or 270")
+    return value
 
 
 _BITS = {
@@ -175,7 +182,6 @@ _BITS = {
     "transmission_offset": 32,
     "frame_marking": 32,
     "transport_number": 16,
-    "video_orientation": 16,
     "video_content_type": 8,
     "voice_activity": 1,
 }
@@ -186,6 +192,7 @@ _WRITERS: Dict[str, Callable[[Any], Any]] = {
     "repaired_rid": lambda value: _text("repaired_rid", value, 8),
     "audio_level": lambda value: within("audio_level", value, -127, 0),
     "capture_offset": lambda value: within("capture_offset", value, -(1 << 63), (1 << 63) - 1),
+    "video_orientation": lambda value: _degrees(index(value)),
     "playout_delay_min": lambda value: _raw_time("playout_delay_min", value),
     "playout_delay_max": lambda value: _raw_time("playout_delay_max", value),
 }

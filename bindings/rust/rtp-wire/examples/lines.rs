@@ -105,6 +105,8 @@ fn main() -> io::Result<ExitCode> {
             Ok(header) => {
                 print_header(&mut out, count, &header)?;
                 print_values(&mut out, &header.values)?;
+                // From the rollover count 0, as the program rtp_lines has it. Receiver::starting_at(1) also has a
+                // number for a packet from before the first one.
                 let receiver = receivers.entry(header.ssrc).or_default();
                 match receiver.receive(header.sequence_number) {
                     Some(number) => writeln!(out, "verdict {count}: taken {number}")?,

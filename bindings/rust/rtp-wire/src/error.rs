@@ -2,6 +2,7 @@ use core::error::Error;
 use core::fmt;
 use core::ops::RangeInclusive;
 
+use crate::kind_set::KindSet;
 use crate::sys;
 
 /// Why bytes are no RTP packet: the first of these causes that applies, in this order.
@@ -171,6 +172,8 @@ pub enum NotWritten {
     OutOfRange(OutOfRange),
     /// The buffer has too few bytes, and nothing else is amiss.
     ShortBuffer,
+    /// Values of these kinds would be left out ([`Header::write_all`](crate::Header::write_all)).
+    LeftOut(KindSet),
 }
 
 impl NotWritten {
@@ -189,6 +192,7 @@ impl fmt::Display for NotWritten {
             NotWritten::BadField => f.write_str("an argument is out of its range"),
             NotWritten::OutOfRange(field) => field.fmt(f),
             NotWritten::ShortBuffer => f.write_str("a buffer is too short"),
+            NotWritten::LeftOut(kinds) => write!(f, "values that no element carries: {kinds:?}"),
         }
     }
 }

@@ -1,5 +1,6 @@
 use crate::elements::Place;
 use crate::error::{NotAHeader, NotChanged, NotWritten};
+use crate::kind_set::KindSet;
 use crate::layers::Layers;
 use crate::map::Map;
 use crate::packet::Form;
@@ -8,7 +9,8 @@ use crate::values::Values;
 use crate::views::HeaderView;
 
 /// The header of a packet (RFC 3550, 5.1), with the values of its block: read by
-/// [`parse`](Header::parse), or filled and written by [`write_to`](Header::write_to).
+/// [`parse`](Header::parse), or filled and written by [`write_all`](Header::write_all), or by
+/// [`write_to`](Header::write_to) where values may be left out.
 ///
 /// ```
 /// use rtp_wire::{Header, Kind, Map};
@@ -21,7 +23,7 @@ use crate::views::HeaderView;
 /// header.values.mid = Some("1".parse()?);
 ///
 /// let mut datagram = [0; 1500];
-/// let len = header.write_to(&mut datagram, &MAP)?;
+/// let len = header.write_all(&mut datagram, &MAP)?;
 /// assert_eq!(datagram[..len], [0x90, 33, 0xB7, 0x98, 0, 0, 0, 0, 0, 0, 0, 0, 0xBE, 0xDE, 0, 1, 0x30, b'1', 0, 0]);
 ///
 /// let read = Header::parse(&datagram, &MAP)?;
@@ -53,6 +55,27 @@ pub struct Header {
 }
 
 impl Header {
+    /// A header with these values, all else 0 or clear: X is set exactly where one of them is there, so that
+    /// what is given is written.
+    ///
+    /// ```
+    /// use rtp_wire::{Header, Values};
+    ///
+    /// let mut values = Values::default();
+    /// values.mid = Some("1".parse()?);
+    /// assert!(Header::with_values(values).has_extension);
+    /// assert!(!Header::with_values(Values::default()).has_extension);
+    /// # Ok::<(), rtp_wire::NotAText>(())
+    /// ```
+    #[must_use]
+    pub fn with_values(values: Values) -> Header {
+        Header {
+            has_extension: values != Values::default(),
+            values,
+            ..Header::default()
+        }
+    }
+
     /// Reads the header that the datagram begins with, and the values of its block under the map.
     ///
     /// # Errors
@@ -184,6 +207,73 @@ impl Header {
         Ok(len)
     }
 
+    /// The kinds of which there is a value that [`write_to`](Header::write_to) leaves out: all that are there
+    /// where `has_extension` is clear, and else those that aren't mapped, and those of which a second value is
+    /// absent, as an audio level without voice or one of two playout delays.
+    ///
+    /// # Errors
+    ///
+    /// [`NotWritten::BadField`], as `write_to`.
+    ///
+    /// ```
+    /// use rtp_wire::{Header, Kind, Map, Values};
+    ///
+    /// const MAP: Map = Map::new().with(3, Kind::AudioLevel);
+    /// let mut values = Values::default();
+    /// values.audio_level = Some(-42);
+    /// values.mid = Some("1".parse()?);
+    /// let mut header = Header::with_values(values);
+    /// assert!(header.left_out(&MAP)?.iter().eq([Kind::AudioLevel, Kind::Mid]));
+    /// header.values.voice_activity = Some(false);
+    /// assert!(header.left_out(&MAP)?.iter().eq([Kind::Mid]));
+    /// # Ok::<(), Box<dyn std::error::Error>>(())
+    /// ```
+    pub fn left_out(&self, map: &Map) -> Result<KindSet, NotWritten> {
+        let mut kinds = KindSet::default();
+        NotWritten::of_status(sys::left_out(&map.kinds, &self.view(), &mut kinds.bits))?;
+        Ok(kinds)
+    }
+
+    /// The same where [`write_with_layers`](Header::write_with_layers) writes: these layers are left out where
+    /// `has_extension` is clear or [`Kind::Layers`](crate::Kind::Layers) isn't mapped.
+    ///
+    /// # Errors
+    ///
+    /// [`NotWritten::BadField`], as `write_with_layers`.
+    pub fn left_out_with_layers(&self, map: &Map, layers: &Layers) -> Result<KindSet, NotWritten> {
+        let mut kinds = KindSet::default();
+        let status = sys::left_out_layers(&map.kinds, &self.view(), layers, &mut kinds.bits);
+        NotWritten::of_status(status)?;
+        Ok(kinds)
+    }
+
+    /// Writes the header as [`write_to`](Header::write_to) does, where no value is left out.
+    ///
+    /// # Errors
+    ///
+    /// Those of `write_to`; and, after [`NotWritten::BadField`] and before [`NotWritten::ShortBuffer`],
+    /// [`NotWritten::LeftOut`] with the kinds that [`left_out`](Header::left_out) tells, where there are any.
+    /// Nothing is written then.
+    pub fn write_all(&self, buf: &mut [u8], map: &Map) -> Result<usize, NotWritten> {
+        none_left(self.left_out(map)?)?;
+        self.write_to(buf, map)
+    }
+
+    /// Writes the header as [`write_with_layers`](Header::write_with_layers) does, where no value is left out.
+    ///
+    /// # Errors
+    ///
+    /// Those of `write_with_layers`; and [`NotWritten::LeftOut`], as [`write_all`](Header::write_all).
+    pub fn write_all_with_layers(
+        &self,
+        buf: &mut [u8],
+        map: &Map,
+        layers: &Layers,
+    ) -> Result<usize, NotWritten> {
+        none_left(self.left_out_with_layers(map, layers)?)?;
+        self.write_with_layers(buf, map, layers)
+    }
+
     /// Writes the header with a block of these elements, whatever `has_extension` and `values` hold, and
     /// returns how many bytes it took; those after them stay. Each place is one in `data`. Where `allowed`
     /// is `None` the block is in the one-byte form where that can carry each element: ids 1 to 14, 1 to 16
@@ -255,5 +345,13 @@ impl Header {
             has_extension: u8::from(self.has_extension),
             values: self.values.view(),
         }
+    }
+}
+
+fn none_left(kinds: KindSet) -> Result<(), NotWritten> {
+    if kinds.is_empty() {
+        Ok(())
+    } else {
+        Err(NotWritten::LeftOut(kinds))
     }
 }

@@ -5,7 +5,9 @@
 //! - To receive: [`is_rtcp`], [`Packet`] and its [`Elements`], [`Header`] and its [`Values`] under a [`Map`],
 //!   [`Receiver`].
 //! - To receive many at once: [`parse_packets`], [`parse_headers`], [`receive_many`].
-//! - To send: [`Header::write_to`], [`Header::write_with`], [`Header::write_with_layers`], [`write_elements`], [`pad`].
+//! - To report what came: [`ReceptionStatistics`].
+//! - To send: [`Header::with_values`], [`Header::write_all`], [`Header::write_to`], [`Header::write_with`],
+//!   [`Header::write_with_layers`], [`write_elements`], [`pad`].
 //! - To send on: [`PacketMut`], [`put_element`], [`compact`], [`Fields`], [`Values::data_of`], [`NewIds`].
 //! - To send again: [`to_retransmission`], [`from_retransmission`], [`read_original`], [`write_original`].
 //! - Elements as their standards have them, for any peer: [`standard`], [`Packet::token`].
@@ -20,6 +22,7 @@ mod elements;
 mod error;
 mod growing;
 mod header;
+mod kind_set;
 mod layers;
 mod many;
 mod map;
@@ -28,10 +31,12 @@ mod packet;
 mod packet_mut;
 mod payload;
 mod receiver;
+mod reception;
 mod restarting;
 pub mod standard;
 mod sys;
 mod text;
+mod uri;
 mod values;
 mod views;
 mod wide_receiver;
@@ -43,6 +48,7 @@ pub use error::{
 };
 pub use growing::{compact, put_element};
 pub use header::Header;
+pub use kind_set::KindSet;
 pub use layers::{Layer, Layers, Resolution, Stream};
 pub use many::{
     parse_headers, parse_packets, receive_many, ArrivalSlot, Datagram, Datagrams, HeaderSlot,
@@ -55,8 +61,10 @@ pub use packet_mut::{Fields, PacketMut};
 pub use payload::{
     from_retransmission, pad, read_original, to_retransmission, version, write_original,
 };
-pub use receiver::{extend_u15, extend_u16, extend_u32, extend_u8, Receiver};
-pub use restarting::{Arrival, RestartingReceiver};
+pub use receiver::{extend_u15, extend_u16, extend_u32, extend_u8, Receiver, Standing};
+pub use reception::{ReceptionReport, ReceptionStatistics};
+pub use restarting::{Arrival, RestartingReceiver, WideRestartingReceiver};
 pub use text::{Mid, NotAText, Rid, Text};
+pub use uri::Uri;
 pub use values::{Values, VideoTiming};
 pub use wide_receiver::WideReceiver;

@@ -70,11 +70,11 @@ pub fn parse_headers<'s, 'a>(
 /// ```
 /// use rtp_wire::{receive_many, ArrivalSlot, NotTaken, Receiver};
 ///
-/// let mut receivers = [Receiver::starting_at(1)?, Receiver::new()];
+/// let mut receivers = [Receiver::starting_at(1)?, Receiver::starting_at(2)?];
 /// let mut arrivals = [(0, 5), (1, 5), (0, 5), (2, 5)].map(|(index, number)| ArrivalSlot::new(index, number));
 /// receive_many(&mut receivers, &mut arrivals);
 /// let numbers = arrivals.map(|it| it.number());
-/// assert_eq!(numbers, [Ok(65_541), Ok(5), Err(NotTaken::Refused), Err(NotTaken::NoReceiver)]);
+/// assert_eq!(numbers, [Ok(65_541), Ok(131_077), Err(NotTaken::Refused), Err(NotTaken::NoReceiver)]);
 /// # Ok::<(), rtp_wire::BadRolloverCount>(())
 /// ```
 pub fn receive_many(receivers: &mut [Receiver], arrivals: &mut [ArrivalSlot]) {

@@ -3,6 +3,7 @@ use core::fmt;
 use crate::error::BadId;
 use crate::sys;
 use crate::text::{Mid, Rid};
+use crate::uri::Uri;
 use crate::views::StoredMap;
 
 /// The number of an extension of the caller's own, 128 to 255.
@@ -44,7 +45,7 @@ pub enum Kind {
 }
 
 impl Kind {
-    const ALL: [Kind; 15] = [
+    pub(crate) const ALL: [Kind; 15] = [
         Kind::AbsSendTime,
         Kind::AbsCaptureTime,
         Kind::AudioLevel,
@@ -93,6 +94,20 @@ impl Kind {
     #[must_use]
     pub fn from_uri(uri: &str) -> Option<Kind> {
         Kind::of_number(sys::kind_of_uri(uri.as_bytes()))
+    }
+
+    /// The URI that names the kind in SDP (RFC 8285, 5), as an answer says it; `None` of the caller's own.
+    ///
+    /// ```
+    /// use rtp_wire::Kind;
+    ///
+    /// let uri = Kind::Mid.uri().unwrap();
+    /// assert_eq!(format!("a=extmap:4 {uri}"), "a=extmap:4 urn:ietf:params:rtp-hdrext:sdes:mid");
+    /// assert_eq!(Kind::own(128).unwrap().uri(), None);
+    /// ```
+    #[must_use]
+    pub fn uri(self) -> Option<Uri> {
+        Uri::written(|buf, len| sys::uri_of_kind(self.number(), buf, len) == sys::OK)
     }
 
     /// Whether [`Values`](crate::Values) have this text of an element of the kind as it is: [`Kind::Mid`] up to

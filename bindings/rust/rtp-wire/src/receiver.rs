@@ -9,33 +9,59 @@ use crate::views::ReceiverState;
 /// taken. With SRTP, ask [`number_of`](Receiver::number_of) and [`accepts`](Receiver::accepts),
 /// authenticate the packet, and [`record`](Receiver::record): a forged packet then changes nothing.
 ///
+/// It is made by [`starting_at`](Receiver::starting_at), at the rollover count 1 where nothing is
+/// authenticated: a packet from before the first one then has a number too.
+///
 /// ```
-/// let mut receiver = rtp_wire::Receiver::new();
-/// assert_eq!(receiver.receive(65_535), Some(65_535));
-/// assert_eq!(receiver.receive(0), Some(65_536)); // a rollover
-/// assert_eq!(receiver.receive(65_535), None); // a replay
+/// let mut receiver = rtp_wire::Receiver::starting_at(1)?;
+/// assert_eq!(receiver.receive(5), Some(65_541));
+/// assert_eq!(receiver.receive(65_533), Some(65_533)); // from before a rollover
+/// assert_eq!(receiver.receive(6), Some(65_542));
+/// assert_eq!(receiver.receive(5), None); // a replay
+/// # Ok::<(), rtp_wire::BadRolloverCount>(())
 /// ```
+///
+/// The default one, of zeros, has taken nothing yet either, and its first packet has the rollover
+/// count 0: it is for SRTP, where a stream's packet indices begin there (RFC 3711, 3.3.1). Without
+/// authentication a packet from before the first one gets a number near 2^64, and once that is taken
+/// nearly all later ones are refused.
 #[repr(transparent)]
 #[derive(Clone, Copy, Debug, Default, PartialEq, Eq, Hash)]
 pub struct Receiver {
     state: ReceiverState,
 }
 
-impl Receiver {
-    /// A receiver that has taken nothing yet, of a stream from its beginning.
-    #[must_use]
-    pub fn new() -> Receiver {
-        Receiver::default()
-    }
+/// What a receiver knows of a number: why it isn't accepted.
+#[derive(Clone, Copy, Debug, PartialEq, Eq, Hash)]
+pub enum Standing {
+    /// It may be taken.
+    New,
+    /// It is in the window and was taken: the packet is a replay.
+    Taken,
+    /// It is behind the window, which doesn't tell any more whether it was taken.
+    TooOld,
+}
 
-    /// A receiver that has taken nothing yet, whose first packet has this rollover count. With a count of
-    /// 1 or more a packet from before the first one has a number too.
+impl Standing {
+    pub(crate) fn told(standing: u8) -> Standing {
+        match standing {
+            0 => Standing::New,
+            1 => Standing::Taken,
+            _ => Standing::TooOld,
+        }
+    }
+}
+
+impl Receiver {
+    /// A receiver that has taken nothing yet, whose first packet has this rollover count: 1 where nothing
+    /// is authenticated, so that a packet from before the first one has a number too, and with SRTP the
+    /// count that was signalled, or 0.
     ///
     /// # Errors
     ///
     /// [`BadRolloverCount`] where it is 2^48 or more.
     pub fn starting_at(rollover_count: u64) -> Result<Receiver, BadRolloverCount> {
-        let mut receiver = Receiver::new();
+        let mut receiver = Receiver::default();
         match sys::receiver_start(&mut receiver.state, rollover_count) {
             sys::OK => Ok(receiver),
             _ => Err(BadRolloverCount),
@@ -59,6 +85,24 @@ impl Receiver {
     #[must_use]
     pub fn accepts(&self, number: u64) -> bool {
         sys::receiver_accepts(&self.state, number)
+    }
+
+    /// What is known of the number. A packet that was refused changed nothing, so it can be asked
+    /// afterwards.
+    ///
+    /// ```
+    /// use rtp_wire::{Receiver, Standing};
+    ///
+    /// let mut receiver = Receiver::starting_at(1)?;
+    /// assert_eq!(receiver.receive(1000), Some(66_536));
+    /// assert_eq!(receiver.receive(872), None);
+    /// assert_eq!(receiver.standing_of(receiver.number_of(872)), Standing::TooOld);
+    /// assert_eq!(receiver.standing_of(66_536), Standing::Taken);
+    /// # Ok::<(), rtp_wire::BadRolloverCount>(())
+    /// ```
+    #[must_use]
+    pub fn standing_of(&self, number: u64) -> Standing {
+        Standing::told(sys::receiver_standing_of(&self.state, number))
     }
 
     /// Records that the number is taken. One that isn't accepted changes nothing of what is held.

@@ -14,17 +14,21 @@ pub enum Arrival {
 }
 
 /// The receive state of one stream that isn't authenticated and whose sender may start again under the
-/// same SSRC (RFC 3550, appendix A.1), with a window of 128 numbers.
+/// same SSRC (RFC 3550, appendix A.1), with a replay window of 64 * WORDS numbers: of 1 to 512 words, which
+/// is tested as the program is compiled. [`RestartingReceiver`] has 16.
 ///
 /// A packet is of the stream where its number is less than `max_dropout` above the highest one taken, or
-/// less than 128 below it: it is judged as by [`Receiver`](crate::Receiver). Any other is refused; but
-/// where the very next packet has the number after it and is outside of the stream too, the sender has
-/// started again, and that second packet is taken.
+/// less than `max_misorder` below it: it is judged as by [`WideReceiver`](crate::WideReceiver). Any other is
+/// refused; but where the very next packet has the number after it and is outside of the stream too, the
+/// sender has started again, and that second packet is taken.
+///
+/// The bounds are safe where packets are sent again under the stream's own SSRC: `max_misorder` is 3,000,
+/// or the size of the window where that is more, so late packets are no restart, and copies are refused.
+/// A sender that starts again less than that below the highest number, or less than `max_dropout` above it,
+/// isn't seen: its packets are refused until they pass the highest number.
 ///
 /// Don't use it for SRTP: there a packet that isn't authentic must change nothing, and a sender that
-/// starts again would use the numbers of its key anew. Nor for a stream with retransmissions under its own
-/// SSRC: two that are 128 and more below the highest number, one after the other, look as if the sender had
-/// started again.
+/// starts again would use the numbers of its key anew.
 ///
 /// The first number has the rollover count 1, and the first one of each later epoch 2 more than the
 /// highest before it: all numbers of an epoch are above those of the epochs before it.
@@ -34,32 +38,76 @@ pub enum Arrival {
 ///
 /// let mut receiver = RestartingReceiver::new();
 /// assert_eq!(receiver.receive(60_000), Arrival::Taken(125_536));
+/// assert_eq!(receiver.receive(59_800), Arrival::Taken(125_336)); // a late one
 /// assert_eq!(receiver.receive(7), Arrival::Refused);
 /// assert_eq!(receiver.receive(8), Arrival::Restarted(196_616));
 /// assert_eq!(receiver.receive(9), Arrival::Taken(196_617));
 /// ```
-#[derive(Clone, Copy, Debug, Default)]
-pub struct RestartingReceiver {
+///
+/// ```compile_fail
+/// rtp_wire::WideRestartingReceiver::<0>::new();
+/// ```
+///
+/// ```compile_fail
+/// rtp_wire::WideRestartingReceiver::<513>::new();
+/// ```
+#[derive(Clone, Copy, Debug)]
+pub struct WideRestartingReceiver<const WORDS: usize> {
     state: RestartingState,
+    words: [u64; WORDS],
 }
 
-impl RestartingReceiver {
+/// A [`WideRestartingReceiver`] with a window of 1,024 numbers, as libwebrtc has it.
+pub type RestartingReceiver = WideRestartingReceiver<16>;
+
+impl<const WORDS: usize> Default for WideRestartingReceiver<WORDS> {
+    fn default() -> Self {
+        Self::new()
+    }
+}
+
+impl<const WORDS: usize> WideRestartingReceiver<WORDS> {
+    const HAS_WINDOW: () = assert!(WORDS >= 1 && WORDS <= 512, "a window has 1 to 512 words");
+
     /// A receiver that has taken nothing yet, with RFC 3550's `MAX_DROPOUT` of 3,000, that takes the
     /// first packet of a source.
     #[must_use]
-    pub fn new() -> RestartingReceiver {
-        RestartingReceiver::default()
+    pub fn new() -> Self {
+        let () = Self::HAS_WINDOW;
+        WideRestartingReceiver {
+            state: RestartingState::default(),
+            words: [0; WORDS],
+        }
     }
 
     /// A receiver that has taken nothing yet, with other bounds. A packet of the stream is less than
     /// `max_dropout` above the highest number taken; 0 stands for 3,000. A source is valid, and its first
-    /// packet is taken, with the last of `min_sequential` packets in a row; 0 is the same as 1.
+    /// packet is taken, with the last of `min_sequential` packets in a row; 0 is the same as 1, and RFC
+    /// 3550's `MIN_SEQUENTIAL` is 2.
     #[must_use]
-    pub fn with_bounds(max_dropout: u16, min_sequential: u8) -> RestartingReceiver {
-        let mut receiver = RestartingReceiver::new();
+    pub fn with_bounds(max_dropout: u16, min_sequential: u8) -> Self {
+        let mut receiver = Self::new();
         receiver.state.max_dropout = max_dropout;
         receiver.state.min_sequential = min_sequential;
         receiver
+    }
+
+    /// The same receiver with this bound for late packets: one of the stream is less than `max_misorder`
+    /// below the highest number taken. 0 stands for 3,000, or for the size of the window where that is
+    /// more; RFC 3550's `MAX_MISORDER` is 100.
+    ///
+    /// ```
+    /// use rtp_wire::{Arrival, RestartingReceiver};
+    ///
+    /// let mut receiver = RestartingReceiver::with_bounds(3000, 1).with_max_misorder(100);
+    /// assert_eq!(receiver.receive(1999), Arrival::Taken(67_535));
+    /// assert_eq!(receiver.receive(1800), Arrival::Refused);
+    /// assert_eq!(receiver.receive(1801), Arrival::Restarted(198_409));
+    /// ```
+    #[must_use]
+    pub fn with_max_misorder(mut self, max_misorder: u16) -> Self {
+        self.state.max_misorder = max_misorder;
+        self
     }
 
     /// The highest number taken in the epoch; `None` where nothing is taken yet.
@@ -70,7 +118,7 @@ impl RestartingReceiver {
 
     /// The verdict on the next packet of the source.
     pub fn receive(&mut self, sequence_number: u16) -> Arrival {
-        match sys::restarting_receive(&mut self.state, sequence_number) {
+        match sys::wide_restarting_receive(&mut self.state, &mut self.words, sequence_number) {
             (sys::OK, number) => Arrival::Taken(number),
             (sys::RESTARTED, number) => Arrival::Restarted(number),
             _ => Arrival::Refused,

@@ -8,11 +8,12 @@
 #![allow(unsafe_code)]
 
 use crate::receiver::Receiver;
+use crate::reception::ReceptionReport;
 use crate::views::{
     ArrivalSlot, ColorSpaceView, DependencyDescriptorView, FieldsView, FrameMarkingView,
     HeaderSlot, HeaderView, Layers, OrientationView, PacketParts, PacketSlot, Place, ReceiverState,
-    RestartingState, StoredMap, StoredNewIds, TimingView, TransportNumberView, ValuesView,
-    WideState,
+    ReceptionState, RestartingState, StoredMap, StoredNewIds, TimingView, TransportNumberView,
+    ValuesView, WideState,
 };
 
 pub const OK: i32 = 0;
@@ -40,8 +41,8 @@ mod c {
     use super::{
         ArrivalSlot, ColorSpaceView, DependencyDescriptorView, FieldsView, FrameMarkingView,
         HeaderSlot, HeaderView, Layers, OrientationView, PacketParts, PacketSlot, Place,
-        ReceiverState, RestartingState, StoredMap, StoredNewIds, TimingView, TransportNumberView,
-        ValuesView, WideState,
+        ReceiverState, ReceptionReport, ReceptionState, RestartingState, StoredMap, StoredNewIds,
+        TimingView, TransportNumberView, ValuesView, WideState,
     };
 
     extern "C" {
@@ -122,11 +123,39 @@ mod c {
             sequence_number: u16,
             number: *mut u64,
         ) -> i32;
-        pub fn rtpw_restarting_receive(
+        pub fn rtpw_wide_restarting_receive(
             receiver: *mut RestartingState,
+            words: *mut u64,
+            count: usize,
             sequence_number: u16,
             number: *mut u64,
         ) -> i32;
+        pub fn rtpw_reception_record(
+            reception: *mut ReceptionState,
+            number: u64,
+            timestamp: u32,
+            arrival: u32,
+        );
+        pub fn rtpw_reception_report(
+            reception: *mut ReceptionState,
+            report: *mut ReceptionReport,
+        ) -> i32;
+        pub fn rtpw_write_report(
+            report: *const ReceptionReport,
+            ssrc: u32,
+            last_report: u32,
+            delay: u32,
+            buf: *mut u8,
+            size: usize,
+            len: *mut usize,
+        ) -> i32;
+        pub fn rtpw_receiver_standing_of(receiver: *const ReceiverState, number: u64) -> u8;
+        pub fn rtpw_wide_receiver_standing_of(
+            receiver: *const WideState,
+            words: *const u64,
+            count: usize,
+            number: u64,
+        ) -> u8;
         pub fn rtpw_values_read(
             body: *const u8,
             body_len: usize,
@@ -135,6 +164,7 @@ mod c {
             values: *mut ValuesView,
         ) -> i32;
         pub fn rtpw_kind_of_uri(uri: *const u8, len: usize) -> u8;
+        pub fn rtpw_uri_of_kind(kind: u8, buf: *mut u8, size: usize, len: *mut usize) -> i32;
         pub fn rtpw_map_set(map: *mut StoredMap, id: u8, kind: u8) -> i32;
         pub fn rtpw_map_get(map: *const StoredMap, id: u8) -> u8;
         pub fn rtpw_id_of(map: *const StoredMap, kind: u8) -> u8;
@@ -184,6 +214,17 @@ mod c {
             buf: *mut u8,
             size: usize,
             len: *mut usize,
+        ) -> i32;
+        pub fn rtpw_left_out(
+            map: *const StoredMap,
+            header: *const HeaderView,
+            kinds: *mut u32,
+        ) -> i32;
+        pub fn rtpw_left_out_layers(
+            map: *const StoredMap,
+            header: *const HeaderView,
+            layers: *const Layers,
+            kinds: *mut u32,
         ) -> i32;
         pub fn rtpw_write_with(
             header: *const HeaderView,
@@ -489,6 +530,11 @@ pub fn kind_of_uri(uri: &[u8]) -> u8 {
     unsafe { c::rtpw_kind_of_uri(uri.as_ptr(), uri.len()) }
 }
 
+pub fn uri_of_kind(kind: u8, buf: &mut [u8], len: &mut usize) -> i32 {
+    // SAFETY: an exclusive slice, and an exclusive reference.
+    unsafe { c::rtpw_uri_of_kind(kind, buf.as_mut_ptr(), buf.len(), len) }
+}
+
 pub fn map_set(map: &mut StoredMap, id: u8, kind: u8) -> i32 {
     // SAFETY: an exclusive reference.
     unsafe { c::rtpw_map_set(map, id, kind) }
@@ -589,6 +635,21 @@ pub fn write_layers(
 ) -> i32 {
     // SAFETY: three references that are read, an exclusive slice, and an exclusive reference.
     unsafe { c::rtpw_write_layers(map, header, layers, buf.as_mut_ptr(), buf.len(), len) }
+}
+
+pub fn left_out(map: &StoredMap, header: &HeaderView, kinds: &mut u32) -> i32 {
+    // SAFETY: two references that are read, and an exclusive reference.
+    unsafe { c::rtpw_left_out(map, header, kinds) }
+}
+
+pub fn left_out_layers(
+    map: &StoredMap,
+    header: &HeaderView,
+    layers: &Layers,
+    kinds: &mut u32,
+) -> i32 {
+    // SAFETY: three references that are read, and an exclusive reference.
+    unsafe { c::rtpw_left_out_layers(map, header, layers, kinds) }
 }
 
 pub fn write_with(
@@ -968,11 +1029,67 @@ pub fn wide_receiver_receive(
     (status == OK).then_some(number)
 }
 
-pub fn restarting_receive(receiver: &mut RestartingState, sequence_number: u16) -> (i32, u64) {
+pub fn wide_restarting_receive(
+    receiver: &mut RestartingState,
+    words: &mut [u64],
+    sequence_number: u16,
+) -> (i32, u64) {
     let mut number = 0;
-    // SAFETY: two exclusive references.
-    let status = unsafe { c::rtpw_restarting_receive(receiver, sequence_number, &mut number) };
+    // SAFETY: the words are as many as is said, and exclusive references overlap nothing.
+    let status = unsafe {
+        c::rtpw_wide_restarting_receive(
+            receiver,
+            words.as_mut_ptr(),
+            words.len(),
+            sequence_number,
+            &mut number,
+        )
+    };
     (status, number)
+}
+
+pub fn reception_record(reception: &mut ReceptionState, number: u64, timestamp: u32, arrival: u32) {
+    // SAFETY: an exclusive reference.
+    unsafe { c::rtpw_reception_record(reception, number, timestamp, arrival) }
+}
+
+pub fn reception_report(reception: &mut ReceptionState) -> Option<ReceptionReport> {
+    let mut report = ReceptionReport::default();
+    // SAFETY: two exclusive references.
+    let status = unsafe { c::rtpw_reception_report(reception, &mut report) };
+    (status == OK).then_some(report)
+}
+
+pub fn write_report(
+    report: &ReceptionReport,
+    ssrc: u32,
+    last_report: u32,
+    delay: u32,
+    buf: &mut [u8],
+    len: &mut usize,
+) -> i32 {
+    // SAFETY: a reference that is read, an exclusive slice, and an exclusive reference.
+    unsafe {
+        c::rtpw_write_report(
+            report,
+            ssrc,
+            last_report,
+            delay,
+            buf.as_mut_ptr(),
+            buf.len(),
+            len,
+        )
+    }
+}
+
+pub fn receiver_standing_of(receiver: &ReceiverState, number: u64) -> u8 {
+    // SAFETY: one reference.
+    unsafe { c::rtpw_receiver_standing_of(receiver, number) }
+}
+
+pub fn wide_receiver_standing_of(receiver: &WideState, words: &[u64], number: u64) -> u8 {
+    // SAFETY: the words are as many as is said.
+    unsafe { c::rtpw_wide_receiver_standing_of(receiver, words.as_ptr(), words.len(), number) }
 }
 
 pub fn extend_u8(previous: u64, number: u8) -> u64 {

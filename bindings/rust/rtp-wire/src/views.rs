@@ -67,17 +67,30 @@ pub struct WideState {
     pub started: u8,
 }
 
-/// `rtpw_restarting_receiver`
+/// `rtpw_wide_restarting_receiver`
 #[repr(C)]
 #[derive(Clone, Copy, Debug, Default)]
 pub struct RestartingState {
     pub highest: u64,
-    pub words: [u64; 2],
     pub max_dropout: u16,
+    pub max_misorder: u16,
     pub next: u16,
     pub min_sequential: u8,
     pub in_row: u8,
     pub started: u8,
+}
+
+/// `rtpw_reception`
+#[repr(C)]
+#[derive(Clone, Copy, Debug, Default, PartialEq, Eq, Hash)]
+pub struct ReceptionState {
+    pub first: u64,
+    pub highest: u64,
+    pub received: u64,
+    pub received_before: u64,
+    pub expected_before: u64,
+    pub scaled_jitter: u64,
+    pub transit: u32,
 }
 
 /// `rtpw_map`
@@ -333,6 +346,7 @@ pub struct DependencyDescriptorView {
 #[cfg(test)]
 mod tests {
     use super::*;
+    use crate::reception::ReceptionReport;
     use core::mem::{align_of, offset_of, size_of};
 
     /// The struct's size, and where each field lies.
@@ -355,8 +369,12 @@ mod tests {
         lies!(Place, 32, data_at 0, data_len 8, end 16, id 24);
         lies!(ReceiverState, 32, highest 0, recorded_low 8, recorded_high 16, started 24);
         lies!(WideState, 16, highest 0, started 8);
-        lies!(RestartingState, 32, highest 0, words 8, max_dropout 24, next 26, min_sequential 28,
-            in_row 29, started 30);
+        lies!(RestartingState, 24, highest 0, max_dropout 8, max_misorder 10, next 12, min_sequential 14,
+            in_row 15, started 16);
+        lies!(ReceptionState, 56, first 0, highest 8, received 16, received_before 24,
+            expected_before 32, scaled_jitter 40, transit 48);
+        lies!(ReceptionReport, 16, aligned 4, fraction_lost 0, cumulative_lost 4,
+            extended_highest 8, jitter 12);
         lies!(Time, 16, ticks 0, hertz 8);
         lies!(HeaderView, 224, header_len 0, timestamp 8, ssrc 12, csrc 16, sequence_number 76,
             payload_type 78, csrc_count 79, marker 80, has_padding 81, has_extension 82, values 88);

@@ -1,4 +1,5 @@
 use crate::error::BadRolloverCount;
+use crate::receiver::Standing;
 use crate::sys;
 use crate::views::WideState;
 
@@ -9,19 +10,22 @@ use crate::views::WideState;
 /// libwebrtc has 1,024, which are 16 words.
 ///
 /// ```
-/// let mut receiver = rtp_wire::WideReceiver::<16>::new();
-/// assert_eq!(receiver.receive(5000), Some(5000));
-/// assert_eq!(receiver.receive(3977), Some(3977)); // 1,023 below
+/// let mut receiver = rtp_wire::WideReceiver::<16>::starting_at(1)?;
+/// assert_eq!(receiver.receive(5000), Some(70_536));
+/// assert_eq!(receiver.receive(3977), Some(69_513)); // 1,023 below
 /// assert_eq!(receiver.receive(3977), None); // a replay
 /// assert_eq!(receiver.receive(3976), None); // too old to tell
+/// # Ok::<(), rtp_wire::BadRolloverCount>(())
+/// ```
+///
+/// The default one, of zeros, is as that of [`Receiver`](crate::Receiver).
+///
+/// ```compile_fail
+/// let _ = rtp_wire::WideReceiver::<0>::default();
 /// ```
 ///
 /// ```compile_fail
-/// rtp_wire::WideReceiver::<0>::new();
-/// ```
-///
-/// ```compile_fail
-/// rtp_wire::WideReceiver::<513>::new();
+/// let _ = rtp_wire::WideReceiver::<513>::default();
 /// ```
 ///
 /// ```compile_fail
@@ -39,31 +43,25 @@ pub struct WideReceiver<const WORDS: usize> {
 
 impl<const WORDS: usize> Default for WideReceiver<WORDS> {
     fn default() -> Self {
-        Self::new()
-    }
-}
-
-impl<const WORDS: usize> WideReceiver<WORDS> {
-    const HAS_WINDOW: () = assert!(WORDS >= 1 && WORDS <= 512, "a window has 1 to 512 words");
-
-    /// A receiver that has taken nothing yet, of a stream from its beginning.
-    #[must_use]
-    pub fn new() -> Self {
         let () = Self::HAS_WINDOW;
         WideReceiver {
             state: WideState::default(),
             words: [0; WORDS],
         }
     }
+}
 
-    /// A receiver that has taken nothing yet, whose first packet has this rollover count. With a count
-    /// of 1 or more a packet from before the first one has a number too.
+impl<const WORDS: usize> WideReceiver<WORDS> {
+    const HAS_WINDOW: () = assert!(WORDS >= 1 && WORDS <= 512, "a window has 1 to 512 words");
+
+    /// A receiver that has taken nothing yet, whose first packet has this rollover count, as
+    /// [`Receiver::starting_at`](crate::Receiver::starting_at) says: 1 where nothing is authenticated.
     ///
     /// # Errors
     ///
     /// [`BadRolloverCount`] where it is 2^48 or more.
     pub fn starting_at(rollover_count: u64) -> Result<Self, BadRolloverCount> {
-        let mut receiver = Self::new();
+        let mut receiver = Self::default();
         match sys::wide_receiver_start(&mut receiver.state, rollover_count) {
             sys::OK => Ok(receiver),
             _ => Err(BadRolloverCount),
@@ -87,6 +85,16 @@ impl<const WORDS: usize> WideReceiver<WORDS> {
     #[must_use]
     pub fn accepts(&self, number: u64) -> bool {
         sys::wide_receiver_accepts(&self.state, &self.words, number)
+    }
+
+    /// What is known of the number, as [`Receiver::standing_of`](crate::Receiver::standing_of) tells it.
+    #[must_use]
+    pub fn standing_of(&self, number: u64) -> Standing {
+        Standing::told(sys::wide_receiver_standing_of(
+            &self.state,
+            &self.words,
+            number,
+        ))
     }
 
     /// Records that the number is taken, and returns whether it was accepted. Where it wasn't nothing

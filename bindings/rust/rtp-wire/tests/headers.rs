@@ -4,8 +4,8 @@
 use std::time::Duration;
 
 use rtp_wire::{
-    write_elements, BadId, Form, Header, Kind, Map, NewIds, NotAHeader, NotAPacket, NotChanged,
-    NotWritten, Packet, PacketMut, Place, Resolution, Values, VideoTiming,
+    write_elements, BadId, Form, Header, Kind, Layers, Map, NewIds, NotAHeader, NotAPacket,
+    NotChanged, NotWritten, Packet, PacketMut, Place, Resolution, Values, VideoTiming,
 };
 
 const MAP: Map = Map::new()
@@ -260,4 +260,88 @@ fn elements_are_written() {
     assert_eq!(write(Form::TwoByte, &[], place), Ok(2));
     assert_eq!(buf, [1, 0, 0x1F, 0xFF, 0xEE, 0xEE]);
     assert_eq!(NotWritten::ShortBuffer.to_string(), "a buffer is too short");
+}
+
+/// A level without voice, one of two delays, and a mid that isn't mapped.
+#[test]
+fn what_is_left_out_is_told_or_refused() {
+    let map = Map::new()
+        .with(1, Kind::AudioLevel)
+        .with(2, Kind::PlayoutDelay)
+        .with(200, Kind::VideoOrientation);
+    let mut values = Values::default();
+    values.audio_level = Some(-42);
+    values.playout_delay_max = Some(Duration::from_millis(50));
+    values.mid = Some("a".parse().unwrap());
+    values.video_orientation = Some(90);
+    let mut header = Header::with_values(values);
+    assert!(header.has_extension);
+    let kinds = header.left_out(&map).unwrap();
+    let due = [Kind::AudioLevel, Kind::PlayoutDelay, Kind::Mid];
+    assert!(kinds.iter().eq(due));
+    assert!(kinds.contains(Kind::Mid) && !kinds.contains(Kind::VideoOrientation));
+    assert!(!kinds.contains(Kind::own(131).unwrap()));
+    assert_eq!(format!("{kinds:?}"), "{AudioLevel, PlayoutDelay, Mid}");
+    let mut buf = [0xEE; 40];
+    assert_eq!(
+        header.write_all(&mut buf, &map),
+        Err(NotWritten::LeftOut(kinds))
+    );
+    assert_eq!(
+        header.write_all(&mut [], &map).unwrap_err().to_string(),
+        "values that no element carries: {AudioLevel, PlayoutDelay, Mid}"
+    );
+    assert_eq!(buf, [0xEE; 40]);
+    assert_eq!(header.write_to(&mut buf, &map), Ok(20)); // 200 with one byte
+
+    header.values = Values::default();
+    header.values.video_orientation = Some(90);
+    assert!(header.left_out(&map).unwrap().is_empty());
+    assert_eq!(header.write_all(&mut buf, &map), Ok(20));
+    assert_eq!(buf[12..20], [0x10, 0, 0, 1, 200, 1, 3, 0]);
+    assert_eq!(
+        header.write_all(&mut [0; 19], &map),
+        Err(NotWritten::ShortBuffer)
+    );
+    header.has_extension = false;
+    assert!(header
+        .left_out(&map)
+        .unwrap()
+        .iter()
+        .eq([Kind::VideoOrientation]));
+    header.payload_type = 128;
+    assert_eq!(header.left_out(&map), Err(NotWritten::BadField));
+    assert_eq!(header.write_all(&mut buf, &map), Err(NotWritten::BadField));
+    assert!(!Header::with_values(Values::default()).has_extension);
+}
+
+#[test]
+fn layers_are_left_out_without_an_id() {
+    let layers = Layers::new(0, &[]).unwrap();
+    let mut header = Header::default();
+    header.has_extension = true;
+    let left = header.left_out_with_layers(&Map::standard(), &layers);
+    assert!(left.unwrap().iter().eq([Kind::Layers]));
+    let mut buf = [0; 24];
+    let refused = header.write_all_with_layers(&mut buf, &Map::standard(), &layers);
+    assert_eq!(refused, Err(NotWritten::LeftOut(left.unwrap())));
+    assert_eq!(
+        header.write_all_with_layers(&mut buf, &MAP, &layers),
+        Ok(20)
+    );
+    assert_eq!(buf[12..20], [0x10, 0, 0, 1, 5, 1, 0, 0]);
+}
+
+#[test]
+fn each_kind_has_its_uri() {
+    let map = Map::standard();
+    for id in [1, 2, 3, 4, 10, 11, 13] {
+        let kind = map.get(id).unwrap();
+        assert_eq!(Kind::from_uri(&kind.uri().unwrap()), Some(kind));
+    }
+    let uri = Kind::TransportNumber.uri().unwrap();
+    let text = "http://www.ietf.org/id/draft-holmer-rmcat-transport-wide-cc-extensions-01";
+    assert_eq!((uri.as_str(), uri.len()), (text, 73));
+    assert_eq!(format!("{uri} {uri:?}"), format!("{text} {text:?}"));
+    assert_eq!(Kind::own(255).unwrap().uri(), None);
 }

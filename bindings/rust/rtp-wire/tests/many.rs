@@ -203,7 +203,7 @@ fn none_are_none() {
     assert_eq!(parse_packets(&PLAIN, &mut []).count(), 0);
     assert_eq!(parse_headers(&[], &MAP, &mut []).len(), 0);
     receive_many(&mut [], &mut []);
-    receive_many(&mut [Receiver::new()], &mut []);
+    receive_many(&mut [Receiver::default()], &mut []);
 }
 
 #[test]
@@ -298,9 +298,9 @@ fn datagrams_are_gone_through_as_a_list() {
 #[test]
 fn each_receiver_judges_its_own() {
     let mut receivers = [
-        Receiver::new(),
+        Receiver::default(),
         Receiver::starting_at(1).unwrap(),
-        Receiver::new(),
+        Receiver::default(),
     ];
     let rows = [
         (0, 65_535, Ok(65_535)),

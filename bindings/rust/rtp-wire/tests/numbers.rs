@@ -186,11 +186,7 @@ fn a_receiver_starts_at_each_rollover_count() {
             "{count}"
         );
     }
-    for mut receiver in [
-        Receiver::new(),
-        Receiver::default(),
-        Receiver::starting_at(0).unwrap(),
-    ] {
+    for mut receiver in [Receiver::default(), Receiver::starting_at(0).unwrap()] {
         assert_eq!(
             (receiver.highest(), receiver.number_of(65_535)),
             (None, 65_535)
@@ -202,7 +198,7 @@ fn a_receiver_starts_at_each_rollover_count() {
         );
     }
     // what is recorded first may be any number, 0 too
-    let mut receiver = Receiver::new();
+    let mut receiver = Receiver::default();
     receiver.record(0);
     assert_eq!(
         (receiver.highest(), receiver.accepts(0), receiver.accepts(1)),
@@ -224,7 +220,7 @@ fn any_number_may_be_recorded() {
         1 << 63,
         u64::MAX,
     ] {
-        for mut receiver in [Receiver::new(), Receiver::starting_at(3).unwrap()] {
+        for mut receiver in [Receiver::default(), Receiver::starting_at(3).unwrap()] {
             receiver.record(number);
             assert_eq!(
                 (receiver.highest(), receiver.accepts(number)),

@@ -26,7 +26,7 @@ fn crosses_threads<T: Send + Sync + 'static>(_: &T) {}
 fn types_cross_threads() {
     static mut DATAGRAM: [u8; 12] = [0x80; 12];
     crosses_threads(&Packet::parse(&SAMPLE).unwrap());
-    crosses_threads(&Receiver::new());
+    crosses_threads(&Receiver::default());
     crosses_threads(&NotAPacket::CutBlock);
     crosses_threads(&Map::new());
     crosses_threads(&Values::default());
@@ -207,7 +207,7 @@ fn a_packet_is_changed() {
 
 #[test]
 fn a_receiver_judges() {
-    let mut receiver = Receiver::new();
+    let mut receiver = Receiver::default();
     assert_eq!(receiver.highest(), None);
     assert_eq!(receiver.receive(65_500), Some(65_500));
     assert_eq!(receiver.number_of(10), 65_546);

@@ -18,8 +18,8 @@ use rtp_wire::{
     Datagram, Datagrams, Element, Elements, Fields, Form, Header, HeaderSlot, Kind, Layer, Layers,
     Map, Mid, NewIds, NotAHeader, NotAPacket, NotAText, NotChanged, NotPut, NotRead,
     NotRetransmitted, NotTaken, NotWritten, OwnKind, Packet, PacketMut, PacketSlot, Place, Places,
-    Receiver, Resolution, RestartingReceiver, Rid, Stream, Text, TooManyLayers, Values,
-    VideoTiming, WideReceiver,
+    Receiver, ReceptionReport, ReceptionStatistics, Resolution, RestartingReceiver, Rid, Stream,
+    Text, TooManyLayers, Values, VideoTiming, WideReceiver,
 };
 
 /// What every type has: it goes to another thread, and may be moved and logged.
@@ -73,12 +73,12 @@ macro_rules! lack {
 fn each_type_has_its_traits() {
     let lacking = lack! {
         Value: Element<'_>, Place, Form, Header, Resolution, Layer, Stream, Layers, Kind, OwnKind, Map, NewIds,
-            Fields, Receiver, Values, VideoTiming, Mid, Rid, Text<3>;
+            Fields, Receiver, ReceptionReport, ReceptionStatistics, Values, VideoTiming, Mid, Rid, Text<3>;
         Copied: PacketSlot, HeaderSlot, ArrivalSlot, Datagram<'_, '_, PacketSlot>, Datagram<'_, '_, HeaderSlot>;
         Copied: Packet<'_>, Arrival, RestartingReceiver, WideReceiver<1>, WideReceiver<512>;
         Eq: Packet<'_>, Arrival;
         Default: PacketSlot, HeaderSlot, Place, Header, Layer, Stream, Layers, Map, NewIds, Fields, Receiver, RestartingReceiver,
-            WideReceiver<3>, Values, VideoTiming;
+            ReceptionReport, ReceptionStatistics, WideReceiver<3>, Values, VideoTiming;
         Ord: Kind, OwnKind, Mid, Rid, Text<3>;
         Failure: NotAPacket, NotAHeader, NotWritten, NotChanged, NotPut, NotRetransmitted, NotAText, BadId,
             BadRolloverCount, TooManyLayers, NotRead, NotTaken;
@@ -424,7 +424,7 @@ fn states_and_tables_are_plain_memory() {
     assert_eq!((size_of::<Receiver>(), size_of::<NewIds>()), (32, 256));
     assert_eq!(
         (size_of::<Map>(), size_of::<RestartingReceiver>()),
-        (256, 32)
+        (256, 24 + 8 * 16)
     );
     assert_eq!(size_of::<WideReceiver<16>>(), 16 + 8 * 16);
     assert_eq!(
@@ -432,6 +432,7 @@ fn states_and_tables_are_plain_memory() {
         (88, 248)
     );
     assert_eq!(size_of::<ArrivalSlot>(), 24);
+    assert_eq!(size_of::<ReceptionStatistics>(), 56);
     assert_eq!((size_of::<Mid>(), size_of::<Rid>()), (17, 9));
 }
 

@@ -3,7 +3,7 @@
 
 use rtp_wire::{
     extend_u15, extend_u16, extend_u32, extend_u8, Arrival, BadRolloverCount, Receiver,
-    RestartingReceiver, WideReceiver,
+    RestartingReceiver, Standing, WideReceiver, WideRestartingReceiver,
 };
 
 const FAR: u64 = 1 << 40; // past 2^32
@@ -113,11 +113,23 @@ fn the_number_0_is_taken() {
         assert_eq!((receiver.highest(), receiver.accepts(0)), (Some(0), false));
         assert_eq!(receiver.number_of(65_535), u64::MAX);
     }
-    takes_it(Receiver::new());
     takes_it(Receiver::default());
-    takes_it(WideReceiver::<2>::new());
     takes_it(WideReceiver::<2>::default());
     takes_it(WideReceiver::<2>::starting_at(0).unwrap());
+}
+
+#[test]
+fn a_packet_from_before_the_first_has_a_number_from_the_rollover_count_1_on() {
+    fn takes_it(mut receiver: impl Stateful) {
+        let numbers = [5, 65_533, 6, 7].map(|it| receiver.receive(it));
+        assert_eq!(numbers, [65_541, 65_533, 65_542, 65_543].map(Some));
+    }
+    takes_it(Receiver::starting_at(1).unwrap());
+    takes_it(WideReceiver::<16>::starting_at(1).unwrap());
+    // and with 0 it doesn't
+    let mut receiver = Receiver::starting_at(0).unwrap();
+    let numbers = [5, 65_533, 6, 7].map(|it| receiver.receive(it));
+    assert_eq!(numbers, [Some(5), Some(u64::MAX - 2), None, None]);
 }
 
 #[test]
@@ -136,7 +148,10 @@ fn wide_receivers_start_at_each_rollover_count() {
     }
 }
 
-fn judges(receiver: &mut RestartingReceiver, rows: &[(u16, Arrival)]) {
+fn judges<const WORDS: usize>(
+    receiver: &mut WideRestartingReceiver<WORDS>,
+    rows: &[(u16, Arrival)],
+) {
     for (low, arrival) in rows {
         assert_eq!(receiver.receive(*low), *arrival, "{low}");
     }
@@ -147,10 +162,10 @@ fn senders_start_again() {
     use Arrival::{Refused, Restarted, Taken};
     // 2,999 ahead is of the stream, and 3,000 isn't; 127 below is in the window, and 128 isn't.
     for mut receiver in [
-        RestartingReceiver::new(),
-        RestartingReceiver::default(),
-        RestartingReceiver::with_bounds(0, 0),
-        RestartingReceiver::with_bounds(3000, 1),
+        WideRestartingReceiver::<2>::new(),
+        WideRestartingReceiver::default(),
+        WideRestartingReceiver::with_bounds(0, 0),
+        WideRestartingReceiver::with_bounds(3000, 1).with_max_misorder(3000),
     ] {
         assert_eq!(receiver.highest(), None);
         judges(
@@ -209,6 +224,68 @@ fn bounds_are_those_that_are_given() {
         &mut receiver,
         &[(0, Taken(65_536)), (0, Refused), (32_767, Taken(98_303))],
     );
+}
+
+#[test]
+fn late_packets_are_no_restart() {
+    use Arrival::{Refused, Restarted, Taken};
+    // 1,023 below is in the window, and 2,999 below is of the stream
+    let mut receiver = RestartingReceiver::new();
+    judges(
+        &mut receiver,
+        &[
+            (5000, Taken(70_536)),
+            (4800, Taken(70_336)),
+            (4801, Taken(70_337)),
+            (4801, Refused),
+            (3977, Taken(69_513)),
+            (3976, Refused),
+            (2001, Refused),
+            (2002, Refused),
+            (2000, Refused),
+            (2001, Refused),
+            (1999, Refused),
+            (2000, Restarted(198_608)),
+        ],
+    );
+    // by RFC 3550's bounds 99 below is of the stream, and 100 isn't
+    let mut receiver = WideRestartingReceiver::<2>::with_bounds(3000, 2).with_max_misorder(100);
+    judges(
+        &mut receiver,
+        &[
+            (999, Refused),
+            (1000, Taken(66_536)),
+            (901, Taken(66_437)),
+            (899, Refused),
+            (900, Restarted(197_508)),
+        ],
+    );
+    // a window of 32,768 numbers is the bound
+    let mut receiver = WideRestartingReceiver::<512>::new();
+    judges(
+        &mut receiver,
+        &[(40_000, Taken(105_536)), (7233, Taken(72_769))],
+    );
+}
+
+#[test]
+fn numbers_are_told_apart() {
+    let mut receiver = Receiver::starting_at(1).unwrap();
+    assert_eq!(receiver.standing_of(0), Standing::New);
+    receiver.record(66_536);
+    let told = [66_537, 66_536, 66_409, 66_408].map(|it| receiver.standing_of(it));
+    let wanted = [
+        Standing::New,
+        Standing::Taken,
+        Standing::New,
+        Standing::TooOld,
+    ];
+    assert_eq!(told, wanted);
+    let mut receiver = WideReceiver::<16>::starting_at(1).unwrap();
+    assert_eq!(receiver.standing_of(0), Standing::New);
+    receiver.record(66_536);
+    let told = [66_537, 66_536, 65_513, 65_512].map(|it| receiver.standing_of(it));
+    assert_eq!(told, wanted);
 }
 
 #[test]

@@ -60,8 +60,9 @@ fn is_id_byte(byte: u8) -> bool
 
 // The index of the first space, which begins the padding.
 fn first_space(bytes: &[u8]) -> Option<usize>
-    ensures found { IfSome result (λ index. (index < length bytes.now) × (slice_index bytes.now index ≡ 32)
-        × ((k : ℕ) → k < index → slice_index bytes.now k ≢ 32)) }
+    ensures found { IfSome result (λ index.
+        (index < length bytes.now) × (slice_index bytes.now index ≡ 32) ×
+        ((k : ℕ) → k < index → slice_index bytes.now k ≢ 32)) }
     ensures none { IfNone result ((k : ℕ) → k < length bytes.now → slice_index bytes.now k ≢ 32) }
 {
     bytes.iter().position(|byte| *byte == b' ')
@@ -188,8 +189,8 @@ impl<const N: usize> IdText<N> {
         IdText { bytes }
     }
 
-    // The length of the text before the padding. Sixteen bytes, as many as a mid has, are looked at at
-    // once; in the eight of a stream id the first space is found as fast.
+    // The length of the text before the padding. Sixteen bytes, as many as a mid has, are looked at
+    // at once; in the eight of a stream id the first space is found as fast.
     #[inline(always)]
     fn len(&self) -> usize
         ensures index { result ≡ position_or_len (λ b. b == 32) self.now }

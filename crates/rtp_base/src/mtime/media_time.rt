@@ -131,8 +131,8 @@ impl MediaTime {
         self.numer == 0
     }
 
-    // The time in whole ticks of this frequency, rounded down: not above the time, and less than one
-    // tick below it.
+    // The time in whole ticks of this frequency, rounded down: not above the time, and less than
+    // one tick below it.
     fn ticks_at(self, frequency: Frequency) -> u128
         ensures ticks { result ≡ whole_ticks self frequency }
         ensures not_above { IsAtMost (in_ticks self frequency) self }

@@ -12,3 +12,5 @@ mod timing;
 mod token;
 mod transmission_offset;
 mod transport_number;
+
+pub(super) use putting::put_data;

@@ -10,7 +10,7 @@ use rtp_base::put;
 // Puts the bytes to the front of the buffer, and how many they are to `len`. `OK`, or
 // `SHORT_BUFFER` where there isn't room for them, and then nothing is put.
 #[inline(always)]
-pub(super) fn put_data(bytes: &[u8], buf: &mut [u8], len: &mut usize) -> i32
+pub(crate) fn put_data(bytes: &[u8], buf: &mut [u8], len: &mut usize) -> i32
     ensures written { result ≡ ok → StandAtFront bytes.now buf.old buf.new len.new }
     ensures short { (result ≡ short_buffer) ↔ (length buf.old < length bytes.now) }
     ensures statuses { (result ≡ ok) ⊎ (result ≡ short_buffer) }

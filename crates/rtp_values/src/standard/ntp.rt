@@ -1,6 +1,6 @@
 //! NTP timestamps in header extensions (RFC 6051, 3.3): of 64 bits, and of the low 56.
 
-ghost use Rattle.std.specs.Prelude.{◌≡◌, ℕ, ◌^◌, ◌%◌, ◌<◌, ◌≤◌, length};
+ghost use Rattle.std.specs.Prelude.{◌≡◌, ℕ, ◌+◌, ◌^◌, ◌%◌, ◌<◌, ◌≤◌, length};
 ghost use Rattle.std.specs.Option.{SomeIff};
 ghost use Rattle.rtp_values.specs.Values.{big_endian};
 ghost use Rattle.rtp_values.specs.Spelling.{bytes_of_number};
@@ -62,6 +62,9 @@ pub fn ntp_56_bytes(time: u64) -> [u8; 7]
 pub fn extend_ntp_56(near: u64, low: u64) -> u64
     ensures ends { result % 2 ^ 56 ≡ low % 2 ^ 56 }
     ensures near { apart near result ≤ 2 ^ 55 }
+
+    // Where two times are equally near, it is the later one.
+    ensures later { apart near result ≡ 2 ^ 55 → result ≡ (near + 2 ^ 55) % 2 ^ 64 }
 
     // Any other time with these low bits is as far away, or farther.
     ensures only { (time : ℕ) → time < 2 ^ 64 → time % 2 ^ 56 ≡ low % 2 ^ 56 → apart near time < 2 ^ 55 →

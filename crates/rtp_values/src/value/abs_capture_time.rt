@@ -8,7 +8,7 @@ ghost use Rattle.rtp_values.specs.Values.{offset_of};
 ghost use Rattle.rtp_values.specs.Spelling.{HasRoom, offset_bytes};
 
 use super::front::{first_u64, put_u64};
-use super::{ExtensionValues, SetValues};
+use super::{GetValues, SetValues};
 
 /// When a frame was captured, by the clock of its capturer.
 #[derive(Clone, Copy, Debug, PartialEq, Eq)]
@@ -51,11 +51,11 @@ fn put_offset(buf: &mut [u8], offset: i64)
 
 // It stays out of line, since few packets have it and the other kinds need the registers.
 #[inline(never)]
-pub(super) fn write(buf: &mut [u8], ev: &ExtensionValues) -> Option<usize>
-    requires room { HasRoom AbsoluteCaptureTime ev.now buf.old }
-    ensures { WritesData AbsoluteCaptureTime ev.now buf.old buf.new result }
+pub(super) fn write<V: GetValues>(buf: &mut [u8], ev: &V) -> Option<usize>
+    requires room { HasRoom AbsoluteCaptureTime (V.values ev.now) buf.old }
+    ensures { WritesData AbsoluteCaptureTime (V.values ev.now) buf.old buf.new result }
 {
-    let time = ev.abs_capture_time?;
+    let time = ev.capture_time()?;
     let Some(offset) = time.clock_offset else {
         return Some(put_u64(buf, time.capture_time));
     };

@@ -7,7 +7,7 @@ ghost use Rattle.rtp_values.specs.declared.kind.Extension.TheVariants.{AbsoluteS
 ghost use Rattle.rtp_values.specs.KindBytes.{SetsFields, WritesData};
 
 use super::front::{first_u24, put_u24};
-use super::{ExtensionValues, SetValues};
+use super::{ExtensionValues, GetValues, SetValues};
 
 const MICROS_PER_SECOND: u64 = 1_000_000;
 
@@ -31,11 +31,11 @@ pub(super) fn read<V: SetValues>(buf: &[u8], ev: &mut V) -> Option<()>
     Some(())
 }
 
-pub(super) fn write(buf: &mut [u8], ev: &ExtensionValues) -> Option<usize>
-    requires room { HasRoom AbsoluteSendTime ev.now buf.old }
-    ensures { WritesData AbsoluteSendTime ev.now buf.old buf.new result }
+pub(super) fn write<V: GetValues>(buf: &mut [u8], ev: &V) -> Option<usize>
+    requires room { HasRoom AbsoluteSendTime (V.values ev.now) buf.old }
+    ensures { WritesData AbsoluteSendTime (V.values ev.now) buf.old buf.new result }
 {
-    let micros = ev.abs_send_time?;
+    let micros = ev.send_time()?;
     Some(put_u24(buf, ticks_of(micros)))
 }
 

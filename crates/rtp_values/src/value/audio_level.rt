@@ -6,7 +6,7 @@ ghost use Rattle.rtp_values.specs.declared.kind.Extension.TheVariants.{AudioLeve
 ghost use Rattle.rtp_values.specs.Spelling.{HasRoom};
 ghost use Rattle.rtp_values.specs.KindBytes.{SetsFields, WritesData};
 
-use super::{ExtensionValues, SetValues};
+use super::{GetValues, SetValues};
 use rtp_base::put;
 
 // The magnitude of the level modulo 128, below a bit that is set for voice.
@@ -25,11 +25,11 @@ pub(super) fn read<V: SetValues>(buf: &[u8], ev: &mut V) -> Option<()>
     Some(())
 }
 
-pub(super) fn write(buf: &mut [u8], ev: &ExtensionValues) -> Option<usize>
-    requires room { HasRoom AudioLevel ev.now buf.old }
-    ensures { WritesData AudioLevel ev.now buf.old buf.new result }
+pub(super) fn write<V: GetValues>(buf: &mut [u8], ev: &V) -> Option<usize>
+    requires room { HasRoom AudioLevel (V.values ev.now) buf.old }
+    ensures { WritesData AudioLevel (V.values ev.now) buf.old buf.new result }
 {
-    let level = ev.audio_level?;
-    let voice = ev.voice_activity?;
+    let level = ev.audio_level()?;
+    let voice = ev.voice_activity()?;
     Some(put(buf, 0, &[level_byte(level, voice)]))
 }

@@ -7,9 +7,9 @@ ghost use Rattle.rtp_values.specs.declared.kind.Extension.TheVariants as kind;
 ghost use Rattle.rtp_values.specs.Spelling.{HasRoom, spelled_data};
 ghost use Rattle.rtp_values.specs.KindBytes.{WritesData};
 
-use super::ElementValues;
 use super::video_layers_allocation::MAX_LEN;
-use crate::KnownKind;
+use super::{ElementValues, ValueKinds};
+use crate::{KindSet, KnownKind};
 use rtp_vla::vla::{Layered, LentAllocation};
 use std::marker::Model;
 
@@ -105,5 +105,13 @@ impl<'a, V: ElementValues, S: Layered> ElementValues for CarriedLayers<'a, V, S>
             KnownKind::VideoLayersAllocation => self.write_layers(buf),
             _ => self.values.write_data(kind, buf),
         }
+    }
+}
+
+impl<'a, V: ValueKinds, S: Layered> ValueKinds for CarriedLayers<'a, V, S> {
+    fn kinds(&self) -> KindSet {
+        let mut kinds = self.values.kinds();
+        kinds.insert(KnownKind::VideoLayersAllocation);
+        kinds
     }
 }

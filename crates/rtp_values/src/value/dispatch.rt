@@ -4,13 +4,13 @@ ghost use Rattle.std.specs.Prelude.{◌≡◌, ◌≢◌, ◌≤◌, [], ◌++�
 ghost use Rattle.std.specs.Option.{option_map};
 ghost use Rattle.rtp_values.specs.KnownKind.{extension_of_kind};
 ghost use Rattle.rtp_values.specs.Values.{Reads, IsWellFormed, TakesMemory};
-ghost use Rattle.rtp_values.specs.KindBytes.{ReadsInto};
+ghost use Rattle.rtp_values.specs.KindBytes.{ReadsInto, WritesData};
 ghost use Rattle.rtp_values.specs.Spelling.{spelled_data, carried_values, longest, HasRoom};
 
 use super::{
-    ExtensionValues, SetValues, abs_capture_time, abs_send_time, audio_level, frame_marking, mid,
-    playout_delay, stream_id, transmission_offset, transport_sequence_number, video_content_type,
-    video_layers_allocation, video_orientation, video_timing,
+    ExtensionValues, GetValues, SetValues, abs_capture_time, abs_send_time, audio_level,
+    frame_marking, mid, playout_delay, stream_id, transmission_offset, transport_sequence_number,
+    video_content_type, video_layers_allocation, video_orientation, video_timing,
 };
 use crate::KnownKind;
 use std::alloc::AllocError;
@@ -74,6 +74,15 @@ impl KnownKind {
             Reads (extension_of_kind self) bytes (carried_values ev.now)) }
         ensures few { IfSome (spelled_data (extension_of_kind self) ev.now) (λ bytes. length bytes ≤ longest (extension_of_kind self)) }
     {
+        self.write_from(buf, ev)
+    }
+
+    /// Writes the data of this kind's element as [`write_to`](Self::write_to) does, from any values.
+    #[inline(always)]
+    pub fn write_from<V: GetValues>(self, buf: &mut [u8], ev: &V) -> Option<usize>
+        requires room { HasRoom (extension_of_kind self) (V.values ev.now) buf.old }
+        ensures { WritesData (extension_of_kind self) (V.values ev.now) buf.old buf.new result }
+    {
         match self {
             KnownKind::AbsoluteSendTime => abs_send_time::write(buf, ev),
             KnownKind::AbsoluteCaptureTime => abs_capture_time::write(buf, ev),
@@ -88,7 +97,7 @@ impl KnownKind {
             KnownKind::RepairedRtpStreamId => stream_id::write_repaired(buf, ev),
             KnownKind::RtpMid => mid::write(buf, ev),
             KnownKind::FrameMarking => frame_marking::write(buf, ev),
-            KnownKind::VideoLayersAllocation => video_layers_allocation::write(buf, ev),
+            KnownKind::VideoLayersAllocation => ev.write_layers(buf),
             KnownKind::ColorSpace => None,
         }
     }

@@ -6,7 +6,7 @@ ghost use Rattle.rtp_values.specs.Spelling.{HasRoom};
 ghost use Rattle.rtp_values.specs.KindBytes.{SetsFields, WritesData};
 
 use super::front::{first_u32, put_u32};
-use super::{ExtensionValues, SetValues};
+use super::{GetValues, SetValues};
 
 pub(super) fn read<V: SetValues>(buf: &[u8], ev: &mut V) -> Option<()>
     ensures { SetsFields V.shows FrameMarking buf.now ev.old ev.new result }
@@ -15,10 +15,10 @@ pub(super) fn read<V: SetValues>(buf: &[u8], ev: &mut V) -> Option<()>
     Some(())
 }
 
-pub(super) fn write(buf: &mut [u8], ev: &ExtensionValues) -> Option<usize>
-    requires room { HasRoom FrameMarking ev.now buf.old }
-    ensures { WritesData FrameMarking ev.now buf.old buf.new result }
+pub(super) fn write<V: GetValues>(buf: &mut [u8], ev: &V) -> Option<usize>
+    requires room { HasRoom FrameMarking (V.values ev.now) buf.old }
+    ensures { WritesData FrameMarking (V.values ev.now) buf.old buf.new result }
 {
-    let marking = ev.frame_mark?;
+    let marking = ev.frame_marking()?;
     Some(put_u32(buf, marking))
 }

@@ -5,9 +5,10 @@ ghost use Rattle.std.specs.Option.{option_map};
 ghost use Rattle.rtp_base.specs.Id.{before_padding};
 ghost use Rattle.rtp_values.specs.KnownKind.{extension_of_kind};
 ghost use Rattle.rtp_values.specs.declared.kind.Extension.{Extension};
+ghost use Rattle.rtp_values.specs.declared.kind.Extension.TheVariants as kind;
 ghost use Rattle.rtp_values.specs.Spelling.{has_no_data, has_empty_text, spelled_data, bytes_of_number, offset_bytes, of_both, longest};
 
-use super::{AbsCaptureTime, ExtensionValues, video_layers_allocation};
+use super::{AbsCaptureTime, ExtensionValues, GetValues};
 use crate::KnownKind;
 use rtp_base::{Mid, Rid};
 
@@ -37,19 +38,32 @@ fn capture_len(time: &Option<AbsCaptureTime>) -> Option<usize>
     }
 }
 
-// The length of a text.
-fn mid_len(mid: &Mid) -> usize
-    ensures length { result ≡ length (before_padding mid.now) }
-    ensures few { result ≤ 16 }
+// The length of a tag.
+fn mid_len<V: GetValues>(ev: &V) -> Option<usize>
+    ensures length { result ≡ option_map length (spelled_data kind.RtpMid (V.values ev.now)) }
+    ensures few { IfSome result (λ len. len ≤ 255) }
 {
-    mid.as_str().len()
+    let text = ev.mid()?;
+    Some(text.len())
 }
 
-fn rid_len(rid: &Rid) -> usize
-    ensures length { result ≡ length (before_padding rid.now) }
-    ensures few { result ≤ 16 }
+// The length of a stream id.
+fn rid_len<V: GetValues>(ev: &V) -> Option<usize>
+    ensures length { result ≡ option_map length (spelled_data kind.RtpStreamId (V.values ev.now)) }
+    ensures few { IfSome result (λ len. len ≤ 255) }
 {
-    rid.as_str().len()
+    let text = ev.rid()?;
+    Some(text.len())
+}
+
+// The length of the id of the stream that is repaired.
+fn repaired_rid_len<V: GetValues>(ev: &V) -> Option<usize>
+    ensures length { result
+        ≡ option_map length (spelled_data kind.RepairedRtpStreamId (V.values ev.now)) }
+    ensures few { IfSome result (λ len. len ≤ 255) }
+{
+    let text = ev.repaired_rid()?;
+    Some(text.len())
 }
 
 // Whether the id is there, and its text is empty.
@@ -111,21 +125,33 @@ impl KnownKind {
         ensures length { result ≡ option_map length (spelled_data (extension_of_kind self) ev.now) }
         ensures few { IfSome result (λ len. len ≤ 255) }
     {
+        self.data_len_from(ev)
+    }
+
+    /// How many bytes [`write_from`](Self::write_from) writes, and `None` where it writes no element.
+    #[inline(always)]
+    pub fn data_len_from<V: GetValues>(self, ev: &V) -> Option<usize>
+        ensures length { result
+            ≡ option_map length (spelled_data (extension_of_kind self) (V.values ev.now)) }
+        ensures few { IfSome result (λ len. len ≤ 255) }
+    {
         match self {
-            KnownKind::AbsoluteSendTime => len_of(&ev.abs_send_time, 3),
-            KnownKind::AbsoluteCaptureTime => capture_len(&ev.abs_capture_time),
-            KnownKind::AudioLevel => len_of_both(&ev.audio_level, &ev.voice_activity, 1),
-            KnownKind::TransmissionTimeOffset => len_of(&ev.tx_time_offs, 4),
-            KnownKind::VideoOrientation => len_of(&ev.video_orientation, 1),
-            KnownKind::TransportSequenceNumber => len_of(&ev.transport_cc, 2),
-            KnownKind::PlayoutDelay => len_of_both(&ev.play_delay_min, &ev.play_delay_max, 3),
-            KnownKind::VideoContentType => len_of(&ev.video_content_type, 1),
-            KnownKind::VideoTiming => len_of(&ev.video_timing, 13),
-            KnownKind::RtpStreamId => ev.rid.as_ref().map(rid_len),
-            KnownKind::RepairedRtpStreamId => ev.rid_repair.as_ref().map(rid_len),
-            KnownKind::RtpMid => ev.mid.as_ref().map(mid_len),
-            KnownKind::FrameMarking => len_of(&ev.frame_mark, 4),
-            KnownKind::VideoLayersAllocation => video_layers_allocation::data_len(ev),
+            KnownKind::AbsoluteSendTime => len_of(&ev.send_time(), 3),
+            KnownKind::AbsoluteCaptureTime => capture_len(&ev.capture_time()),
+            KnownKind::AudioLevel => len_of_both(&ev.audio_level(), &ev.voice_activity(), 1),
+            KnownKind::TransmissionTimeOffset => len_of(&ev.transmission_offset(), 4),
+            KnownKind::VideoOrientation => len_of(&ev.video_orientation(), 1),
+            KnownKind::TransportSequenceNumber => len_of(&ev.transport_number(), 2),
+            KnownKind::PlayoutDelay => {
+                len_of_both(&ev.playout_delay_min(), &ev.playout_delay_max(), 3)
+            }
+            KnownKind::VideoContentType => len_of(&ev.video_content_type(), 1),
+            KnownKind::VideoTiming => len_of(&ev.video_timing(), 13),
+            KnownKind::RtpStreamId => rid_len(ev),
+            KnownKind::RepairedRtpStreamId => repaired_rid_len(ev),
+            KnownKind::RtpMid => mid_len(ev),
+            KnownKind::FrameMarking => len_of(&ev.frame_marking(), 4),
+            KnownKind::VideoLayersAllocation => ev.layers_len(),
             KnownKind::ColorSpace => None,
         }
     }

@@ -5,7 +5,7 @@ ghost use Rattle.rtp_values.specs.Spelling.{HasRoom};
 ghost use Rattle.rtp_values.specs.KindBytes.{SetsFields, WritesData};
 
 use super::front::put_text;
-use super::{ExtensionValues, SetValues};
+use super::{GetValues, SetValues};
 use rtp_base::Mid;
 
 #[inline(always)]
@@ -19,10 +19,10 @@ pub(super) fn read<V: SetValues>(buf: &[u8], ev: &mut V) -> Option<()>
 // It stays out of line, since the bytes that it puts one by one would make every other kind save
 // registers.
 #[inline(never)]
-pub(super) fn write(buf: &mut [u8], ev: &ExtensionValues) -> Option<usize>
-    requires room { HasRoom RtpMid ev.now buf.old }
-    ensures { WritesData RtpMid ev.now buf.old buf.new result }
+pub(super) fn write<V: GetValues>(buf: &mut [u8], ev: &V) -> Option<usize>
+    requires room { HasRoom RtpMid (V.values ev.now) buf.old }
+    ensures { WritesData RtpMid (V.values ev.now) buf.old buf.new result }
 {
-    let mid = ev.mid.as_ref()?;
-    Some(put_text(buf, mid.as_str().as_bytes()))
+    let text = ev.mid()?;
+    Some(put_text(buf, text))
 }

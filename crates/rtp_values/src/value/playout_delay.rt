@@ -6,7 +6,7 @@ ghost use Rattle.rtp_values.specs.declared.kind.Extension.TheVariants.{PlayoutDe
 ghost use Rattle.rtp_values.specs.KindBytes.{SetsFields, WritesData};
 
 use super::front::{first_u24, put_u24};
-use super::{ExtensionValues, SetValues};
+use super::{GetValues, SetValues};
 use rtp_base::MediaTime;
 
 // The whole hundredths of a second in a time, modulo 4096: those of its whole seconds, and those of
@@ -33,11 +33,11 @@ pub(super) fn read<V: SetValues>(buf: &[u8], ev: &mut V) -> Option<()>
 
 // It stays out of line, since few packets have it and the other kinds need the registers.
 #[inline(never)]
-pub(super) fn write(buf: &mut [u8], ev: &ExtensionValues) -> Option<usize>
-    requires room { HasRoom PlayoutDelay ev.now buf.old }
-    ensures { WritesData PlayoutDelay ev.now buf.old buf.new result }
+pub(super) fn write<V: GetValues>(buf: &mut [u8], ev: &V) -> Option<usize>
+    requires room { HasRoom PlayoutDelay (V.values ev.now) buf.old }
+    ensures { WritesData PlayoutDelay (V.values ev.now) buf.old buf.new result }
 {
-    let min = ev.play_delay_min?;
-    let max = ev.play_delay_max?;
+    let min = ev.playout_delay_min()?;
+    let max = ev.playout_delay_max()?;
     Some(put_u24(buf, delay_of(min) * 4096 + delay_of(max)))
 }

@@ -5,7 +5,7 @@ ghost use Rattle.rtp_values.specs.Spelling.{HasRoom};
 ghost use Rattle.rtp_values.specs.KindBytes.{SetsFields, WritesData};
 
 use super::front::put_text;
-use super::{ExtensionValues, SetValues};
+use super::{GetValues, SetValues};
 use rtp_base::Rid;
 
 pub(super) fn read<V: SetValues>(buf: &[u8], ev: &mut V) -> Option<()>
@@ -17,12 +17,12 @@ pub(super) fn read<V: SetValues>(buf: &[u8], ev: &mut V) -> Option<()>
 
 // It stays out of line, since few packets have it and the other kinds need the registers.
 #[inline(never)]
-pub(super) fn write(buf: &mut [u8], ev: &ExtensionValues) -> Option<usize>
-    requires room { HasRoom RtpStreamId ev.now buf.old }
-    ensures { WritesData RtpStreamId ev.now buf.old buf.new result }
+pub(super) fn write<V: GetValues>(buf: &mut [u8], ev: &V) -> Option<usize>
+    requires room { HasRoom RtpStreamId (V.values ev.now) buf.old }
+    ensures { WritesData RtpStreamId (V.values ev.now) buf.old buf.new result }
 {
-    let rid = ev.rid.as_ref()?;
-    Some(put_text(buf, rid.as_str().as_bytes()))
+    let text = ev.rid()?;
+    Some(put_text(buf, text))
 }
 
 pub(super) fn read_repaired<V: SetValues>(buf: &[u8], ev: &mut V) -> Option<()>
@@ -34,10 +34,10 @@ pub(super) fn read_repaired<V: SetValues>(buf: &[u8], ev: &mut V) -> Option<()>
 
 // It stays out of line, since few packets have it and the other kinds need the registers.
 #[inline(never)]
-pub(super) fn write_repaired(buf: &mut [u8], ev: &ExtensionValues) -> Option<usize>
-    requires room { HasRoom RepairedRtpStreamId ev.now buf.old }
-    ensures { WritesData RepairedRtpStreamId ev.now buf.old buf.new result }
+pub(super) fn write_repaired<V: GetValues>(buf: &mut [u8], ev: &V) -> Option<usize>
+    requires room { HasRoom RepairedRtpStreamId (V.values ev.now) buf.old }
+    ensures { WritesData RepairedRtpStreamId (V.values ev.now) buf.old buf.new result }
 {
-    let rid_repair = ev.rid_repair.as_ref()?;
-    Some(put_text(buf, rid_repair.as_str().as_bytes()))
+    let text = ev.repaired_rid()?;
+    Some(put_text(buf, text))
 }

@@ -5,7 +5,7 @@ ghost use Rattle.rtp_values.specs.Spelling.{HasRoom};
 ghost use Rattle.rtp_values.specs.KindBytes.{SetsFields, WritesData};
 
 use super::front::{first_u32, put_u32};
-use super::{ExtensionValues, SetValues};
+use super::{GetValues, SetValues};
 
 pub(super) fn read<V: SetValues>(buf: &[u8], ev: &mut V) -> Option<()>
     ensures { SetsFields V.shows TransmissionTimeOffset buf.now ev.old ev.new result }
@@ -14,10 +14,10 @@ pub(super) fn read<V: SetValues>(buf: &[u8], ev: &mut V) -> Option<()>
     Some(())
 }
 
-pub(super) fn write(buf: &mut [u8], ev: &ExtensionValues) -> Option<usize>
-    requires room { HasRoom TransmissionTimeOffset ev.now buf.old }
-    ensures { WritesData TransmissionTimeOffset ev.now buf.old buf.new result }
+pub(super) fn write<V: GetValues>(buf: &mut [u8], ev: &V) -> Option<usize>
+    requires room { HasRoom TransmissionTimeOffset (V.values ev.now) buf.old }
+    ensures { WritesData TransmissionTimeOffset (V.values ev.now) buf.old buf.new result }
 {
-    let offset = ev.tx_time_offs?;
+    let offset = ev.transmission_offset()?;
     Some(put_u32(buf, offset))
 }

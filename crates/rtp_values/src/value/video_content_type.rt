@@ -4,7 +4,7 @@ ghost use Rattle.rtp_values.specs.declared.kind.Extension.TheVariants.{VideoCont
 ghost use Rattle.rtp_values.specs.Spelling.{HasRoom};
 ghost use Rattle.rtp_values.specs.KindBytes.{SetsFields, WritesData};
 
-use super::{ExtensionValues, SetValues};
+use super::{GetValues, SetValues};
 use rtp_base::put;
 
 pub(super) fn read<V: SetValues>(buf: &[u8], ev: &mut V) -> Option<()>
@@ -14,10 +14,10 @@ pub(super) fn read<V: SetValues>(buf: &[u8], ev: &mut V) -> Option<()>
     Some(())
 }
 
-pub(super) fn write(buf: &mut [u8], ev: &ExtensionValues) -> Option<usize>
-    requires room { HasRoom VideoContentType ev.now buf.old }
-    ensures { WritesData VideoContentType ev.now buf.old buf.new result }
+pub(super) fn write<V: GetValues>(buf: &mut [u8], ev: &V) -> Option<usize>
+    requires room { HasRoom VideoContentType (V.values ev.now) buf.old }
+    ensures { WritesData VideoContentType (V.values ev.now) buf.old buf.new result }
 {
-    let content = ev.video_content_type?;
+    let content = ev.video_content_type()?;
     Some(put(buf, 0, &[content]))
 }

@@ -6,7 +6,7 @@ ghost use Rattle.rtp_values.specs.KindBytes.{SetsFields, WritesData};
 ghost use Rattle.rtp_values.specs.Values.{orientation_of};
 ghost use Rattle.rtp_values.specs.Spelling.{HasRoom, orientation_bits};
 
-use super::{ExtensionValues, SetValues};
+use super::{GetValues, SetValues};
 use rtp_base::put;
 
 /// How the receiver has to turn the picture, in degrees counter-clockwise (3GPP TS 26.114, 7.4.5).
@@ -55,10 +55,10 @@ pub(super) fn read<V: SetValues>(buf: &[u8], ev: &mut V) -> Option<()>
     Some(())
 }
 
-pub(super) fn write(buf: &mut [u8], ev: &ExtensionValues) -> Option<usize>
-    requires room { HasRoom OrientationKind ev.now buf.old }
-    ensures { WritesData OrientationKind ev.now buf.old buf.new result }
+pub(super) fn write<V: GetValues>(buf: &mut [u8], ev: &V) -> Option<usize>
+    requires room { HasRoom OrientationKind (V.values ev.now) buf.old }
+    ensures { WritesData OrientationKind (V.values ev.now) buf.old buf.new result }
 {
-    let orientation = ev.video_orientation?;
+    let orientation = ev.video_orientation()?;
     Some(put(buf, 0, &[orientation_bits(orientation)]))
 }

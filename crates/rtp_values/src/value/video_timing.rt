@@ -5,7 +5,7 @@ ghost use Rattle.rtp_values.specs.KindBytes.{SetsFields, WritesData};
 ghost use Rattle.rtp_values.specs.Spelling.{HasRoom};
 
 use super::front::{u16_at, u16_bytes};
-use super::{ExtensionValues, SetValues};
+use super::{GetValues, SetValues};
 use rtp_base::put;
 
 /// When a frame passed each step on its way out, in milliseconds after its capture.
@@ -41,11 +41,11 @@ pub(super) fn read<V: SetValues>(buf: &[u8], ev: &mut V) -> Option<()>
 
 // It stays out of line, since few packets have it and the other kinds need the registers.
 #[inline(never)]
-pub(super) fn write(buf: &mut [u8], ev: &ExtensionValues) -> Option<usize>
-    requires room { HasRoom TimingKind ev.now buf.old }
-    ensures { WritesData TimingKind ev.now buf.old buf.new result }
+pub(super) fn write<V: GetValues>(buf: &mut [u8], ev: &V) -> Option<usize>
+    requires room { HasRoom TimingKind (V.values ev.now) buf.old }
+    ensures { WritesData TimingKind (V.values ev.now) buf.old buf.new result }
 {
-    let timing = ev.video_timing?;
+    let timing = ev.video_timing()?;
     let start = u16_bytes(timing.encode_start);
     let finish = u16_bytes(timing.encode_finish);
     let complete = u16_bytes(timing.packetize_complete);

@@ -4,8 +4,8 @@ ghost use Rattle.std.specs.Prelude.{◌≡◌, false, None, is_some};
 ghost use Rattle.rtp_values.specs.Spelling.{spelled_data};
 ghost use Rattle.rtp_values.specs.declared.kind.Extension.TheVariants.{VideoLayersAllocation};
 
-use super::{ElementValues, ExtensionValues, video_layers_allocation};
-use crate::KnownKind;
+use super::{ElementValues, ExtensionValues, ValueKinds, video_layers_allocation};
+use crate::{KindSet, KnownKind};
 use rtp_vla::vla::VideoLayers;
 
 /// Values with these layers in place of the allocation that they have, so that a header is written
@@ -57,5 +57,17 @@ impl<'a> ElementValues for WithLayers<'a> {
             KnownKind::VideoLayersAllocation => video_layers_allocation::write_held(buf, self),
             _ => kind.write_to(buf, self.values),
         }
+    }
+}
+
+impl<'a> ValueKinds for WithLayers<'a> {
+    fn kinds(&self) -> KindSet {
+        let mut kinds = self.values.kinds();
+        if self.layers.is_some() {
+            kinds.insert(KnownKind::VideoLayersAllocation);
+        } else {
+            kinds.remove(KnownKind::VideoLayersAllocation);
+        }
+        kinds
     }
 }

@@ -1,6 +1,7 @@
 //! The header of an RTP packet.
 
 mod block;
+mod left_out;
 mod not_a_header;
 mod parsing;
 mod refusal;

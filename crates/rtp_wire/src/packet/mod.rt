@@ -2,6 +2,7 @@
 
 mod adding_padding;
 mod any_block;
+mod block_not_put;
 mod compacting;
 mod csrcs;
 mod fields;
@@ -13,12 +14,15 @@ mod not_put;
 mod not_retransmitted;
 mod padding;
 mod putting;
+mod remaking_block;
+mod replacing_block;
 mod retransmission;
 mod rtcp;
 mod rtp_packet;
 mod rtp_packet_buf;
 mod rtp_packet_mut;
 
+pub use block_not_put::BlockNotPut;
 pub use compacting::compact;
 pub use csrcs::Csrcs;
 pub use fields::Fields;

@@ -18,7 +18,7 @@ use rtp_base::put;
 use rtp_ext::{ExtensionsForm, Survey, form_to_put, put_anew, put_len, set_sole, survey_of};
 
 // The most bytes that the body of a block has: 65,535 words.
-const MAX_BODY_LEN: usize = 4 * 65_535;
+pub(super) const MAX_BODY_LEN: usize = 4 * 65_535;
 
 // What is known of a packet, and of its block once an element is put into it.
 #[derive(Clone, Copy, Drop)]
@@ -161,7 +161,7 @@ fn move_back(buf: &mut [u8], start: usize, end: usize, distance: usize)
 // or shrink by one or two words: where the distance is a known one, a long payload takes a fourth of the
 // instructions. It stays out of line, so that the move has the registers for itself.
 #[inline(never)]
-fn move_bytes(buf: &mut [u8], start: usize, end: usize, to: usize)
+pub(super) fn move_bytes(buf: &mut [u8], start: usize, end: usize, to: usize)
     requires order { start ≤ end }
     requires within { end ≤ length buf.old }
     requires room { to + (end - start) ≤ length buf.old }
@@ -207,7 +207,7 @@ pub(super) fn resize(
 }
 
 // Sets X.
-fn set_extension_bit(buf: &mut [u8])
+pub(super) fn set_extension_bit(buf: &mut [u8])
     requires { 1 ≤ length buf.old }
     ensures { buf.new ≡ with_extension_bit buf.old }
 {
@@ -215,7 +215,7 @@ fn set_extension_bit(buf: &mut [u8])
 }
 
 // Announces a block of this form at an offset: sets X, and writes the word of the form.
-fn announce(buf: &mut [u8], block_at: usize, form: ExtensionsForm)
+pub(super) fn announce(buf: &mut [u8], block_at: usize, form: ExtensionsForm)
     requires after { 1 ≤ block_at }
     requires room { block_at + 2 ≤ length buf.old }
     ensures { buf.new

@@ -1,5 +1,4 @@
-use Rattle.std.proofs.Common.{ℕ, ◌∙◌, ap, sym, arith, replicate, inl, inr}
-use Rattle.std.proofs.lemmas.Bool.{cases_lt}
+use Rattle.rtp_base.proofs.Common.{ℕ, ◌∙◌, ap, sym, arith, replicate, inl, inr, cases_lt}
 use Rattle.rtp_base.proofs.RingLemmas.{ring_bit-zeros, cleared-before}
 use Rattle.rtp_base.proofs.ring.clear.Goals as goal
 

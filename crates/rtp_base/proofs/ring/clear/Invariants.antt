@@ -1,5 +1,4 @@
-use Rattle.std.proofs.Common.{◌≡◌, ℕ, ◌+◌, ◌-◌, ◌<◌, ◌≤◌, false}
-use Rattle.rtp_base.specs.Ring.{ring_bit, ring_size}
+use Rattle.rtp_base.proofs.Common.{◌≡◌, ℕ, ◌+◌, ◌-◌, ◌<◌, ◌≤◌, false, ring_bit, ring_size}
 use Rattle.rtp_base.proofs.ring.clear.Given as goal
 
 abbrev pub invariant-loop-number : goal.invariant-loop-number

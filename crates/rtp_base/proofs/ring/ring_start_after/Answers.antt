@@ -1,5 +1,4 @@
-use Rattle.std.proofs.Common.{◌≡◌, ℕ, ◌-◌, ◌*◌, ◌^◌, ◌∙◌, ap, sym, arith, replicate, length}
-use Rattle.rtp_base.specs.Ring.{ring_bits}
+use Rattle.rtp_base.proofs.Common.{◌≡◌, ℕ, ◌-◌, ◌*◌, ◌^◌, ◌∙◌, ap, sym, arith, replicate, length, ring_bits}
 use Rattle.rtp_base.proofs.RingLemmas.{full-at}
 use Rattle.rtp_base.proofs.WindowLemmas.{KeepsOf-up_to}
 use Rattle.rtp_base.proofs.ring.ring_start_after.Goals as goal

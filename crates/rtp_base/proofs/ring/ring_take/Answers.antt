@@ -1,6 +1,4 @@
-use Rattle.std.proofs.Common.{◌≡◌, ℕ, ◌-◌, ◌*◌, ◌∙◌, ap, arith, false, get_or, nat_eq, length}
-use Rattle.std.proofs.lemmas.Bool.{ne_eqb}
-use Rattle.rtp_base.specs.Ring.{ring_bits}
+use Rattle.rtp_base.proofs.Common.{◌≡◌, ℕ, ◌-◌, ◌*◌, ◌∙◌, ap, arith, false, get_or, nat_eq, length, ne_eqb, ring_bits}
 use Rattle.rtp_base.proofs.BitmapLemmas.{or-none}
 use Rattle.rtp_base.proofs.RingLemmas.{accepts-low, set-shown}
 use Rattle.rtp_base.proofs.WindowLemmas.{KeepsOf-recorded}

@@ -1,6 +1,4 @@
-use Rattle.std.proofs.Common.{◌≡◌, ◌≢◌, ℤ, refl, subst, arith, rules, to_z, of_z, w32, FitsSigned}
-use Rattle.std.proofs.lemmas.Int.{to_z-of_z}
-use Rattle.rtp_c.specs.Status.{ok}
+use Rattle.rtp_c.proofs.Common.{◌≡◌, ◌≢◌, ℤ, refl, subst, arith, rules, to_z, of_z, w32, FitsSigned, to_z-of_z, ok}
 use Rattle.rtp_c.proofs.JudgingLemmas.{IsJudgedBy-passed_on}
 use Rattle.rtp_c.proofs.arrivals.receive_arrival.Goals as goal
 

@@ -1,7 +1,4 @@
-use Rattle.std.proofs.Common.{ap, ◌∙◌, arith}
-use Rattle.rtp_wire.specs.Packet.{header_len_of, PacketParts}
-use Rattle.rtp_wire.specs.PartsOf.{parts_of}
-use Rattle.rtp_wire.proofs.PartsLemmas.{length-packet}
+use Rattle.rtp_c.proofs.Common.{ap, ◌∙◌, arith, header_len_of, PacketParts, parts_of, length-packet}
 use Rattle.rtp_c.proofs.changing.layout_of.Goals as goal
 
 pub returns-in-Ok-clause-found : goal.returns-in-Ok-clause-found

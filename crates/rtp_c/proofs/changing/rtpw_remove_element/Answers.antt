@@ -1,8 +1,4 @@
-use Rattle.std.proofs.Common.{refl, sym, subst, arith, rules}
-use Rattle.std.proofs.lemmas.Bool.{false≢true}
-use Rattle.rtp_ext.specs.ElementsInPlace.{ChangesIds, all_but}
-use Rattle.rtp_wire.specs.Packet.{PacketParts}
-use Rattle.rtp_wire.specs.PacketElements.{AreElementsOf}
+use Rattle.rtp_c.proofs.Common.{refl, sym, subst, arith, rules, false≢true, ChangesIds, all_but, PacketParts, AreElementsOf}
 use Rattle.rtp_c.proofs.StatusLemmas.{none≢ok}
 use Rattle.rtp_c.proofs.ChangeLemmas.{parts-in, BecomesPacket-changed}
 use Rattle.rtp_c.proofs.changing.rtpw_remove_element.Goals as goal

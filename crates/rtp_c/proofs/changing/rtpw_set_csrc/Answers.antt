@@ -1,6 +1,4 @@
-use Rattle.std.proofs.Common.{◌<◌, refl, sym, ap, subst, arith, rules, length, set}
-use Rattle.std.proofs.lemmas.Bool.{false≢true}
-use Rattle.rtp_wire.specs.Packet.{PacketParts}
+use Rattle.rtp_c.proofs.Common.{◌<◌, refl, sym, ap, subst, arith, rules, length, set, false≢true, PacketParts}
 use Rattle.rtp_c.proofs.ChangeLemmas.{parts-in, IsPacket-set}
 use Rattle.rtp_c.proofs.changing.rtpw_set_csrc.Goals as goal
 

@@ -1,5 +1,4 @@
-use Rattle.std.proofs.Common.{Some, ap, ◌∙◌, ℕ}
-use Rattle.rtp_wire.specs.declared.packet.fields.Fields.{Fields}
+use Rattle.rtp_c.proofs.Common.{Some, ap, ◌∙◌, ℕ, Fields}
 use Rattle.rtp_c.proofs.ChangeLemmas.{no_fields, no_fields-each, set-passed_on}
 use Rattle.rtp_c.proofs.changing.rtpw_set_payload_type.Goals as goal
 

@@ -1,5 +1,4 @@
-use Rattle.std.proofs.Common.{refl, arith, rules}
-use Rattle.rtp_wire.specs.GivenFields.{with_header_fields}
+use Rattle.rtp_c.proofs.Common.{refl, arith, rules, with_header_fields}
 use Rattle.rtp_c.proofs.ChangeLemmas.{IsPacket-set}
 use Rattle.rtp_c.proofs.changing.set.Goals as goal
 

@@ -5,8 +5,8 @@ use Rattle.rtp_c.proofs.ElementDataLemmas.{IsAskedFor-found, HasNoData-own, HasN
 use Rattle.rtp_c.proofs.data.rtpw_data_of.Goals as goal
 use Rattle.rtp_c.proofs.data.rtpw_data_of.Goals.{In_default-known, In-Some-known}
 
-pub returns-in_default-put_given_values-clause-bad_field : goal.returns-in_default-put_given_values-clause-bad_field
-returns-in_default-put_given_values-clause-bad_field c = (λ _ kind values asked. c.in_default-put_given_values.ensures.none values asked.are_given, λ _. refl)
+pub returns-in_default-of-clause-bad_field : goal.returns-in_default-of-clause-bad_field
+returns-in_default-of-clause-bad_field c = (λ _ kind values asked. c.in_default-of.ensures.none values asked.are_given, λ _. refl)
 
 none_is_not : none ≡ bad_field → ⊥
 none_is_not same = cc
@@ -17,47 +17,47 @@ short_is_not same = cc
 ok_is_not : ok ≡ bad_field → ⊥
 ok_is_not same = cc
 
-own_asked : (c : In_default-known) → IsAskedFor c.args.kind c.args.values.now None c.put_given_values.new.values
+own_asked : (c : In_default-known) → IsAskedFor c.args.kind c.args.values.now None c.in-Some-of.given
 own_asked c =
-    IsAskedFor-found c.args.kind c.args.values.now None c.put_given_values.new.values c.in-Some.ensures.named.0
-    (sym c.in_default-known.is ∙ c.in-Some.ensures.named.1) c.in-Some-put_given_values.ensures.found
+    IsAskedFor-found c.args.kind c.args.values.now None c.in-Some-of.given c.in-Some.ensures.named.0
+    (sym c.in_default-known.is ∙ c.in-Some.ensures.named.1) c.in-Some-of.ensures.found
 
 pub returns-in_default-known-clause-none : goal.returns-in_default-known-clause-none
-returns-in_default-known-clause-none c _ = HasNoData-own c.args.kind c.args.values.now c.put_given_values.new.values (own_asked (goal.at.returns-in_default-known-clause-none c).In_default-known)
+returns-in_default-known-clause-none c _ = HasNoData-own c.args.kind c.args.values.now c.in-Some-of.given (own_asked (goal.at.returns-in_default-known-clause-none c).In_default-known)
 
 pub returns-in_default-known-clause-bad_field : goal.returns-in_default-known-clause-bad_field
 returns-in_default-known-clause-bad_field c =
-    (λ is. absurd (none_is_not is), λ nothing. absurd (nothing None c.put_given_values.new.values (own_asked (goal.at.returns-in_default-known-clause-bad_field c).In_default-known)))
+    (λ is. absurd (none_is_not is), λ nothing. absurd (nothing None c.in-Some-of.given (own_asked (goal.at.returns-in_default-known-clause-bad_field c).In_default-known)))
 
-kind_asked : (c : In-Some-known) → IsAskedFor c.args.kind c.args.values.now (Some c.in-Some-known.kind) c.put_given_values.new.values
+kind_asked : (c : In-Some-known) → IsAskedFor c.args.kind c.args.values.now (Some c.in-Some-known.kind) c.in-Some-of.given
 kind_asked c =
-    IsAskedFor-found c.args.kind c.args.values.now (Some c.in-Some-known.kind) c.put_given_values.new.values c.in-Some.ensures.named.0
-    (sym c.in-Some-known.is ∙ c.in-Some.ensures.named.1) c.in-Some-put_given_values.ensures.found
+    IsAskedFor-found c.args.kind c.args.values.now (Some c.in-Some-known.kind) c.in-Some-of.given c.in-Some.ensures.named.0
+    (sym c.in-Some-known.is ∙ c.in-Some.ensures.named.1) c.in-Some-of.ensures.found
 
-pub returns-in_default-len_of-clause-none : goal.returns-in_default-len_of-clause-none
-returns-in_default-len_of-clause-none c _ =
-    HasNoData-kind c.args.kind c.args.values.now c.in-Some-known.kind c.put_given_values.new.values (kind_asked (goal.at.returns-in_default-len_of-clause-none c).In-Some-known)
-    (sym c.in_default-len_of.is ∙ c.len_of.ensures.length)
+pub returns-in_default-data_len_from-clause-none : goal.returns-in_default-data_len_from-clause-none
+returns-in_default-data_len_from-clause-none c _ =
+    HasNoData-kind c.args.kind c.args.values.now c.in-Some-known.kind c.in-Some-of.given (kind_asked (goal.at.returns-in_default-data_len_from-clause-none c).In-Some-known)
+    (sym c.in_default-data_len_from.is ∙ c.data_len_from.ensures.length)
 
-pub returns-in_default-len_of-clause-bad_field : goal.returns-in_default-len_of-clause-bad_field
-returns-in_default-len_of-clause-bad_field c =
-    (λ is. absurd (none_is_not is), λ nothing. absurd (nothing (Some c.in-Some-known.kind) c.put_given_values.new.values (kind_asked (goal.at.returns-in_default-len_of-clause-bad_field c).In-Some-known)))
+pub returns-in_default-data_len_from-clause-bad_field : goal.returns-in_default-data_len_from-clause-bad_field
+returns-in_default-data_len_from-clause-bad_field c =
+    (λ is. absurd (none_is_not is), λ nothing. absurd (nothing (Some c.in-Some-known.kind) c.in-Some-of.given (kind_asked (goal.at.returns-in_default-data_len_from-clause-bad_field c).In-Some-known)))
 
 pub returns-then-buf-data_len-clause-short : goal.returns-then-buf-data_len-clause-short
 returns-then-buf-data_len-clause-short c _ =
-    AreTooLongData-short c.args.kind c.args.values.now c.in-Some-known.kind c.put_given_values.new.values (kind_asked (goal.at.returns-then-buf-data_len-clause-short c).In-Some-known)
-    c.in-Some-len_of.data_len (sym c.in-Some-len_of.is ∙ c.len_of.ensures.length) (length c.args.buf.now) c.if-buf-data_len.true
+    AreTooLongData-short c.args.kind c.args.values.now c.in-Some-known.kind c.in-Some-of.given (kind_asked (goal.at.returns-then-buf-data_len-clause-short c).In-Some-known)
+    c.in-Some-data_len_from.data_len (sym c.in-Some-data_len_from.is ∙ c.data_len_from.ensures.length) (length c.args.buf.now) c.if-buf-data_len.true
 
 pub returns-then-buf-data_len-clause-bad_field : goal.returns-then-buf-data_len-clause-bad_field
 returns-then-buf-data_len-clause-bad_field c =
-    (λ is. absurd (short_is_not is), λ nothing. absurd (nothing (Some c.in-Some-known.kind) c.put_given_values.new.values (kind_asked (goal.at.returns-then-buf-data_len-clause-bad_field c).In-Some-known)))
+    (λ is. absurd (short_is_not is), λ nothing. absurd (nothing (Some c.in-Some-known.kind) c.in-Some-of.given (kind_asked (goal.at.returns-then-buf-data_len-clause-bad_field c).In-Some-known)))
 
 pub returns-clause-written : goal.returns-clause-written
 returns-clause-written c _ =
-    AreWrittenData-written c.args.kind c.args.values.now c.in-Some-known.kind c.put_given_values.new.values (kind_asked (goal.at.returns-clause-written c).In-Some-known)
-    c.in-Some-len_of.data_len (sym c.in-Some-len_of.is ∙ c.len_of.ensures.length) c.args.buf.now c.write_to.new.buf
-    c.write_to.ensures.read_back c.write_to.ensures.written
+    AreWrittenData-written c.args.kind c.args.values.now c.in-Some-known.kind c.in-Some-of.given (kind_asked (goal.at.returns-clause-written c).In-Some-known)
+    c.in-Some-data_len_from.data_len (sym c.in-Some-data_len_from.is ∙ c.data_len_from.ensures.length) c.args.buf.now c.write_from.new.buf
+    c.write_from.ensures.read_back c.write_from.ensures.written
 
 pub returns-clause-bad_field : goal.returns-clause-bad_field
 returns-clause-bad_field c =
-    (λ is. absurd (ok_is_not is), λ nothing. absurd (nothing (Some c.in-Some-known.kind) c.put_given_values.new.values (kind_asked (goal.at.returns-clause-bad_field c).In-Some-known)))
+    (λ is. absurd (ok_is_not is), λ nothing. absurd (nothing (Some c.in-Some-known.kind) c.in-Some-of.given (kind_asked (goal.at.returns-clause-bad_field c).In-Some-known)))

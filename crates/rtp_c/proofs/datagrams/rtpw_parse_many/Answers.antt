@@ -1,5 +1,4 @@
-use Rattle.std.proofs.Common.{arith}
-use Rattle.rtp_c.specs.Datagrams.{IsDatagramHeaderRead}
+use Rattle.rtp_c.proofs.Common.{arith, IsDatagramHeaderRead}
 use Rattle.rtp_c.proofs.InTurnLemmas.{AreReadTo-next}
 use Rattle.rtp_c.proofs.datagrams.rtpw_parse_many.Goals as goal
 

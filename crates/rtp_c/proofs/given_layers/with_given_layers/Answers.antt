@@ -1,8 +1,6 @@
-use Rattle.std.proofs.Common.{◌≤◌, ◌∙◌, length, subst, sym}
-use Rattle.std.proofs.lemmas.Bool.{false≢true}
+use Rattle.rtp_c.proofs.Common.{◌≤◌, ◌∙◌, length, subst, sym, false≢true, IsGivenLayers, AreCarriedLayers, allocation_in}
 use Rattle.rtp_vla.specs.Allocation.{Allocation}
 use Rattle.rtp_vla.specs.AllocationWritten.{Writable, written_of}
-use Rattle.rtp_c.specs.GivenLayers.{IsGivenLayers, AreCarriedLayers, allocation_in}
 use Rattle.rtp_c.proofs.GivenLemmas.{weaker_none}
 use Rattle.rtp_c.proofs.GivenLayersLemmas.{one_in}
 use Rattle.rtp_c.proofs.given_layers.with_given_layers.Goals as goal

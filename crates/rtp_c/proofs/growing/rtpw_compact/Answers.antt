@@ -1,5 +1,4 @@
-use Rattle.std.proofs.Common.{take, drop, arith, refl}
-use Rattle.std.proofs.lemmas.Bool.{false≢true}
+use Rattle.rtp_c.proofs.Common.{take, drop, arith, refl, false≢true}
 use Rattle.rtp_wire.proofs.CompactLemmas.{Compacts-front}
 use Rattle.rtp_c.proofs.growing.rtpw_compact.Goals as goal
 

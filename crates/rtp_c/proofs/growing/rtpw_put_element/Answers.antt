@@ -1,9 +1,5 @@
-use Rattle.std.proofs.Common.{◌≡◌, ℤ, take, Option, w32, to_z, of_z, refl, sym, ap, ◌∙◌, subst}
-use Rattle.std.proofs.lemmas.Bool.{false≢true}
-use Rattle.rtp_ext.specs.declared.form.ExtensionsForm.{ExtensionsForm}
-use Rattle.rtp_wire.specs.declared.packet.not_put.NotPut.{NotPut}
+use Rattle.rtp_c.proofs.Common.{◌≡◌, ℤ, take, Option, w32, to_z, of_z, refl, sym, ap, ◌∙◌, subst, false≢true, ExtensionsForm, NotPut, put_status, IsPutStatus}
 use Rattle.rtp_wire.specs.PutIntoPacket.{PutsElement, AppliesToPut}
-use Rattle.rtp_c.specs.PutStatus.{put_status, IsPutStatus}
 use Rattle.rtp_c.proofs.PutLemmas.{put_status≢ok, put_status-fits}
 use Rattle.rtp_c.proofs.WritingLemmas.{one_allowed}
 use Rattle.rtp_c.proofs.growing.rtpw_put_element.Goals as goal

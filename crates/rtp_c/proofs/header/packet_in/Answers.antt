@@ -1,7 +1,4 @@
-use Rattle.std.proofs.Common.{refl, sym, ◌∙◌}
-use Rattle.rtp_wire.specs.PartsOf.{parts_of}
-use Rattle.rtp_wire.proofs.NoHeaderLemmas.{header_there}
-use Rattle.rtp_wire.proofs.PartsLemmas.{none_there}
+use Rattle.rtp_c.proofs.Common.{refl, sym, ◌∙◌, parts_of, header_there, none_there}
 use Rattle.rtp_c.proofs.HeaderStatusLemmas.{IsHeaderStatus-other}
 use Rattle.rtp_c.proofs.header.packet_in.Goals as goal
 

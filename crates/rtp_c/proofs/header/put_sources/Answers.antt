@@ -1,5 +1,4 @@
-use Rattle.std.proofs.Common.{◌≡◌, ℕ, suc, ◌+◌, ◌-◌, ◌≤◌, List, [], ◌∷◌, ◌++◌, length, replicate, set, sym, ap, ◌∙◌, arith, append_assoc, length-append}
-use Rattle.std.proofs.lemmas.List.{set-append_right}
+use Rattle.rtp_c.proofs.Common.{◌≡◌, ℕ, suc, ◌+◌, ◌-◌, ◌≤◌, List, [], ◌∷◌, ◌++◌, length, replicate, set, sym, ap, ◌∙◌, arith, append_assoc, length-append, set-append_right}
 use Rattle.rtp_c.proofs.header.put_sources.Invariants.{SoFar}
 use Rattle.rtp_c.proofs.header.put_sources.Goals as goal
 

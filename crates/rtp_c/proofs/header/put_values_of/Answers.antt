@@ -1,11 +1,5 @@
-use Rattle.std.proofs.Common.{refl, subst, ℕ, List, Option}
-use Rattle.rtp_ext.specs.declared.form.ExtensionsForm.{ExtensionsForm}
-use Rattle.rtp_ext.specs.ElementReading.{elements_left}
-use Rattle.rtp_ext.proofs.ElementLemmasOfBodies.{AreElements-found}
-use Rattle.rtp_values.specs.Values.{no_values}
-use Rattle.rtp_wire.specs.PacketElements.{HasValues}
+use Rattle.rtp_c.proofs.Common.{refl, subst, ℕ, List, Option, ExtensionsForm, elements_left, AreElements-found, no_values, HasValues, numbered_slots}
 use Rattle.rtp_wire.proofs.ValuesLemmas.{HasValues-none}
-use Rattle.rtp_c.specs.StoredMap.{numbered_slots}
 use Rattle.rtp_c.proofs.header.put_values_of.Goals as goal
 
 pub returns-in-Some : goal.returns-in-Some

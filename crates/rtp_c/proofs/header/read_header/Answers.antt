@@ -6,12 +6,12 @@ use Rattle.rtp_c.proofs.NumberedLemmas.{HasKinds-numbered}
 use Rattle.rtp_c.proofs.HeaderViewLemmas.{few_sources}
 use Rattle.rtp_c.proofs.header.read_header.Goals as goal
 
-pub put_header-requires : goal.put_header-requires
-put_header-requires c = record { sources = few_sources c.args.buf.now _ c.in-Ok.ensures.found }
+pub put_fields-requires : goal.put_fields-requires
+put_fields-requires c = record { sources = few_sources c.args.buf.now _ c.in-Ok.ensures.found }
 
 pub returns-in-Ok : goal.returns-in-Ok
 returns-in-Ok c =
-    let told = c.put_header.ensures in
+    let told = c.put_values_of.ensures in
     let parts = parts_of c.in-Ok.packet in
     inl (
       refl,
@@ -27,6 +27,6 @@ returns-in-Ok c =
             is_header = record { fields_are = refl; values_are = told.1 };
           };
         };
-        is_view = told.2;
+        is_view = c.put_fields.ensures told.0 _ told.2;
       },
     )

@@ -1,10 +1,5 @@
-use Rattle.std.proofs.Common.{◌↔◌, ℕ, ℤ, List, sym, subst, inl, inr, rules, w32, FitsSigned}
-use Rattle.std.proofs.lemmas.Int.{to_z-of_z}
-use Rattle.rtp_wire.specs.NotAHeader.{HasNoHeader}
-use Rattle.rtp_wire.proofs.NoHeaderLemmas.{header_there}
-use Rattle.rtp_c.specs.declared.header.HeaderView.{HeaderView}
+use Rattle.rtp_c.proofs.Common.{◌↔◌, ℕ, ℤ, List, sym, subst, inl, inr, rules, w32, FitsSigned, to_z-of_z, HasNoHeader, header_there, HeaderView, IsHeaderStatus}
 use Rattle.rtp_c.specs.HeaderView.{IsHeaderRead}
-use Rattle.rtp_c.specs.Status.{IsHeaderStatus}
 use Rattle.rtp_c.proofs.HeaderStatusLemmas.{HasNoHeader-status}
 use Rattle.rtp_c.proofs.header.rtpw_parse.Goals as goal
 

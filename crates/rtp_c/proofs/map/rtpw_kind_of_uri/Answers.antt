@@ -1,5 +1,4 @@
-use Rattle.std.proofs.Common.{sym, subst, refl}
-use Rattle.std.specs.Str.{IsUtf8}
+use Rattle.rtp_c.proofs.Common.{sym, subst, refl, IsUtf8}
 use Rattle.rtp_c.proofs.KindNumberLemmas.{IsUtf8-uri, number≢0}
 use Rattle.rtp_c.proofs.map.rtpw_kind_of_uri.Goals as goal
 

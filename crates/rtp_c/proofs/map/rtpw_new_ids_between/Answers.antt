@@ -1,8 +1,6 @@
-use Rattle.std.proofs.Common.{rules, ◌≡◌, ◌≤◌, ◌+◌, ◌∙◌, ℕ, zero, suc, length, get_or, refl, sym, subst, arith}
+use Rattle.rtp_c.proofs.Common.{rules, ◌≡◌, ◌≤◌, ◌+◌, ◌∙◌, ℕ, zero, suc, length, get_or, refl, sym, subst, arith, get_or-set_other, Means, AreNewIdsOf}
 use lib.ListN.{replicate}
-use Rattle.std.proofs.lemmas.List.{get_or-set_other}
 use Rattle.rtp_c.specs.declared.map.StoredNewIds.{StoredNewIds}
-use Rattle.rtp_c.specs.StoredMap.{Means, AreNewIdsOf}
 use Rattle.rtp_c.proofs.MeantLemmas.{HaveNewIds, HaveNewIds-next, HaveNewIds-none, HaveNewIds-over, AreNewIdsOf-all, CarryKinds-new}
 use Rattle.rtp_c.proofs.map.rtpw_new_ids_between.Goals as goal
 use Rattle.rtp_c.proofs.map.rtpw_new_ids_between.Goals.{then-number-ne0, else-number-ne0}

@@ -1,18 +1,6 @@
-use Rattle.std.proofs.Common.{◌≡◌, ◌<◌, ◌↔◌, ℕ, List, [], Bool, false, IsTrue, Option, Some, None, IfSome, IfNone, All, refl, sym, subst, arith, rules}
-use Rattle.std.proofs.lemmas.Bool.{false≢true}
-use Rattle.rtp_ext.specs.declared.form.ExtensionsForm.{ExtensionsForm}
-use Rattle.rtp_ext.specs.Elements.{Element}
-use Rattle.rtp_ext.specs.ElementsInPlace.{ChangesIds, CanRenumber}
-use Rattle.rtp_ext.specs.NewIds.{new_id, ids_in_bytes, CarriesExtensions}
-use Rattle.std.specs.Prelude.{slice_index}
-use Rattle.rtp_wire.specs.declared.packet.rtp_packet_mut.RtpPacketMut.{RtpPacketMut}
-use Rattle.rtp_wire.specs.ChangedPacket.{ChangesBlock}
-use Rattle.rtp_wire.specs.Packet.{PacketParts, IsPacket}
-use Rattle.rtp_wire.specs.PacketElements.{AreElementsOf, HasValues}
-use Rattle.rtp_wire.specs.PartsOf.{parts_in}
-use Rattle.rtp_c.specs.ChangedElements.{BecomesPacket}
+use Rattle.rtp_c.proofs.Common.{◌≡◌, ◌<◌, ◌↔◌, ℕ, List, [], Bool, false, IsTrue, Option, Some, None, IfSome, IfNone, All, refl, sym, subst, arith, rules, false≢true, ExtensionsForm, Element, ChangesIds, CanRenumber, new_id, ids_in_bytes, CarriesExtensions, slice_index, RtpPacketMut, ChangesBlock, PacketParts, IsPacket, AreElementsOf, HasValues, parts_in, BecomesPacket, IsPacket-in}
 use Rattle.rtp_c.proofs.StatusLemmas.{bad_field≢ok}
-use Rattle.rtp_c.proofs.ChangeLemmas.{IsPacket-in, parts-in, BecomesPacket-changed}
+use Rattle.rtp_c.proofs.ChangeLemmas.{parts-in, BecomesPacket-changed}
 use Rattle.rtp_c.proofs.map.rtpw_renumber.Goals as goal
 
 if_some_weaker : {X : Type 0} (block : Option X) (P Q : X → Type 0) → ((x : X) → P x → Q x) → IfSome block P → IfSome block Q

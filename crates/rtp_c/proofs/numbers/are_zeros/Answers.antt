@@ -1,8 +1,6 @@
-use Rattle.std.proofs.Common.{◌≡◌, ℕ, inl, inr, arith, ap, ◌∙◌, subst, get_or}
+use Rattle.rtp_c.proofs.Common.{◌≡◌, ℕ, inl, inr, arith, ap, ◌∙◌, subst, get_or, cases_lt, le_or_l, le_or_r}
 use Rattle.std.specs.Int.Bits.{or_zero_l}
 use Rattle.std.specs.Int.RustNames.{bit_or}
-use Rattle.std.proofs.lemmas.Bool.{cases_lt}
-use Rattle.std.proofs.lemmas.Nat.{le_or_l, le_or_r}
 use Rattle.rtp_c.proofs.numbers.are_zeros.Goals as goal
 
 pub loop-number-preserved : goal.loop-number-preserved

@@ -1,6 +1,4 @@
-use Rattle.std.proofs.Common.{◌≡◌, arith, refl, ap, inl, inr, ◌∙◌, get_or, rules}
-use Rattle.std.proofs.lemmas.Bool.{cases_lt, or_parts}
-use Rattle.rtp_c.specs.KindNumbers.{kind_numbered}
+use Rattle.rtp_c.proofs.Common.{◌≡◌, arith, refl, ap, inl, inr, ◌∙◌, get_or, rules, cases_lt, or_parts, kind_numbered}
 use Rattle.rtp_c.proofs.LongLemmas.{or_false}
 use Rattle.rtp_c.proofs.NumberedLemmas.{no_kind_past, no_kind_out}
 use Rattle.rtp_c.proofs.numbers.has_kind.Goals as goal

@@ -1,5 +1,4 @@
-use Rattle.std.proofs.Common.{◌≡◌, ◌<◌, ℕ, false, None, get_or}
-use Rattle.rtp_c.specs.KindNumbers.{kind_numbered}
+use Rattle.rtp_c.proofs.Common.{◌≡◌, ◌<◌, ℕ, false, None, get_or, kind_numbered}
 use Rattle.rtp_c.proofs.numbers.has_kind.Given as goal
 
 -- whether one of the numbers so far is that of a kind

@@ -1,5 +1,4 @@
-use Rattle.std.proofs.Common.{arith, refl}
-use Rattle.std.proofs.lemmas.Nat.{leading_le}
+use Rattle.rtp_c.proofs.Common.{arith, refl, leading_le}
 use Rattle.rtp_c.proofs.FewSlotsLemmas.{zeros_above}
 use Rattle.rtp_c.proofs.numbers.last_of_few.Goals as goal
 

@@ -1,12 +1,6 @@
-use Rattle.std.proofs.Common.{◌≡◌, ◌≢◌, ◌↔◌, ℤ, List, ℕ, sym, ◌∙◌, subst, inl, inr, rules, w32, FitsSigned}
-use Rattle.std.proofs.lemmas.Int.{to_z-of_z}
-use Rattle.rtp_wire.specs.Packet.{PacketParts, IsPacket}
-use Rattle.rtp_wire.specs.NotAHeader.{IsNoPacket}
-use Rattle.rtp_wire.proofs.NotAPacketLemmas.{IsNoPacket-applies, no_packet-refused}
-use Rattle.rtp_wire.proofs.PacketLemmas.{one_packet, no_packet}
+use Rattle.rtp_c.proofs.Common.{◌≡◌, ◌≢◌, ◌↔◌, ℤ, List, ℕ, sym, ◌∙◌, subst, inl, inr, rules, w32, FitsSigned, to_z-of_z, PacketParts, IsPacket, IsNoPacket, IsNoPacket-applies, no_packet-refused, one_packet, IsViewOf, IsPacketRead, ok}
+use Rattle.rtp_wire.proofs.PacketLemmas.{no_packet}
 use Rattle.rtp_c.specs.declared.packet.PacketView.{PacketView}
-use Rattle.rtp_c.specs.PacketView.{IsViewOf, IsPacketRead}
-use Rattle.rtp_c.specs.Status.{ok}
 use Rattle.rtp_c.proofs.StatusLemmas.{ok≢cause}
 use Rattle.rtp_c.proofs.packet.rtpw_packet_parse.Goals as goal
 

@@ -1,8 +1,4 @@
-use Rattle.std.proofs.Common.{◌≡◌, ◌+◌, ◌-◌, ap, ◌∙◌, arith, ℕ, rules, length}
-use Rattle.rtp_wire.specs.Packet.{header_len_of}
-use Rattle.rtp_wire.specs.PartsOf.{parts_of, datagram_of}
-use Rattle.rtp_wire.proofs.PartsLemmas.{length-packet}
-use Rattle.rtp_c.specs.PacketView.{slice_at, body_of_any}
+use Rattle.rtp_c.proofs.Common.{◌≡◌, ◌+◌, ◌-◌, ap, ◌∙◌, arith, ℕ, rules, length, header_len_of, parts_of, datagram_of, length-packet, slice_at, body_of_any}
 use Rattle.rtp_c.proofs.PacketLemmas.{body-at, payload-at, body-within}
 use Rattle.rtp_c.proofs.packet.view_of.Goals as goal
 

@@ -1,8 +1,5 @@
-use Rattle.std.proofs.Common.{◌≡◌, ℕ, List, ◌<◌, true, length, refl, sym, subst, rules}
-use Rattle.std.proofs.lemmas.Bool.{false≢true}
-use Rattle.rtp_wire.specs.ChangedPacket.{HasUnpadded}
+use Rattle.rtp_c.proofs.Common.{◌≡◌, ℕ, List, ◌<◌, true, length, refl, sym, subst, rules, false≢true, HasUnpadded, PacketParts}
 use Rattle.rtp_wire.specs.Padding.{padding_count}
-use Rattle.rtp_wire.specs.Packet.{PacketParts}
 use Rattle.rtp_c.proofs.StatusLemmas.{bad_field≢ok}
 use Rattle.rtp_c.proofs.ChangeLemmas.{parts-in}
 use Rattle.rtp_c.proofs.padding.rtpw_remove_padding.Goals as goal

@@ -1,5 +1,4 @@
-use Rattle.std.proofs.Common.{refl, arith, rules}
-use Rattle.rtp_wire.specs.Packet.{PacketParts}
+use Rattle.rtp_c.proofs.Common.{refl, arith, rules, PacketParts}
 use Rattle.rtp_c.proofs.ChangeLemmas.{IsPacket-set}
 use Rattle.rtp_c.proofs.padding.rtpw_set_padding.Goals as goal
 

@@ -1,8 +1,4 @@
-use Rattle.std.proofs.Common.{◌≡◌, Bool, true, false, ◌||◌, ◌/◌, refl, sym, ◌∙◌, subst, arith}
-use Rattle.rtp_base.specs.Window.{Numbers}
-use Rattle.rtp_base.proofs.WindowLemmas.{Keeps-shown}
-use Rattle.rtp_receive.specs.StreamState.{ReceiverState}
-use Rattle.rtp_receive.specs.Receiver.{Holds, IsNothing}
+use Rattle.rtp_c.proofs.Common.{◌≡◌, Bool, true, false, ◌||◌, ◌/◌, refl, sym, ◌∙◌, subst, arith, Numbers, Keeps-shown, ReceiverState, Holds, IsNothing}
 use Rattle.rtp_c.proofs.receiver.receiver_of.Goals as goal
 
 none : Numbers

@@ -1,8 +1,4 @@
-use Rattle.std.proofs.Common.{ℕ, sym, ◌∙◌, subst}
-use Rattle.rtp_base.specs.Window.{including}
-use Rattle.rtp_receive.specs.StreamState.{ReceiverState}
-use Rattle.rtp_receive.specs.Receiver.{Holds, IsFresh}
-use Rattle.rtp_c.specs.StoredReceiver.{HoldsNumbers}
+use Rattle.rtp_c.proofs.Common.{ℕ, sym, ◌∙◌, subst, including, ReceiverState, Holds, IsFresh, HoldsNumbers}
 use Rattle.rtp_c.proofs.StoredLemmas.{IsStarted-held, MovesBelowZero-stored, started-refused, stored_again-is}
 use Rattle.rtp_c.proofs.receiver.rtpw_receiver_record.Goals as goal
 

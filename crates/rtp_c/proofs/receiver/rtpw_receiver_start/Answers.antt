@@ -1,6 +1,4 @@
-use Rattle.std.proofs.Common.{refl, sym, subst}
-use Rattle.rtp_receive.specs.StreamState.{ReceiverState}
-use Rattle.rtp_receive.specs.Receiver.{Holds}
+use Rattle.rtp_c.proofs.Common.{refl, sym, subst, ReceiverState, Holds}
 use Rattle.rtp_c.proofs.receiver.rtpw_receiver_start.Goals as goal
 
 pub returns-clause-started : goal.returns-clause-started

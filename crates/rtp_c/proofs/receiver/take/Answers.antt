@@ -1,9 +1,4 @@
-use Rattle.std.proofs.Common.{◌≡◌, ℕ, Bool, true, cond, refl, sym, ap, ◌∙◌, subst, inl, inr, arith}
-use Rattle.std.proofs.lemmas.Bool.{false≢true}
-use Rattle.rtp_base.specs.Window.{Numbers, including}
-use Rattle.rtp_receive.specs.StreamState.{ReceiverState}
-use Rattle.rtp_receive.specs.Receiver.{Holds, IsFresh}
-use Rattle.rtp_c.specs.StoredReceiver.{HoldsNumbers, bit_of}
+use Rattle.rtp_c.proofs.Common.{◌≡◌, ℕ, Bool, true, cond, refl, sym, ap, ◌∙◌, subst, inl, inr, arith, false≢true, Numbers, including, ReceiverState, Holds, IsFresh, HoldsNumbers, bit_of}
 use Rattle.rtp_c.proofs.StoredLemmas.{started-refused, IsStarted-held, MovesBelowZero-stored}
 use Rattle.rtp_c.proofs.receiver.take.Goals as goal
 

@@ -1,5 +1,4 @@
-use Rattle.std.proofs.Common.{refl, pos}
-use Rattle.rtp_receive.specs.Restarting.{epoch_after}
+use Rattle.rtp_c.proofs.Common.{refl, pos, epoch_after}
 use Rattle.rtp_receive.specs.declared.restarting_verdict.RestartingVerdict.TheVariants.{Taken, Restarted, Refused}
 use Rattle.rtp_c.proofs.RestartingLemmas.{holds_some, answered}
 use Rattle.rtp_c.proofs.restarting.rtpw_restarting_receive.Goals as goal

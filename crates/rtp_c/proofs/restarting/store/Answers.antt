@@ -1,8 +1,4 @@
-use Rattle.std.proofs.Common.{refl, sym, ap, ◌∙◌, subst, false, get_or, arith}
-use Rattle.rtp_base.specs.Ring.{ring_bit}
-use Rattle.rtp_base.specs.Window.{WindowState}
-use Rattle.rtp_c.specs.StoredWindow.{HasStarted}
-use Rattle.rtp_c.specs.declared.restarting.StoredRestarting.{StoredRestarting}
+use Rattle.rtp_c.proofs.Common.{refl, sym, ap, ◌∙◌, subst, false, get_or, arith, ring_bit, WindowState, HasStarted, StoredRestarting}
 use Rattle.rtp_c.proofs.StoredWideLemmas.{highest_bit}
 use Rattle.rtp_c.proofs.restarting.store.Goals.{in-None, in-Some}
 use Rattle.rtp_c.proofs.restarting.store.Goals as goal

@@ -1,7 +1,4 @@
-use Rattle.std.proofs.Common.{ℕ, List, Option, refl, subst}
-use Rattle.rtp_ext.specs.NewIds.{new_id}
-use Rattle.rtp_wire.specs.declared.packet.not_retransmitted.NotRetransmitted.{NotRetransmitted}
-use Rattle.rtp_wire.specs.Retransmission.{KeepsFromSending}
+use Rattle.rtp_c.proofs.Common.{ℕ, List, Option, refl, subst, new_id, NotRetransmitted, KeepsFromSending}
 use Rattle.rtp_c.proofs.RetransmissionLemmas.{refused_not_ok}
 use Rattle.rtp_c.proofs.retransmission.rtpw_to_retransmission.Goals as goal
 

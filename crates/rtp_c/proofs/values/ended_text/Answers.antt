@@ -1,5 +1,4 @@
-use Rattle.std.proofs.Common.{◌≡◌, ℕ, ◌+◌, ◌-◌, List, ◌++◌, length, drop, replicate, ap, ◌∙◌, arith}
-use Rattle.std.proofs.lemmas.List.{drop-replicate}
+use Rattle.rtp_c.proofs.Common.{◌≡◌, ℕ, ◌+◌, ◌-◌, List, ◌++◌, length, drop, replicate, ap, ◌∙◌, arith, drop-replicate}
 use Rattle.rtp_base.specs.Overwriting.{overwritten}
 use Rattle.rtp_c.proofs.values.ended_text.Goals as goal
 

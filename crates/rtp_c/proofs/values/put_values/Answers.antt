@@ -1,5 +1,4 @@
-use Rattle.std.proofs.Common.{Result, Ok, Err, IsOk, OnOk}
-use Rattle.rtp_values.specs.Values.{no_values}
+use Rattle.rtp_c.proofs.Common.{Result, Ok, Err, IsOk, OnOk, no_values}
 use Rattle.rtp_c.proofs.values.put_values.Goals as goal
 
 -- what holds where nothing is refused

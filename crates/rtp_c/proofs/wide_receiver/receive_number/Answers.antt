@@ -1,6 +1,4 @@
-use Rattle.std.proofs.Common.{◌≡◌, ℕ, ◌*◌, length, refl, sym, ◌∙◌, subst, inl, inr, arith}
-use Rattle.std.proofs.lemmas.Bool.{false≢true}
-use Rattle.rtp_receive.specs.Receiver.{IsFreshOf}
+use Rattle.rtp_c.proofs.Common.{◌≡◌, ℕ, ◌*◌, length, refl, sym, ◌∙◌, subst, inl, inr, arith, false≢true, IsFreshOf}
 use Rattle.rtp_c.proofs.wide_receiver.receive_number.Goals as goal
 
 pub returns-then-not-take-clause-received : goal.returns-then-not-take-clause-received

@@ -1,8 +1,4 @@
-use Rattle.std.proofs.Common.{◌/◌, false, refl, inl, inr, arith}
-use Rattle.std.specs.Prelude.{Some}
-use Rattle.rtp_base.specs.Ring.{ring_size, ring_bits}
-use Rattle.rtp_base.specs.Window.{Numbers}
-use Rattle.rtp_receive.specs.Receiver.{IsNothing}
+use Rattle.rtp_c.proofs.Common.{◌/◌, false, refl, inl, inr, arith, Some, ring_size, ring_bits, Numbers, IsNothing}
 use Rattle.rtp_c.proofs.StoredWideLemmas.{kept, HoldsWindow-some}
 use Rattle.rtp_c.proofs.wide_receiver.rtpw_wide_receiver_number_of.Goals as goal
 

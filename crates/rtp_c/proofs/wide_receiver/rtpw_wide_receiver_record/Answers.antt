@@ -1,6 +1,4 @@
-use Rattle.std.proofs.Common.{◌≡◌, ℕ, ◌*◌, length, refl, subst, inl, inr, arith}
-use Rattle.std.proofs.lemmas.Bool.{false≢true}
-use Rattle.rtp_receive.specs.Receiver.{IsFreshOf}
+use Rattle.rtp_c.proofs.Common.{◌≡◌, ℕ, ◌*◌, length, refl, subst, inl, inr, arith, false≢true, IsFreshOf}
 use Rattle.rtp_c.proofs.wide_receiver.rtpw_wide_receiver_record.Goals as goal
 
 pub returns-then-take-clause-judged : goal.returns-then-take-clause-judged

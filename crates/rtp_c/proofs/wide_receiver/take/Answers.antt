@@ -1,7 +1,4 @@
-use Rattle.std.proofs.Common.{◌<◌, length, false, refl, ◌∙◌, inl, inr, arith}
-use Rattle.rtp_base.specs.Ring.{ring_size, ring_bits}
-use Rattle.rtp_base.specs.Window.{Numbers, including}
-use Rattle.rtp_receive.specs.Receiver.{IsNothing}
+use Rattle.rtp_c.proofs.Common.{◌<◌, length, false, refl, ◌∙◌, inl, inr, arith, ring_size, ring_bits, Numbers, including, IsNothing}
 use Rattle.rtp_c.proofs.StoredWideLemmas.{HoldsStored-kept, first_bit, HoldsWindow-some, first-kept, later-kept, kept_there}
 use Rattle.rtp_c.proofs.wide_receiver.take.Goals as goal
 use Rattle.rtp_c.proofs.wide_receiver.take.Goals.{then-receiver-eq0, else-receiver-eq0}

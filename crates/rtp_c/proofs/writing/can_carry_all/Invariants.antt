@@ -1,6 +1,4 @@
-use Rattle.std.proofs.Common.{◌<◌, ℕ, get_or}
-use Rattle.rtp_ext.specs.Elements.{Element}
-use Rattle.rtp_ext.specs.ElementsInARow.{IsWritable}
+use Rattle.rtp_c.proofs.Common.{◌<◌, ℕ, get_or, Element, IsWritable}
 use Rattle.rtp_c.proofs.writing.can_carry_all.Given as goal
 
 -- the form can carry each of the elements that were passed

@@ -1,7 +1,4 @@
-use Rattle.std.proofs.Common.{rules, List, All, length, refl, sym, subst}
-use Rattle.std.proofs.lemmas.Bool.{false≢true}
-use Rattle.rtp_ext.specs.Elements.{Element}
-use Rattle.rtp_ext.specs.ElementsInARow.{IsWritable, AreWritableIn}
+use Rattle.rtp_c.proofs.Common.{rules, List, All, length, refl, sym, subst, false≢true, Element, IsWritable, AreWritableIn}
 use Rattle.rtp_c.proofs.WritingLemmas.{AreTooLong-carried}
 use Rattle.rtp_c.proofs.writing.rtpw_write_elements.Goals as goal
 

@@ -1,5 +1,4 @@
-use Rattle.std.proofs.Common.{Option, sym, subst, ◌∙◌, length}
-use Rattle.rtp_ext.specs.declared.form.ExtensionsForm.{ExtensionsForm}
+use Rattle.rtp_c.proofs.Common.{Option, sym, subst, ◌∙◌, length, ExtensionsForm}
 use Rattle.rtp_c.specs.WrittenHeader.{CanBeWrittenWith, IsTooLongWith}
 use Rattle.rtp_c.proofs.WritingLemmas.{one_allowed, passed_on}
 use Rattle.rtp_c.proofs.writing.rtpw_write_with_form.Goals as goal

@@ -1,6 +1,5 @@
-use Rattle.std.proofs.Common.{rules, refl, length, true≢false}
+use Rattle.rtp_c.proofs.Common.{rules, refl, length, true≢false, elements_in}
 use Rattle.rtp_wire.specs.WrittenWith.{no_block}
-use Rattle.rtp_c.specs.WrittenElements.{elements_in}
 use Rattle.rtp_c.proofs.WrittenHeaderLemmas.{AreNamed, CanBeWrittenWith-named, IsWrittenWith-named, IsTooLongWith-named, IsTooLongWith-not}
 use Rattle.rtp_c.proofs.writing.write_header_with.Goals as goal
 use Rattle.rtp_c.proofs.writing.write_header_with.Goals.{In-Some-new}

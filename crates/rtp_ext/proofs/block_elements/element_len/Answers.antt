@@ -1,6 +1,4 @@
-use Rattle.std.proofs.Common.{arith, sym, ◌∙◌}
-use Rattle.rtp_values.specs.KnownKind.{extension_of_kind}
-use Rattle.rtp_values.specs.Spelling.{spelled_data}
+use Rattle.rtp_ext.proofs.Common.{arith, sym, ◌∙◌, extension_of_kind, spelled_data}
 use Rattle.rtp_ext.proofs.WrittenBlockLemmas.{length-header_bytes, length-element}
 use Rattle.rtp_ext.proofs.block_elements.element_len.Goals as goal
 

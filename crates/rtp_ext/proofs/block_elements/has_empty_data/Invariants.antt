@@ -1,6 +1,4 @@
-use Rattle.std.proofs.Common.{◌≡◌, length}
-use Rattle.rtp_ext.specs.ExtensionMap.{items_from}
-use Rattle.rtp_ext.specs.KindsById.{has_empty, known_slots}
+use Rattle.rtp_ext.proofs.Common.{◌≡◌, length, items_from, has_empty, known_slots}
 use Rattle.rtp_ext.proofs.block_elements.has_empty_data.Given as goal
 
 -- the ids that are left decide

@@ -1,5 +1,4 @@
-use Rattle.std.proofs.Common.{◌≤◌, sym, ap, ◌∙◌, arith, length, subst, ℕ}
-use Rattle.rtp_values.specs.KnownKind.{extension_of_kind}
+use Rattle.rtp_ext.proofs.Common.{◌≤◌, sym, ap, ◌∙◌, arith, length, subst, ℕ, extension_of_kind}
 use Rattle.rtp_ext.proofs.ShortBlockLemmas.{most_of, long_most, short_most, most-next, most-end}
 use Rattle.rtp_ext.proofs.block_elements.most_in_two_byte_form.Goals as goal
 use Rattle.rtp_ext.proofs.block_elements.most_in_two_byte_form.Goals.{then-eq, else-eq}

@@ -1,8 +1,4 @@
-use Rattle.std.proofs.Common.{◌≤◌, ◌+◌, ◌*◌, length}
-use Rattle.rtp_values.specs.declared.value.values.ExtensionValues.{ExtensionValues}
-use Rattle.rtp_ext.specs.declared.form.ExtensionsForm.TheVariants.{TwoByte}
-use Rattle.rtp_ext.specs.ElementWriting.{items_bytes}
-use Rattle.rtp_ext.specs.WrittenBlock.{HasFewData}
+use Rattle.rtp_ext.proofs.Common.{◌≤◌, ◌+◌, ◌*◌, length, ExtensionValues, TwoByte, items_bytes, HasFewData}
 use Rattle.rtp_ext.proofs.block_elements.most_in_two_byte_form.Given as goal
 
 -- what is left takes the rest

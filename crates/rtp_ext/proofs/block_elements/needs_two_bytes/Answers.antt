@@ -1,8 +1,6 @@
-use Rattle.std.proofs.Common.{sym, ◌∙◌, true, false, refl}
-use Rattle.rtp_ext.specs.ExtensionMap.{items_from}
+use Rattle.rtp_ext.proofs.Common.{sym, ◌∙◌, true, false, refl, items_from, known_slots}
 use Rattle.rtp_ext.proofs.KnownItemsLemmas.{needs_two_by, not_long_known, no_empty}
 use Rattle.rtp_ext.proofs.ShortBlockLemmas.{short_block}
-use Rattle.rtp_ext.specs.KindsById.{known_slots}
 use Rattle.rtp_ext.proofs.block_elements.needs_two_bytes.Goals as goal
 
 pub returns-then-has_long-clause-needed : goal.returns-then-has_long-clause-needed

@@ -1,11 +1,7 @@
-use Rattle.std.proofs.Common.{refl, arith, ap, ◌∙◌, length, length-append}
-use Rattle.rtp_values.specs.KnownKind.{extension_of_kind}
-use Rattle.rtp_values.specs.Spelling.{spelled_data}
-use Rattle.rtp_ext.specs.ElementWriting.{items_bytes, element_or_nothing}
+use Rattle.rtp_ext.proofs.Common.{refl, arith, ap, ◌∙◌, length, length-append, extension_of_kind, spelled_data, items_bytes, element_or_nothing, known_slots}
 use Rattle.rtp_ext.proofs.WrittenBlockLemmas.{items_bytes-nil, items_bytes-cons}
 use Rattle.rtp_ext.proofs.KnownWritingLemmas.{known_bytes}
 use Rattle.rtp_ext.proofs.KnownItemsLemmas.{count_known}
-use Rattle.rtp_ext.specs.KindsById.{known_slots}
 use Rattle.rtp_ext.proofs.block_elements.values_len.Goals as goal
 
 pub loop-kind-preserved : goal.loop-kind-preserved

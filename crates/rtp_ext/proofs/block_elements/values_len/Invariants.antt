@@ -1,7 +1,4 @@
-use Rattle.std.proofs.Common.{◌≡◌, ◌≤◌, ◌+◌, ◌*◌, length}
-use Rattle.rtp_ext.specs.ExtensionMap.{items_from, mapped_count}
-use Rattle.rtp_ext.specs.ElementWriting.{items_bytes}
-use Rattle.rtp_ext.specs.KindsById.{known_slots}
+use Rattle.rtp_ext.proofs.Common.{◌≡◌, ◌≤◌, ◌+◌, ◌*◌, length, items_from, mapped_count, items_bytes, known_slots}
 use Rattle.rtp_ext.proofs.block_elements.values_len.Given as goal
 
 -- the elements so far are counted, and those that are left stay within the bounds

@@ -1,9 +1,5 @@
-use Rattle.std.proofs.Common.{refl, ◌≤◌, ◌*◌, sym, length, subst}
-use Rattle.rtp_ext.specs.declared.form.ExtensionsForm.{ExtensionsForm}
-use Rattle.rtp_ext.specs.Elements.{elements_bytes}
-use Rattle.rtp_ext.specs.WrittenBlock.{written_elements}
+use Rattle.rtp_ext.proofs.Common.{refl, ◌≤◌, ◌*◌, sym, length, subst, ExtensionsForm, elements_bytes, written_elements, known_slots}
 use Rattle.rtp_ext.proofs.ShortBlockLemmas.{plain_block, short_by, written_at_most}
-use Rattle.rtp_ext.specs.KindsById.{known_slots}
 use Rattle.rtp_ext.proofs.block_elements.values_len_at_most.Goals as goal
 
 pub returns-in-OneByte-clause-most : goal.returns-in-OneByte-clause-most

@@ -1,13 +1,4 @@
-use Rattle.std.proofs.Common.{arith, sym, ap, ◌∙◌, refl, [], ◌+◌, ◌-◌, ◌≤◌, ◌≡◌, ℕ, length}
-use Rattle.std.specs.Option.{unwrap_or}
-use Rattle.std.proofs.lemmas.List.{take_rest, length-drop}
-use Rattle.rtp_ext.specs.ElementWriting.{element_or_nothing, element_header}
-use Rattle.rtp_ext.specs.declared.form.ExtensionsForm.{ExtensionsForm}
-use Rattle.rtp_ext.specs.declared.form.ExtensionsForm.TheVariants.{OneByte, TwoByte}
-use Rattle.rtp_base.specs.Overwriting.{overwritten}
-use Rattle.rtp_values.specs.KnownKind.{extension_of_kind}
-use Rattle.rtp_values.specs.Spelling.{spelled_data}
-use Rattle.rtp_base.proofs.OverwritingLemmas.{overwritten-nil, overwritten-rest}
+use Rattle.rtp_ext.proofs.Common.{arith, sym, ap, ◌∙◌, refl, [], ◌+◌, ◌-◌, ◌≤◌, ◌≡◌, ℕ, length, unwrap_or, take_rest, length-drop, element_or_nothing, element_header, ExtensionsForm, OneByte, TwoByte, overwritten, extension_of_kind, spelled_data, overwritten-nil, overwritten-rest}
 use Rattle.rtp_ext.proofs.WrittenBlockLemmas.{HasNone, HasNone-from_none, none-without_room, room-for_data, none-from_map, element_or_nothing-put, IsCarried-from}
 use Rattle.rtp_ext.proofs.block_elements.write_element.Goals as goal
 

@@ -1,18 +1,10 @@
-use Rattle.std.proofs.Common.{refl, arith, sym, ap, ◌∙◌, ◌≡◌, ◌++◌, List, length, drop, replicate, subst}
-use Rattle.std.specs.List.{AllByRecursion}
-use Rattle.rtp_values.specs.KnownKind.{extension_of_kind}
-use Rattle.rtp_ext.specs.ElementWriting.{items_bytes, IsCarried}
-use Rattle.rtp_ext.specs.ExtensionMap.{items_from}
-use Rattle.rtp_ext.specs.Elements.{elements_bytes}
-use Rattle.rtp_ext.specs.WrittenBlock.{written_elements}
+use Rattle.rtp_ext.proofs.Common.{refl, arith, sym, ap, ◌∙◌, ◌≡◌, ◌++◌, List, length, drop, replicate, subst, AllByRecursion, extension_of_kind, items_bytes, IsCarried, items_from, elements_bytes, written_elements, Element, AreElements, known_slots}
 use Rattle.rtp_ext.proofs.FormLemmas.{all_fit}
 use Rattle.rtp_ext.proofs.WrittenBlockLemmas.{IsUnderWay, IsUnderWay-start, IsUnderWay-next, IsUnderWay-step, IsUnderWay-end, length-items}
 use Rattle.rtp_ext.proofs.KnownWritingLemmas.{known_bytes, AreValues_by}
 use Rattle.rtp_ext.proofs.KnownItemsLemmas.{chosen_known, written_known, count_known}
-use Rattle.rtp_ext.specs.Elements.{Element, AreElements}
 use Rattle.rtp_ext.proofs.WrittenElementsLemmas.{AreElements-written}
 use Rattle.rtp_ext.proofs.WrittenValuesLemmas.{AreValues-written}
-use Rattle.rtp_ext.specs.KindsById.{known_slots}
 use Rattle.rtp_ext.proofs.block_elements.write_values.Goals as goal
 
 pub loop-id-init : goal.loop-id-init

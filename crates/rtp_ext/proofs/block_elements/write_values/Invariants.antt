@@ -1,7 +1,5 @@
-use Rattle.std.proofs.Common.{length}
-use Rattle.rtp_ext.specs.ExtensionMap.{items_from}
+use Rattle.rtp_ext.proofs.Common.{length, items_from, known_slots}
 use Rattle.rtp_ext.proofs.WrittenBlockLemmas.{IsUnderWay}
-use Rattle.rtp_ext.specs.KindsById.{known_slots}
 use Rattle.rtp_ext.proofs.block_elements.write_values.Given as goal
 
 -- the elements so far are written

@@ -1,11 +1,6 @@
-use Rattle.std.proofs.Common.{◌∙◌, ◌∷◌, ℕ, List, Option, Some, None, IsSomeAnd, arith, sym, subst}
-use Rattle.std.proofs.lemmas.Bool.{false≢true}
-use Rattle.rtp_values.specs.declared.kind.Extension.TheVariants.{VideoLayersAllocation}
-use Rattle.rtp_values.specs.Values.{no_values, IsWellFormed}
-use Rattle.rtp_vla.specs.Allocation.{Allocation, Means}
-use Rattle.rtp_ext.specs.Elements.{Element}
-use Rattle.rtp_ext.specs.LastAllocation.{EndsRow}
-use Rattle.rtp_ext.proofs.LastAllocationLemmas.{EndsRow-passed, EndsRow-taken, EndsRow-left, kind-untested, malformed-carries}
+use Rattle.rtp_ext.proofs.Common.{◌∙◌, ◌∷◌, ℕ, List, Option, Some, None, IsSomeAnd, arith, sym, subst, false≢true, VideoLayersAllocation, no_values, IsWellFormed, Allocation, Means, Element, EndsRow}
+use Rattle.rtp_ext.proofs.LastAllocationLemmas.{EndsRow-passed, EndsRow-taken, EndsRow-left, kind-untested}
+use Rattle.rtp_ext.proofs.ValuesFound.{malformed-carries}
 use Rattle.rtp_ext.proofs.block_values.last_in_row.Goals as goal
 use Rattle.rtp_ext.proofs.block_values.last_in_row.Goals.{then-is_another_allocation, else-is_another_allocation}
 
@@ -32,7 +27,7 @@ loop-id-preserved g c =
       | else-is_another_allocation w ↦
           subst (λ bytes. EndsRow exts c.args.first.now c.args.elements.now c.next.new.self bytes.now) (sym w.last-is)
           (EndsRow-passed exts c.args.first.now c.args.elements.now c.next.new.self element c.loop-id.last.now
-          (malformed-carries exts element mapped
+          (malformed-carries exts element VideoLayersAllocation mapped
           (λ good. false≢true (sym w.if-is_another_allocation.false ∙ c.is_another_allocation.ensures.1 (some_meaning c.in-Some.data.now good.0.video_layers_allocation good.1)))) was)
     ] in
     (subst (λ left. EndsRow exts c.args.first.now c.args.elements.now left c.if-is_another_allocation.last.now) (sym c.rest.ensures) row, c.rest.ensures)

@@ -1,5 +1,4 @@
-use Rattle.std.proofs.Common.{length, ◌≡◌}
-use Rattle.rtp_ext.specs.LastAllocation.{EndsRow}
+use Rattle.rtp_ext.proofs.Common.{length, ◌≡◌, EndsRow}
 use Rattle.rtp_ext.proofs.block_values.last_in_row.Given as goal
 
 -- the row has come to the elements that are left

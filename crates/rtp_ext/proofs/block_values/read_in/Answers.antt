@@ -1,13 +1,9 @@
-use Rattle.std.proofs.Common.{[], ◌∷◌, ap, sym, refl, ◌∙◌, subst, List}
-use Rattle.std.specs.Option.{option_map}
-use Rattle.rtp_values.specs.KnownKind.{extension_of_kind}
-use Rattle.rtp_ext.specs.Elements.{Element, AreElements}
-use Rattle.rtp_ext.specs.Memory.{ReadUntilRefused}
-use Rattle.rtp_ext.specs.BlockValues.{ReadElements}
+use Rattle.rtp_ext.proofs.Common.{[], ◌∷◌, ap, sym, refl, ◌∙◌, subst, List, option_map, extension_of_kind, Element, AreElements, ReadUntilRefused, ReadElements}
 use Rattle.rtp_ext.proofs.MemoryLemmas.{OnErr-from}
 use Rattle.rtp_ext.proofs.KindsByIdLemmas.{ReadElements-known, ReadUntilRefused-known}
 use Rattle.rtp_ext.proofs.ValuesLaws.{ReadElements-none, ReadElements-passed, ReadElements-parsed}
-use Rattle.rtp_ext.proofs.LastAllocationLemmas.{mapped-to, mapped-to-layers, unmapped-carries, ReadElements-row, IsReadTo-start, IsReadTo-more, IsReadTo-end, IsReadTo-refused}
+use Rattle.rtp_ext.proofs.LastAllocationLemmas.{mapped-to, mapped-to-layers, ReadElements-row, IsReadTo-start, IsReadTo-more, IsReadTo-end, IsReadTo-refused}
+use Rattle.rtp_ext.proofs.ValuesFound.{unmapped-carries}
 use Rattle.rtp_ext.proofs.block_values.read_in.Goals as goal
 
 pub loop-id-init : goal.loop-id-init

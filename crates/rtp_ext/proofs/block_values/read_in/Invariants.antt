@@ -1,5 +1,4 @@
-use Rattle.std.proofs.Common.{length}
-use Rattle.rtp_ext.specs.LastAllocation.{IsReadTo}
+use Rattle.rtp_ext.proofs.Common.{length, IsReadTo}
 use Rattle.rtp_ext.proofs.block_values.read_in.Given as goal
 
 -- the elements that were passed were read

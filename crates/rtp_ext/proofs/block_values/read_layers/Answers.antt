@@ -1,16 +1,4 @@
-use Rattle.std.proofs.Common.{◌∷◌, ◌≡◌, ◌++◌, ◌∙◌, sym, refl, subst, ap, ℕ, List, [], Bor, Bool, true, false, Option, Some, None, is_some, IfSome, IsSomeAnd}
-use Rattle.std.proofs.lemmas.Bool.{false≢true}
-use Rattle.std.proofs.lemmas.List.{map-append}
-use Rattle.std.proofs.lemmas.List.Elements.{All-nil}
-use Rattle.std.proofs.lemmas.Iterator.Consumers.{YieldsList-from_first, YieldsList-end}
-use Rattle.rtp_values.specs.declared.kind.Extension.TheVariants.{VideoLayersAllocation}
-use Rattle.rtp_values.specs.Values.{no_values}
-use Rattle.rtp_values.proofs.FieldLemmas.{SameFields-refl}
-use Rattle.rtp_vla.specs.Allocation.{Allocation, Means}
-use Rattle.rtp_values.specs.declared.value.values.ExtensionValues.{ExtensionValues}
-use Rattle.rtp_ext.specs.Elements.{Element}
-use Rattle.rtp_ext.specs.ExtensionMap.{Slots}
-use Rattle.rtp_ext.specs.BlockValues.{Carries, AreFields, SaysValues, last}
+use Rattle.rtp_ext.proofs.Common.{◌∷◌, ◌≡◌, ◌++◌, ◌∙◌, sym, refl, subst, ap, ℕ, List, [], Bor, Bool, true, false, Option, Some, None, is_some, IfSome, IsSomeAnd, false≢true, map-append, All-nil, YieldsList-from_first, YieldsList-end, VideoLayersAllocation, no_values, SameFields-refl, Allocation, Means, ExtensionValues, Element, Slots, Carries, AreFields, SaysValues, last}
 use Rattle.rtp_ext.proofs.KindsByIdLemmas.{AreFields-known}
 use Rattle.rtp_ext.proofs.ValuesLaws.{AreValues-none, AreFields-passed, AreFields-one}
 use Rattle.rtp_ext.proofs.LastAllocationLemmas.{kind-tested}

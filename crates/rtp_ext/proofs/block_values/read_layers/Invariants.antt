@@ -1,8 +1,4 @@
-use Rattle.std.proofs.Common.{◌≡◌, false, map, Option, is_some, IfSome}
-use Rattle.rtp_vla.specs.Allocation.{Allocation}
-use Rattle.rtp_values.specs.declared.kind.Extension.TheVariants.{VideoLayersAllocation}
-use Rattle.rtp_values.specs.Values.{no_values}
-use Rattle.rtp_ext.specs.BlockValues.{AreFields}
+use Rattle.rtp_ext.proofs.Common.{◌≡◌, false, map, Option, is_some, IfSome, Allocation, VideoLayersAllocation, no_values, AreFields}
 use Rattle.rtp_ext.proofs.block_values.read_layers.Given as goal
 
 -- the allocation is that of the elements that were passed, and where they have none what is there stays

@@ -1,7 +1,4 @@
-use Rattle.std.proofs.Common.{sym, subst, List, OnOk, OnErr}
-use Rattle.rtp_ext.specs.Elements.{Element, AreElements}
-use Rattle.rtp_ext.specs.Memory.{ReadUntilRefused}
-use Rattle.rtp_ext.specs.BlockValues.{ReadElements}
+use Rattle.rtp_ext.proofs.Common.{sym, subst, List, OnOk, OnErr, Element, AreElements, ReadUntilRefused, ReadElements}
 use Rattle.rtp_ext.proofs.block_values.read_values.Goals as goal
 
 pub returns-in-OneByte-clause-values : goal.returns-in-OneByte-clause-values

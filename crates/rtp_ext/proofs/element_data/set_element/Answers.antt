@@ -1,8 +1,4 @@
-use Rattle.std.proofs.Common.{◌≡◌, length, arith, refl, ap, subst}
-use Rattle.std.proofs.lemmas.Bool.{false≢true}
-use Rattle.rtp_values.specs.Values.{no_values}
-use Rattle.rtp_ext.specs.ElementsInPlace.{SetsLast}
-use Rattle.rtp_ext.specs.BlockValues.{AreValues}
+use Rattle.rtp_ext.proofs.Common.{◌≡◌, length, arith, refl, ap, subst, false≢true, no_values, SetsLast, AreValues}
 use Rattle.rtp_ext.proofs.LastPlaceLemmas.{AreElements-same, HasLast-place, HasLast-only, SetsLast-at}
 use Rattle.rtp_ext.proofs.SetValuesLemmas.{other_fields, said_fields}
 use Rattle.rtp_ext.proofs.element_data.set_element.Goals as goal

@@ -1,5 +1,4 @@
-use Rattle.std.proofs.Common.{arith, refl}
-use Rattle.std.proofs.lemmas.Bool.{false≢true}
+use Rattle.rtp_ext.proofs.Common.{arith, refl, false≢true}
 use Rattle.rtp_ext.proofs.LastPlaceLemmas.{SetsLast-at}
 use Rattle.rtp_ext.proofs.PutLemmas.{sole-absent, last_known, data_within, data_in_body, counted_once, sole_found, sole_set}
 use Rattle.rtp_ext.proofs.element_data.set_sole.Goals as goal

@@ -1,6 +1,4 @@
-use Rattle.std.proofs.Common.{◌≡◌, ℕ, List, [], ◌∷◌, length, slice_index_or, nat_eq, zero, suc, refl, arith, ap, sym, ◌∙◌, subst}
-use Rattle.std.specs.Bool.{OnTrue}
-use Rattle.std.proofs.lemmas.Bool.{ne_eqb}
+use Rattle.rtp_ext.proofs.Common.{◌≡◌, ℕ, List, [], ◌∷◌, length, slice_index_or, nat_eq, zero, suc, refl, arith, ap, sym, ◌∙◌, subst, OnTrue, ne_eqb}
 use Rattle.rtp_ext.specs.ElementReading.{without_padding}
 use Rattle.rtp_ext.proofs.ElementLemmas.{without_padding-none}
 use Rattle.rtp_ext.proofs.elements.ends_in_zeros.Goals as goal

@@ -1,5 +1,4 @@
-use Rattle.std.proofs.Common.{◌≡◌, length}
-use Rattle.rtp_ext.specs.ElementReading.{without_padding}
+use Rattle.rtp_ext.proofs.Common.{◌≡◌, length, without_padding}
 use Rattle.rtp_ext.proofs.elements.skip_zero_words.Given as goal
 
 -- what was passed is padding

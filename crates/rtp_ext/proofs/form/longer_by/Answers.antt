@@ -1,6 +1,4 @@
-use Rattle.std.proofs.Common.{ap, ◌∙◌, ◌+◌, length}
-use Rattle.rtp_ext.specs.declared.form.ExtensionsForm.TheVariants.{OneByte}
-use Rattle.rtp_ext.specs.Elements.{elements_bytes}
+use Rattle.rtp_ext.proofs.Common.{ap, ◌∙◌, ◌+◌, length, OneByte, elements_bytes}
 use Rattle.rtp_ext.proofs.ServingFormLemmas.{length-two}
 use Rattle.rtp_ext.proofs.form.longer_by.Goals as goal
 

@@ -1,5 +1,4 @@
-use Rattle.std.proofs.Common.{◌≡◌, ◌*◌, ◌∙◌, arith}
-use Rattle.rtp_base.proofs.OverwritingLemmas.{overwritten-set, overwritten-set_two}
+use Rattle.rtp_ext.proofs.Common.{◌≡◌, ◌*◌, ◌∙◌, arith, overwritten-set, overwritten-set_two}
 use Rattle.rtp_ext.proofs.FormLemmas.{rotated_id}
 use Rattle.rtp_ext.proofs.form.write_header.Goals as goal
 

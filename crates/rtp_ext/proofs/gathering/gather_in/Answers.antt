@@ -1,5 +1,4 @@
-use Rattle.std.proofs.Common.{◌≡◌, ◌-◌, drop, ◌∙◌}
-use lib.Seq.{paste}
+use Rattle.rtp_ext.proofs.Common.{◌≡◌, ◌-◌, drop, ◌∙◌, paste}
 use Rattle.rtp_ext.proofs.GatheredLemmas.{IsGatheredTo-start, IsGatheredTo-this, IsGatheredTo-other, IsGathered-end, start-same}
 use Rattle.rtp_ext.proofs.gathering.gather_in.Goals as goal
 use Rattle.rtp_ext.proofs.gathering.gather_in.Goals.{then-len-place, else-len-place}

@@ -1,5 +1,4 @@
-use Rattle.std.proofs.Common.{◌-◌, length}
-use Rattle.rtp_ext.specs.BodySurvey.{IsGatheredTo}
+use Rattle.rtp_ext.proofs.Common.{◌-◌, length, IsGatheredTo}
 use Rattle.rtp_ext.proofs.gathering.gather_in.Given as goal
 
 -- the elements up to the offset stand in a row

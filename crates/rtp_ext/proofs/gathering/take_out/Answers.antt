@@ -1,5 +1,4 @@
-use Rattle.std.proofs.Common.{◌∙◌}
-use Rattle.rtp_ext.specs.PutElement.{without}
+use Rattle.rtp_ext.proofs.Common.{◌∙◌, without}
 use Rattle.rtp_ext.proofs.AnewLemmas.{row_to-zeros}
 use Rattle.rtp_ext.proofs.gathering.take_out.Goals as goal
 

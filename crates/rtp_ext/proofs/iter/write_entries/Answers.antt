@@ -1,9 +1,5 @@
-use Rattle.std.proofs.Common.{[], ◌∷◌, ◌++◌, List, ℕ, refl, sym, ap, ◌∙◌, append_assoc, append-nil}
-use Rattle.std.specs.Prelude.{codes}
-use Rattle.std.specs.Fmt.{HasWritten}
+use Rattle.rtp_ext.proofs.Common.{[], ◌∷◌, ◌++◌, List, ℕ, refl, sym, ap, ◌∙◌, append_assoc, append-nil, codes, HasWritten, Extension, item_text, items_text}
 use Rattle.std.proofs.Output.{writes_in_calls_nil, has_written_append, has_written_of_eq}
-use Rattle.rtp_values.specs.declared.kind.Extension.{Extension}
-use Rattle.rtp_ext.specs.ExtensionMap.{item_text, items_text}
 use Rattle.rtp_ext.proofs.iter.write_entries.Goals as goal
 
 pub loop-id-init : goal.loop-id-init

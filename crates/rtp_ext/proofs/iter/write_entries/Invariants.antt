@@ -1,8 +1,6 @@
-use Rattle.std.proofs.Common.{◌≡◌, List, ℕ, [], ◌++◌}
+use Rattle.rtp_ext.proofs.Common.{◌≡◌, List, ℕ, [], ◌++◌, IsPlainFormatter, HasWritten, items_text}
 use denote.Text.{Utf8}
 use denote.Shadow.{shadow}
-use Rattle.std.specs.Fmt.{IsPlainFormatter, HasWritten}
-use Rattle.rtp_ext.specs.ExtensionMap.{items_text}
 use Rattle.rtp_ext.proofs.iter.write_entries.Given as goal
 
 -- what was written and the text of the entries that are left are the whole text

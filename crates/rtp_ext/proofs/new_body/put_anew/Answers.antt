@@ -1,10 +1,5 @@
-use Rattle.std.proofs.Common.{◌≡◌, ◌-◌, ◌≤◌, ℕ, List, length, take, replicate, arith, sym, ap, ◌∙◌, subst}
-use Rattle.rtp_ext.specs.declared.form.ExtensionsForm.{ExtensionsForm}
+use Rattle.rtp_ext.proofs.Common.{◌≡◌, ◌-◌, ◌≤◌, ℕ, List, length, take, replicate, arith, sym, ap, ◌∙◌, subst, ExtensionsForm, Element, AreElements, IsWritable, overwritten, put_element, carried_in, row_to}
 use Rattle.rtp_ext.proofs.SameFormLemmas.{same_form, other_form}
-use Rattle.rtp_ext.specs.Elements.{Element, AreElements}
-use Rattle.rtp_ext.specs.ElementsInARow.{IsWritable}
-use Rattle.rtp_base.specs.Overwriting.{overwritten}
-use Rattle.rtp_ext.specs.PutElement.{put_element, carried_in, row_to}
 use Rattle.rtp_ext.proofs.PutLengthLemmas.{row_to-read}
 use Rattle.rtp_ext.proofs.AroundLemmas.{IsSplit-surveyed}
 use Rattle.rtp_ext.proofs.AnewLemmas.{room_between, row_between, len_between, narrow_rows, wide_rows, forms_differ, row_to-zeros, IsRow, row_from}

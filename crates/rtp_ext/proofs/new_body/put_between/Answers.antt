@@ -1,7 +1,6 @@
-use Rattle.std.proofs.Common.{length, arith}
+use Rattle.rtp_ext.proofs.Common.{length, arith, element_bytes}
 use Rattle.rtp_ext.proofs.BetweenLemmas.{between_is}
 use Rattle.rtp_ext.proofs.WrittenBlockLemmas.{length-header}
-use Rattle.rtp_ext.specs.Elements.{element_bytes}
 use Rattle.rtp_ext.proofs.new_body.put_between.Goals as goal
 
 pub overflow_add-end : goal.overflow_add-end

@@ -1,7 +1,4 @@
-use Rattle.std.proofs.Common.{◌≡◌, ◌+◌, ◌*◌, ◌≤◌, List, length, arith, sym, ap, ◌∙◌, subst}
-use Rattle.rtp_ext.specs.declared.form.ExtensionsForm.{ExtensionsForm}
-use Rattle.rtp_ext.specs.Elements.{Element, AreElements, element_bytes, elements_bytes}
-use Rattle.rtp_ext.specs.PutElement.{put_element, carried_in, without}
+use Rattle.rtp_ext.proofs.Common.{◌≡◌, ◌+◌, ◌*◌, ◌≤◌, List, length, arith, sym, ap, ◌∙◌, subst, ExtensionsForm, Element, AreElements, element_bytes, elements_bytes, put_element, carried_in, without}
 use Rattle.rtp_ext.proofs.SameFormLemmas.{same_form, other_form}
 use Rattle.rtp_ext.proofs.PlaceLemmas.{length-element}
 use Rattle.rtp_ext.proofs.WrittenBlockLemmas.{length-header_bytes}

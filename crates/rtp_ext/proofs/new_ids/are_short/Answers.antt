@@ -1,9 +1,6 @@
-use Rattle.std.proofs.Common.{◌≡◌, ◌∙◌, ◌≤◌, ◌<◌, ◌%◌, ◌^◌, ap, refl, sym, ℕ, Bool, true, false, eqb, ltb, take, map, length, get_or, List, arith, w8}
-use Rattle.std.specs.Bool.{OnTrue}
+use Rattle.rtp_ext.proofs.Common.{◌≡◌, ◌∙◌, ◌≤◌, ◌<◌, ◌%◌, ◌^◌, ap, refl, sym, ℕ, Bool, true, false, eqb, ltb, take, map, length, get_or, List, arith, w8, OnTrue, eqb-true, ltb-false, length-take-le, length-map}
 use lib.Lanes.{mask_l}
 use lib.ListN.{replicate}
-use Rattle.std.proofs.lemmas.Bool.{eqb-true, ltb-false}
-use Rattle.std.proofs.lemmas.List.{length-take-le, length-map}
 use Rattle.std.proofs.lemmas.Simd.{tops_compared, zip2_splat_left, mask_l-mod, none_from_empty_mask}
 use Rattle.rtp_ext.proofs.new_ids.are_short.Goals as goal
 

@@ -1,6 +1,4 @@
-use Rattle.std.proofs.Common.{All, IsTrue, ◌↔◌, sym, subst}
-use Rattle.rtp_ext.specs.ElementsInPlace.{CanRenumber}
-use Rattle.rtp_ext.specs.NewIds.{new_id}
+use Rattle.rtp_ext.proofs.Common.{All, IsTrue, ◌↔◌, sym, subst, CanRenumber, new_id}
 use Rattle.rtp_ext.proofs.ElementLemmasOfBodies.{AreElements-only}
 use Rattle.rtp_ext.proofs.place.can_renumber.Goals as goal
 

@@ -1,5 +1,4 @@
-use Rattle.std.proofs.Common.{arith, refl}
-use Rattle.rtp_ext.specs.NewIds.{new_id}
+use Rattle.rtp_ext.proofs.Common.{arith, refl, new_id}
 use Rattle.rtp_ext.proofs.RenumberingLemmas.{all-can}
 use Rattle.rtp_ext.proofs.place.carries_new_ids.Goals as goal
 

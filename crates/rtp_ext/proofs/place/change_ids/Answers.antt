@@ -1,5 +1,4 @@
-use Rattle.std.proofs.Common.{sym, subst}
-use Rattle.rtp_ext.specs.IdChanges.{ids_of, HasOtherIds}
+use Rattle.rtp_ext.proofs.Common.{sym, subst, ids_of, HasOtherIds}
 use Rattle.rtp_ext.proofs.place.change_ids.Goals as goal
 
 pub returns-in-OneByte : goal.returns-in-OneByte

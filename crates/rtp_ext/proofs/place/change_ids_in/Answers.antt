@@ -1,6 +1,4 @@
-use Rattle.std.proofs.Common.{◌≡◌, ℕ, Bool, true, false, not, ◌||◌, Option, Some, None, is_some, is_none, arith, refl, sym, subst}
-use Rattle.std.proofs.lemmas.Bool.{false≢true}
-use Rattle.rtp_ext.specs.IdChanges.{ids_of, HasOtherIdsTo}
+use Rattle.rtp_ext.proofs.Common.{◌≡◌, ℕ, Bool, true, false, not, ◌||◌, Option, Some, None, is_some, is_none, arith, refl, sym, subst, false≢true, ids_of, HasOtherIdsTo}
 use Rattle.rtp_ext.proofs.PlaceLemmas.{LiesAt-next}
 use Rattle.rtp_ext.proofs.RenumberingLemmas.{HasOtherIdsTo-start, fits-next, HasOtherIdsTo-next, HasOtherIdsTo-end, lost-end}
 use Rattle.rtp_ext.proofs.place.change_ids_in.Goals as goal

@@ -1,5 +1,4 @@
-use Rattle.std.proofs.Common.{◌-◌, length}
-use Rattle.rtp_ext.specs.IdChanges.{ids_of, HasOtherIdsTo}
+use Rattle.rtp_ext.proofs.Common.{◌-◌, length, ids_of, HasOtherIdsTo}
 use Rattle.rtp_ext.proofs.place.change_ids_in.Given as goal
 
 -- the elements up to the offset have their new ids

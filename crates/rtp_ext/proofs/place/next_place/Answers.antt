@@ -1,5 +1,4 @@
-use Rattle.std.proofs.Common.{length, arith}
-use Rattle.std.proofs.lemmas.List.{take_rest}
+use Rattle.rtp_ext.proofs.Common.{length, arith, take_rest}
 use Rattle.rtp_ext.proofs.PlaceLemmas.{length-begins, length-header-some, IsNextPlace-begins}
 use Rattle.rtp_ext.proofs.place.next_place.Goals as goal
 

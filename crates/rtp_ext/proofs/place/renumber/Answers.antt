@@ -1,7 +1,4 @@
-use Rattle.std.proofs.Common.{All, true, false, IsTrue, ◌↔◌, refl, sym, subst}
-use Rattle.std.specs.List.{filter_map}
-use Rattle.rtp_ext.specs.ElementsInPlace.{CanRenumber, renumbered}
-use Rattle.rtp_ext.specs.NewIds.{new_id}
+use Rattle.rtp_ext.proofs.Common.{All, true, false, IsTrue, ◌↔◌, refl, sym, subst, filter_map, CanRenumber, renumbered, new_id}
 use Rattle.rtp_ext.proofs.ElementLemmasOfBodies.{AreElements-only}
 use Rattle.rtp_ext.proofs.RenumberingLemmas.{AreElements-renumbered, may-can}
 use Rattle.rtp_ext.proofs.RenumberedValuesLemmas.{AreValues-renumbered}

@@ -1,5 +1,4 @@
-use Rattle.std.proofs.Common.{◌≡◌, ◌-◌, length, arith, ◌∙◌}
-use Rattle.rtp_ext.specs.Elements.{element_bytes}
+use Rattle.rtp_ext.proofs.Common.{◌≡◌, ◌-◌, length, arith, ◌∙◌, element_bytes}
 use Rattle.rtp_ext.proofs.PlaceLemmas.{renumbered_at, zeros_at, length-lies}
 use Rattle.rtp_ext.proofs.place.write_id.Goals as goal
 

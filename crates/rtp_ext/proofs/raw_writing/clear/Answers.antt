@@ -1,5 +1,4 @@
-use Rattle.std.proofs.Common.{sym}
-use Rattle.rtp_base.proofs.OverwritingLemmas.{overwritten-nil}
+use Rattle.rtp_ext.proofs.Common.{sym, overwritten-nil}
 use Rattle.rtp_ext.proofs.raw_writing.clear.Goals as goal
 
 pub returns-in-0 : goal.returns-in-0

@@ -1,6 +1,4 @@
-use Rattle.std.proofs.Common.{◌≡◌, ◌-◌, ℕ, length, replicate, arith, sym, subst}
-use Rattle.rtp_base.specs.Overwriting.{overwritten}
-use Rattle.rtp_base.proofs.OverwritingLemmas.{overwritten-nil}
+use Rattle.rtp_ext.proofs.Common.{◌≡◌, ◌-◌, ℕ, length, replicate, arith, sym, subst, overwritten, overwritten-nil}
 use Rattle.rtp_ext.proofs.raw_writing.clear_after.Goals as goal
 
 pub returns-else-len-buf : goal.returns-else-len-buf

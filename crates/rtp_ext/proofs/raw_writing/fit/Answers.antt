@@ -1,6 +1,4 @@
-use Rattle.std.proofs.Common.{◌+◌, drop}
-use Rattle.std.proofs.lemmas.Bool.{false≢true}
-use Rattle.rtp_ext.specs.Elements.{Element}
+use Rattle.rtp_ext.proofs.Common.{◌+◌, drop, false≢true, Element}
 use Rattle.rtp_ext.proofs.RawWritingLemmas.{left-more, AreWritableIn-more, AreWritableIn-not}
 use Rattle.rtp_ext.proofs.raw_writing.fit.Goals as goal
 

@@ -1,5 +1,4 @@
-use Rattle.std.proofs.Common.{◌↔◌, drop}
-use Rattle.rtp_ext.specs.ElementsInARow.{AreWritableIn}
+use Rattle.rtp_ext.proofs.Common.{◌↔◌, drop, AreWritableIn}
 use Rattle.rtp_ext.proofs.raw_writing.fit.Given as goal
 
 -- the elements that are left fit what is left of the room exactly where all fit the room

@@ -1,6 +1,4 @@
-use Rattle.std.proofs.Common.{◌≡◌, ℕ, ◌+◌, ◌≤◌, List, [], ◌∷◌, length, slice_index_or, slice_set, arith, ap, ◌∙◌}
-use Rattle.rtp_base.specs.Overwriting.{overwritten}
-use Rattle.rtp_base.proofs.OverwritingLemmas.{length-overwritten, overwritten-overwritten, overwritten-set, overwritten-set_two}
+use Rattle.rtp_ext.proofs.Common.{◌≡◌, ℕ, ◌+◌, ◌≤◌, List, [], ◌∷◌, length, slice_index_or, slice_set, arith, ap, ◌∙◌, overwritten, length-overwritten, overwritten-overwritten, overwritten-set, overwritten-set_two}
 use Rattle.rtp_ext.proofs.raw_writing.put_data.Goals as goal
 
 one_put : (buf bytes : List ℕ) (at : ℕ) → length bytes ≡ 1 → at + length bytes ≤ length buf → slice_set buf at (slice_index_or bytes 0 0) ≡ overwritten buf at bytes

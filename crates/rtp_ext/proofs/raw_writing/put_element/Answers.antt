@@ -1,7 +1,4 @@
-use Rattle.std.proofs.Common.{arith, ap, ◌∙◌, ◌+◌, ℕ, List, length}
-use Rattle.rtp_base.specs.Overwriting.{overwritten}
-use Rattle.rtp_base.proofs.OverwritingLemmas.{overwritten-overwritten}
-use Rattle.rtp_ext.specs.ElementWriting.{element_header}
+use Rattle.rtp_ext.proofs.Common.{arith, ap, ◌∙◌, ◌+◌, ℕ, List, length, overwritten, overwritten-overwritten, element_header}
 use Rattle.rtp_ext.proofs.WrittenBlockLemmas.{length-header, header-append}
 use Rattle.rtp_ext.proofs.raw_writing.put_element.Goals as goal
 

@@ -1,6 +1,4 @@
-use Rattle.std.proofs.Common.{◌≡◌, ◌+◌, ◌++◌, length, drop, arith}
-use Rattle.std.proofs.lemmas.List.{drop_all}
-use Rattle.rtp_ext.specs.Elements.{Element, elements_bytes}
+use Rattle.rtp_ext.proofs.Common.{◌≡◌, ◌+◌, ◌++◌, length, drop, arith, drop_all, Element, elements_bytes}
 use Rattle.rtp_ext.proofs.RawWritingLemmas.{left-more, AreUnderWay-room, AreUnderWay-step, AreUnderWay-end, AreWritableIn-read}
 use Rattle.rtp_ext.proofs.raw_writing.put_elements.Goals as goal
 

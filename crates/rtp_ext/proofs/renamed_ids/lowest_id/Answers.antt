@@ -1,7 +1,4 @@
-use Rattle.std.proofs.Common.{refl, ◌≡◌, sym, ap}
-use denote.Enum.Bare.{same_true, same_false}
-use Rattle.rtp_values.specs.contracts.known_kind.KnownKind.{the_type}
-use Rattle.rtp_values.specs.KnownKind.{extension_of_kind}
+use Rattle.rtp_ext.proofs.Common.{refl, ◌≡◌, sym, ap, same_true, same_false, the_type, extension_of_kind}
 use Rattle.rtp_ext.proofs.RenamedIdLemmas.{same_kind, AreLeft-start, AreLeft-next, IsLowest-left, IsUnmapped-left, IsLowest-known, IsUnmapped-known}
 use Rattle.rtp_ext.proofs.renamed_ids.lowest_id.Goals as goal
 

@@ -1,6 +1,4 @@
-use Rattle.std.proofs.Common.{length}
-use Rattle.rtp_values.specs.KnownKind.{extension_of_kind}
-use Rattle.rtp_ext.specs.KindsById.{known_slots}
+use Rattle.rtp_ext.proofs.Common.{length, extension_of_kind, known_slots}
 use Rattle.rtp_ext.proofs.RenamedIdLemmas.{AreLeft}
 use Rattle.rtp_ext.proofs.renamed_ids.lowest_id.Given as goal
 

@@ -1,7 +1,4 @@
-use Rattle.std.proofs.Common.{ℕ, subst, rules, Some}
-use Rattle.std.specs.Prelude.{◌⊎◌, ◌≡◌}
-use Rattle.rtp_values.specs.KnownKind.{extension_of_kind}
-use Rattle.rtp_ext.specs.ExtensionMap.{Slots, IsLowest, IsUnmapped, extension_at}
+use Rattle.rtp_ext.proofs.Common.{ℕ, subst, rules, Some, ◌⊎◌, ◌≡◌, extension_of_kind, Slots, IsLowest, IsUnmapped, extension_at}
 use Rattle.rtp_ext.proofs.RenamedIdLemmas.{AreRenamedIds-put, AreRenamedIds-same}
 use Rattle.rtp_ext.proofs.renamed_ids.renamed_ids.Goals as goal
 

@@ -1,6 +1,4 @@
-use Rattle.std.proofs.Common.{ap, sym, ◌∙◌}
-use Rattle.std.proofs.lemmas.Bool.{false≢true}
-use Rattle.rtp_ext.specs.ExtensionMap.{extension_of}
+use Rattle.rtp_ext.proofs.Common.{ap, sym, ◌∙◌, false≢true, extension_of}
 use Rattle.rtp_ext.proofs.CopiedLemmas.{IsCopiedBut-start, IsCopiedBut-entry, IsCopiedBut-next, IsCopiedBut-end}
 use Rattle.rtp_ext.proofs.slots.copy.Goals as goal
 

@@ -1,6 +1,4 @@
-use Rattle.std.proofs.Common.{ap, sym, ◌∙◌, ◌-◌, arith}
-use Rattle.std.specs.Option.{option_copied}
-use Rattle.rtp_ext.specs.ExtensionMap.{extension_of}
+use Rattle.rtp_ext.proofs.Common.{ap, sym, ◌∙◌, ◌-◌, arith, option_copied, extension_of}
 use Rattle.rtp_ext.proofs.MapLemmas.{entry_at-mapped}
 use Rattle.rtp_ext.proofs.slots.extension_of_mapped.Goals as goal
 

@@ -1,5 +1,4 @@
-use Rattle.std.proofs.Common.{ℕ, None, subst}
-use Rattle.rtp_ext.specs.BodySurvey.{IsSurveyedTo}
+use Rattle.rtp_ext.proofs.Common.{ℕ, None, subst, IsSurveyedTo}
 use Rattle.rtp_ext.proofs.SurveyLemmas.{IsSurveyedTo-start, IsSurvey-end}
 use Rattle.rtp_ext.proofs.LeftLemmas.{none_passed, IsLeft-all}
 use Rattle.rtp_ext.proofs.survey.survey_in.Goals as goal

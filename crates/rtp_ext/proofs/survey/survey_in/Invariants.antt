@@ -1,6 +1,4 @@
-use Rattle.std.proofs.Common.{◌-◌, length}
-use Rattle.rtp_ext.specs.ElementPlaces.{IsLeft}
-use Rattle.rtp_ext.specs.BodySurvey.{IsSurveyedTo}
+use Rattle.rtp_ext.proofs.Common.{◌-◌, length, IsLeft, IsSurveyedTo}
 use Rattle.rtp_ext.proofs.survey.survey_in.Given as goal
 
 -- what is known of the elements up to the bytes that are left

@@ -1,9 +1,4 @@
-use Rattle.std.proofs.Common.{◌≡◌, ◌+◌, ◌-◌, ◌≤◌, ◌∷◌, ◌++◌, length, take, arith}
-use borrow.Rule.Slice.PartMut.{put_mid}
-use Rattle.rtp_ext.specs.declared.form.ExtensionsForm.TheVariants.{TwoByte}
-use Rattle.rtp_ext.specs.Elements.{elements_bytes}
-use Rattle.rtp_ext.specs.BodySurvey.{HasNarrowRows}
-use Rattle.rtp_ext.specs.PutElement.{without}
+use Rattle.rtp_ext.proofs.Common.{◌≡◌, ◌+◌, ◌-◌, ◌≤◌, ◌∷◌, ◌++◌, length, take, arith, put_mid, TwoByte, elements_bytes, HasNarrowRows, without}
 use Rattle.rtp_ext.proofs.WidenAroundLemmas.{first_wide, element_fits, next_within, second_wide, all_wide}
 use Rattle.rtp_ext.proofs.two_byte_rows.put_widened.Goals as goal
 use Rattle.rtp_ext.proofs.two_byte_rows.put_widened.Goals.{After-put_element-at, After-widen}

@@ -1,5 +1,4 @@
-use Rattle.std.proofs.Common.{◌-◌, length}
-use Rattle.rtp_ext.specs.BodySurvey.{IsWidenedTo}
+use Rattle.rtp_ext.proofs.Common.{◌-◌, length, IsWidenedTo}
 use Rattle.rtp_ext.proofs.two_byte_rows.widen_row.Given as goal
 
 -- the elements up to the offset stand at the front in the two-byte form

@@ -1,5 +1,4 @@
-use Rattle.std.proofs.Common.{◌-◌, length}
-use Rattle.rtp_ext.specs.BodySurvey.{IsWidthTo}
+use Rattle.rtp_ext.proofs.Common.{◌-◌, length, IsWidthTo}
 use Rattle.rtp_ext.proofs.two_byte_rows.widened_len.Given as goal
 
 -- the length of the elements up to the offset

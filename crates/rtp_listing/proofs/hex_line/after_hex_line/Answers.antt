@@ -1,8 +1,5 @@
-use Rattle.std.proofs.Common.{ℕ, List, subst, arith}
-use Rattle.std.specs.Prelude.{Option, Some, None, IfNone}
-use Rattle.std.proofs.lemmas.List.{take_rest}
+use Rattle.rtp_listing.proofs.Common.{ℕ, List, subst, arith, Option, Some, None, IfNone, take_rest, IsNotHexFirst, IsLineEnd}
 use Rattle.std.proofs.lemmas.Option.{IfSome_then}
-use Rattle.rtp_listing.specs.Front.{IsNotHexFirst, IsLineEnd}
 use Rattle.rtp_listing.proofs.FirstLineLemmas.{AreDigitsFirst, hex_first, not_hex_first}
 use Rattle.rtp_listing.proofs.hex_line.after_hex_line.Goals as goal
 use Rattle.rtp_listing.proofs.hex_line.after_hex_line.Goals.{After-digits_at_front-digits}

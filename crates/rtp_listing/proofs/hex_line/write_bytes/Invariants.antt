@@ -1,5 +1,4 @@
-use Rattle.std.proofs.Common.{◌≡◌, ◌*◌, take, drop}
-use Rattle.hex.specs.Hex.{decode_pairs}
+use Rattle.rtp_listing.proofs.Common.{◌≡◌, ◌*◌, take, drop, decode_pairs}
 use Rattle.hex.proofs.Pairs.{prepend}
 use Rattle.rtp_listing.proofs.hex_line.write_bytes.Given as goal
 

@@ -1,7 +1,4 @@
-use Rattle.std.proofs.Common.{◌≡◌, List, ℕ, sym, ap, subst, get_or, ◌∙◌}
-use Rattle.std.specs.Prelude.{Option, Some, None, IfNone}
-use Rattle.rtp_listing.specs.MapLine.{IsMapLine}
-use Rattle.rtp_listing.specs.Front.{MapsNoneFirst}
+use Rattle.rtp_listing.proofs.Common.{◌≡◌, List, ℕ, sym, ap, subst, get_or, ◌∙◌, Option, Some, None, IfNone, IsMapLine, MapsNoneFirst}
 use Rattle.rtp_listing.proofs.input.first_map_line.Goals as goal
 
 -- a fact that holds, where there is nothing

@@ -1,5 +1,4 @@
-use Rattle.std.proofs.Common.{length}
-use Rattle.rtp_listing.specs.Front.{IsFront}
+use Rattle.rtp_listing.proofs.Common.{length, IsFront}
 use Rattle.rtp_listing.proofs.input.map_lines.Given as goal
 
 -- the map lines so far are in the map

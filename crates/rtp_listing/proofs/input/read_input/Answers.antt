@@ -1,8 +1,4 @@
-use Rattle.std.proofs.Common.{◌≡◌, subst, sym}
-use Rattle.std.specs.Str.Lines.{lines}
-use Rattle.rtp_listing.specs.Input.{Spells}
-use Rattle.rtp_listing.specs.Front.{IsFirstNotHex}
-use Rattle.rtp_ext.specs.ExtensionMap.{Slots}
+use Rattle.rtp_listing.proofs.Common.{◌≡◌, subst, sym, lines, Spells, IsFirstNotHex, Slots}
 use Rattle.rtp_listing.proofs.ReadLemmas.{IsFirstBadLine-after, Spells-standard, Spells-mapped}
 use Rattle.rtp_listing.proofs.input.read_input.Goals as goal
 use Rattle.rtp_listing.proofs.input.read_input.Goals.{then-count-eq0, else-count-eq0}

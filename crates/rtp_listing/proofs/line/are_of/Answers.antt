@@ -1,6 +1,4 @@
-use Rattle.std.proofs.Common.{arith}
-use Rattle.std.proofs.lemmas.List.Elements.{All-from_get_or}
-use Rattle.rtp_listing.specs.Front.{IsOf}
+use Rattle.rtp_listing.proofs.Common.{arith, All-from_get_or, IsOf}
 use Rattle.rtp_listing.proofs.LineLemmas.{SoFar-none, SoFar-more}
 use Rattle.rtp_listing.proofs.line.are_of.Goals as goal
 

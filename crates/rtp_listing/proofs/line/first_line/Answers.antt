@@ -1,5 +1,4 @@
-use Rattle.std.proofs.Common.{◌+◌}
-use Rattle.std.proofs.lemmas.List.{take_rest}
+use Rattle.rtp_listing.proofs.Common.{◌+◌, take_rest}
 use Rattle.rtp_listing.proofs.LineLemmas.{lines-feed, lines-last}
 use Rattle.rtp_listing.proofs.line.first_line.Goals as goal
 

@@ -1,6 +1,4 @@
-use Rattle.std.proofs.Common.{◌≡◌, ℕ, ◌+◌, ◌-◌, take, drop, subst, arith, length-drop}
-use Rattle.std.specs.List.{All}
-use Rattle.rtp_listing.specs.Front.{IsOf}
+use Rattle.rtp_listing.proofs.Common.{◌≡◌, ℕ, ◌+◌, ◌-◌, take, drop, subst, arith, length-drop, All, IsOf}
 use Rattle.rtp_listing.proofs.LineLemmas.{all_more}
 use Rattle.rtp_listing.proofs.line.front_of.Goals as goal
 

@@ -1,5 +1,4 @@
-use Rattle.std.proofs.Common.{ℕ, ◌<◌, ◌≤◌, ◌-◌, length, get_or}
-use Rattle.rtp_listing.specs.Front.{IsOf}
+use Rattle.rtp_listing.proofs.Common.{ℕ, ◌<◌, ◌≤◌, ◌-◌, length, get_or, IsOf}
 use Rattle.rtp_listing.proofs.line.front_of.Given as goal
 
 -- the front so far is of the class

@@ -1,6 +1,4 @@
-use Rattle.std.proofs.Common.{take, codes}
-use Rattle.std.specs.Fmt.{decimal}
-use Rattle.std.specs.Prelude.{◌++◌}
+use Rattle.rtp_listing.proofs.Common.{take, codes, decimal, ◌++◌}
 use Rattle.rtp_listing.proofs.TextLemmas.{joined}
 use Rattle.rtp_listing.proofs.listing.put_header_line.Goals as goal
 

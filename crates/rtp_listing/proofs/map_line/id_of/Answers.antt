@@ -1,5 +1,4 @@
-use Rattle.std.proofs.Common.{arith}
-use Rattle.std.proofs.lemmas.Grind.{common_steps}
+use Rattle.rtp_listing.proofs.Common.{arith, common_steps}
 use Rattle.rtp_listing.proofs.MapLineLemmas.{All-digits, IsUtf8-digits, not_text}
 use Rattle.rtp_listing.proofs.map_line.id_of.Goals as goal
 

@@ -1,7 +1,4 @@
-use Rattle.std.proofs.Common.{◌≡◌, ◌≤◌, ℕ, List, subst, ap, sym, length, ◌∙◌, arith}
-use Rattle.std.proofs.lemmas.Grind.{common_steps}
-use Rattle.std.specs.Str.{IsUtf8}
-use Rattle.rtp_listing.specs.MapLine.{IsIdText}
+use Rattle.rtp_listing.proofs.Common.{◌≡◌, ◌≤◌, ℕ, List, subst, ap, sym, length, ◌∙◌, arith, common_steps, IsUtf8, IsIdText}
 use Rattle.rtp_listing.proofs.MapLineLemmas.{after_word, no_space, not_text, text_is}
 use Rattle.rtp_listing.proofs.map_line.map_line.Goals as goal
 

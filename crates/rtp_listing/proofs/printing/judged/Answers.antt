@@ -1,9 +1,6 @@
-use Rattle.std.proofs.Common.{ℕ, ◌/◌, List, length, take, refl, ap, subst, ◌∙◌}
+use Rattle.rtp_listing.proofs.Common.{ℕ, ◌/◌, List, length, take, refl, ap, subst, ◌∙◌, packet_id_of, IsHeader, read_header}
 use Rattle.hex.proofs.HexLemmas.{decode_of-same}
-use Rattle.rtp_wire.specs.PacketIds.{packet_id_of}
 use Rattle.rtp_receive.proofs.SourceLemmas.{HoldsEach-after}
-use Rattle.rtp_listing.specs.Output.{IsHeader}
-use Rattle.rtp_listing.specs.Stopping.{read_header}
 use Rattle.rtp_listing.proofs.PrintLemmas.{IsHeader-read}
 use Rattle.rtp_listing.proofs.printing.judged.Goals as goal
 use Rattle.rtp_listing.proofs.printing.judged.Goals.{then-found+in_ok-verdict, else-found}

@@ -1,13 +1,5 @@
-use Rattle.std.proofs.Common.{◌≡◌, ◌+◌, [], ◌++◌, take, Option, refl, sym, ap, ◌∙◌, arith, append-nil}
-use Rattle.std.proofs.lemmas.List.{nil_from_length}
-use Rattle.std.proofs.lemmas.Bool.{eqb-true}
-use Rattle.std.proofs.KnownBytes.{Appends-nil, Appends-kept}
-use Rattle.rtp_wire.specs.declared.header.rtp_header.RtpHeader.{RtpHeader}
-use Rattle.rtp_listing.specs.declared.program.RunEnd.TheVariants.{NoMemory, Io}
-use Rattle.rtp_listing.specs.Output.{Prints, packet_lines}
-use Rattle.rtp_listing.specs.Stopping.{IsPartialListing, read_header}
+use Rattle.rtp_listing.proofs.Common.{◌≡◌, ◌+◌, [], ◌++◌, take, Option, refl, sym, ap, ◌∙◌, arith, append-nil, nil_from_length, eqb-true, Appends-nil, Appends-kept, RtpHeader, NoMemory, Io, Prints, packet_lines, IsPartialListing, read_header, option_copied}
 use Rattle.rtp_listing.proofs.PrintLemmas.{Prints-all, Prints-written, Prints-cut, Prints-nothing, handed_on, shown_is}
-use Rattle.std.specs.Option.{option_copied}
 use Rattle.rtp_listing.proofs.PrintingLemmas.{Printing-none, IsOk-next, Printing-more, Printing-written, all_done}
 use Rattle.rtp_listing.proofs.printing.print_all.Goals as goal
 

@@ -1,6 +1,4 @@
-use Rattle.std.proofs.Common.{◌≡◌, ℕ, ◌-◌, List, ◌++◌, length, take, drop, sym, ap, ◌∙◌, append_assoc, take-append-drop, Bor}
-use Rattle.std.proofs.lemmas.List.{take_rest}
-use Rattle.std.proofs.KnownBytes.{Appends-trans, Appends-kept}
+use Rattle.rtp_listing.proofs.Common.{◌≡◌, ℕ, ◌-◌, List, ◌++◌, length, take, drop, sym, ap, ◌∙◌, append_assoc, take-append-drop, Bor, take_rest, Appends-trans, Appends-kept}
 use Rattle.rtp_listing.proofs.printing.write_text.Goals as goal
 use Rattle.rtp_listing.proofs.printing.write_text.Goals.{in-Ok, in-Err}
 

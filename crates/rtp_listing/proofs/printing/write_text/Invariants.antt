@@ -1,5 +1,4 @@
-use Rattle.std.proofs.Common.{◌≡◌, ℕ, List, ◌++◌}
-use Rattle.std.specs.Io.KnownBytes.{Appends}
+use Rattle.rtp_listing.proofs.Common.{◌≡◌, ℕ, List, ◌++◌, Appends}
 use Rattle.rtp_listing.proofs.printing.write_text.Given as goal
 
 -- what is gone from the rest is written

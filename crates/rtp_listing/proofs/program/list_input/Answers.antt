@@ -1,6 +1,4 @@
-use Rattle.std.proofs.Common.{◌≡◌, inl, inr, subst, rules}
-use Rattle.std.specs.Prelude.{IfErr, ◌⊎◌}
-use Rattle.rtp_listing.specs.declared.program.RunEnd.TheVariants.{NoMemory, Io}
+use Rattle.rtp_listing.proofs.Common.{◌≡◌, inl, inr, subst, rules, IfErr, ◌⊎◌, NoMemory, Io}
 use Rattle.rtp_listing.proofs.PrintLemmas.{handed_on}
 use Rattle.rtp_listing.proofs.RunLemmas.{for_known, Prints-none, Prints-unread}
 use Rattle.rtp_listing.proofs.program.list_input.Goals as goal

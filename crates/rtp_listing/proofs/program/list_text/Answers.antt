@@ -1,6 +1,4 @@
-use Rattle.std.proofs.Common.{refl, sym, ◌∙◌}
-use Rattle.rtp_listing.specs.declared.program.RunEnd.TheVariants.{NoMemory, Io}
-use Rattle.rtp_listing.specs.Output.{of_bad_line}
+use Rattle.rtp_listing.proofs.Common.{refl, sym, ◌∙◌, NoMemory, Io, of_bad_line}
 use Rattle.rtp_listing.proofs.PrintLemmas.{handed_on}
 use Rattle.rtp_listing.proofs.RunLemmas.{on_err, Prints-none, IsOutputOf-listed, IsLeft-stopped}
 use Rattle.rtp_listing.proofs.program.list_text.Goals as goal

@@ -1,9 +1,4 @@
-use Rattle.std.proofs.Common.{◌≡◌, ℕ, List, Option, subst}
-use Rattle.std.specs.Prelude.{IfSome}
-use Rattle.rtp_listing.specs.declared.program.RunEnd.{RunEnd}
-use Rattle.rtp_listing.specs.declared.program.RunEnd.TheVariants.{Done, BadLine, NoMemory, Io}
-use Rattle.rtp_listing.specs.Output.{Prints}
-use Rattle.rtp_listing.specs.Stopping.{IsLeft}
+use Rattle.rtp_listing.proofs.Common.{◌≡◌, ℕ, List, Option, subst, IfSome, RunEnd, Done, BadLine, NoMemory, Io, Prints, IsLeft}
 use Rattle.rtp_listing.proofs.ReadLemmas.{input_has_none, bad_is_none}
 use Rattle.rtp_listing.proofs.RunLemmas.{on_known, Prints-want, Prints-part_of_want, IsInput-printed, HasBadLine-printed}
 use Rattle.rtp_listing.proofs.program.run.Goals as goal

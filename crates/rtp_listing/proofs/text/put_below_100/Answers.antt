@@ -1,5 +1,4 @@
-use Rattle.std.proofs.Common.{List, ℕ, ◌++◌, take, ap, sym, ◌∙◌}
-use Rattle.std.proofs.lemmas.Fmt.{decimal_digit}
+use Rattle.rtp_listing.proofs.Common.{List, ℕ, ◌++◌, take, ap, sym, ◌∙◌, decimal_digit}
 use Rattle.rtp_listing.proofs.TextLemmas.{decimal_two}
 use Rattle.rtp_listing.proofs.text.put_below_100.Goals as goal
 

@@ -1,6 +1,4 @@
-use Rattle.std.proofs.Common.{◌≡◌, ℕ, List, ◌+◌, ◌-◌, ◌*◌, ◌++◌, length, take, drop, ap, sym, ◌∙◌, arith}
-use Rattle.rtp_listing.specs.Digits.{two_digits}
-use Rattle.rtp_listing.specs.declared.text.TheConstants.{TWO_DIGITS}
+use Rattle.rtp_listing.proofs.Common.{◌≡◌, ℕ, List, ◌+◌, ◌-◌, ◌*◌, ◌++◌, length, take, drop, ap, sym, ◌∙◌, arith, two_digits, TWO_DIGITS}
 use Rattle.rtp_listing.proofs.TextLemmas.{two_at}
 use Rattle.rtp_listing.proofs.text.put_two.Goals as goal
 

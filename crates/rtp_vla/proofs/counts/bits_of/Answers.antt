@@ -1,5 +1,4 @@
-use Rattle.std.proofs.Common.{arith}
-use Rattle.std.proofs.lemmas.List.{get_or_past}
+use Rattle.rtp_vla.proofs.Common.{arith, get_or_past}
 use Rattle.rtp_vla.proofs.CountsLemmas.{counts_in-bytes}
 use Rattle.rtp_vla.proofs.counts.bits_of.Goals as goal
 

@@ -1,6 +1,4 @@
-use Rattle.std.proofs.Common.{◌≡◌, ◌++◌, ℕ, ap, drop, length, sym, ◌∙◌, arith, ⊎_elim}
-use Rattle.rtp_vla.specs.Leb.{shortest_of}
-use Rattle.rtp_base.proofs.OverwritingLemmas.{overwritten-front}
+use Rattle.rtp_vla.proofs.Common.{◌≡◌, ◌++◌, ℕ, ap, drop, length, sym, ◌∙◌, arith, ⊎_elim, shortest_of, overwritten-front}
 use Rattle.rtp_vla.proofs.LebSpellingLemmas.{IsShortest-shortest_of, length-shortest_of}
 use Rattle.rtp_vla.proofs.leb.encode_leb_u63.Goals as goal
 

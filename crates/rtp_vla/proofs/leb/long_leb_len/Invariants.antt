@@ -1,5 +1,4 @@
-use Rattle.std.proofs.Common.{◌≡◌, ◌+◌, ◌-◌, ◌^◌, ◌<◌, ◌≤◌, length}
-use Rattle.rtp_vla.specs.Leb.{leb_of, shortest_of}
+use Rattle.rtp_vla.proofs.Common.{◌≡◌, ◌+◌, ◌-◌, ◌^◌, ◌<◌, ◌≤◌, length, leb_of, shortest_of}
 use Rattle.rtp_vla.proofs.leb.long_leb_len.Given as goal
 
 -- the bytes so far and those of what is left are all of them

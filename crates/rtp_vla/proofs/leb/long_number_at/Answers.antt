@@ -1,6 +1,5 @@
-use Rattle.std.proofs.Common.{arith, ◌∙◌}
+use Rattle.rtp_vla.proofs.Common.{arith, ◌∙◌, ap, sym, ◌*◌, ℕ}
 use Rattle.std.proofs.lemmas.Grind.{pow_more}
-use Rattle.std.proofs.Common.{ap, sym, ◌*◌, ℕ}
 use Rattle.rtp_vla.proofs.LebLemmas.{read_low, read_ninth, read_more, read_none, weight_fits, value_below}
 use Rattle.rtp_vla.proofs.leb.long_number_at.Goals as goal
 

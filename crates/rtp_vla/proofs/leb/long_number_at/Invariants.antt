@@ -1,5 +1,4 @@
-use Rattle.std.proofs.Common.{◌≡◌, ◌-◌, ◌^◌, ◌<◌, ◌≤◌, drop}
-use Rattle.rtp_vla.specs.LebReading.{leb_number, weighed}
+use Rattle.rtp_vla.proofs.Common.{◌≡◌, ◌-◌, ◌^◌, ◌<◌, ◌≤◌, drop, leb_number, weighed}
 use Rattle.rtp_vla.proofs.leb.long_number_at.Given as goal
 
 -- the bytes that were passed gave the value so far, and the rest gives what it weighs

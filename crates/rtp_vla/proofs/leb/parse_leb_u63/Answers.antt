@@ -1,6 +1,4 @@
-use Rattle.std.proofs.Common.{◌≡◌, sym, ◌∙◌, None}
-use Rattle.std.proofs.lemmas.List.{take_rest}
-use Rattle.rtp_vla.specs.LebReading.{leb_number}
+use Rattle.rtp_vla.proofs.Common.{◌≡◌, sym, ◌∙◌, None, take_rest, leb_number}
 use Rattle.rtp_vla.proofs.LebLemmas.{ReadsLeb-value, ReadsLeb-first, empty_read, reads_only, only_first, read_below}
 use Rattle.rtp_vla.proofs.leb.parse_leb_u63.Goals as goal
 use Rattle.rtp_vla.proofs.leb.parse_leb_u63.Goals.{in-Some+else-first-lt128+in_default-number_at, in_default}

@@ -1,5 +1,4 @@
-use Rattle.std.proofs.Common.{◌%◌, ◌+◌, ap, length, arith}
-use Rattle.std.proofs.lemmas.List.{length-set}
+use Rattle.rtp_vla.proofs.Common.{◌%◌, ◌+◌, ap, length, arith, length-set}
 use Rattle.rtp_vla.proofs.LebSpellingLemmas.{shortest-one, shortest-two, put_one, put_two}
 use Rattle.rtp_vla.proofs.leb.put_leb.Goals as goal
 

@@ -1,6 +1,4 @@
-use Rattle.std.proofs.Common.{◌+◌, ◌-◌, ◌^◌, ◌<◌, ◌≤◌}
-use Rattle.rtp_vla.specs.Leb.{leb_of, shortest_of}
-use Rattle.rtp_vla.specs.Leaving.{Leaves}
+use Rattle.rtp_vla.proofs.Common.{◌+◌, ◌-◌, ◌^◌, ◌<◌, ◌≤◌, leb_of, shortest_of, Leaves}
 use Rattle.rtp_vla.proofs.leb.put_long_leb.Given as goal
 
 -- what is left is put after the bytes so far

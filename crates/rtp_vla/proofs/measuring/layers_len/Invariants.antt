@@ -1,6 +1,4 @@
-use Rattle.std.proofs.Common.{◌≡◌, ◌≤◌, ◌+◌, ◌*◌, length}
-use Rattle.std.specs.List.{list_all, flat_map}
-use Rattle.rtp_vla.specs.AllocationWritten.{rates_fit, resolutions_in_front, rate_bytes, resolution_bytes}
+use Rattle.rtp_vla.proofs.Common.{◌≡◌, ◌≤◌, ◌+◌, ◌*◌, length, list_all, flat_map, rates_fit, resolutions_in_front, rate_bytes, resolution_bytes}
 use Rattle.rtp_vla.proofs.measuring.layers_len.Given as goal
 
 -- whether all fit is what the layers that are left say, and their bytes come after those so far

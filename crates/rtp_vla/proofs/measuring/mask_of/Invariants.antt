@@ -1,7 +1,4 @@
-use Rattle.std.proofs.Common.{◌≡◌, ◌≤◌, ◌++◌, drop, length, true}
-use Rattle.std.specs.List.{list_all}
-use Rattle.rtp_vla.specs.Allocation.{mask_of}
-use Rattle.rtp_vla.specs.AllocationWritten.{bare_or_active}
+use Rattle.rtp_vla.proofs.Common.{◌≡◌, ◌≤◌, ◌++◌, drop, length, true, list_all, mask_of, bare_or_active}
 use Rattle.rtp_vla.proofs.measuring.mask_of.Given as goal
 
 -- the mask of the layers that were taken, which fit

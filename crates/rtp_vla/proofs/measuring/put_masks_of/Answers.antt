@@ -1,10 +1,4 @@
-use Rattle.std.proofs.Common.{◌≡◌, ◌<◌, ◌∙◌, ◌++◌, ◌∷◌, [], map, take, length, ap, sym, false, true, arith, refl, length-drop, ◌≤◌}
-use Rattle.std.specs.List.{list_all}
-use Rattle.std.proofs.lemmas.Bool.{false≢true}
-use Rattle.std.proofs.lemmas.List.{take_more_set, map-append, take_all}
-use Rattle.std.proofs.lemmas.Option.{slice_get_within}
-use Rattle.rtp_vla.specs.Allocation.{mask_of}
-use Rattle.rtp_vla.specs.AllocationWritten.{stream_fits}
+use Rattle.rtp_vla.proofs.Common.{◌≡◌, ◌<◌, ◌∙◌, ◌++◌, ◌∷◌, [], map, take, length, ap, sym, false, true, arith, refl, length-drop, ◌≤◌, list_all, false≢true, take_more_set, map-append, take_all, slice_get_within, mask_of, stream_fits}
 use Rattle.rtp_vla.proofs.LentLemmas.{front_at, take_with, list_all-with, list_all-up_to}
 use Rattle.rtp_vla.proofs.measuring.put_masks_of.Goals as goal
 

@@ -1,7 +1,4 @@
-use Rattle.std.proofs.Common.{◌≡◌, ◌≤◌, take, drop, length, map, true}
-use Rattle.std.specs.List.{list_all}
-use Rattle.rtp_vla.specs.Allocation.{mask_of}
-use Rattle.rtp_vla.specs.AllocationWritten.{stream_fits}
+use Rattle.rtp_vla.proofs.Common.{◌≡◌, ◌≤◌, take, drop, length, map, true, list_all, mask_of, stream_fits}
 use Rattle.rtp_vla.proofs.measuring.put_masks_of.Given as goal
 
 -- the masks so far, of streams that fit

@@ -1,8 +1,4 @@
-use Rattle.std.proofs.Common.{◌≡◌, ◌<◌, ◌∙◌, ap, length, arith, get_or, ltb, ℕ}
-use Rattle.std.proofs.lemmas.Bool.{and_from, lt-ltb}
-use Rattle.std.proofs.lemmas.List.{get_or_read}
-use Rattle.std.proofs.lemmas.List.Folds.{list_all_more}
-use Rattle.rtp_vla.specs.Leb.{shortest_of}
+use Rattle.rtp_vla.proofs.Common.{◌≡◌, ◌<◌, ◌∙◌, ap, length, arith, get_or, ltb, ℕ, and_from, lt-ltb, get_or_read, list_all_more, shortest_of}
 use Rattle.rtp_vla.proofs.LebSpellingLemmas.{length-shortest_of}
 use Rattle.rtp_vla.proofs.AllocationWritingLemmas.{length-flat_map-more}
 use Rattle.rtp_vla.proofs.measuring.rates_len.Goals as goal

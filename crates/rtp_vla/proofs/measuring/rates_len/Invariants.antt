@@ -1,6 +1,4 @@
-use Rattle.std.proofs.Common.{◌≡◌, ◌≤◌, ◌*◌, take, length, true, nat_lt}
-use Rattle.std.specs.List.{list_all, flat_map}
-use Rattle.rtp_vla.specs.Leb.{shortest_of}
+use Rattle.rtp_vla.proofs.Common.{◌≡◌, ◌≤◌, ◌*◌, take, length, true, nat_lt, list_all, flat_map, shortest_of}
 use Rattle.rtp_vla.proofs.measuring.rates_len.Given as goal
 
 -- the rates so far fit, and these are their bytes

@@ -1,8 +1,4 @@
-use Rattle.std.proofs.Common.{◌≡◌, ◌∙◌, true, length, ap, arith, List, ◌<◌, ◌≤◌, ◌+◌, subst, map, ℕ}
-use Rattle.std.specs.List.{list_all}
-use Rattle.std.proofs.lemmas.Bool.{OnTrue_at}
-use Rattle.std.proofs.lemmas.List.{take_at, length-map}
-use Rattle.rtp_vla.specs.Allocation.{Stream, Allocation, active_layers, mask_of}
+use Rattle.rtp_vla.proofs.Common.{◌≡◌, ◌∙◌, true, length, ap, arith, List, ◌<◌, ◌≤◌, ◌+◌, subst, map, ℕ, list_all, OnTrue_at, take_at, length-map, Stream, Allocation, active_layers, mask_of}
 use Rattle.rtp_vla.specs.AllocationWritten.{stream_fits, mask_bytes, can_be_written, written_of}
 use Rattle.rtp_vla.proofs.AllocationWritingLemmas.{length-active, measured}
 use Rattle.rtp_vla.proofs.measuring.writable_len.Goals as goal

@@ -1,9 +1,5 @@
-use Rattle.std.proofs.Common.{refl, ◌≡◌, ◌↔◌, ◌∷◌, [], ℕ, List, take, IsTrue, Option, Some, None, IfSome, IfNone, ⊎_elim, inl, inr, arith}
-use Rattle.std.proofs.lemmas.Bool.{false≢true}
-use Rattle.std.specs.Option.{is_some}
+use Rattle.rtp_vla.proofs.Common.{refl, ◌≡◌, ◌↔◌, ◌∷◌, [], ℕ, List, take, IsTrue, Option, Some, None, IfSome, IfNone, ⊎_elim, inl, inr, arith, false≢true, is_some, Allocation, Means, nothing_sent, IsLaidOut, IsCutShort}
 use Rattle.rtp_vla.specs.declared.parsing.Layout.{Layout}
-use Rattle.rtp_vla.specs.Allocation.{Allocation, Means, nothing_sent}
-use Rattle.rtp_vla.specs.AllocationReading.{IsLaidOut, IsCutShort}
 use Rattle.rtp_vla.proofs.AllocationParts.{AreBytes, AreBytes-from}
 use Rattle.rtp_vla.proofs.AllocationMeaning.{laid_out_from, packed_from}
 use Rattle.rtp_vla.proofs.parsing.is_allocation.Goals as goal

@@ -1,6 +1,4 @@
-use Rattle.std.proofs.Common.{◌∙◌, sym, subst, ap, arith, List, ⊎_elim, inr, Some}
-use Rattle.std.proofs.lemmas.Bool.{false≢true}
-use Rattle.rtp_vla.specs.Allocation.{Allocation, Stream, IsPacked}
+use Rattle.rtp_vla.proofs.Common.{◌∙◌, sym, subst, ap, arith, List, ⊎_elim, inr, Some, false≢true, Allocation, Stream, IsPacked}
 use Rattle.rtp_vla.proofs.AllocationParts.{AreBytes, AreBytes-from}
 use Rattle.rtp_vla.proofs.AllocationLayout.{laid_out_layers, laid_out_long}
 use Rattle.rtp_vla.proofs.AllocationMeaning.{laid_out_from, packed_from, packed_only, one_meaning}

@@ -1,6 +1,4 @@
-use Rattle.std.proofs.Common.{◌≡◌, ◌<◌, ◌+◌, ◌/◌, ◌++◌, ◌∷◌, [], ℕ, length, take, ap, sym, ◌∙◌, arith, subst}
-use Rattle.std.proofs.lemmas.List.{take_more, take_more_set, take_all, take-append-drop, length-take-le}
-use Rattle.rtp_vla.specs.AllocationReading.{halves}
+use Rattle.rtp_vla.proofs.Common.{◌≡◌, ◌<◌, ◌+◌, ◌/◌, ◌++◌, ◌∷◌, [], ℕ, length, take, ap, sym, ◌∙◌, arith, subst, take_more, take_more_set, take_all, take-append-drop, length-take-le, halves}
 use Rattle.rtp_vla.proofs.AllocationReadingLemmas.{length-halves}
 use Rattle.rtp_vla.proofs.AllocationParts.{AreBytes, AreBytes-from, AreBytes-parts, HasMasks-halves}
 use Rattle.rtp_vla.proofs.parsing.read_halves.Goals as goal

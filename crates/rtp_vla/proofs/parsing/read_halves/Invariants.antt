@@ -1,5 +1,4 @@
-use Rattle.std.proofs.Common.{◌≡◌, take}
-use Rattle.rtp_vla.specs.AllocationReading.{halves}
+use Rattle.rtp_vla.proofs.Common.{◌≡◌, take, halves}
 use Rattle.rtp_vla.proofs.parsing.read_halves.Given as goal
 
 -- the masks so far are read

@@ -1,5 +1,4 @@
-use Rattle.std.proofs.Common.{sym, subst, arith, ⊎_elim, inr, refl}
-use Rattle.std.proofs.lemmas.Bool.{false≢true}
+use Rattle.rtp_vla.proofs.Common.{sym, subst, arith, ⊎_elim, inr, refl, false≢true}
 use Rattle.rtp_vla.proofs.AllocationParts.{AreBytes, AreBytes-from}
 use Rattle.rtp_vla.proofs.AllocationLayout.{laid_out_layers}
 use Rattle.rtp_vla.proofs.AllocationMeaning.{laid_out_from, packed_from, packed_only}

@@ -1,5 +1,4 @@
-use Rattle.std.proofs.Common.{◌≡◌, ◌*◌, ◌≤◌, take}
-use Rattle.rtp_vla.specs.AllocationReading.{active_count}
+use Rattle.rtp_vla.proofs.Common.{◌≡◌, ◌*◌, ◌≤◌, take, active_count}
 use Rattle.rtp_vla.proofs.parts.active_count.Given as goal
 
 -- the layers of the masks so far, at most four each

@@ -1,5 +1,4 @@
-use Rattle.std.proofs.Common.{◌≡◌, ◌-◌}
-use Rattle.rtp_vla.specs.AllocationReading.{after_rates}
+use Rattle.rtp_vla.proofs.Common.{◌≡◌, ◌-◌, after_rates}
 use Rattle.rtp_vla.proofs.parts.after_rates.Given as goal
 
 -- what follows the rates that are left follows all of them

@@ -1,5 +1,4 @@
-use Rattle.std.proofs.Common.{◌≤◌, length, refl, arith}
-use Rattle.std.proofs.lemmas.Bool.{false≢true}
+use Rattle.rtp_vla.proofs.Common.{◌≤◌, length, refl, arith, false≢true}
 use Rattle.rtp_vla.proofs.AllocationReadingLemmas.{FitResolutions-short, fits_first, fits_left}
 use Rattle.rtp_vla.proofs.parts.resolutions_fit.Goals as goal
 

@@ -1,5 +1,4 @@
-use Rattle.std.proofs.Common.{◌-◌, ◌↔◌}
-use Rattle.rtp_vla.specs.AllocationReading.{FitResolutions}
+use Rattle.rtp_vla.proofs.Common.{◌-◌, ◌↔◌, FitResolutions}
 use Rattle.rtp_vla.proofs.parts.resolutions_fit.Given as goal
 
 -- those so far fit

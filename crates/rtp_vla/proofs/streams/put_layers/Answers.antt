@@ -1,6 +1,4 @@
-use Rattle.std.proofs.Common.{◌∙◌, ◌++◌, ◌∷◌, ◌==◌, ◌%◌, [], List, refl, arith, subst, sym}
-use Rattle.rtp_vla.specs.Allocation.{Layer}
-use Rattle.rtp_vla.specs.AllocationReading.{Deals, and_stream}
+use Rattle.rtp_vla.proofs.Common.{◌∙◌, ◌++◌, ◌∷◌, ◌==◌, ◌%◌, [], List, refl, arith, subst, sym, Layer, Deals, and_stream}
 use Rattle.rtp_vla.proofs.AllocationReadingLemmas.{active_next, few_marks, length-marks_of-more, deals_more, deals_all}
 use Rattle.rtp_vla.proofs.streams.put_layers.Goals as goal
 

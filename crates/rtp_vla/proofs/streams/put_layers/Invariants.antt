@@ -1,6 +1,4 @@
-use Rattle.std.proofs.Common.{◌≡◌, ◌≤◌, List, [], drop, length}
-use Rattle.rtp_vla.specs.Allocation.{Allocation, Layer}
-use Rattle.rtp_vla.specs.AllocationReading.{DealsOn, and_stream, dealt, marks_of, active_in}
+use Rattle.rtp_vla.proofs.Common.{◌≡◌, ◌≤◌, List, [], drop, length, Allocation, Layer, DealsOn, and_stream, dealt, marks_of, active_in}
 use Rattle.rtp_vla.proofs.streams.put_layers.Given as goal
 
 -- the layers so far stand in the last stream, and with those of the marks that are left they are all of them

@@ -1,6 +1,4 @@
-use Rattle.std.proofs.Common.{◌++◌, ◌∷◌, ℕ, List, [], arith, ap, get_or, length}
-use Rattle.std.proofs.lemmas.List.{drop_more, length-drop}
-use Rattle.rtp_vla.specs.AllocationReading.{dealt, marks_of, active_in, active_count}
+use Rattle.rtp_vla.proofs.Common.{◌++◌, ◌∷◌, ℕ, List, [], arith, ap, get_or, length, drop_more, length-drop, dealt, marks_of, active_in, active_count}
 use Rattle.rtp_vla.proofs.SettingLemmas.{streams_more, shown_more}
 use Rattle.rtp_vla.proofs.streams.put_streams.Goals as goal
 

@@ -1,6 +1,4 @@
-use Rattle.std.proofs.Common.{◌≡◌, ◌≤◌, ◌++◌, List, drop, length}
-use Rattle.rtp_vla.specs.Allocation.{Allocation, Stream}
-use Rattle.rtp_vla.specs.AllocationReading.{dealt_streams, active_count}
+use Rattle.rtp_vla.proofs.Common.{◌≡◌, ◌≤◌, ◌++◌, List, drop, length, Allocation, Stream, dealt_streams, active_count}
 use Rattle.rtp_vla.proofs.streams.put_streams.Given as goal
 
 -- the streams so far stand after the others, and with those of the masks that are left they are all of them

@@ -1,5 +1,4 @@
-use Rattle.std.proofs.Common.{◌≤◌, ◌+◌, drop, length, vec_len, vec_capacity}
-use Rattle.rtp_vla.specs.AllocationReading.{DealsOn, dealt, marks_of, active_in}
+use Rattle.rtp_vla.proofs.Common.{◌≤◌, ◌+◌, drop, length, vec_len, vec_capacity, DealsOn, dealt, marks_of, active_in}
 use Rattle.rtp_vla.proofs.streams.stream_of.Given as goal
 
 -- the layers so far and those of the marks that are left are all of them

@@ -1,5 +1,4 @@
-use Rattle.std.proofs.Common.{◌≡◌, ◌≤◌, ◌++◌, drop, length, vec_len, vec_capacity}
-use Rattle.rtp_vla.specs.AllocationReading.{dealt_streams, active_count}
+use Rattle.rtp_vla.proofs.Common.{◌≡◌, ◌≤◌, ◌++◌, drop, length, vec_len, vec_capacity, dealt_streams, active_count}
 use Rattle.rtp_vla.proofs.streams.streams_of.Given as goal
 
 -- the streams so far and those of the masks that are left are all of them

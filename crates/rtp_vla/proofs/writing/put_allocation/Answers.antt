@@ -1,7 +1,4 @@
-use Rattle.std.proofs.Common.{◌≡◌, ◌≤◌, ◌<◌, ◌++◌, ◌∷◌, [], ◌∙◌, ap, sym, subst, arith, length, drop, List, ℕ}
-use Rattle.rtp_vla.specs.Allocation.{Allocation}
-use Rattle.rtp_vla.specs.AllocationWritten.{written_of, packed_bytes}
-use Rattle.rtp_base.proofs.OverwritingLemmas.{overwritten-front}
+use Rattle.rtp_vla.proofs.Common.{◌≡◌, ◌≤◌, ◌<◌, ◌++◌, ◌∷◌, [], ◌∙◌, ap, sym, subst, arith, length, drop, List, ℕ, Allocation, written_of, packed_bytes, overwritten-front}
 use Rattle.rtp_vla.proofs.AllocationWriting.{written-none, written-some}
 use Rattle.rtp_vla.proofs.writing.put_allocation.Goals as goal
 use Rattle.rtp_vla.proofs.writing.put_allocation.Goals.{Then-len-eq0, Else-len-eq0}

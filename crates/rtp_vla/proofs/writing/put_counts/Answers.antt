@@ -1,6 +1,4 @@
-use Rattle.std.proofs.Common.{◌≡◌, [], ap, List, length, arith, map}
-use Rattle.rtp_vla.specs.Allocation.{Layer, count_of}
-use Rattle.rtp_vla.specs.AllocationWritten.{quarters_of}
+use Rattle.rtp_vla.proofs.Common.{◌≡◌, [], ap, List, length, arith, map, Layer, count_of, quarters_of}
 use Rattle.rtp_vla.proofs.LeavingLemmas.{Leaves-byte, Leaves-end}
 use Rattle.rtp_vla.proofs.AllocationWritingLemmas.{quarters_more}
 use Rattle.rtp_vla.proofs.writing.put_counts.Goals as goal

@@ -1,8 +1,4 @@
-use Rattle.std.proofs.Common.{map, length}
-use Rattle.std.specs.List.{AllByRecursion}
-use Rattle.rtp_vla.specs.Allocation.{count_of, IsCounted}
-use Rattle.rtp_vla.specs.AllocationWritten.{quarters_of}
-use Rattle.rtp_vla.specs.Leaving.{Leaves}
+use Rattle.rtp_vla.proofs.Common.{map, length, AllByRecursion, count_of, IsCounted, quarters_of, Leaves}
 use Rattle.rtp_vla.proofs.writing.put_counts.Given as goal
 
 -- what is left is put after the bytes so far

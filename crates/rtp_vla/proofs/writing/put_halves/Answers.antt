@@ -1,6 +1,4 @@
-use Rattle.std.proofs.Common.{◌≡◌, length, sym, arith}
-use Rattle.std.proofs.lemmas.List.{nil_from_length}
-use Rattle.rtp_base.proofs.OverwritingLemmas.{overwritten-nil}
+use Rattle.rtp_vla.proofs.Common.{◌≡◌, length, sym, arith, nil_from_length, overwritten-nil}
 use Rattle.rtp_vla.proofs.AllocationWritingLemmas.{halves_two, halves_three, halves_four, length-halves_of}
 use Rattle.rtp_vla.proofs.writing.put_halves.Goals as goal
 

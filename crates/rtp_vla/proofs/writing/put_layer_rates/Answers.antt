@@ -1,7 +1,4 @@
-use Rattle.std.proofs.Common.{◌≡◌, ◌++◌, ◌∙◌, ap, drop, get_or, ℕ, ◌+◌, [], sym}
-use Rattle.std.specs.List.{flat_map}
-use Rattle.std.proofs.lemmas.List.{drop_more, drop_all, get_or_read}
-use Rattle.rtp_vla.specs.Leb.{shortest_of}
+use Rattle.rtp_vla.proofs.Common.{◌≡◌, ◌++◌, ◌∙◌, ap, drop, get_or, ℕ, ◌+◌, [], sym, flat_map, drop_more, drop_all, get_or_read, shortest_of}
 use Rattle.rtp_vla.proofs.LeavingLemmas.{Leaves-part, Leaves-end}
 use Rattle.rtp_vla.proofs.writing.put_layer_rates.Goals as goal
 

@@ -1,7 +1,4 @@
-use Rattle.std.proofs.Common.{drop}
-use Rattle.std.specs.List.{flat_map}
-use Rattle.rtp_vla.specs.Leb.{shortest_of}
-use Rattle.rtp_vla.specs.Leaving.{Leaves}
+use Rattle.rtp_vla.proofs.Common.{drop, flat_map, shortest_of, Leaves}
 use Rattle.rtp_vla.proofs.writing.put_layer_rates.Given as goal
 
 -- what is left is put after the bytes so far

@@ -1,5 +1,4 @@
-use Rattle.std.proofs.Common.{sym, ◌∙◌}
-use Rattle.rtp_base.proofs.OverwritingLemmas.{overwritten-nil}
+use Rattle.rtp_vla.proofs.Common.{sym, ◌∙◌, overwritten-nil}
 use Rattle.rtp_vla.proofs.AllocationWritingLemmas.{mask_bytes-none}
 use Rattle.rtp_vla.proofs.writing.put_masks.Goals as goal
 

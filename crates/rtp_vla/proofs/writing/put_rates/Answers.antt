@@ -1,8 +1,4 @@
-use Rattle.std.proofs.Common.{◌≡◌, ◌++◌, [], ◌∙◌, ap, List, ℕ, ◌+◌, length}
-use Rattle.std.specs.List.{flat_map}
-use Rattle.rtp_vla.specs.AllocationWritten.{rate_bytes}
-use Rattle.rtp_vla.specs.Leb.{shortest_of}
-use Rattle.rtp_base.specs.Overwriting.{overwritten}
+use Rattle.rtp_vla.proofs.Common.{◌≡◌, ◌++◌, [], ◌∙◌, ap, List, ℕ, ◌+◌, length, flat_map, rate_bytes, shortest_of, overwritten}
 use Rattle.rtp_vla.proofs.LeavingLemmas.{Leaves-part, Leaves-end}
 use Rattle.rtp_vla.proofs.AllocationWritingLemmas.{AllByRecursion-tail}
 use Rattle.rtp_vla.proofs.writing.put_rates.Goals as goal

@@ -1,8 +1,4 @@
-use Rattle.std.proofs.Common.{length}
-use Rattle.std.specs.List.{AllByRecursion, flat_map}
-use Rattle.rtp_vla.specs.AllocationWritten.{rate_bytes}
-use Rattle.rtp_vla.specs.AllocationPutting.{HasSmallRates}
-use Rattle.rtp_vla.specs.Leaving.{Leaves}
+use Rattle.rtp_vla.proofs.Common.{length, AllByRecursion, flat_map, rate_bytes, HasSmallRates, Leaves}
 use Rattle.rtp_vla.proofs.writing.put_rates.Given as goal
 
 -- what is left is put after the bytes so far

@@ -1,5 +1,4 @@
-use Rattle.std.proofs.Common.{sym}
-use Rattle.rtp_base.proofs.OverwritingLemmas.{overwritten-nil}
+use Rattle.rtp_vla.proofs.Common.{sym, overwritten-nil}
 use Rattle.rtp_vla.proofs.writing.put_resolution.Goals as goal
 
 pub returns-in_default-clause-written : goal.returns-in_default-clause-written

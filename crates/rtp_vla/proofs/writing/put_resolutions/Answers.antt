@@ -1,10 +1,5 @@
-use Rattle.std.proofs.Common.{◌≡◌, ◌++◌, [], ◌∙◌, ap, sym, List, ℕ, ◌+◌, length}
-use Rattle.std.specs.List.{flat_map}
-use Rattle.std.specs.Option.{is_none}
-use Rattle.rtp_vla.specs.Allocation.{Layer}
+use Rattle.rtp_vla.proofs.Common.{◌≡◌, ◌++◌, [], ◌∙◌, ap, sym, List, ℕ, ◌+◌, length, flat_map, is_none, Layer, resolution_bytes, resolution_field, overwritten}
 use Rattle.rtp_vla.proofs.AllocationWriting.{front_more, none_left, none_by_test}
-use Rattle.rtp_vla.specs.AllocationWritten.{resolution_bytes, resolution_field}
-use Rattle.rtp_base.specs.Overwriting.{overwritten}
 use Rattle.rtp_vla.proofs.LeavingLemmas.{Leaves-part, Leaves-end}
 use Rattle.rtp_vla.proofs.AllocationWritingLemmas.{AllByRecursion-tail}
 use Rattle.rtp_vla.proofs.writing.put_resolutions.Goals as goal

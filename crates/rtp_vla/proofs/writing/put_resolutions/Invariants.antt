@@ -1,8 +1,4 @@
-use Rattle.std.proofs.Common.{◌≡◌, length, true, false}
-use Rattle.std.specs.List.{AllByRecursion, flat_map}
-use Rattle.rtp_vla.specs.AllocationWritten.{resolution_bytes, resolutions_in_front}
-use Rattle.rtp_vla.specs.AllocationPutting.{HasSizedResolution}
-use Rattle.rtp_vla.specs.Leaving.{Leaves}
+use Rattle.rtp_vla.proofs.Common.{◌≡◌, length, true, false, AllByRecursion, flat_map, resolution_bytes, resolutions_in_front, HasSizedResolution, Leaves}
 use Rattle.rtp_vla.proofs.writing.put_resolutions.Given as goal
 
 -- what is left is put after the bytes so far

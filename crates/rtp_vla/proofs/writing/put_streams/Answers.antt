@@ -1,13 +1,6 @@
-use Rattle.std.proofs.Common.{◌≡◌, ◌≤◌, ◌+◌, ◌-◌, ◌*◌, ◌∷◌, [], ◌∙◌, ap, sym, subst, arith, length, map, List, ℕ, true, false}
-use Rattle.std.specs.List.{AllByRecursion, flat_map}
-use Rattle.std.proofs.lemmas.Bool.{OnTrue_at}
-use Rattle.rtp_vla.specs.Allocation.{Layer, IsCounted, active_layers, mask_of, count_of}
-use Rattle.rtp_vla.specs.AllocationPutting.{HasSmallRates, HasSizedResolution}
-use Rattle.rtp_vla.specs.AllocationWritten.{shared_of, mask_bytes, quarters_of, rate_bytes, resolution_bytes, resolutions_in_front, packed_bytes}
-use Rattle.rtp_base.specs.Overwriting.{overwritten}
+use Rattle.rtp_vla.proofs.Common.{◌≡◌, ◌≤◌, ◌+◌, ◌-◌, ◌*◌, ◌∷◌, [], ◌∙◌, ap, sym, subst, arith, length, map, List, ℕ, true, false, AllByRecursion, flat_map, OnTrue_at, Layer, IsCounted, active_layers, mask_of, count_of, HasSmallRates, HasSizedResolution, shared_of, mask_bytes, quarters_of, rate_bytes, resolution_bytes, resolutions_in_front, packed_bytes, overwritten, length-map}
 use Rattle.rtp_vla.proofs.AllocationWriting.{can_put}
 use Rattle.rtp_vla.proofs.AllocationWritingLemmas.{length-packed_bytes, length-quarters_of}
-use Rattle.std.proofs.lemmas.List.{length-map}
 use Rattle.rtp_vla.proofs.LeavingLemmas.{overwritten-five}
 use Rattle.rtp_vla.proofs.writing.put_streams.Goals as goal
 use Rattle.rtp_vla.proofs.writing.put_streams.Goals.{After-slice_known-7-1}

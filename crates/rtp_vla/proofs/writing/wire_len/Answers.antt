@@ -1,5 +1,4 @@
-use Rattle.std.proofs.Common.{◌∙◌, length}
-use Rattle.rtp_vla.specs.AllocationWritten.{written_of}
+use Rattle.rtp_vla.proofs.Common.{◌∙◌, length, written_of}
 use Rattle.rtp_vla.proofs.AllocationWriting.{some_value}
 use Rattle.rtp_vla.proofs.writing.wire_len.Goals as goal
 

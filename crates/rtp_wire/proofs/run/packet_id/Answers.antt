@@ -1,5 +1,4 @@
-use Rattle.std.proofs.Common.{rules, arith}
-use Rattle.rtp_wire.specs.PartsOf.{parts_of}
+use Rattle.rtp_wire.proofs.Common.{rules, arith, parts_of}
 use Rattle.rtp_wire.proofs.NoHeaderLemmas.{header_there}
 use Rattle.rtp_wire.proofs.PacketIdLemmas.{IsPacketId-packet, IsPacketId-none}
 use Rattle.rtp_wire.proofs.run.packet_id.Goals as goal

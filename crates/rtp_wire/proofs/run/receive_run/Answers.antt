@@ -1,14 +1,5 @@
-use Rattle.std.proofs.Common.{◌≡◌, ℕ, ◌+◌, List, [], ◌∷◌, ◌++◌, map, length, get_or, sym, ap, ◌∙◌, subst, arith}
-use Rattle.std.specs.Prelude.{Option}
-use Rattle.std.specs.Global.{Vec}
-use Rattle.std.proofs.lemmas.List.{get_or-map, length-map, length_push}
-use Rattle.rtp_receive.specs.declared.receiver.Verdict.{Verdict}
-use Rattle.rtp_receive.specs.Verdicts.{PacketId}
-use Rattle.rtp_wire.specs.PacketIds.{packet_id_in, IsPacketId}
-use Rattle.rtp_receive.specs.Sources.{at_source, taken_of}
-use Rattle.rtp_receive.proofs.VerdictLemmas.{TakesOnce-run}
+use Rattle.rtp_wire.proofs.Common.{◌≡◌, ℕ, ◌+◌, List, [], ◌∷◌, ◌++◌, map, length, get_or, sym, ap, ◌∙◌, subst, arith, Option, Vec, get_or-map, length-map, length_push, Verdict, PacketId, packet_id_in, IsPacketId, at_source, taken_of, TakesOnce-run, SoFarEach, SoFarEach-none, SoFarEach-more, AllZip-at_source}
 use Rattle.rtp_wire.proofs.SendingLemmas.{AreTrueVerdicts-sent}
-use Rattle.rtp_receive.proofs.SourceLemmas.{SoFarEach, SoFarEach-none, SoFarEach-more, AllZip-at_source}
 use Rattle.rtp_wire.proofs.RunLemmas.{ReadSoFar-none, ReadSoFar-more, ReadSoFar-all, AreTrueVerdicts-of, AreVerdictsBySource-read, AreVerdicts-each, AreTrueVerdicts-sent_each}
 use Rattle.rtp_wire.proofs.run.receive_run.Goals as goal
 

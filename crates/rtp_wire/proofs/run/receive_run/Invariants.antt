@@ -1,5 +1,4 @@
-use Rattle.std.proofs.Common.{◌≡◌, length, map, take, vec_capacity}
-use Rattle.rtp_receive.proofs.SourceLemmas.{SoFarEach}
+use Rattle.rtp_wire.proofs.Common.{◌≡◌, length, map, take, vec_capacity, SoFarEach}
 use Rattle.rtp_wire.proofs.RunLemmas.{ReadSoFar}
 use Rattle.rtp_wire.proofs.run.receive_run.Given as goal
 

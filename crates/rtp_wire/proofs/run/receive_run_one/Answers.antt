@@ -1,12 +1,5 @@
-use Rattle.std.proofs.Common.{◌≡◌, ℕ, ◌+◌, List, [], ◌∷◌, ◌++◌, map, length, get_or, refl, sym, ap, ◌∙◌, subst, arith}
-use Rattle.std.specs.Prelude.{Option}
-use Rattle.std.specs.Global.{Vec}
-use Rattle.std.proofs.lemmas.List.{get_or-map, length-map, length_push}
-use Rattle.rtp_receive.specs.declared.receiver.Verdict.{Verdict}
+use Rattle.rtp_wire.proofs.Common.{◌≡◌, ℕ, ◌+◌, List, [], ◌∷◌, ◌++◌, map, length, get_or, refl, sym, ap, ◌∙◌, subst, arith, Option, Vec, get_or-map, length-map, length_push, Verdict, PacketId, taken_by, SoFar, SoFar-none, SoFar-more, TakesOnce-run, packet_id_in, IsPacketId}
 use Rattle.rtp_receive.specs.Receiver.{Holds, IsNothing}
-use Rattle.rtp_receive.specs.Verdicts.{PacketId, taken_by}
-use Rattle.rtp_receive.proofs.VerdictLemmas.{SoFar, SoFar-none, SoFar-more, TakesOnce-run}
-use Rattle.rtp_wire.specs.PacketIds.{packet_id_in, IsPacketId}
 use Rattle.rtp_wire.proofs.RunLemmas.{ReadSoFar-none, ReadSoFar-more, ReadSoFar-all, AreVerdicts-read, AreTrueVerdicts-of}
 use Rattle.rtp_wire.proofs.SendingLemmas.{AreTrueVerdicts-sent}
 use Rattle.rtp_wire.proofs.run.receive_run_one.Goals as goal

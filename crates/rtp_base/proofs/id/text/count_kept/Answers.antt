@@ -1,7 +1,5 @@
-use Rattle.std.proofs.Common.{◌≡◌, ◌∙◌, ap, ℕ, not, eqb, take, length, arith, w8}
+use Rattle.rtp_base.proofs.Common.{◌≡◌, ◌∙◌, ap, ℕ, not, eqb, take, length, arith, w8, count_by, length-take-le, take_all}
 use lib.Count.{ones}
-use Rattle.std.specs.List.{count_by}
-use Rattle.std.proofs.lemmas.List.{length-take-le, take_all}
 use Rattle.std.proofs.lemmas.Simd.{bitmask_splat, ones-mask_l}
 use Rattle.rtp_base.proofs.id.text.count_kept.Goals as goal
 

@@ -1,7 +1,4 @@
-use Rattle.std.proofs.Common.{◌≡◌, ℕ, ◌<◌, map, get_or, refl, ap, ◌∙◌, arith}
-use Rattle.std.specs.List.{range_with_len}
-use Rattle.std.proofs.lemmas.List.FromFn.{get_or-map-range_with_len}
-use Rattle.rtp_base.specs.Id.{id_char}
+use Rattle.rtp_base.proofs.Common.{◌≡◌, ℕ, ◌<◌, map, get_or, refl, ap, ◌∙◌, arith, range_with_len, get_or-map-range_with_len, id_char}
 use Rattle.rtp_base.specs.declared.id.text.TheConstants.{KEPT}
 use Rattle.rtp_base.proofs.id.text.id_byte.Goals as goal
 

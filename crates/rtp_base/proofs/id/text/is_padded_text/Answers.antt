@@ -1,6 +1,4 @@
-use Rattle.std.proofs.Common.{◌≡◌, sym, subst}
-use Rattle.std.specs.List.{All}
-use Rattle.rtp_base.specs.Id.{IsIdByte}
+use Rattle.rtp_base.proofs.Common.{◌≡◌, sym, subst, All, IsIdByte}
 use Rattle.rtp_base.proofs.IdLemmas.{IsIdArray-from_parts, parts_of}
 use Rattle.rtp_base.proofs.id.text.is_padded_text.Goals as goal
 

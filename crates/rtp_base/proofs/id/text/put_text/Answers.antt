@@ -1,5 +1,4 @@
-use Rattle.std.proofs.Common.{arith, ℕ, inl, inr, ap, ◌∙◌}
-use Rattle.rtp_base.specs.Id.{id_text}
+use Rattle.rtp_base.proofs.Common.{arith, ℕ, inl, inr, ap, ◌∙◌, id_text}
 use Rattle.rtp_base.proofs.IdTextLemmas.{KeptSoFar-all}
 use Rattle.rtp_base.proofs.id.text.put_text.Goals as goal
 

@@ -1,6 +1,4 @@
-use Rattle.std.proofs.Common.{arith, sym}
-use Rattle.std.proofs.lemmas.Bool.{ne_eqb, eq-eqb}
-use Rattle.std.proofs.lemmas.List.Sums.{position_or_len_is}
+use Rattle.rtp_base.proofs.Common.{arith, sym, ne_eqb, eq-eqb, position_or_len_is}
 use Rattle.rtp_base.proofs.IdLemmas.{is_space}
 use Rattle.rtp_base.proofs.id.text.text_len.Goals as goal
 

@@ -1,6 +1,4 @@
-use Rattle.std.proofs.Common.{subst}
-use Rattle.rtp_base.specs.Window.{Numbers, WindowState, Keeps}
-use Rattle.rtp_base.specs.Bitmap.{bits_of}
+use Rattle.rtp_base.proofs.Common.{subst, Numbers, WindowState, Keeps, bits_of}
 use Rattle.rtp_base.proofs.WindowLemmas.{Keeps-shown}
 use Rattle.rtp_base.proofs.seq_no_window.SeqNoWindow.max_seq.Goals as goal
 

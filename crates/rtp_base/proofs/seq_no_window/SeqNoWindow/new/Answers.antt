@@ -1,6 +1,4 @@
-use Rattle.std.proofs.Common.{ℕ, subst, arith}
-use Rattle.rtp_base.specs.Window.{only, Keeps}
-use Rattle.rtp_base.specs.Bitmap.{bits_of}
+use Rattle.rtp_base.proofs.Common.{ℕ, subst, arith, only, Keeps, bits_of}
 use Rattle.rtp_base.proofs.BitmapLemmas.{one-first, one-others}
 use Rattle.rtp_base.proofs.WindowLemmas.{Keeps-only}
 use Rattle.rtp_base.proofs.seq_no_window.SeqNoWindow.new.Goals as goal

@@ -1,6 +1,4 @@
-use Rattle.std.proofs.Common.{ℕ, ◌-◌, ◌^◌, arith, subst}
-use Rattle.rtp_base.specs.Window.{up_to, Keeps}
-use Rattle.rtp_base.specs.Bitmap.{bits_of}
+use Rattle.rtp_base.proofs.Common.{ℕ, ◌-◌, ◌^◌, arith, subst, up_to, Keeps, bits_of}
 use Rattle.rtp_base.proofs.BitmapLemmas.{ones-at}
 use Rattle.rtp_base.proofs.WindowLemmas.{Keeps-up_to}
 use Rattle.rtp_base.proofs.seq_no_window.SeqNoWindow.new_after.Goals as goal

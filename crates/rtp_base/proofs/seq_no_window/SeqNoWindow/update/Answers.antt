@@ -1,6 +1,4 @@
-use Rattle.std.proofs.Common.{inl, inr, sym, subst}
-use Rattle.std.proofs.lemmas.Bool.{both_ways, cases_Bool}
-use Rattle.rtp_base.specs.Window.{WindowState, Keeps}
+use Rattle.rtp_base.proofs.Common.{inl, inr, sym, subst, both_ways, cases_Bool, WindowState, Keeps}
 use Rattle.rtp_base.proofs.WindowLemmas.{Keeps-refused}
 use Rattle.rtp_base.proofs.seq_no_window.SeqNoWindow.update.Goals as goal
 

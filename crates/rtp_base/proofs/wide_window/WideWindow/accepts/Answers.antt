@@ -1,5 +1,4 @@
-use Rattle.std.proofs.Common.{◌*◌, sym, subst}
-use Rattle.rtp_base.specs.Window.{WindowState, KeepsOf}
+use Rattle.rtp_base.proofs.Common.{◌*◌, sym, subst, WindowState, KeepsOf}
 use Rattle.rtp_base.proofs.wide_window.WideWindow.accepts.Goals as goal
 
 pub returns : goal.returns

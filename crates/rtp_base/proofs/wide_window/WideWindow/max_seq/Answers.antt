@@ -1,6 +1,4 @@
-use Rattle.std.proofs.Common.{◌*◌, subst, arith}
-use Rattle.rtp_base.specs.Window.{Numbers, WindowState, KeepsOf}
-use Rattle.rtp_base.specs.Ring.{ring_bits}
+use Rattle.rtp_base.proofs.Common.{◌*◌, subst, arith, Numbers, WindowState, KeepsOf, ring_bits}
 use Rattle.rtp_base.proofs.WindowLemmas.{KeepsOf-shown}
 use Rattle.rtp_base.proofs.wide_window.WideWindow.max_seq.Goals as goal
 

@@ -1,7 +1,4 @@
-use Rattle.std.proofs.Common.{◌≡◌, ◌*◌, inl, inr, true, false, get_or, sym, subst, arith}
-use Rattle.std.proofs.lemmas.Bool.{cases_Bool}
-use Rattle.rtp_base.specs.Window.{WindowState, KeepsOf, including}
-use Rattle.rtp_base.specs.Ring.{ring_bits}
+use Rattle.rtp_base.proofs.Common.{◌≡◌, ◌*◌, inl, inr, true, false, get_or, sym, subst, arith, cases_Bool, WindowState, KeepsOf, including, ring_bits}
 use Rattle.rtp_base.proofs.WindowLemmas.{KeepsOf-first, KeepsOf-shown}
 use Rattle.rtp_base.proofs.wide_window.WideWindow.take.Goals as goal
 

@@ -1,6 +1,4 @@
-use Rattle.std.proofs.Common.{◌*◌, inl, inr, sym, subst}
-use Rattle.std.proofs.lemmas.Bool.{both_ways, cases_Bool}
-use Rattle.rtp_base.specs.Window.{WindowState, KeepsOf}
+use Rattle.rtp_base.proofs.Common.{◌*◌, inl, inr, sym, subst, both_ways, cases_Bool, WindowState, KeepsOf}
 use Rattle.rtp_base.proofs.WindowLemmas.{KeepsOf-refused}
 use Rattle.rtp_base.proofs.wide_window.WideWindow.update.Goals as goal
 

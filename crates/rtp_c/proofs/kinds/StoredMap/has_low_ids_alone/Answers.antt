@@ -1,5 +1,4 @@
-use Rattle.std.proofs.Common.{◌≡◌, length, rules, arith}
-use Rattle.std.proofs.lemmas.Bool.{OnTrue_from}
+use Rattle.rtp_c.proofs.Common.{◌≡◌, length, rules, arith, OnTrue_from}
 use Rattle.rtp_c.proofs.FewSlotsLemmas.{zeros_past}
 use Rattle.rtp_c.proofs.kinds.StoredMap.has_low_ids_alone.Goals as goal
 

@@ -1,5 +1,4 @@
-use Rattle.std.proofs.Common.{◌≡◌, ℕ, ◌+◌, List, length, length-drop, drop, take, arith, rules}
-use Rattle.std.proofs.lemmas.List.{take_all}
+use Rattle.rtp_c.proofs.Common.{◌≡◌, ℕ, ◌+◌, List, length, length-drop, drop, take, arith, rules, take_all}
 use Rattle.rtp_c.proofs.MeantLemmas.{IsIdOf-found, IsIdOf-none}
 use Rattle.rtp_c.proofs.kinds.StoredMap.id_of.Goals as goal
 

@@ -1,5 +1,4 @@
-use Rattle.std.proofs.Common.{◌≡◌, ◌+◌, ◌-◌, arith, inl, inr, length, rules}
-use Rattle.std.proofs.lemmas.Bool.{cases_lt}
+use Rattle.rtp_c.proofs.Common.{◌≡◌, ◌+◌, ◌-◌, arith, inl, inr, length, rules, cases_lt}
 use Rattle.rtp_c.proofs.FewSlotsLemmas.{unmapped_in}
 use Rattle.rtp_c.proofs.kinds.StoredMap.past_unmapped.Goals as goal
 

@@ -1,5 +1,4 @@
-use Rattle.std.proofs.Common.{◌≡◌, ◌≤◌, ◌<◌, ◌+◌, ◌-◌, ℕ, get_or, None}
-use Rattle.rtp_c.specs.KindNumbers.{kind_numbered}
+use Rattle.rtp_c.proofs.Common.{◌≡◌, ◌≤◌, ◌<◌, ◌+◌, ◌-◌, ℕ, get_or, None, kind_numbered}
 use Rattle.rtp_c.proofs.kinds.StoredMap.past_unmapped.Given as goal
 
 -- the slots so far are mapped to no kind

@@ -1,5 +1,4 @@
-use Rattle.std.proofs.Common.{arith}
-use Rattle.rtp_c.specs.StoredMap.{last_end}
+use Rattle.rtp_c.proofs.Common.{arith, last_end}
 use Rattle.rtp_c.proofs.NumberedLemmas.{numbered-most}
 use Rattle.rtp_c.proofs.WalkLemmas.{last_end-low, last_end-within}
 use Rattle.rtp_c.proofs.kinds.StoredMapKinds.at_most.Goals as goal

@@ -1,5 +1,4 @@
-use Rattle.std.proofs.Common.{arith, ap, ◌∙◌, get_or}
-use Rattle.rtp_c.specs.KindNumbers.{kind_numbered}
+use Rattle.rtp_c.proofs.Common.{arith, ap, ◌∙◌, get_or, kind_numbered}
 use Rattle.rtp_c.proofs.NumberedLemmas.{extension_numbered}
 use Rattle.rtp_c.proofs.kinds.StoredMapKinds.get.Goals as goal
 

@@ -1,7 +1,4 @@
-use Rattle.std.proofs.Common.{◌≡◌, ℕ, length, take, sym, ap, ◌∙◌, rules, le-ltb}
-use Rattle.std.proofs.lemmas.Bool.{true_from_ne_false, false≢true}
-use Rattle.rtp_ext.specs.ExtensionMap.{items_from}
-use Rattle.rtp_c.specs.StoredMap.{numbered_slots}
+use Rattle.rtp_c.proofs.Common.{◌≡◌, ℕ, length, take, sym, ap, ◌∙◌, rules, le-ltb, true_from_ne_false, false≢true, items_from, numbered_slots}
 use Rattle.rtp_c.proofs.LongLemmas.{same_when_false, no_layers, no_high_kind, none_long, few_long, looked_layers, layers_looked, looked_high, high_looked}
 use Rattle.rtp_c.proofs.WalkLemmas.{last_end-low}
 use Rattle.rtp_c.proofs.kinds.StoredMapKinds.has_long.Goals as goal

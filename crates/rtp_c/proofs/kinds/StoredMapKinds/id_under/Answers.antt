@@ -1,10 +1,4 @@
-use Rattle.std.proofs.Common.{◌≡◌, ◌≢◌, ◌<◌, ◌+◌, ℕ, List, arith, ap, sym, refl, ◌∙◌, subst, length, length-drop, drop, take, get_or, rules, Some}
-use Rattle.std.specs.Option.{option_map}
-use Rattle.std.proofs.lemmas.List.{take_all}
-use Rattle.rtp_values.specs.KnownKind.{extension_of_kind}
-use Rattle.rtp_ext.specs.ExtensionMap.{extension_at}
-use Rattle.rtp_ext.specs.NewIds.{IsNewId}
-use Rattle.rtp_c.specs.StoredMap.{IsFirstNumber, numbered_slots}
+use Rattle.rtp_c.proofs.Common.{◌≡◌, ◌≢◌, ◌<◌, ◌+◌, ℕ, List, arith, ap, sym, refl, ◌∙◌, subst, length, length-drop, drop, take, get_or, rules, Some, option_map, take_all, extension_of_kind, extension_at, IsNewId, IsFirstNumber, numbered_slots}
 use Rattle.rtp_c.proofs.NumberedLemmas.{numbered-found, numbered-unmapped}
 use Rattle.rtp_c.proofs.kinds.StoredMapKinds.id_under.Goals as goal
 

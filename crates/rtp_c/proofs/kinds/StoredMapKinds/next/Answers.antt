@@ -1,5 +1,4 @@
-use Rattle.std.proofs.Common.{◌≡◌, sym, ◌∙◌, length, arith, inl, inr, rules}
-use Rattle.rtp_c.specs.StoredMap.{last_end}
+use Rattle.rtp_c.proofs.Common.{◌≡◌, sym, ◌∙◌, length, arith, inl, inr, rules, last_end}
 use Rattle.rtp_c.proofs.NumberedLemmas.{numbered-pass, numbered-next, numbered-ended}
 use Rattle.rtp_c.proofs.WalkLemmas.{last_end-low, last_end-within, walk-over}
 use Rattle.rtp_c.proofs.kinds.StoredMapKinds.next.Goals as goal

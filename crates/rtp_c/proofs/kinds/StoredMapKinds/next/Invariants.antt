@@ -1,6 +1,4 @@
-use Rattle.std.proofs.Common.{◌≡◌, ◌≤◌, ◌+◌, ◌-◌, take, drop}
-use Rattle.rtp_ext.specs.ExtensionMap.{items_from}
-use Rattle.rtp_c.specs.StoredMap.{numbered_slots, last_end}
+use Rattle.rtp_c.proofs.Common.{◌≡◌, ◌≤◌, ◌+◌, ◌-◌, take, drop, items_from, numbered_slots, last_end}
 use Rattle.rtp_c.proofs.kinds.StoredMapKinds.next.Given as goal
 
 -- the ids so far are mapped to nothing

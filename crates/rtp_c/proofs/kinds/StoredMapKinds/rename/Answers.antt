@@ -1,8 +1,4 @@
-use Rattle.std.proofs.Common.{ap, refl, sym, ◌∙◌, get_or}
-use Rattle.rtp_values.specs.KnownKind.{extension_of_kind}
-use Rattle.rtp_ext.proofs.RenamesLemmas.{IsRenamedTo-first, IsRenamedTo-next, Renames-end}
-use Rattle.rtp_c.specs.KindNumbers.{kind_numbered}
-use Rattle.rtp_c.specs.StoredMap.{numbered_slots}
+use Rattle.rtp_c.proofs.Common.{ap, refl, sym, ◌∙◌, get_or, extension_of_kind, IsRenamedTo-first, IsRenamedTo-next, Renames-end, kind_numbered, numbered_slots}
 use Rattle.rtp_c.proofs.KindNumberLemmas.{number_of_kind, one_kind}
 use Rattle.rtp_c.proofs.NumberedLemmas.{extension_numbered, number_found}
 use Rattle.rtp_c.proofs.kinds.StoredMapKinds.rename.Goals as goal

@@ -1,8 +1,4 @@
-use Rattle.std.proofs.Common.{◌≡◌}
-use Rattle.rtp_values.specs.KnownKind.{extension_of_kind}
-use Rattle.rtp_ext.proofs.RenamesLemmas.{IsRenamedTo}
-use Rattle.rtp_c.specs.KindNumbers.{kind_number}
-use Rattle.rtp_c.specs.StoredMap.{numbered_slots}
+use Rattle.rtp_c.proofs.Common.{◌≡◌, extension_of_kind, IsRenamedTo, kind_number, numbered_slots}
 use Rattle.rtp_c.proofs.kinds.StoredMapKinds.rename.Given as goal
 
 -- the ids that were passed have their new bytes

@@ -1,10 +1,5 @@
 use Rattle.std.specs.Array.{IsFirstChunk}
-use Rattle.std.specs.Option.{MatchOption}
-use Rattle.std.proofs.Common.{◌≡◌, ℕ, List, Bor, Option, subst, ◌+◌, ◌-◌, ◌<◌, ◌≤◌, arith, sym, ap, ◌∙◌, length, take, get_or, rules, drop, inl, inr}
-use Rattle.std.proofs.lemmas.Bool.{cases_lt, OnTrue_at}
-use Rattle.std.proofs.lemmas.List.{get_or-take}
-use Rattle.rtp_ext.specs.ExtensionMap.{items_from}
-use Rattle.rtp_c.specs.StoredMap.{numbered_slots}
+use Rattle.rtp_c.proofs.Common.{MatchOption, ◌≡◌, ℕ, List, Bor, Option, subst, ◌+◌, ◌-◌, ◌<◌, ◌≤◌, arith, sym, ap, ◌∙◌, length, take, get_or, rules, drop, inl, inr, cases_lt, OnTrue_at, get_or-take, items_from, numbered_slots}
 use Rattle.rtp_c.proofs.FewSlotsLemmas.{zeros_in}
 use Rattle.rtp_c.proofs.NumberedLemmas.{numbered-low, numbered-all, numbered-few}
 use Rattle.rtp_c.proofs.WalkLemmas.{last_end-low}

@@ -1,5 +1,4 @@
-use Rattle.std.proofs.Common.{arith, [], refl}
-use Rattle.rtp_c.specs.declared.layers.Stream.{Stream}
+use Rattle.rtp_c.proofs.Common.{arith, [], refl, Stream}
 use Rattle.rtp_c.proofs.SettingLemmas.{shows_layer, layer_room-last, layer_room-more, layer_room-within}
 use Rattle.rtp_c.proofs.layers.LayersSetLayers.put_layer.Goals as goal
 

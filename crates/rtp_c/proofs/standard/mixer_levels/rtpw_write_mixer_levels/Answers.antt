@@ -1,7 +1,5 @@
-use Rattle.std.proofs.Common.{◌≡◌, refl, sym, ◌∙◌, map, unsigned_abs, List, ℤ, All}
-use Rattle.std.proofs.lemmas.List.{length-map}
+use Rattle.rtp_c.proofs.Common.{◌≡◌, refl, sym, ◌∙◌, map, unsigned_abs, List, ℤ, All, length-map, ok, short_buffer, bad_field}
 use Rattle.rtp_values.specs.StandardLevels.{IsLevel}
-use Rattle.rtp_c.specs.Status.{ok, short_buffer, bad_field}
 use Rattle.rtp_c.specs.StandardLevels.{AreLevelsData}
 use Rattle.rtp_c.proofs.StandardLemmas.{StandAtFront-put}
 use Rattle.rtp_c.proofs.standard.mixer_levels.rtpw_write_mixer_levels.Goals as goal

@@ -1,5 +1,4 @@
-use Rattle.std.proofs.Common.{rules, ◌≡◌, ◌∷◌, sym, ◌∙◌}
-use Rattle.rtp_ext.specs.ElementReading.{elements_left}
+use Rattle.rtp_ext.proofs.Common.{rules, ◌≡◌, ◌∷◌, sym, ◌∙◌, elements_left}
 use Rattle.rtp_ext.proofs.ElementLemmas.{elements_left-none}
 use Rattle.rtp_ext.proofs.FirstElementLemmas.{elements_left-first, elements_left-no_first}
 use Rattle.rtp_ext.proofs.elements.ElementsIterator.next.Goals as goal

@@ -1,9 +1,4 @@
-use Rattle.std.proofs.Common.{rules, ◌≡◌, ◌+◌, drop, refl, sym, subst, arith}
-use Rattle.std.proofs.lemmas.Bool.{false≢true, true≢false}
-use Rattle.std.proofs.lemmas.List.{drop_all}
-use Rattle.rtp_ext.specs.declared.form.ExtensionsForm.{ExtensionsForm}
-use Rattle.rtp_ext.specs.Elements.{Element}
-use Rattle.rtp_ext.specs.ElementsInARow.{form_given, IsWritable, AreWritableIn, AreNotWritableIn}
+use Rattle.rtp_ext.proofs.Common.{rules, ◌≡◌, ◌+◌, drop, refl, sym, subst, arith, false≢true, true≢false, drop_all, ExtensionsForm, Element, form_given, IsWritable, AreWritableIn, AreNotWritableIn}
 use Rattle.rtp_ext.proofs.RawWritingLemmas.{left-more}
 use Rattle.rtp_ext.proofs.ServingFormLemmas.{AreNotWritableIn-one, AreCounted-step, AreCounted-short, AreCounted-longer, AreCounted-fit, AreNotWritableIn-not}
 use Rattle.rtp_ext.proofs.form.ExtensionsForm.for_elements.Goals as goal

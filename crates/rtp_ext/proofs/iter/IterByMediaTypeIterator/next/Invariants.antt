@@ -1,6 +1,4 @@
-use Rattle.std.proofs.Common.{◌≡◌, length}
-use Rattle.std.specs.List.{filter}
-use Rattle.rtp_ext.specs.ExtensionMap.{is_of_medium}
+use Rattle.rtp_ext.proofs.Common.{◌≡◌, length, filter, is_of_medium}
 use Rattle.rtp_ext.proofs.iter.IterByMediaTypeIterator.next.Given as goal
 
 -- the items that were passed are of the other medium

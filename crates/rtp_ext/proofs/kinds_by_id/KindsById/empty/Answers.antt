@@ -1,5 +1,4 @@
-use Rattle.std.proofs.Common.{sym, refl, ◌∙◌, replicate, None}
-use Rattle.rtp_ext.specs.KindsById.{slots_of}
+use Rattle.rtp_ext.proofs.Common.{sym, refl, ◌∙◌, replicate, None, slots_of}
 use Rattle.rtp_ext.proofs.KindsByIdLemmas.{slots_of-none, slots_of-replicate}
 use Rattle.rtp_ext.proofs.MappedIdLemmas.{no_ids-IsEmpty}
 use Rattle.rtp_ext.proofs.kinds_by_id.KindsById.empty.Goals as goal

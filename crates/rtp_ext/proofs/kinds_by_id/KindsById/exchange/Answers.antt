@@ -1,5 +1,4 @@
-use Rattle.std.proofs.Common.{arith, sym, ◌∙◌, set, get_or, None}
-use Rattle.rtp_ext.specs.KindsById.{slots_of}
+use Rattle.rtp_ext.proofs.Common.{arith, sym, ◌∙◌, set, get_or, None, slots_of}
 use Rattle.rtp_ext.proofs.ExchangedLemmas.{half_length, still_there, half_exchanged_ids, exchanged_ids, exchanged_layers, exchanged_padding, exchanged_length, exchanged_slots}
 use Rattle.rtp_ext.proofs.RisingIdLemmas.{mapped_rise}
 use Rattle.rtp_ext.proofs.TableLemmas.{no_kind, none_where, set-room}

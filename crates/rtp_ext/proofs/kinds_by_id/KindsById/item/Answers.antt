@@ -1,10 +1,4 @@
-use Rattle.std.proofs.Common.{◌≡◌, ◌<◌, ℕ, zero, suc, List, [], ◌∷◌, length, get_or, Option, refl, sym, ap, ◌∙◌, subst, arith}
-use Rattle.std.specs.Prelude.{IsSome}
-use Rattle.std.specs.List.{AllByRecursion}
-use Rattle.rtp_values.specs.declared.known_kind.KnownKind.{KnownKind}
-use Rattle.rtp_ext.specs.ExtensionMap.{Slots}
-use Rattle.rtp_ext.specs.KindsById.{slots_of}
-use Rattle.rtp_ext.specs.MapSlots.{mapped_ids, IsMapped}
+use Rattle.rtp_ext.proofs.Common.{◌≡◌, ◌<◌, ℕ, zero, suc, List, [], ◌∷◌, length, get_or, Option, refl, sym, ap, ◌∙◌, subst, arith, IsSome, AllByRecursion, KnownKind, Slots, slots_of, mapped_ids, IsMapped}
 use Rattle.rtp_ext.proofs.KindsByIdLemmas.{kind_there}
 use Rattle.rtp_ext.proofs.MappedIdLemmas.{all_mapped}
 use Rattle.rtp_ext.proofs.kinds_by_id.KindsById.item.Goals as goal

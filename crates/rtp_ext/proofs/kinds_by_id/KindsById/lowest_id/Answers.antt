@@ -1,8 +1,4 @@
-use Rattle.std.proofs.Common.{◌≡◌, arith, rules, sym, ap}
-use denote.Enum.Bare.{same_true, same_false}
-use Rattle.rtp_values.specs.contracts.known_kind.KnownKind.{the_type}
-use Rattle.rtp_values.specs.KnownKind.{extension_of_kind}
-use Rattle.rtp_ext.specs.KindsById.{slots_of}
+use Rattle.rtp_ext.proofs.Common.{◌≡◌, arith, rules, sym, ap, same_true, same_false, the_type, extension_of_kind, slots_of}
 use Rattle.rtp_ext.proofs.MappedIdLemmas.{items_at-mapped}
 use Rattle.rtp_ext.proofs.RenamedIdLemmas.{same_kind, AreLeft-start, AreLeft-next, IsLowest-left, IsUnmapped-left}
 use Rattle.rtp_ext.proofs.kinds_by_id.KindsById.lowest_id.Goals as goal

@@ -1,7 +1,4 @@
-use Rattle.std.proofs.Common.{◌-◌, drop}
-use Rattle.rtp_values.specs.KnownKind.{extension_of_kind}
-use Rattle.rtp_ext.specs.KindsById.{slots_of}
-use Rattle.rtp_ext.specs.MapSlots.{items_at, mapped_ids}
+use Rattle.rtp_ext.proofs.Common.{◌-◌, drop, extension_of_kind, slots_of, items_at, mapped_ids}
 use Rattle.rtp_ext.proofs.RenamedIdLemmas.{AreLeft}
 use Rattle.rtp_ext.proofs.kinds_by_id.KindsById.lowest_id.Given as goal
 

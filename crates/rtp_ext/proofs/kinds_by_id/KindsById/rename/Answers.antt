@@ -1,6 +1,4 @@
-use Rattle.std.proofs.Common.{arith, rules}
-use Rattle.rtp_values.specs.KnownKind.{extension_of_kind}
-use Rattle.rtp_ext.specs.KindsById.{slots_of}
+use Rattle.rtp_ext.proofs.Common.{arith, rules, extension_of_kind, slots_of}
 use Rattle.rtp_ext.proofs.MappedIdLemmas.{items_at-mapped}
 use Rattle.rtp_ext.proofs.RenamesLemmas.{IsRenamedBut-start, IsRenamedBut-next, Renames-walked}
 use Rattle.rtp_ext.proofs.kinds_by_id.KindsById.rename.Goals as goal

@@ -1,5 +1,4 @@
-use Rattle.std.proofs.Common.{arith, refl, sym, ◌∙◌}
-use Rattle.rtp_ext.specs.KindsById.{slots_of}
+use Rattle.rtp_ext.proofs.Common.{arith, refl, sym, ◌∙◌, slots_of}
 use Rattle.rtp_ext.proofs.KindsByIdLemmas.{slots_of-set_slots}
 use Rattle.rtp_ext.proofs.RisingIdLemmas.{mapped_rise}
 use Rattle.rtp_ext.proofs.TableLemmas.{no_kind, set-length, set-padding, set-room, few_layers, is_layers-once, layers_count-set}

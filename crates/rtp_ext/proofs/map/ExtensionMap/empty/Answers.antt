@@ -1,5 +1,4 @@
-use Rattle.std.proofs.Common.{None, rules, arith, sym, ◌∙◌}
-use Rattle.rtp_ext.specs.ExtensionMap.{IsEmpty}
+use Rattle.rtp_ext.proofs.Common.{None, rules, arith, sym, ◌∙◌, IsEmpty}
 use Rattle.rtp_ext.proofs.MapLemmas.{IsEmpty-from_each}
 use Rattle.rtp_ext.proofs.KindsByIdLemmas.{known_slots-empty}
 use Rattle.rtp_ext.proofs.MappedIdLemmas.{no_ids-IsEmpty}

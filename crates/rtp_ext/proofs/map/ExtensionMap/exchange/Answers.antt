@@ -1,8 +1,4 @@
-use Rattle.std.proofs.Common.{◌≡◌, ◌+◌, ◌-◌, ◌<◌, length, arith, ap, sym, ◌∙◌, subst}
-use Rattle.std.specs.Option.{is_some}
-use Rattle.rtp_ext.specs.ExtensionMap.{Slots}
-use Rattle.rtp_ext.specs.KindsById.{slots_of, known_slots}
-use Rattle.rtp_ext.specs.MapSlots.{Swaps, mapped_ids}
+use Rattle.rtp_ext.proofs.Common.{◌≡◌, ◌+◌, ◌-◌, ◌<◌, length, arith, ap, sym, ◌∙◌, subst, is_some, Slots, slots_of, known_slots, Swaps, mapped_ids}
 use Rattle.rtp_ext.proofs.MappedIdLemmas.{room_for_new}
 use Rattle.rtp_ext.proofs.ReplacedLemmas.{half_swapped, half_swapped_ids, half_swapped_length, half_swapped_entry, swapped_ids, swapped_known, Swaps-swapped}
 use Rattle.rtp_ext.proofs.RisingIdLemmas.{mapped_rise}

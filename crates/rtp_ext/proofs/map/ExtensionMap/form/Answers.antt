@@ -1,7 +1,4 @@
-use Rattle.std.proofs.Common.{refl, subst}
-use Rattle.rtp_ext.specs.ExtensionMap.{Slots}
-use Rattle.rtp_ext.specs.KindsById.{known_slots}
-use Rattle.rtp_ext.specs.WrittenBlock.{TakesAtMost17Each}
+use Rattle.rtp_ext.proofs.Common.{refl, subst, Slots, known_slots, TakesAtMost17Each}
 use Rattle.rtp_ext.proofs.ShortBlockLemmas.{short_known}
 use Rattle.rtp_ext.proofs.map.ExtensionMap.form.Goals as goal
 

@@ -1,8 +1,5 @@
-use Rattle.std.proofs.Common.{◌≡◌, true, ap, sym, ◌∙◌, subst}
-use Rattle.std.specs.List.{AllByRecursion}
+use Rattle.rtp_ext.proofs.Common.{◌≡◌, true, ap, sym, ◌∙◌, subst, AllByRecursion, items_from, items_at, IsMapped}
 use Rattle.rtp_ext.specs.ExtensionMap as spec
-use Rattle.rtp_ext.specs.ExtensionMap.{items_from}
-use Rattle.rtp_ext.specs.MapSlots.{items_at, IsMapped}
 use Rattle.rtp_ext.proofs.ListingLemmas.{ListsItems-from_slots}
 use Rattle.rtp_ext.proofs.MappedIdLemmas.{items_at-mapped, all_mapped}
 use Rattle.rtp_ext.proofs.map.ExtensionMap.iter.Goals as goal

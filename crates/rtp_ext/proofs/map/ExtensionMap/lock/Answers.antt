@@ -1,5 +1,4 @@
-use Rattle.std.proofs.Common.{◌≡◌, ◌+◌, ◌-◌, ◌<◌, length, arith, ◌∙◌}
-use Rattle.std.proofs.lemmas.List.{length-set}
+use Rattle.rtp_ext.proofs.Common.{◌≡◌, ◌+◌, ◌-◌, ◌<◌, length, arith, ◌∙◌, length-set}
 use Rattle.rtp_ext.proofs.ReplacedLemmas.{locked_in_step, Puts-locked}
 use Rattle.rtp_ext.proofs.map.ExtensionMap.lock.Goals as goal
 

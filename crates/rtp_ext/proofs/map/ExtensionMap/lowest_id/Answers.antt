@@ -1,5 +1,4 @@
-use Rattle.std.proofs.Common.{ap, sym, ◌∙◌}
-use Rattle.rtp_ext.specs.KindsById.{known_slots}
+use Rattle.rtp_ext.proofs.Common.{ap, sym, ◌∙◌, known_slots}
 use Rattle.rtp_ext.proofs.RenamedIdLemmas.{IsLowest-of_kind, IsUnmapped-of_kind}
 use Rattle.rtp_ext.proofs.map.ExtensionMap.lowest_id.Goals as goal
 

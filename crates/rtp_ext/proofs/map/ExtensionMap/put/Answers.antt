@@ -1,7 +1,4 @@
-use Rattle.std.proofs.Common.{◌≡◌, ◌+◌, ◌-◌, ◌<◌, length, arith, ap, sym, ◌∙◌}
-use Rattle.std.specs.Option.{is_some}
-use Rattle.std.proofs.lemmas.List.{length-set}
-use Rattle.rtp_ext.specs.KindsById.{known_entry}
+use Rattle.rtp_ext.proofs.Common.{◌≡◌, ◌+◌, ◌-◌, ◌<◌, length, arith, ap, sym, ◌∙◌, is_some, length-set, known_entry}
 use Rattle.rtp_ext.proofs.KindsByIdLemmas.{known_slots-put}
 use Rattle.rtp_ext.proofs.MappedIdLemmas.{room_for_new}
 use Rattle.rtp_ext.proofs.ReplacedLemmas.{replaced_ids, Puts-replaced}

@@ -1,5 +1,4 @@
-use Rattle.std.proofs.Common.{drop, map}
-use Rattle.rtp_ext.specs.ExtensionMap.{Slots, AreRemapped, IsRenumbered}
+use Rattle.rtp_ext.proofs.Common.{drop, map, Slots, AreRemapped, IsRenumbered}
 use Rattle.rtp_ext.proofs.map.ExtensionMap.remap.Given as goal
 
 -- what the steps that are left would leave is what all the steps would

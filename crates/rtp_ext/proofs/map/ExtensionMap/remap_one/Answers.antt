@@ -1,6 +1,4 @@
-use Rattle.std.proofs.Common.{arith, refl, subst}
-use Rattle.std.proofs.lemmas.Bool.{false≢true}
-use Rattle.rtp_ext.specs.ExtensionMap.{IsId, IsLowest, locked_elsewhere}
+use Rattle.rtp_ext.proofs.Common.{arith, refl, subst, false≢true, IsId, IsLowest, locked_elsewhere}
 use Rattle.rtp_ext.proofs.MapLemmas.{IsRenumbered-same, IsStep, IsStep-locked, IsStep-moved}
 use Rattle.rtp_ext.proofs.map.ExtensionMap.remap_one.Goals as goal
 

@@ -1,8 +1,4 @@
-use Rattle.std.proofs.Common.{subst}
-use Rattle.rtp_ext.specs.BlockValues.{AreValues}
-use Rattle.rtp_ext.specs.ExtensionMap.{Slots}
-use Rattle.rtp_ext.specs.WrittenBlock.{written_elements, image_values}
-use Rattle.rtp_values.specs.Values.{no_values}
+use Rattle.rtp_ext.proofs.Common.{subst, AreValues, Slots, written_elements, image_values, no_values}
 use Rattle.rtp_ext.proofs.map.ExtensionMap.write_to.Goals as goal
 
 pub returns-clause-values : goal.returns-clause-values

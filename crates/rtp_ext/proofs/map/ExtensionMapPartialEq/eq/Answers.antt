@@ -1,7 +1,5 @@
-use Rattle.std.proofs.Common.{◌≡◌, Option, rules, sym, ◌∙◌}
+use Rattle.rtp_ext.proofs.Common.{◌≡◌, Option, rules, sym, ◌∙◌, Decides, Entry}
 use Rattle.std.proofs.lemmas.Slice.Eq.{slice_eq-Decides}
-use Rattle.std.specs.Bool.{Decides}
-use Rattle.rtp_ext.specs.ExtensionMap.{Entry}
 use Rattle.rtp_ext.specs.EqualMaps.{same_slot}
 use Rattle.rtp_ext.proofs.map.ExtensionMapPartialEq.eq.Goals as goal
 

@@ -1,5 +1,4 @@
-use Rattle.std.proofs.Common.{◌≡◌, ◌+◌, ◌++◌, ◌∷◌, ℕ, List, length, take, drop, set, ap, sym, ◌∙◌, arith, length-take-le}
-use Rattle.std.specs.List.{copy_within}
+use Rattle.rtp_ext.proofs.Common.{◌≡◌, ◌+◌, ◌++◌, ◌∷◌, ℕ, List, length, take, drop, set, ap, sym, ◌∙◌, arith, length-take-le, copy_within}
 use Rattle.rtp_ext.proofs.MappedIdLemmas.{moved-and-put}
 use Rattle.rtp_ext.proofs.PaddedIdLemmas.{place_left, moved_padded}
 use Rattle.rtp_ext.proofs.mapped_ids.MappedIds.insert_between.Goals as goal

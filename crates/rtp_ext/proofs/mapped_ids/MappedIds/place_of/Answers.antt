@@ -1,5 +1,4 @@
-use Rattle.std.proofs.Common.{◌≡◌, ◌++◌, ◌∷◌, List, ℕ, length, take, drop, subst, arith}
-use Rattle.rtp_ext.specs.MapSlots.{inserted}
+use Rattle.rtp_ext.proofs.Common.{◌≡◌, ◌++◌, ◌∷◌, List, ℕ, length, take, drop, subst, arith, inserted}
 use Rattle.rtp_ext.proofs.MappedIdLemmas.{inserted-at}
 use Rattle.rtp_ext.proofs.mapped_ids.MappedIds.place_of.Goals as goal
 

@@ -1,5 +1,4 @@
-use Rattle.std.proofs.Common.{◌≡◌, ◌-◌, ◌+◌, ◌++◌, ◌<◌, ℕ, List, length, take, drop, ap, sym, ◌∙◌, arith, length-take-le}
-use Rattle.std.specs.List.{copy_within}
+use Rattle.rtp_ext.proofs.Common.{◌≡◌, ◌-◌, ◌+◌, ◌++◌, ◌<◌, ℕ, List, length, take, drop, ap, sym, ◌∙◌, arith, length-take-le, copy_within}
 use Rattle.rtp_ext.proofs.RemovedIdLemmas.{without-unlisted, removed-at, moved_down, removed_padded}
 use Rattle.rtp_ext.proofs.mapped_ids.MappedIds.remove.Goals as goal
 

@@ -1,5 +1,4 @@
-use Rattle.std.proofs.Common.{map}
-use Rattle.rtp_ext.specs.NewIds.{id_in_byte}
+use Rattle.rtp_ext.proofs.Common.{map, id_in_byte}
 use Rattle.rtp_ext.proofs.NewIdLemmas.{AreNewBytes-new, CarriesExtensions-new}
 use Rattle.rtp_ext.proofs.new_ids.NewIds.between.Goals as goal
 

@@ -1,12 +1,5 @@
-use Rattle.std.proofs.Common.{◌≡◌, true, ℕ, Bor, List, rules, arith, refl, sym, ap, ◌∙◌, subst}
-use Rattle.std.specs.List.{list_all}
-use Rattle.std.proofs.lemmas.Iterator.Consumers.{YieldsList-from_first}
+use Rattle.rtp_ext.proofs.Common.{◌≡◌, true, ℕ, Bor, List, rules, arith, refl, sym, ap, ◌∙◌, subst, list_all, YieldsList-from_first, Element, elements_left, new_id, carries_id, OneByte}
 use Rattle.std.proofs.lemmas.Iterator.Search.{all_from_yields_List}
-use Rattle.rtp_ext.specs.Elements.{Element}
-use Rattle.rtp_ext.specs.ElementReading.{elements_left}
-use Rattle.rtp_ext.specs.NewIds.{new_id}
-use Rattle.rtp_ext.specs.IdChanges.{carries_id}
-use Rattle.rtp_ext.specs.declared.form.ExtensionsForm.TheVariants.{OneByte}
 use Rattle.rtp_ext.proofs.ElementLemmasOfBodies.{AreElements-found}
 use Rattle.rtp_ext.proofs.NewIdLemmas.{carried-CanRenumber, two_byte-carried, IsId-bytes, new_id-byte}
 use Rattle.rtp_ext.proofs.new_ids.NewIds.can_renumber.Goals as goal

@@ -1,8 +1,4 @@
-use Rattle.std.proofs.Common.{◌≡◌, ◌∙◌, ◌≤◌, ◌<◌, ◌+◌, ◌-◌, ap, sym, subst, ℕ, zero, suc, inl, inr, Bool, true, false, take, drop, map, get_or, List, Option, IfSome, arith}
-use Rattle.std.specs.Bool.{OnTrue}
-use Rattle.std.proofs.lemmas.Bool.{cases_lt}
-use Rattle.std.proofs.lemmas.List.{get_or-take, get_or-drop}
-use Rattle.rtp_ext.specs.NewIds.{new_id, id_in_byte}
+use Rattle.rtp_ext.proofs.Common.{◌≡◌, ◌∙◌, ◌≤◌, ◌<◌, ◌+◌, ◌-◌, ap, sym, subst, ℕ, zero, suc, inl, inr, Bool, true, false, take, drop, map, get_or, List, Option, IfSome, arith, OnTrue, cases_lt, get_or-take, get_or-drop, new_id, id_in_byte}
 use Rattle.rtp_ext.proofs.NewIdLemmas.{new_id-byte}
 use Rattle.rtp_ext.proofs.new_ids.NewIds.fit_one_byte_form.Goals as goal
 

@@ -1,5 +1,4 @@
-use Rattle.std.proofs.Common.{◌≡◌, List, ℕ, [], ◌++◌, rules, arith, length, take, drop, ◌∙◌, length-drop}
-use Rattle.std.proofs.lemmas.List.{append-nil, take_all}
+use Rattle.rtp_ext.proofs.Common.{◌≡◌, List, ℕ, [], ◌++◌, rules, arith, length, take, drop, ◌∙◌, length-drop, append-nil, take_all}
 use Rattle.rtp_ext.proofs.NewIdLemmas.{ids_in_bytes-after, table_after}
 use Rattle.rtp_ext.proofs.new_ids.NewIds.from_ids.Goals as goal
 

@@ -1,5 +1,4 @@
-use Rattle.std.proofs.Common.{rules}
-use Rattle.rtp_values.specs.KnownKind.{extension_of_kind}
+use Rattle.rtp_ext.proofs.Common.{rules, extension_of_kind}
 use Rattle.rtp_ext.proofs.RenamedIdLemmas.{renamed_first}
 use Rattle.rtp_ext.proofs.new_ids.NewIds.renaming.Goals as goal
 

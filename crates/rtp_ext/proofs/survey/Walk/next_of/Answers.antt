@@ -1,6 +1,4 @@
-use Rattle.std.proofs.Common.{ℕ, ◌+◌, ◌-◌, length, Some, arith, sym, ◌∙◌, subst}
-use Rattle.rtp_ext.specs.ElementReading.{BeginsWithElement}
-use Rattle.rtp_ext.specs.BodySurvey.{IsSurveyedTo}
+use Rattle.rtp_ext.proofs.Common.{ℕ, ◌+◌, ◌-◌, length, Some, arith, sym, ◌∙◌, subst, BeginsWithElement, IsSurveyedTo}
 use Rattle.rtp_ext.proofs.SurveyLemmas.{IsSurveyedTo-this, IsSurveyedTo-other}
 use Rattle.rtp_ext.proofs.LeftLemmas.{IsLeft-next, next_left, place_left, next_other, end_other, id_other, len_other, fits_all}
 use Rattle.rtp_ext.proofs.survey.Walk.next_of.Goals as goal

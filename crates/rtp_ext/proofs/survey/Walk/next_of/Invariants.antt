@@ -1,7 +1,4 @@
-use Rattle.std.proofs.Common.{ℕ, ◌-◌, ◌≤◌, Option, length}
-use Rattle.rtp_ext.specs.declared.place.Place.{Place}
-use Rattle.rtp_ext.specs.ElementPlaces.{IsLeft}
-use Rattle.rtp_ext.specs.BodySurvey.{IsSurveyedTo}
+use Rattle.rtp_ext.proofs.Common.{ℕ, ◌-◌, ◌≤◌, Option, length, Place, IsLeft, IsSurveyedTo}
 use Rattle.rtp_ext.proofs.survey.Walk.next_of.Given as goal
 
 -- what was known of the elements up to the bytes that were left is known up to those that are left

@@ -1,6 +1,4 @@
-use Rattle.std.proofs.Common.{◌≡◌, ℕ, ◌++◌, ◌∙◌, ◌/◌, ◌%◌, take, ap, arith}
-use Rattle.std.specs.Fmt.{decimal}
-use Rattle.rtp_listing.specs.Digits.{four_digits}
+use Rattle.rtp_listing.proofs.Common.{◌≡◌, ℕ, ◌++◌, ◌∙◌, ◌/◌, ◌%◌, take, ap, arith, decimal, four_digits}
 use Rattle.rtp_listing.proofs.TextLemmas.{in_two, decimal_more_eight}
 use Rattle.rtp_listing.proofs.text.U64Value.put.Goals as goal
 

@@ -1,4 +1,4 @@
-use Rattle.std.proofs.Common.{arith, ◌≡◌, ℕ, ℤ, Bool, ap, ◌∙◌, rules, w8, to_z, of_z, FitsSigned}
+use Rattle.std.proofs.Common.{arith, ◌≡◌, ℕ, ℤ, Bool, ap, ◌∙◌, rules, w8, to_z, of_z, FitsSigned, sym}
 use Rattle.std.proofs.lemmas.Int.{to_z-of_z}
 use Rattle.rtp_values.proofs.ValueLemmas.{room_of, level_byte, spelled-level, AreData-level, WritesData-put}
 use Rattle.rtp_values.proofs.value.audio_level.write.Goals as goal
@@ -7,11 +7,11 @@ byte_is : (level : ℤ) (voice : Bool) (byte : ℕ) → FitsSigned w8 level → 
 byte_is level voice byte fits is = is ∙ ap (λ (z : ℤ). level_byte z voice) (to_z-of_z w8 level fits)
 
 pub put-requires : goal.put-requires
-put-requires c =
+put-requires g c =
     let fits : FitsSigned w8 c.in_ok-level.level = search rules in
-    room_of (spelled-level c.ev.view_is c.in_ok-level.was c.in_ok-voice.was (byte_is _ _ _ fits c.level_byte.ensures)) (omega arith) c.args.buf.now c.requires.room
+    room_of (spelled-level (g.V.GetValues.values c.args.ev.now) (sym c.audio_level.ensures ∙ c.in_ok-level.was) (sym c.voice_activity.ensures ∙ c.in_ok-voice.was) (byte_is _ _ _ fits c.level_byte.ensures)) (omega arith) c.args.buf.now c.requires.room
 
 pub returns : goal.returns
-returns c =
+returns g c =
     let fits : FitsSigned w8 c.in_ok-level.level = search rules in
-    WritesData-put (AreData-level c.ev.view_is c.in_ok-level.was c.in_ok-voice.was (byte_is _ _ _ fits c.level_byte.ensures)) c.put.ensures.end c.put.ensures.written
+    WritesData-put (AreData-level (g.V.GetValues.values c.args.ev.now) (sym c.audio_level.ensures ∙ c.in_ok-level.was) (sym c.voice_activity.ensures ∙ c.in_ok-voice.was) (byte_is _ _ _ fits c.level_byte.ensures)) c.put.ensures.end c.put.ensures.written

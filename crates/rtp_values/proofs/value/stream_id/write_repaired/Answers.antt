@@ -1,9 +1,12 @@
-use Rattle.std.proofs.Common.{sym}
 use Rattle.rtp_values.proofs.ValueLemmas.{AreData-repaired, room_for, WritesData-put}
 use Rattle.rtp_values.proofs.value.stream_id.write_repaired.Goals as goal
 
 pub put_text-requires : goal.put_text-requires
-put_text-requires c = record { room = room_for (AreData-repaired c.ev.view_is (sym c.in_ok-rid_repair.ensures.value) c.as_str.ensures c.as_bytes.ensures) c.args.buf.now c.requires.room }
+put_text-requires g c =
+    let some = c.in_ok-text.ensures.some in
+    record { room = room_for (AreData-repaired (g.V.GetValues.values c.args.ev.now) some.1 some.2) c.args.buf.now c.requires.room }
 
 pub returns : goal.returns
-returns c = WritesData-put (AreData-repaired c.ev.view_is (sym c.in_ok-rid_repair.ensures.value) c.as_str.ensures c.as_bytes.ensures) c.put_text.ensures.length c.put_text.ensures.written
+returns g c =
+    let some = c.in_ok-text.ensures.some in
+    WritesData-put (AreData-repaired (g.V.GetValues.values c.args.ev.now) some.1 some.2) c.put_text.ensures.length c.put_text.ensures.written

@@ -1,4 +1,4 @@
-use Rattle.std.proofs.Common.{arith, ◌≡◌, ℕ, List, [], ◌∷◌, get_or, refl}
+use Rattle.std.proofs.Common.{arith, ◌≡◌, ℕ, List, [], ◌∷◌, get_or, refl, sym, ◌∙◌}
 use Rattle.rtp_values.specs.declared.value.video_timing.VideoTiming as timing
 use Rattle.rtp_values.specs.Spelling.{bytes_of_number, timing_bytes}
 use Rattle.rtp_values.proofs.ValueLemmas.{room_of, spelled-timing, AreData-timing, WritesData-put}
@@ -11,16 +11,16 @@ cells : (t : timing.VideoTiming) (start finish complete left : List ℕ) → sta
 cells t start finish complete left start-is finish-is complete-is left-is = rw (start-is, finish-is, complete-is, left-is) refl
 
 pub put-requires : goal.put-requires
-put-requires c =
+put-requires g c =
     let t = c.in_ok-timing.timing in
     let are = cells t c.u16_bytes-start.result c.u16_bytes-finish.result c.u16_bytes-complete.result c.u16_bytes-left.result
     c.u16_bytes-start.ensures.bytes c.u16_bytes-finish.ensures.bytes c.u16_bytes-complete.ensures.bytes c.u16_bytes-left.ensures.bytes in
-    room_of (spelled-timing c.ev.view_is c.in_ok-timing.was are) (omega arith) c.args.buf.now c.requires.room
+    room_of (spelled-timing (g.V.GetValues.values c.args.ev.now) (sym c.video_timing.ensures ∙ c.in_ok-timing.was) are) (omega arith) c.args.buf.now c.requires.room
 
 pub returns : goal.returns
-returns c =
+returns g c =
     let t = c.in_ok-timing.timing in
     let are = cells t c.u16_bytes-start.result c.u16_bytes-finish.result c.u16_bytes-complete.result c.u16_bytes-left.result
     c.u16_bytes-start.ensures.bytes c.u16_bytes-finish.ensures.bytes c.u16_bytes-complete.ensures.bytes c.u16_bytes-left.ensures.bytes in
-    WritesData-put (AreData-timing c.ev.view_is c.in_ok-timing.was are c.u16_bytes-start.ensures.back c.u16_bytes-finish.ensures.back c.u16_bytes-complete.ensures.back c.u16_bytes-left.ensures.back)
+    WritesData-put (AreData-timing (g.V.GetValues.values c.args.ev.now) (sym c.video_timing.ensures ∙ c.in_ok-timing.was) are c.u16_bytes-start.ensures.back c.u16_bytes-finish.ensures.back c.u16_bytes-complete.ensures.back c.u16_bytes-left.ensures.back)
     c.put.ensures.end c.put.ensures.written

@@ -1,6 +1,4 @@
-use Rattle.std.proofs.Common.{◌≡◌, ◌++◌, length}
-use Rattle.std.specs.List.{filter}
-use Rattle.rtp_vla.specs.Allocation.{is_active, active_layers}
+use Rattle.rtp_vla.proofs.Common.{◌≡◌, ◌++◌, length, filter, is_active, active_layers}
 use Rattle.rtp_vla.proofs.active.ActiveLayersIterator.next.Given as goal
 
 -- the streams that were passed had no active layer left

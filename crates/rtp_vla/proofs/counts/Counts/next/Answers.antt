@@ -1,5 +1,4 @@
-use Rattle.std.proofs.Common.{◌≡◌, ◌-◌, ◌*◌, ◌/◌, ◌%◌, ◌∷◌, ℕ, arith, ap, sym, ◌∙◌, length}
-use Rattle.rtp_vla.specs.AllocationReading.{counts_in}
+use Rattle.rtp_vla.proofs.Common.{◌≡◌, ◌-◌, ◌*◌, ◌/◌, ◌%◌, ◌∷◌, ℕ, arith, ap, sym, ◌∙◌, length, counts_in}
 use Rattle.rtp_vla.proofs.CountsLemmas.{length-counts_in, counts_in-next}
 use Rattle.rtp_vla.proofs.counts.Counts.next.Goals as goal
 

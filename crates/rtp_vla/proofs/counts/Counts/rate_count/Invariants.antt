@@ -1,5 +1,4 @@
-use Rattle.std.proofs.Common.{◌≡◌, ◌+◌, ◌*◌, ◌≤◌, length}
-use Rattle.rtp_vla.specs.AllocationReading.{rate_count}
+use Rattle.rtp_vla.proofs.Common.{◌≡◌, ◌+◌, ◌*◌, ◌≤◌, length, rate_count}
 use Rattle.rtp_vla.proofs.counts.Counts.rate_count.Given as goal
 
 -- the rates so far, at most four for each count, and those of the counts that are left are all of them

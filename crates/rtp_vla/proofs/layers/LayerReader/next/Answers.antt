@@ -1,5 +1,4 @@
-use Rattle.std.proofs.Common.{◌≡◌, Bool, true, ap, ⊎_elim, arith, rules}
-use Rattle.rtp_vla.specs.AllocationReading.{next_len}
+use Rattle.rtp_vla.proofs.Common.{◌≡◌, Bool, true, ap, ⊎_elim, arith, rules, next_len}
 use Rattle.rtp_vla.proofs.AllocationParts.{next_len-read}
 use Rattle.rtp_vla.proofs.layers.LayerReader.next.Goals as goal
 

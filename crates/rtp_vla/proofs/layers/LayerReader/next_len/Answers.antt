@@ -1,5 +1,4 @@
-use Rattle.std.proofs.Common.{◌≤◌, Bool, true, arith, rules, ap, length}
-use Rattle.rtp_vla.specs.AllocationReading.{next_len}
+use Rattle.rtp_vla.proofs.Common.{◌≤◌, Bool, true, arith, rules, ap, length, next_len}
 use Rattle.rtp_vla.proofs.AllocationReadingLemmas.{length-layers_read}
 use Rattle.rtp_vla.proofs.AllocationParts.{next_len-first}
 use Rattle.rtp_vla.proofs.layers.LayerReader.next_len.Goals as goal

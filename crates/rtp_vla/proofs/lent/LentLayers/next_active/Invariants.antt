@@ -1,6 +1,4 @@
-use Rattle.std.proofs.Common.{◌≡◌, length}
-use Rattle.std.specs.List.{filter}
-use Rattle.rtp_vla.specs.Allocation.{is_active}
+use Rattle.rtp_vla.proofs.Common.{◌≡◌, length, filter, is_active}
 use Rattle.rtp_vla.proofs.lent.LentLayers.next_active.Given as goal
 
 -- the layers that were passed aren't active

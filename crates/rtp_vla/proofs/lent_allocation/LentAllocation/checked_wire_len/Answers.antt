@@ -1,5 +1,4 @@
-use Rattle.std.proofs.Common.{length}
-use Rattle.rtp_vla.specs.AllocationWritten.{written_of}
+use Rattle.rtp_vla.proofs.Common.{length, written_of}
 use Rattle.rtp_vla.proofs.AllocationWriting.{some_found, none_found}
 use Rattle.rtp_vla.proofs.lent_allocation.LentAllocation.checked_wire_len.Goals as goal
 

@@ -1,6 +1,4 @@
-use Rattle.std.proofs.Common.{ap, ◌∙◌, [], arith}
-use Rattle.rtp_vla.specs.Allocation.{Allocation}
-use Rattle.rtp_vla.specs.AllocationReading.{layer_room}
+use Rattle.rtp_vla.proofs.Common.{ap, ◌∙◌, [], arith, Allocation, layer_room}
 use Rattle.rtp_vla.proofs.SettingLemmas.{layer_room-last}
 use Rattle.rtp_vla.proofs.set_layers.VideoLayersSetLayers.put_stream.Goals as goal
 

@@ -1,5 +1,4 @@
-use Rattle.std.proofs.Common.{length}
-use Rattle.rtp_vla.specs.AllocationWritten.{can_be_written, written_of}
+use Rattle.rtp_vla.proofs.Common.{length, can_be_written, written_of}
 use Rattle.rtp_vla.proofs.AllocationWriting.{some_found, none_found, some_is}
 use Rattle.rtp_vla.proofs.video_layers.VideoLayers.checked_wire_len.Goals as goal
 

@@ -1,6 +1,4 @@
-use Rattle.std.proofs.Common.{ap, sym, ◌∙◌, Some}
-use Rattle.std.proofs.lemmas.Bool.{false≢true}
-use Rattle.rtp_vla.specs.Allocation.{Allocation}
+use Rattle.rtp_vla.proofs.Common.{ap, sym, ◌∙◌, Some, false≢true, Allocation}
 use Rattle.rtp_vla.proofs.AllocationMeaning.{one_meaning}
 use Rattle.rtp_vla.proofs.video_layers.VideoLayers.parse.Goals as goal
 

@@ -1,6 +1,4 @@
-use Rattle.std.proofs.Common.{◌≤◌, ◌∙◌, ap, subst, sym, List, length}
-use Rattle.rtp_vla.specs.Allocation.{Allocation, Stream}
-use Rattle.rtp_vla.specs.AllocationReading.{layer_room}
+use Rattle.rtp_vla.proofs.Common.{◌≤◌, ◌∙◌, ap, subst, sym, List, length, Allocation, Stream, layer_room}
 use Rattle.rtp_vla.proofs.SettingLemmas.{room_put, length_put}
 use Rattle.rtp_vla.proofs.video_layers.VideoLayers.push_layer.Goals as goal
 

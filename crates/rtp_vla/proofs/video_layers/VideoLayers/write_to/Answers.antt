@@ -1,6 +1,4 @@
-use Rattle.std.proofs.Common.{◌≡◌, sym, subst, true}
-use Rattle.rtp_vla.specs.Allocation.{Allocation}
-use Rattle.rtp_vla.specs.AllocationWritten.{can_be_written}
+use Rattle.rtp_vla.proofs.Common.{◌≡◌, sym, subst, true, Allocation, can_be_written}
 use Rattle.rtp_vla.proofs.AllocationWriting.{can_be_written-from, written_means}
 use Rattle.rtp_vla.proofs.video_layers.VideoLayers.write_to.Goals as goal
 

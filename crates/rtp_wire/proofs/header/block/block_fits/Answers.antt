@@ -1,6 +1,4 @@
-use Rattle.std.proofs.Common.{refl, arith, length}
-use Rattle.rtp_ext.specs.Elements.{elements_bytes}
-use Rattle.rtp_ext.specs.WrittenBlock.{written_elements}
+use Rattle.rtp_wire.proofs.Common.{refl, arith, length, elements_bytes, written_elements}
 use Rattle.rtp_wire.proofs.BlockWriting.{length-block}
 use Rattle.rtp_wire.proofs.header.block.block_fits.Goals as goal
 

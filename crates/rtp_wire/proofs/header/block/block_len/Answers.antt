@@ -1,8 +1,5 @@
-use Rattle.std.proofs.Common.{refl, arith, ap, ◌∙◌, length}
-use Rattle.std.proofs.lemmas.Bool.{OnTrue_at}
-use Rattle.rtp_ext.specs.Elements.{elements_bytes}
+use Rattle.rtp_wire.proofs.Common.{refl, arith, ap, ◌∙◌, length, OnTrue_at, elements_bytes, written_elements}
 use Rattle.rtp_ext.specs.KindsById.{known_slots}
-use Rattle.rtp_ext.specs.WrittenBlock.{written_elements}
 use Rattle.rtp_ext.specs.ElementWriting.{items_bytes}
 use Rattle.rtp_ext.proofs.WrittenBlockLemmas.{items_bytes-nil}
 use Rattle.rtp_ext.proofs.KnownWritingLemmas.{known_bytes}

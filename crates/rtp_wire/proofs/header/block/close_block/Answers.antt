@@ -1,8 +1,4 @@
-use Rattle.std.proofs.Common.{◌≡◌, ◌+◌, ◌-◌, ◌/◌, ◌++◌, ℕ, replicate, ap, ◌∙◌, arith}
-use Rattle.std.specs.Int.{w16, to_be_bytes}
-use Rattle.rtp_base.specs.Overwriting.{overwritten}
-use Rattle.rtp_ext.specs.Form.{form_word}
-use Rattle.rtp_ext.specs.WrittenBlock.{padding_of}
+use Rattle.rtp_wire.proofs.Common.{◌≡◌, ◌+◌, ◌-◌, ◌/◌, ◌++◌, ℕ, replicate, ap, ◌∙◌, arith, w16, to_be_bytes, overwritten, form_word, padding_of}
 use Rattle.rtp_wire.proofs.BlockWriting.{block-put}
 use Rattle.rtp_wire.proofs.header.block.close_block.Goals as goal
 

@@ -1,5 +1,4 @@
-use Rattle.std.proofs.Common.{sym}
-use Rattle.rtp_base.proofs.OverwritingLemmas.{overwritten-nil}
+use Rattle.rtp_wire.proofs.Common.{sym, overwritten-nil}
 use Rattle.rtp_wire.proofs.header.block.fill_word.Goals as goal
 
 pub returns-in-0-clause-written : goal.returns-in-0-clause-written

@@ -1,11 +1,4 @@
-use Rattle.std.proofs.Common.{◌+◌, ◌≤◌, ap, refl, arith, length, length-drop, ℕ, List, drop}
-use Rattle.std.proofs.lemmas.List.{take_rest}
-use Rattle.rtp_ext.specs.declared.form.ExtensionsForm.{ExtensionsForm}
-use Rattle.rtp_values.specs.declared.value.values.ExtensionValues.{ExtensionValues}
-use Rattle.rtp_ext.specs.ExtensionMap.{Slots}
-use Rattle.rtp_ext.specs.Elements.{elements_bytes}
-use Rattle.rtp_ext.specs.WrittenBlock.{written_elements}
-use Rattle.rtp_wire.specs.WrittenInForm.{block_bytes_in}
+use Rattle.rtp_wire.proofs.Common.{◌+◌, ◌≤◌, ap, refl, arith, length, length-drop, ℕ, List, drop, take_rest, ExtensionsForm, ExtensionValues, Slots, elements_bytes, written_elements, block_bytes_in}
 use Rattle.rtp_wire.proofs.BlockWriting.{length-block, row-put, block_bytes_in-closed, IsExtensionPart-written}
 use Rattle.rtp_wire.proofs.header.block.write_block.Goals as goal
 

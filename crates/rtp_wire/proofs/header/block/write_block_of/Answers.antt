@@ -1,5 +1,4 @@
-use Rattle.std.proofs.Common.{refl, arith, length}
-use Rattle.rtp_ext.specs.Elements.{elements_bytes}
+use Rattle.rtp_wire.proofs.Common.{refl, arith, length, elements_bytes}
 use Rattle.rtp_wire.proofs.BlockWriting.{length-block_of, row-put}
 use Rattle.rtp_wire.proofs.header.block.write_block_of.Goals as goal
 

@@ -1,9 +1,4 @@
-use Rattle.std.proofs.Common.{◌≡◌, ℕ, Bool, true, false, not, Option, Some, None, is_some, drop, refl, sym, ap, ◌∙◌}
-use Rattle.std.proofs.lemmas.Bool.{false≢true}
-use Rattle.rtp_ext.specs.declared.form.ExtensionsForm.{ExtensionsForm}
-use Rattle.rtp_wire.specs.Block.{word_at}
-use Rattle.rtp_wire.specs.NotAHeader.{sources_end}
-use Rattle.rtp_wire.specs.PartsAt.{form_of_word}
+use Rattle.rtp_wire.proofs.Common.{◌≡◌, ℕ, Bool, true, false, not, Option, Some, None, is_some, drop, refl, sym, ap, ◌∙◌, false≢true, ExtensionsForm, word_at, sources_end, form_of_word}
 use Rattle.rtp_wire.proofs.AnyBlockLemmas.{word-after}
 use Rattle.rtp_wire.proofs.HeaderFound.{found-form_of_word}
 use Rattle.rtp_wire.proofs.PacketLemmas.{no_form_of_word, IsNoFormWord-form_of_word}

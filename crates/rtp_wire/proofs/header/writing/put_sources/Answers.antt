@@ -1,9 +1,4 @@
-use Rattle.std.proofs.Common.{arith, ap, sym, ◌∙◌, ◌≡◌, ◌*◌, ℕ, length, take}
-use Rattle.std.specs.List.{flat_map}
-use Rattle.std.specs.Int.{w32, to_be_bytes}
-use Rattle.std.proofs.lemmas.List.{length-take-le}
-use Rattle.rtp_base.specs.Overwriting.{overwritten}
-use Rattle.rtp_base.proofs.OverwritingLemmas.{overwritten-nil, overwritten-overwritten}
+use Rattle.rtp_wire.proofs.Common.{arith, ap, sym, ◌∙◌, ◌≡◌, ◌*◌, ℕ, length, take, flat_map, w32, to_be_bytes, length-take-le, overwritten, overwritten-nil, overwritten-overwritten}
 use Rattle.rtp_wire.proofs.GroupLemmas.{flat_map-take_more, length-numbers}
 use Rattle.rtp_wire.proofs.header.writing.put_sources.Goals as goal
 

@@ -1,7 +1,4 @@
-use Rattle.std.proofs.Common.{◌≡◌, ℕ, List, ◌+◌, ◌*◌, take}
-use Rattle.std.specs.List.{flat_map}
-use Rattle.std.specs.Int.{w32, to_be_bytes}
-use Rattle.rtp_base.specs.Overwriting.{overwritten}
+use Rattle.rtp_wire.proofs.Common.{◌≡◌, ℕ, List, ◌+◌, ◌*◌, take, flat_map, w32, to_be_bytes, overwritten}
 use Rattle.rtp_wire.proofs.header.writing.put_sources.Given as goal
 
 -- the sources so far are in place

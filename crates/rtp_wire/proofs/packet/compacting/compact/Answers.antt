@@ -1,6 +1,4 @@
-use Rattle.std.proofs.Common.{◌+◌, ◌≤◌, length, arith, rules, refl, sym, ◌∙◌}
-use Rattle.rtp_ext.specs.WrittenBlock.{whole_words}
-use Rattle.rtp_wire.specs.PartsOf.{parts_of}
+use Rattle.rtp_wire.proofs.Common.{◌+◌, ◌≤◌, length, arith, rules, refl, sym, ◌∙◌, whole_words, parts_of}
 use Rattle.rtp_wire.proofs.PutPlanLemmas.{short-body, words-low, words-high, words-whole}
 use Rattle.rtp_wire.proofs.SetInPlaceLemmas.{body-ends}
 use Rattle.rtp_wire.proofs.CompactLemmas.{n-within, room, length-moved, Compacts-made, Compacts-nothing}

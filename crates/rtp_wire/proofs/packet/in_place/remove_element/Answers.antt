@@ -1,5 +1,4 @@
-use Rattle.std.proofs.Common.{rules, arith}
-use Rattle.rtp_wire.specs.InPlace.{RemovesElement}
+use Rattle.rtp_wire.proofs.Common.{rules, arith, RemovesElement}
 use Rattle.rtp_wire.proofs.PacketBufLemmas.{moved, HasLayout-stays}
 use Rattle.rtp_wire.proofs.PacketChanges.{stays-in_body}
 use Rattle.rtp_wire.proofs.packet.in_place.remove_element.Goals as goal

@@ -1,5 +1,4 @@
-use Rattle.std.proofs.Common.{rules}
-use Rattle.rtp_wire.specs.InPlace.{RemovesPadding}
+use Rattle.rtp_wire.proofs.Common.{rules, RemovesPadding}
 use Rattle.rtp_wire.proofs.PacketBufLemmas.{moved}
 use Rattle.rtp_wire.proofs.packet.in_place.remove_padding.Goals as goal
 

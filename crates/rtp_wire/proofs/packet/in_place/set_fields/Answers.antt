@@ -1,5 +1,4 @@
-use Rattle.std.proofs.Common.{rules, arith}
-use Rattle.rtp_wire.specs.InPlace.{SetsFields}
+use Rattle.rtp_wire.proofs.Common.{rules, arith, SetsFields}
 use Rattle.rtp_wire.proofs.BytesBetween.{in_fixed_part}
 use Rattle.rtp_wire.proofs.PacketBufLemmas.{moved, HasLayout-stays}
 use Rattle.rtp_wire.proofs.PacketChanges.{stays-before_block}

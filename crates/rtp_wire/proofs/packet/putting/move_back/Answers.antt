@@ -1,7 +1,4 @@
-use Rattle.std.proofs.Common.{◌≡◌, ℕ, ◌+◌, ◌-◌, ◌≤◌, List, [], ◌++◌, length, take, drop, append_assoc, arith, sym, ap, ◌∙◌, take-add}
-use Rattle.std.proofs.lemmas.List.{append-nil, take_rest, drop-drop, drop_all}
-use borrow.Rule.Slice.PartMut.{put_mid, mid_of}
-use lib.Seq.{paste}
+use Rattle.rtp_wire.proofs.Common.{◌≡◌, ℕ, ◌+◌, ◌-◌, ◌≤◌, List, [], ◌++◌, length, take, drop, append_assoc, arith, sym, ap, ◌∙◌, take-add, append-nil, take_rest, drop-drop, drop_all, put_mid, mid_of, paste}
 use Rattle.rtp_wire.proofs.packet.putting.move_back.Goals as goal
 
 -- a copy in what follows an offset is one in the whole

@@ -1,6 +1,4 @@
-use Rattle.std.proofs.Common.{arith, ◌≡◌, ℕ, ◌+◌, ◌-◌, List, drop, ◌++◌, ap, sym, ◌∙◌, subst, take-add}
-use Rattle.std.specs.List.{copy_within}
-use Rattle.std.proofs.lemmas.List.{take-append-drop}
+use Rattle.rtp_wire.proofs.Common.{arith, ◌≡◌, ℕ, ◌+◌, ◌-◌, List, drop, ◌++◌, ap, sym, ◌∙◌, subst, take-add, copy_within, take-append-drop}
 use Rattle.rtp_wire.proofs.packet.putting.move_bytes.Goals as goal
 
 -- bytes that are copied to where they stand

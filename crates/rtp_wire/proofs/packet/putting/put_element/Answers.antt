@@ -1,10 +1,5 @@
-use Rattle.std.proofs.Common.{◌≡◌, ℕ, ◌+◌, ◌-◌, ◌≤◌, ◌<◌, ◌++◌, List, length, take, drop, Option, arith, refl, sym, ap, ◌∙◌, subst, length-take-le}
-use Rattle.std.proofs.lemmas.Bool.{false≢true, OnTrue_at, OnFalse_at}
-use Rattle.std.proofs.lemmas.List.{take-append-drop}
-use Rattle.rtp_ext.specs.declared.form.ExtensionsForm.{ExtensionsForm}
+use Rattle.rtp_wire.proofs.Common.{◌≡◌, ℕ, ◌+◌, ◌-◌, ◌≤◌, ◌<◌, ◌++◌, List, length, take, drop, Option, arith, refl, sym, ap, ◌∙◌, subst, length-take-le, false≢true, OnTrue_at, OnFalse_at, take-append-drop, ExtensionsForm, PutsElement, IsPlan, MakesAnew}
 use Rattle.rtp_wire.specs.declared.packet.not_put.NotPut.TheVariants.{CutPacket, LongBlock, NoRoom}
-use Rattle.rtp_wire.specs.PutIntoPacket.{PutsElement}
-use Rattle.rtp_wire.specs.GrowingPacket.{IsPlan, MakesAnew}
 use Rattle.rtp_wire.proofs.PutElementLemmas.{same-growth, none_before_length, none_before_room, none_at_all, of_the_packet, PutsElement-front, PutsElement-anew, no_shorter, plan-len, short-set}
 use Rattle.rtp_wire.proofs.packet.putting.put_element.Goals as goal
 use Rattle.rtp_wire.proofs.packet.putting.put_element.Goals.{After-new_body_len-new_body_len}

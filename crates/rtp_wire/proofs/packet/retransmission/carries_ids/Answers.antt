@@ -1,7 +1,4 @@
-use Rattle.std.proofs.Common.{◌≡◌, true, Some, None, length, refl, ap, ◌∙◌, arith}
-use Rattle.std.proofs.lemmas.Bool.{OnTrue_from, OnFalse_from}
-use Rattle.rtp_ext.specs.NewIds.{new_id}
-use Rattle.rtp_wire.specs.Packet.{PacketParts}
+use Rattle.rtp_wire.proofs.Common.{◌≡◌, true, Some, None, length, refl, ap, ◌∙◌, arith, OnTrue_from, OnFalse_from, new_id, PacketParts}
 use Rattle.rtp_wire.proofs.ChangedPackets.{HasHeader-laid_out}
 use Rattle.rtp_wire.proofs.RetransmissionHeaders.{parts-of_bytes, carried-told, high-told}
 use Rattle.rtp_wire.proofs.packet.retransmission.carries_ids.Goals as goal

@@ -1,6 +1,4 @@
-use Rattle.std.proofs.Common.{arith, rules, ap, refl}
-use Rattle.rtp_ext.specs.NewIds.{new_id}
-use Rattle.rtp_wire.specs.Packet.{PacketParts}
+use Rattle.rtp_wire.proofs.Common.{arith, rules, ap, refl, new_id, PacketParts}
 use Rattle.rtp_wire.proofs.RetransmissionHeaders.{parts-of_bytes, IsChangedHeader-made, KeepsBlockHeader-made, carried-told, high-told, bytes_before}
 use Rattle.rtp_wire.proofs.packet.retransmission.change_header.Goals as goal
 

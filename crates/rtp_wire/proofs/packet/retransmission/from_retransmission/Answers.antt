@@ -1,11 +1,4 @@
-use Rattle.std.proofs.Common.{rules, ◌≡◌, ◌≤◌, ◌-◌, ℕ, List, length, take, drop, inl, inr, Some, refl, sym, ap, subst, arith, length-take-le}
-use Rattle.std.proofs.lemmas.Bool.{false≢true, cases_lt}
-use Rattle.std.proofs.lemmas.Result.{err_from_is_err_and}
-use Rattle.rtp_ext.specs.NewIds.{new_id}
-use Rattle.rtp_wire.specs.declared.packet.fields.Fields.{Fields}
-use Rattle.rtp_wire.specs.declared.packet.not_retransmitted.NotRetransmitted.TheVariants.{NewIdTooHigh}
-use Rattle.rtp_wire.specs.OriginalNumber.{HasOriginalNumber}
-use Rattle.rtp_wire.specs.Retransmission.{Restores}
+use Rattle.rtp_wire.proofs.Common.{rules, ◌≡◌, ◌≤◌, ◌-◌, ℕ, List, length, take, drop, inl, inr, Some, refl, sym, ap, subst, arith, length-take-le, false≢true, cases_lt, err_from_is_err_and, new_id, Fields, NewIdTooHigh, HasOriginalNumber, Restores}
 use Rattle.rtp_wire.proofs.RetransmissionBytes.{lie_within, HasLayout-front, payload_part}
 use Rattle.rtp_wire.proofs.RetransmissionCauses.{HasHighId-whole, no_high_id-whole, restoring_unread, restoring_no_number, restoring_high, restoring_not_kept}
 use Rattle.rtp_wire.proofs.RetransmissionHeaders.{fields-given}

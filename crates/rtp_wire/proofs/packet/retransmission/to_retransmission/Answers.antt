@@ -1,9 +1,4 @@
-use Rattle.std.proofs.Common.{Some, refl, sym, arith, length-take-le}
-use Rattle.std.proofs.lemmas.Bool.{false≢true}
-use Rattle.std.proofs.lemmas.Result.{err_from_is_err_and}
-use Rattle.rtp_ext.specs.NewIds.{new_id}
-use Rattle.rtp_wire.specs.declared.packet.fields.Fields.{Fields}
-use Rattle.rtp_wire.specs.declared.packet.not_retransmitted.NotRetransmitted.TheVariants.{NewIdTooHigh, NoRoom}
+use Rattle.rtp_wire.proofs.Common.{Some, refl, sym, arith, length-take-le, false≢true, err_from_is_err_and, new_id, Fields, NewIdTooHigh, NoRoom}
 use Rattle.rtp_wire.proofs.RetransmissionBytes.{lie_within, HasLayout-front}
 use Rattle.rtp_wire.proofs.RetransmissionCauses.{HasHighId-whole, no_high_id-whole, sending_unread, sending_high, sending_no_room, sending_not_kept}
 use Rattle.rtp_wire.proofs.RetransmissionHeaders.{fields-given}

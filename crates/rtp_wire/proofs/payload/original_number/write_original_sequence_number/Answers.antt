@@ -1,7 +1,4 @@
-use Rattle.std.proofs.Common.{ℕ, ◌%◌, List, ap, ◌∙◌}
-use Rattle.std.specs.Int.{w16, to_be_bytes}
-use Rattle.rtp_base.specs.Overwriting.{overwritten}
-use Rattle.rtp_base.proofs.OverwritingLemmas.{overwritten-front}
+use Rattle.rtp_wire.proofs.Common.{ℕ, ◌%◌, List, ap, ◌∙◌, w16, to_be_bytes, overwritten, overwritten-front}
 use Rattle.rtp_wire.proofs.payload.original_number.write_original_sequence_number.Goals as goal
 
 pub returns-clause-written : goal.returns-clause-written

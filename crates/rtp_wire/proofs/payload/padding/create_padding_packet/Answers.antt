@@ -1,6 +1,4 @@
-use Rattle.std.proofs.Common.{◌<◌, ℕ, List, ap, ◌∙◌, arith}
-use Rattle.rtp_base.specs.Overwriting.{overwritten}
-use Rattle.rtp_wire.specs.Padding.{padding_bytes}
+use Rattle.rtp_wire.proofs.Common.{◌<◌, ℕ, List, ap, ◌∙◌, arith, overwritten, padding_bytes}
 use Rattle.rtp_wire.proofs.PaddingLemmas.{with_padding_bit-announced, with_padding_bit-same}
 use Rattle.rtp_wire.proofs.payload.padding.create_padding_packet.Goals as goal
 

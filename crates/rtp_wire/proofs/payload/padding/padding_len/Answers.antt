@@ -1,5 +1,4 @@
-use Rattle.std.proofs.Common.{arith}
-use Rattle.rtp_wire.specs.Padding.{IsPaddingLength}
+use Rattle.rtp_wire.proofs.Common.{arith, IsPaddingLength}
 use Rattle.rtp_wire.proofs.PaddingLemmas.{IsPaddingLength-near, IsPaddingLength-beyond, IsPaddingLength-once}
 use Rattle.rtp_wire.proofs.payload.padding.padding_len.Goals as goal
 

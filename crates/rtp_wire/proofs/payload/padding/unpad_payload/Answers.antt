@@ -1,6 +1,4 @@
-use Rattle.std.proofs.Common.{◌≡◌, ◌-◌, ◌∙◌, arith, length, sym}
-use Rattle.std.proofs.lemmas.Option.{get_or_from_slice_get}
-use Rattle.rtp_wire.specs.Padding.{padding_count}
+use Rattle.rtp_wire.proofs.Common.{◌≡◌, ◌-◌, ◌∙◌, arith, length, sym, get_or_from_slice_get, padding_count}
 use Rattle.rtp_wire.proofs.PaddingLemmas.{IsUnpadded-cut}
 use Rattle.rtp_wire.proofs.payload.padding.unpad_payload.Goals as goal
 

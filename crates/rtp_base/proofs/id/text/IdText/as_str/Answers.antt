@@ -1,6 +1,4 @@
-use Rattle.std.proofs.Common.{ℕ, List, take, sym, ap, ◌∙◌, subst}
-use Rattle.std.specs.List.{position_or_len}
-use Rattle.rtp_base.specs.Id.{IsIdOf}
+use Rattle.rtp_base.proofs.Common.{ℕ, List, take, sym, ap, ◌∙◌, subst, position_or_len, IsIdOf}
 use Rattle.rtp_base.proofs.IdLemmas.{IsUtf8-text, IsIdOf-text, is_space}
 use Rattle.rtp_base.proofs.id.text.IdText.as_str.Goals as goal
 

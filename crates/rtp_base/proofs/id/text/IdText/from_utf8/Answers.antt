@@ -1,6 +1,4 @@
-use Rattle.std.proofs.Common.{ℕ, length, ◌≡◌, refl, sym, ◌∙◌, arith}
-use Rattle.std.proofs.lemmas.List.{length-replicate}
-use Rattle.std.proofs.lemmas.Str.{IsUtf8-from_ascii}
+use Rattle.rtp_base.proofs.Common.{ℕ, length, ◌≡◌, refl, sym, ◌∙◌, arith, length-replicate, IsUtf8-from_ascii}
 use Rattle.rtp_base.proofs.IdLemmas.{IsIdOf-put}
 use Rattle.rtp_base.proofs.IdTextLemmas.{id_text-ascii}
 use Rattle.rtp_base.proofs.id.text.IdText.from_utf8.Goals as goal

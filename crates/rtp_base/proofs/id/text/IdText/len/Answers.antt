@@ -1,5 +1,4 @@
-use Rattle.std.proofs.Common.{◌∙◌, ap}
-use Rattle.std.specs.List.{position_or_len}
+use Rattle.rtp_base.proofs.Common.{◌∙◌, ap, position_or_len}
 use Rattle.rtp_base.proofs.IdLemmas.{count-text, is_space}
 use Rattle.rtp_base.proofs.id.text.IdText.len.Goals as goal
 

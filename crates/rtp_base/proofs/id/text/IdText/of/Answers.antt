@@ -1,6 +1,4 @@
-use Rattle.std.proofs.Common.{arith, ◌≡◌, ℕ, ap, ◌∙◌}
-use Rattle.std.proofs.lemmas.List.{length-replicate}
-use Rattle.rtp_base.specs.Id.{id_text}
+use Rattle.rtp_base.proofs.Common.{arith, ◌≡◌, ℕ, ap, ◌∙◌, length-replicate, id_text}
 use Rattle.rtp_base.proofs.IdLemmas.{IsIdOf-put}
 use Rattle.rtp_base.proofs.id.text.IdText.of.Goals as goal
 

@@ -1,6 +1,5 @@
-use Rattle.std.proofs.Common.{◌≡◌, Result, IfOk, Ok, ℕ, subst, sym}
+use Rattle.rtp_base.proofs.Common.{◌≡◌, Result, IfOk, Ok, ℕ, subst, sym, IsFrequencyText}
 use Rattle.rtp_base.specs.declared.mtime.frequency.ParseFrequencyError.{ParseFrequencyError}
-use Rattle.rtp_base.specs.Frequency.{IsFrequencyText}
 use Rattle.rtp_base.proofs.FrequencyLemmas.{refused, answered}
 use Rattle.rtp_base.proofs.mtime.frequency.FrequencyFromStr.from_str.Goals as goal
 

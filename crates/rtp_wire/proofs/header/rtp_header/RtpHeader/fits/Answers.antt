@@ -1,5 +1,4 @@
-use Rattle.std.proofs.Common.{refl, sym, ap, ◌∙◌, arith, length}
-use Rattle.rtp_wire.specs.Written.{with_values}
+use Rattle.rtp_wire.proofs.Common.{refl, sym, ap, ◌∙◌, arith, length, with_values}
 use Rattle.rtp_wire.proofs.RoundTrip.{length-wire_bytes}
 use Rattle.rtp_wire.proofs.WrittenInFormLemmas.{no_part, a_part}
 use Rattle.rtp_wire.proofs.header.rtp_header.RtpHeader.fits.Goals as goal

@@ -1,5 +1,4 @@
-use Rattle.std.proofs.Common.{ap, ◌∙◌, arith}
-use Rattle.std.specs.Int.{w32, to_be_bytes}
+use Rattle.rtp_wire.proofs.Common.{ap, ◌∙◌, arith, w32, to_be_bytes}
 use Rattle.rtp_wire.proofs.FixedLemmas.{fixed_put}
 use Rattle.rtp_wire.proofs.header.rtp_header.RtpHeader.fixed_bytes.Goals as goal
 

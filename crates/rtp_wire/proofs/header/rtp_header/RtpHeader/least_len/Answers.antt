@@ -1,5 +1,4 @@
-use Rattle.std.proofs.Common.{arith}
-use Rattle.rtp_wire.specs.Written.{with_values}
+use Rattle.rtp_wire.proofs.Common.{arith, with_values}
 use Rattle.rtp_wire.proofs.RoundTrip.{length-wire_bytes}
 use Rattle.rtp_wire.proofs.WrittenInFormLemmas.{least_part}
 use Rattle.rtp_wire.proofs.header.rtp_header.RtpHeader.least_len.Goals as goal

@@ -1,6 +1,4 @@
-use Rattle.std.proofs.Common.{rules, ap, Some}
-use Rattle.rtp_wire.specs.PartsOf.{parts_of}
-use Rattle.rtp_ext.proofs.MemoryLemmas.{OnErr-from}
+use Rattle.rtp_wire.proofs.Common.{rules, ap, Some, parts_of, OnErr-from}
 use Rattle.rtp_wire.proofs.HeaderLemmas.{no_header, IsRead, IsRead-packet}
 use Rattle.rtp_wire.proofs.header.rtp_header.RtpHeader.parse.Goals as goal
 use Rattle.rtp_wire.proofs.header.rtp_header.RtpHeader.parse.Goals.{in_default-via-in-Ok+else-read, in_default-via-in_default}

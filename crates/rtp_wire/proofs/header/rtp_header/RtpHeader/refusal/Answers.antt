@@ -1,6 +1,4 @@
-use Rattle.std.proofs.Common.{arith, subst}
-use Rattle.rtp_wire.specs.NotAPacket.{IsFirstCause}
-use Rattle.rtp_wire.specs.PartsOf.{parts_of}
+use Rattle.rtp_wire.proofs.Common.{arith, subst, IsFirstCause, parts_of}
 use Rattle.rtp_wire.proofs.NoHeaderLemmas.{HasNoHeader-parted, block_header-there, told_of_packet}
 use Rattle.rtp_wire.proofs.header.rtp_header.RtpHeader.refusal.Goals as goal
 

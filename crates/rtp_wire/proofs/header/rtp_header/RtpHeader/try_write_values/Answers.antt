@@ -1,5 +1,4 @@
-use Rattle.std.proofs.Common.{Bool, ap, arith, length}
-use Rattle.rtp_wire.specs.Written.{extension_bytes, with_values}
+use Rattle.rtp_wire.proofs.Common.{Bool, ap, arith, length, extension_bytes, with_values}
 use Rattle.rtp_wire.proofs.RoundTrip.{length-wire_bytes}
 use Rattle.rtp_wire.proofs.header.rtp_header.RtpHeader.try_write_values.Goals as goal
 

@@ -1,5 +1,4 @@
-use Rattle.std.proofs.Common.{◌+◌, ◌*◌, Some, ap, arith, length}
-use Rattle.rtp_wire.specs.Written.{with_values}
+use Rattle.rtp_wire.proofs.Common.{◌+◌, ◌*◌, Some, ap, arith, length, with_values}
 use Rattle.rtp_wire.proofs.RoundTrip.{length-wire_bytes}
 use Rattle.rtp_wire.proofs.WrittenInFormLemmas.{IsLength, no_part, announced-clear, announced-set, length-with_block_of}
 use Rattle.rtp_wire.proofs.header.rtp_header.RtpHeader.values_wire_len.Goals as goal

@@ -1,13 +1,4 @@
-use Rattle.std.proofs.Common.{◌≡◌, ◌+◌, ◌-◌, ◌*◌, ◌≤◌, ℕ, List, [], refl, sym, ap, ◌∙◌, ◌++◌, length, drop, take, arith}
-use Rattle.std.proofs.lemmas.List.{length-take-le}
-use Rattle.std.specs.Prelude.{Some}
-use Rattle.rtp_base.specs.Overwriting.{overwritten}
-use Rattle.rtp_ext.specs.declared.form.ExtensionsForm.{ExtensionsForm}
-use Rattle.rtp_ext.specs.ExtensionMap.{Slots}
-use Rattle.rtp_wire.specs.declared.header.rtp_header.RtpHeader.{RtpHeader}
-use Rattle.rtp_wire.specs.Written.{with_values, extension_bytes, fixed_bytes, wire_bytes}
-use Rattle.rtp_wire.specs.WrittenInForm.{announced_form, block_bytes_in}
-use Rattle.rtp_base.proofs.OverwritingLemmas.{overwritten-nil, overwritten-rest}
+use Rattle.rtp_wire.proofs.Common.{◌≡◌, ◌+◌, ◌-◌, ◌*◌, ◌≤◌, ℕ, List, [], refl, sym, ap, ◌∙◌, ◌++◌, length, drop, take, arith, length-take-le, Some, overwritten, ExtensionsForm, Slots, RtpHeader, with_values, extension_bytes, fixed_bytes, wire_bytes, announced_form, block_bytes_in, overwritten-nil, overwritten-rest}
 use Rattle.rtp_wire.proofs.RoundTrip.{length-wire_bytes, wire_bytes-from_pieces, IsWire-written, AllByRecursion-from_each}
 use Rattle.rtp_wire.proofs.WrittenInFormLemmas.{no_part, a_part, IsExtensionPart-none, IsExtensionPart-some}
 use Rattle.rtp_wire.proofs.header.rtp_header.RtpHeader.write_in.Goals as goal

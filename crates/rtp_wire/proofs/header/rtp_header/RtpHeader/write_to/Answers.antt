@@ -1,7 +1,4 @@
-use Rattle.std.proofs.Common.{arith, drop, subst, ◌++◌, List, ℕ}
-use Rattle.rtp_ext.specs.ExtensionMap.{Slots}
-use Rattle.rtp_wire.specs.Header.{IsWire}
-use Rattle.rtp_wire.specs.Written.{wire_bytes, image_of}
+use Rattle.rtp_wire.proofs.Common.{arith, drop, subst, ◌++◌, List, ℕ, Slots, IsWire, wire_bytes, image_of}
 use Rattle.rtp_wire.proofs.RoundTrip.{IsFirstByte-written}
 use Rattle.rtp_wire.proofs.WrittenInFormLemmas.{IsWithinBounds, wire_len_bounds}
 use Rattle.rtp_wire.proofs.header.rtp_header.RtpHeader.write_to.Goals as goal

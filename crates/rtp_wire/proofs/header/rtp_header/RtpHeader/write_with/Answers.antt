@@ -1,5 +1,4 @@
-use Rattle.std.proofs.Common.{rules, length, take, sym, arith}
-use Rattle.std.proofs.lemmas.Bool.{false≢true}
+use Rattle.rtp_wire.proofs.Common.{rules, length, take, sym, arith, false≢true}
 use Rattle.rtp_wire.proofs.RoundTrip.{AllByRecursion-from_each}
 use Rattle.rtp_wire.proofs.WritingWithLemmas.{CanBeWrittenWith, ArePut, CannotBeWrittenWith-refused, CannotBeWrittenWith-not, wire_bytes_with-from_pieces, IsPacket-written_with}
 use Rattle.rtp_wire.proofs.header.rtp_header.RtpHeader.write_with.Goals as goal

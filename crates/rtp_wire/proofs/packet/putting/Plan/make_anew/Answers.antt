@@ -1,18 +1,5 @@
-use Rattle.std.proofs.Common.{◌≡◌, ℕ, ◌+◌, ◌-◌, ◌*◌, ◌≤◌, true, List, length, take, drop, Option, Some, arith, sym, ap, ◌∙◌, subst}
-use Rattle.std.proofs.lemmas.Bool.{false≢true}
-use Rattle.std.specs.Prelude.{slice_range}
-use Rattle.std.specs.Int.{w16, to_be_bytes}
-use borrow.Rule.Slice.PartMut.{put_mid}
-use Rattle.rtp_base.specs.Overwriting.{overwritten}
-use Rattle.rtp_ext.specs.Form.{form_word}
-use Rattle.rtp_ext.specs.declared.form.ExtensionsForm.{ExtensionsForm}
-use Rattle.rtp_ext.specs.Elements.{Element, AreElements, elements_bytes}
-use Rattle.rtp_ext.specs.BodySurvey.{IsSurvey}
-use Rattle.rtp_ext.specs.PutElement.{row_to}
+use Rattle.rtp_wire.proofs.Common.{◌≡◌, ℕ, ◌+◌, ◌-◌, ◌*◌, ◌≤◌, true, List, length, take, drop, Option, Some, arith, sym, ap, ◌∙◌, subst, false≢true, slice_range, w16, to_be_bytes, put_mid, overwritten, form_word, ExtensionsForm, Element, AreElements, elements_bytes, IsSurvey, row_to, IsPacket, IsGrowth, body_of_block, elements_with, with_extension_bit, IsPlan}
 use Rattle.rtp_wire.specs.declared.packet.putting.Plan.{Plan}
-use Rattle.rtp_wire.specs.Packet.{IsPacket}
-use Rattle.rtp_wire.specs.PutIntoPacket.{IsGrowth, body_of_block, elements_with}
-use Rattle.rtp_wire.specs.GrowingPacket.{with_extension_bit, IsPlan}
 use Rattle.rtp_wire.proofs.ResizedLemmas.{len-is, take-body}
 use Rattle.rtp_wire.proofs.GrowthLemmas.{IsLaid, IsLaid-announced, IsLaid-new, middle-laid, length-middle, IsPacket-new, behind-new, word-new, written-new}
 use Rattle.rtp_wire.proofs.PutPlanLemmas.{elements-fit, body-fits, body-whole, body-elements, same-elements}

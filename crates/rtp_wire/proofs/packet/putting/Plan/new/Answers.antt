@@ -1,10 +1,4 @@
-use Rattle.std.proofs.Common.{◌≡◌, ℕ, List, length, Option, Some, arith, refl, sym, ap, ◌∙◌, subst}
-use Rattle.std.specs.Prelude.{◌↔◌, IsTrue}
-use Rattle.rtp_ext.specs.declared.form.ExtensionsForm.{ExtensionsForm}
-use Rattle.rtp_ext.specs.Elements.{Element}
-use Rattle.rtp_ext.specs.BodySurvey.{IsSurvey}
-use Rattle.rtp_ext.specs.PutElement.{needed_form, allowed_form}
-use Rattle.rtp_wire.specs.PartsOf.{parts_of}
+use Rattle.rtp_wire.proofs.Common.{◌≡◌, ℕ, List, length, Option, Some, arith, refl, sym, ap, ◌∙◌, subst, ◌↔◌, IsTrue, ExtensionsForm, Element, IsSurvey, needed_form, allowed_form, parts_of}
 use Rattle.rtp_wire.proofs.PartsLemmas.{none_there}
 use Rattle.rtp_wire.proofs.PutPlanLemmas.{short-body, here, found-growth, form-tested, IsWritable-allowed, none_before_form}
 use Rattle.rtp_wire.proofs.packet.putting.Plan.new.Goals as goal

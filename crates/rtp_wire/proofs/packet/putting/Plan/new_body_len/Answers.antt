@@ -1,8 +1,4 @@
-use Rattle.std.proofs.Common.{◌≡◌, ℕ, ◌-◌, ◌≤◌, List, length, take, drop, arith, rules, refl, sym, ap, ◌∙◌, subst}
-use Rattle.rtp_ext.specs.declared.form.ExtensionsForm.{ExtensionsForm}
-use Rattle.rtp_ext.specs.Elements.{AreElements, elements_bytes}
-use Rattle.rtp_ext.specs.BodySurvey.{IsSurvey}
-use Rattle.rtp_wire.specs.PutIntoPacket.{body_of_block, elements_with}
+use Rattle.rtp_wire.proofs.Common.{◌≡◌, ℕ, ◌-◌, ◌≤◌, List, length, take, drop, arith, rules, refl, sym, ap, ◌∙◌, subst, ExtensionsForm, AreElements, elements_bytes, IsSurvey, body_of_block, elements_with}
 use Rattle.rtp_wire.proofs.PartsLemmas.{length-packet}
 use Rattle.rtp_wire.proofs.ResizedLemmas.{block_len-body}
 use Rattle.rtp_wire.proofs.PutPlanLemmas.{body-elements, body_len-reckoned, words-low, words-high, words-whole}

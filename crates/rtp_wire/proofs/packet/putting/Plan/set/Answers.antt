@@ -1,9 +1,4 @@
-use Rattle.std.proofs.Common.{◌≡◌, ℕ, ◌+◌, ◌-◌, ◌≤◌, List, length, take, drop, Some, rules, sym, ap, ◌∙◌, subst}
-use Rattle.std.proofs.lemmas.Bool.{OnTrue_at, OnTrue_from, OnFalse_at, OnFalse_from}
-use Rattle.rtp_ext.specs.declared.form.ExtensionsForm.{ExtensionsForm}
-use Rattle.rtp_ext.specs.Elements.{AreElements}
-use Rattle.rtp_ext.specs.ElementsInPlace.{SetsLast}
-use Rattle.rtp_ext.specs.BodySurvey.{IsSurvey}
+use Rattle.rtp_wire.proofs.Common.{◌≡◌, ℕ, ◌+◌, ◌-◌, ◌≤◌, List, length, take, drop, Some, rules, sym, ap, ◌∙◌, subst, OnTrue_at, OnTrue_from, OnFalse_at, OnFalse_from, ExtensionsForm, AreElements, SetsLast, IsSurvey}
 use Rattle.rtp_wire.proofs.PutPlanLemmas.{body-elements}
 use Rattle.rtp_wire.proofs.SetInPlaceLemmas.{form-announced, body-ends, body-here, put_mid-same, PutsElement-set}
 use Rattle.rtp_wire.proofs.packet.putting.Plan.set.Goals as goal

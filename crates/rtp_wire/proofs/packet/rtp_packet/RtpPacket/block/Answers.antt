@@ -1,5 +1,4 @@
-use Rattle.std.proofs.Common.{rules, arith, Some, ap, ◌∙◌, ◌≤◌, ℕ}
-use Rattle.std.specs.Prelude.{slice_range}
+use Rattle.rtp_wire.proofs.Common.{rules, arith, Some, ap, ◌∙◌, ◌≤◌, ℕ, slice_range}
 use Rattle.rtp_wire.proofs.PartsLemmas.{block-header, has_block-form, body_within}
 use Rattle.rtp_wire.proofs.HeaderFound.{HasHeader-packet}
 use Rattle.rtp_wire.proofs.BlockLemmas.{bytes-slice_range}

@@ -1,6 +1,4 @@
-use Rattle.std.proofs.Common.{◌≡◌, ◌+◌, ◌≤◌, ℕ, length, drop, arith, sym, ap, ◌∙◌}
-use Rattle.rtp_wire.specs.Block.{word_at}
-use Rattle.rtp_wire.specs.NotAHeader.{sources_end}
+use Rattle.rtp_wire.proofs.Common.{◌≡◌, ◌+◌, ◌≤◌, ℕ, length, drop, arith, sym, ap, ◌∙◌, word_at, sources_end}
 use Rattle.rtp_wire.specs.PartsAt.{parts_at}
 use Rattle.rtp_wire.proofs.HeaderFound.{HasHeader-packet}
 use Rattle.rtp_wire.proofs.PartsLemmas.{body_within}

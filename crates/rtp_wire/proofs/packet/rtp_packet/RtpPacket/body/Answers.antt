@@ -1,6 +1,4 @@
-use Rattle.std.proofs.Common.{rules, arith, sym, ap, ◌∙◌, ◌≡◌, ◌+◌, ◌≤◌, ℕ}
-use Rattle.std.specs.Prelude.{slice_range}
-use Rattle.rtp_wire.specs.NotAHeader.{sources_end}
+use Rattle.rtp_wire.proofs.Common.{rules, arith, sym, ap, ◌∙◌, ◌≡◌, ◌+◌, ◌≤◌, ℕ, slice_range, sources_end}
 use Rattle.rtp_wire.specs.PartsAt.{header_end, parts_at}
 use Rattle.rtp_wire.proofs.PartsLemmas.{body_within}
 use Rattle.rtp_wire.proofs.HeaderFound.{HasHeader-packet}

@@ -1,11 +1,5 @@
-use Rattle.std.proofs.Common.{arith, sym, ◌∙◌, ◌≡◌, subst, None, [], List, ℕ, Option}
-use Rattle.rtp_ext.specs.declared.form.ExtensionsForm.{ExtensionsForm}
-use Rattle.rtp_ext.specs.declared.form.ExtensionsForm.TheVariants.{OneByte}
-use Rattle.rtp_ext.specs.Elements.{AreElements}
+use Rattle.rtp_wire.proofs.Common.{arith, sym, ◌∙◌, ◌≡◌, subst, None, [], List, ℕ, Option, ExtensionsForm, OneByte, AreElements, AreElements-found, AreElementsOf, parts_of}
 use Rattle.rtp_ext.proofs.ElementLemmas.{elements_left-none}
-use Rattle.rtp_ext.proofs.ElementLemmasOfBodies.{AreElements-found}
-use Rattle.rtp_wire.specs.PacketElements.{AreElementsOf}
-use Rattle.rtp_wire.specs.PartsOf.{parts_of}
 use Rattle.rtp_wire.proofs.packet.rtp_packet.RtpPacket.elements.Goals as goal
 
 -- there is no block, and the iterator has no element

@@ -1,6 +1,4 @@
-use Rattle.std.proofs.Common.{arith, ap, ◌∙◌, ◌%◌, map, drop, length}
-use Rattle.std.specs.Prelude.{slice_index}
-use Rattle.std.specs.Int.{w32, from_be_bytes}
+use Rattle.rtp_wire.proofs.Common.{arith, ap, ◌∙◌, ◌%◌, map, drop, length, slice_index, w32, from_be_bytes}
 use Rattle.rtp_wire.specs.PartsAt.{parts_at}
 use Rattle.rtp_wire.proofs.GroupLemmas.{length-first_chunks}
 use Rattle.rtp_wire.proofs.PartsLemmas.{sources_within, first_chunks-sources}

@@ -1,5 +1,4 @@
-use Rattle.std.proofs.Common.{sym, ◌∙◌}
-use Rattle.std.specs.Prelude.{slice_index}
+use Rattle.rtp_wire.proofs.Common.{sym, ◌∙◌, slice_index}
 use Rattle.rtp_wire.specs.PartsAt.{parts_at}
 use Rattle.rtp_wire.proofs.FlagLemmas.{bit-once, bit-mask}
 use Rattle.rtp_wire.proofs.PacketLemmas.{bit-is_set}

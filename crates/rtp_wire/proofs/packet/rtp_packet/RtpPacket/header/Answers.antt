@@ -1,5 +1,4 @@
-use Rattle.rtp_wire.specs.PartsOf.{parts_of}
-use Rattle.rtp_ext.proofs.MemoryLemmas.{OnErr-from}
+use Rattle.rtp_wire.proofs.Common.{parts_of, OnErr-from}
 use Rattle.rtp_wire.proofs.HeaderLemmas.{one_header-parts}
 use Rattle.rtp_wire.proofs.packet.rtp_packet.RtpPacket.header.Goals as goal
 

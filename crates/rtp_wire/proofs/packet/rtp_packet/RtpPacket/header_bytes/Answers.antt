@@ -1,7 +1,5 @@
-use Rattle.std.proofs.Common.{arith, refl, sym, ap, ◌∙◌, [], ◌++◌, ℕ, take, drop, length-drop}
-use Rattle.std.proofs.lemmas.List.{take-append-drop}
+use Rattle.rtp_wire.proofs.Common.{arith, refl, sym, ap, ◌∙◌, [], ◌++◌, ℕ, take, drop, length-drop, take-append-drop, parts_of}
 use Rattle.rtp_wire.specs.PartsAt.{header_end, parts_at}
-use Rattle.rtp_wire.specs.PartsOf.{parts_of}
 use Rattle.rtp_wire.proofs.PartsLemmas.{IsPacket-found}
 use Rattle.rtp_wire.proofs.PaddingChanges.{IsPacket-front, IsPacket-longer}
 use Rattle.rtp_wire.proofs.packet.rtp_packet.RtpPacket.header_bytes.Goals as goal

@@ -1,5 +1,4 @@
-use Rattle.std.proofs.Common.{arith}
-use Rattle.std.specs.Int.{w32, from_be_bytes}
+use Rattle.rtp_wire.proofs.Common.{arith, w32, from_be_bytes}
 use Rattle.rtp_wire.proofs.GroupLemmas.{set_slot}
 use Rattle.rtp_wire.proofs.packet.rtp_packet.RtpPacket.put_csrc.Goals as goal
 

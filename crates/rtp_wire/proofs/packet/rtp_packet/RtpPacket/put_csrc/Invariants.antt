@@ -1,5 +1,4 @@
-use Rattle.std.proofs.Common.{◌≡◌, ◌++◌, take, drop, map}
-use Rattle.std.specs.Int.{w32, from_be_bytes}
+use Rattle.rtp_wire.proofs.Common.{◌≡◌, ◌++◌, take, drop, map, w32, from_be_bytes}
 use Rattle.rtp_wire.proofs.packet.rtp_packet.RtpPacket.put_csrc.Given as goal
 
 -- the numbers of the groups so far, and the slots after them as they were

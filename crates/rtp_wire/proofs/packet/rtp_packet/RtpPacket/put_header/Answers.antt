@@ -1,7 +1,4 @@
-use Rattle.std.proofs.Common.{ap}
-use Rattle.std.proofs.lemmas.Result.{on_ok_weaker, on_err_weaker}
-use Rattle.rtp_wire.specs.declared.header.rtp_header.RtpHeader.{RtpHeader}
-use Rattle.rtp_wire.specs.PartsOf.{parts_of}
+use Rattle.rtp_wire.proofs.Common.{ap, on_ok_weaker, on_err_weaker, RtpHeader, parts_of}
 use Rattle.rtp_wire.proofs.HeaderLemmas.{IsHeaderOf-read}
 use Rattle.rtp_wire.proofs.packet.rtp_packet.RtpPacket.put_header.Goals as goal
 

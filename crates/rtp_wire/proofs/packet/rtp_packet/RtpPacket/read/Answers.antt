@@ -1,7 +1,4 @@
-use Rattle.std.proofs.Common.{◌<◌, None, true, arith, sym, ◌∙◌}
-use Rattle.std.specs.Prelude.{slice_index}
-use Rattle.std.proofs.lemmas.Bool.{false≢true}
-use Rattle.rtp_wire.specs.declared.packet.not_a_packet.NotAPacket.TheVariants.{CutSources, CutBlockHeader, CutBlock}
+use Rattle.rtp_wire.proofs.Common.{◌<◌, None, true, arith, sym, ◌∙◌, slice_index, false≢true, CutSources, CutBlockHeader, CutBlock}
 use Rattle.rtp_wire.proofs.AnyBlockLemmas.{other-clear}
 use Rattle.rtp_wire.proofs.BlockLemmas.{header_word}
 use Rattle.rtp_wire.proofs.HeaderFound.{x_clear, x_set, kept_by_packet, found-form_of_word, HasHeader-plain, HasHeader-extended}

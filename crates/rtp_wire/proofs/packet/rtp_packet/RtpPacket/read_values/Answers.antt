@@ -1,11 +1,5 @@
-use Rattle.std.proofs.Common.{subst, OnErr}
-use Rattle.std.proofs.lemmas.Result.{on_ok_weaker, on_err_weaker}
-use Rattle.rtp_ext.proofs.ValuesLaws.{ReadElements-itself, ReadUntilRefused-itself}
+use Rattle.rtp_wire.proofs.Common.{subst, OnErr, on_ok_weaker, on_err_weaker, ReadElements-itself, ReadUntilRefused-itself, AreElements, AreElements-found, parts_of, BlockHasAllocation, AreValuesStopped}
 use Rattle.rtp_ext.specs.ElementReading.{elements_left}
-use Rattle.rtp_ext.specs.Elements.{AreElements}
-use Rattle.rtp_ext.proofs.ElementLemmasOfBodies.{AreElements-found}
-use Rattle.rtp_wire.specs.PartsOf.{parts_of}
-use Rattle.rtp_wire.specs.RefusedMemory.{BlockHasAllocation, AreValuesStopped}
 use Rattle.rtp_wire.proofs.ValuesLemmas.{HasValues-none, HasValues-read, AreValuesStopped-refused, BlockHasAllocation-stopped}
 use Rattle.rtp_wire.proofs.packet.rtp_packet.RtpPacket.read_values.Goals as goal
 

@@ -1,6 +1,4 @@
-use Rattle.std.proofs.Common.{◌<◌, List, ℕ, subst, arith}
-use Rattle.std.specs.Prelude.{slice_index}
-use Rattle.std.proofs.lemmas.Option.{same_Some}
+use Rattle.rtp_wire.proofs.Common.{◌<◌, List, ℕ, subst, arith, slice_index, same_Some}
 use Rattle.rtp_wire.proofs.PacketLemmas.{one_packet}
 use Rattle.rtp_wire.proofs.PacketBufLemmas.{IsKept-padded}
 use Rattle.rtp_wire.proofs.AddedPaddingLemmas.{within-padded, IsPacket-padded, behind-all}

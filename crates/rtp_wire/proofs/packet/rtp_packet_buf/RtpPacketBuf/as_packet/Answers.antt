@@ -1,6 +1,4 @@
-use Rattle.std.proofs.Common.{◌∙◌, subst, List, ℕ}
-use Rattle.rtp_wire.specs.PartsAt.{parts_at}
-use Rattle.rtp_wire.specs.Packet.{IsPacket}
+use Rattle.rtp_wire.proofs.Common.{◌∙◌, subst, List, ℕ, parts_at, IsPacket}
 use Rattle.rtp_wire.proofs.PartsLemmas.{IsPacket-found}
 use Rattle.rtp_wire.proofs.packet.rtp_packet_buf.RtpPacketBuf.as_packet.Goals as goal
 

@@ -1,7 +1,5 @@
-use Rattle.std.proofs.Common.{rules, ◌≤◌, length, take, drop, arith}
-use Rattle.rtp_wire.specs.PutIntoPacket.{Compacts}
+use Rattle.rtp_wire.proofs.Common.{rules, ◌≤◌, length, take, drop, arith, Compacts, IsNoPacket}
 use Rattle.rtp_wire.proofs.CompactLemmas.{Compacts-front}
-use Rattle.rtp_wire.specs.NotAHeader.{IsNoPacket}
 use Rattle.rtp_wire.proofs.NotAPacketLemmas.{no_packet-refused}
 use Rattle.rtp_wire.proofs.PacketBufLemmas.{held, IsKept-compact, shorter}
 use Rattle.rtp_wire.proofs.packet.rtp_packet_buf.RtpPacketBuf.compact.Goals as goal

@@ -1,6 +1,4 @@
-use Rattle.std.proofs.Common.{None, Some, take, List, ℕ, sym, subst, arith}
-use Rattle.rtp_wire.specs.InPlace.{RemovesPadding}
-use Rattle.rtp_wire.specs.PartsAt.{HasLayout}
+use Rattle.rtp_wire.proofs.Common.{None, Some, take, List, ℕ, sym, subst, arith, RemovesPadding, HasLayout}
 use Rattle.rtp_wire.proofs.PacketBufLemmas.{held, IsKept-front, IsKept-unpadded, first_changed}
 use Rattle.rtp_wire.proofs.packet.rtp_packet_buf.RtpPacketBuf.remove_padding.Goals as goal
 

@@ -1,5 +1,4 @@
-use Rattle.std.proofs.Common.{ap, ◌∙◌}
-use Rattle.rtp_wire.specs.PartsAt.{parts_at}
+use Rattle.rtp_wire.proofs.Common.{ap, ◌∙◌, parts_at}
 use Rattle.rtp_wire.proofs.PacketLemmas.{one_packet}
 use Rattle.rtp_wire.proofs.ChangedPackets.{HasLayout-read}
 use Rattle.rtp_wire.proofs.packet.rtp_packet_mut.RtpPacketMut.parse.Goals as goal

@@ -1,12 +1,5 @@
-use Rattle.std.proofs.Common.{rules, ◌≡◌, ◌+◌, ◌≤◌, ◌≢◌, arith, sym, subst, ◌∙◌, ap, [], List}
-use Rattle.std.specs.List.{filter_map}
-use Rattle.std.proofs.lemmas.Bool.{false≢true, OnTrue_from}
+use Rattle.rtp_wire.proofs.Common.{rules, ◌≡◌, ◌+◌, ◌≤◌, ◌≢◌, arith, sym, subst, ◌∙◌, ap, [], List, filter_map, false≢true, OnTrue_from, Element, HasNone, ChangesIds, renumbered, all_but, sources_end, parts_in, AreElementsOf}
 use Rattle.std.proofs.lemmas.List.Elements.{All-nil}
-use Rattle.rtp_ext.specs.Elements.{Element}
-use Rattle.rtp_ext.specs.ElementsInPlace.{HasNone, ChangesIds, renumbered, all_but}
-use Rattle.rtp_wire.specs.NotAHeader.{sources_end}
-use Rattle.rtp_wire.specs.PartsOf.{parts_in}
-use Rattle.rtp_wire.specs.PacketElements.{AreElementsOf}
 use Rattle.rtp_wire.proofs.BytesBetween.{ChangesOnly-nothing}
 use Rattle.rtp_wire.proofs.ChangedPackets.{no_elements, body_in, AreElements-in, AreElements-out, HasHeader-body, ChangesBlock-body, between}
 use Rattle.rtp_wire.proofs.packet.rtp_packet_mut.RtpPacketMut.remove_element.Goals as goal

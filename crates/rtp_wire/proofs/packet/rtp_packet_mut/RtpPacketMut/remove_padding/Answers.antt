@@ -1,6 +1,4 @@
-use Rattle.std.proofs.Common.{subst, arith}
-use Rattle.rtp_wire.specs.Packet.{PacketParts, IsWithoutPadding}
-use Rattle.rtp_wire.specs.PartsOf.{parts_in}
+use Rattle.rtp_wire.proofs.Common.{subst, arith, PacketParts, IsWithoutPadding, parts_in}
 use Rattle.rtp_wire.proofs.PaddingChanges.{HasUnpadded-cleared, front_within}
 use Rattle.rtp_wire.proofs.packet.rtp_packet_mut.RtpPacketMut.remove_padding.Goals as goal
 

@@ -1,17 +1,5 @@
-use Rattle.std.proofs.Common.{rules, ◌≡◌, ◌+◌, ◌≤◌, ◌↔◌, arith, refl, sym, subst, ◌∙◌, ap, ℕ, [], List, Option, IsTrue, All, IfSome}
-use Rattle.std.specs.List.{filter_map}
-use Rattle.std.proofs.lemmas.Bool.{OnTrue_at, OnTrue_from}
-use Rattle.rtp_values.specs.Values.{no_values}
-use Rattle.rtp_ext.specs.declared.form.ExtensionsForm.{ExtensionsForm}
-use Rattle.rtp_ext.specs.Elements.{Element}
-use Rattle.rtp_ext.specs.ElementsInPlace.{ChangesIds, CanRenumber, renumbered}
-use Rattle.rtp_ext.specs.BlockValues.{AreValues}
-use Rattle.rtp_ext.specs.NewIds.{new_id}
-use Rattle.rtp_ext.specs.WrittenBlock.{mapped_fields}
+use Rattle.rtp_wire.proofs.Common.{rules, ◌≡◌, ◌+◌, ◌≤◌, ◌↔◌, arith, refl, sym, subst, ◌∙◌, ap, ℕ, [], List, Option, IsTrue, All, IfSome, filter_map, OnTrue_at, OnTrue_from, no_values, ExtensionsForm, Element, ChangesIds, CanRenumber, renumbered, AreValues, new_id, mapped_fields, sources_end, parts_in, AreElementsOf}
 use Rattle.rtp_ext.proofs.RenumberedValuesLemmas.{AreValues-renumbered}
-use Rattle.rtp_wire.specs.NotAHeader.{sources_end}
-use Rattle.rtp_wire.specs.PartsOf.{parts_in}
-use Rattle.rtp_wire.specs.PacketElements.{AreElementsOf}
 use Rattle.rtp_wire.proofs.BytesBetween.{ChangesOnly-nothing, if_some}
 use Rattle.rtp_wire.proofs.ChangedPackets.{no_block, no_elements, if_none, if_not_none, body_in, block_in, HasValues-in, HasValues-out, AreElements-in, AreElements-out, HasHeader-body, ChangesBlock-body, between}
 use Rattle.rtp_wire.proofs.packet.rtp_packet_mut.RtpPacketMut.renumber.Goals as goal

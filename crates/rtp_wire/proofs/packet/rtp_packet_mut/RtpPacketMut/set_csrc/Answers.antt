@@ -1,16 +1,9 @@
-use Rattle.std.proofs.Common.{◌≡◌, ◌+◌, ◌*◌, ◌%◌, ◌<◌, ◌≤◌, length, refl, ap, ◌∙◌, arith}
-use Rattle.std.specs.Prelude.{slice_index}
-use Rattle.std.specs.Int.{w32, to_be_bytes}
-use Rattle.std.proofs.lemmas.Nat.{and_mask}
-use Rattle.rtp_base.specs.Overwriting.{overwritten}
-use Rattle.rtp_wire.specs.NotAHeader.{sources_end}
-use Rattle.rtp_wire.specs.PartsAt.{parts_at}
+use Rattle.rtp_wire.proofs.Common.{◌≡◌, ◌+◌, ◌*◌, ◌%◌, ◌<◌, ◌≤◌, length, refl, ap, ◌∙◌, arith, slice_index, w32, to_be_bytes, and_mask, overwritten, sources_end, parts_at, false≢true}
 use Rattle.rtp_wire.proofs.PacketParts.{parts-source, sources_len}
 use Rattle.rtp_wire.proofs.HeaderFound.{HasHeader-packet_mut}
 use Rattle.rtp_wire.proofs.PartsLemmas.{sources_within}
 use Rattle.rtp_wire.proofs.BytesBetween.{ChangesOnly-nothing}
 use Rattle.rtp_wire.proofs.PacketChanges.{HasHeader-put, only-put}
-use Rattle.std.proofs.lemmas.Bool.{false≢true}
 use Rattle.rtp_wire.proofs.packet.rtp_packet_mut.RtpPacketMut.set_csrc.Goals as goal
 use Rattle.rtp_wire.proofs.packet.rtp_packet_mut.RtpPacketMut.set_csrc.Goals.{After-put}
 

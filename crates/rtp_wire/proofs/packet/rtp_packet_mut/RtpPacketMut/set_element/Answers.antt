@@ -1,8 +1,5 @@
-use Rattle.std.proofs.Common.{rules, ◌≡◌, ◌+◌, ◌≤◌, length, ◌∷◌, ◌∙◌, arith, ap, sym, length-append}
-use Rattle.std.proofs.lemmas.Bool.{false≢true, OnTrue_at, OnTrue_from}
-use Rattle.rtp_ext.specs.ElementsInPlace.{SetsLast}
+use Rattle.rtp_wire.proofs.Common.{rules, ◌≡◌, ◌+◌, ◌≤◌, length, ◌∷◌, ◌∙◌, arith, ap, sym, length-append, false≢true, OnTrue_at, OnTrue_from, SetsLast, sources_end}
 use Rattle.rtp_ext.specs.ElementPlaces.{WritesLast}
-use Rattle.rtp_wire.specs.NotAHeader.{sources_end}
 use Rattle.rtp_wire.proofs.BytesBetween.{ChangesOnly-nothing}
 use Rattle.rtp_wire.proofs.ChangedPackets.{no_elements, body_in, AreElements-in, HasValues-in, HasValues-new, HasHeader-body, ChangesBlock-body, between}
 use Rattle.rtp_wire.proofs.packet.rtp_packet_mut.RtpPacketMut.set_element.Goals as goal

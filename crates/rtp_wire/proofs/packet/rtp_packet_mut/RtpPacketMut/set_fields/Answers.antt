@@ -1,7 +1,4 @@
-use Rattle.std.proofs.Common.{ℕ, List, sym, subst}
-use Rattle.rtp_wire.specs.declared.packet.rtp_packet_mut.RtpPacketMut.{RtpPacketMut}
-use Rattle.rtp_wire.specs.ChangedPacket.{ChangesOnly}
-use Rattle.rtp_wire.specs.GivenFields.{LieBetween}
+use Rattle.rtp_wire.proofs.Common.{ℕ, List, sym, subst, RtpPacketMut, ChangesOnly, LieBetween}
 use Rattle.rtp_wire.proofs.BytesBetween.{ChangesOnly-nothing, ChangesOnly-given}
 use Rattle.rtp_wire.proofs.packet.rtp_packet_mut.RtpPacketMut.set_fields.Goals as goal
 use Rattle.rtp_wire.proofs.packet.rtp_packet_mut.RtpPacketMut.set_fields.Goals.{Joined-fields-4, in-Some, in_default, in-Some-payload_type, in_default-payload_type, in-Some-sequence_number, in_default-sequence_number, in-Some-timestamp, in_default-timestamp}

@@ -1,6 +1,4 @@
-use Rattle.std.proofs.Common.{ap, refl, arith, ◌∙◌, ◌+◌, bit_and, ℕ, [], ◌∷◌}
-use Rattle.std.specs.Prelude.{slice_index}
-use Rattle.rtp_base.specs.Overwriting.{overwritten}
+use Rattle.rtp_wire.proofs.Common.{ap, refl, arith, ◌∙◌, ◌+◌, bit_and, ℕ, [], ◌∷◌, slice_index, overwritten}
 use Rattle.rtp_wire.specs.PartsAt.{parts_at}
 use Rattle.rtp_wire.proofs.PacketChanges.{only-put, parts-second, IsSecondByte-typed}
 use Rattle.rtp_wire.proofs.packet.rtp_packet_mut.RtpPacketMut.set_payload_type.Goals as goal

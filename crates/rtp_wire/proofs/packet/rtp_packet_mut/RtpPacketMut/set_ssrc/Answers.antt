@@ -1,6 +1,4 @@
-use Rattle.std.proofs.Common.{ap, ◌∙◌, length, arith, ℕ}
-use Rattle.rtp_base.specs.Overwriting.{overwritten}
-use Rattle.rtp_wire.specs.PartsAt.{parts_at}
+use Rattle.rtp_wire.proofs.Common.{ap, ◌∙◌, length, arith, ℕ, overwritten, parts_at}
 use Rattle.rtp_wire.proofs.PacketChanges.{only-put, parts-ssrc}
 use Rattle.rtp_wire.proofs.packet.rtp_packet_mut.RtpPacketMut.set_ssrc.Goals as goal
 

@@ -1,0 +1,10 @@
+use Rattle.std.proofs.Common.{List, ℕ, sym, ◌∙◌, subst}
+use Rattle.rtp_base.specs.Id.{IsIdOf}
+use Rattle.rtp_values.proofs.value.get_values.mid_text.Goals as goal
+
+pub returns : goal.returns
+returns c = record {
+  text_is = c.as_bytes.ensures.value ∙ c.as_str.ensures.text;
+  same = subst (λ (xs : List ℕ). IsIdOf 16 xs c.args.mid.now) (sym c.as_bytes.ensures.value) c.as_str.ensures.back;
+  utf8 = c.as_bytes.ensures.utf8;
+}

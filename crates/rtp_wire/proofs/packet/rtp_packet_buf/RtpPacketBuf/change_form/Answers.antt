@@ -1,0 +1,65 @@
+use Rattle.std.proofs.Common.{refl, sym, ap, subst, ◌∙◌, length}
+use Rattle.std.specs.Prelude.{is_some}
+use Rattle.std.proofs.lemmas.Bool.{false≢true}
+use Rattle.rtp_ext.specs.declared.form.ExtensionsForm.{ExtensionsForm}
+use Rattle.std.specs.Prelude.{Option}
+use Rattle.rtp_wire.specs.declared.packet.not_put.NotPut.TheVariants.{OtherForm}
+use Rattle.rtp_wire.specs.Packet.{PacketParts, HasOtherForm}
+use Rattle.rtp_wire.specs.PacketBuf.{bytes_of, parts_within}
+use Rattle.rtp_wire.specs.PutIntoPacket.{form_of_block}
+use Rattle.rtp_wire.specs.RemadeBlock.{IsInOther}
+use Rattle.rtp_wire.proofs.RemadePacketLemmas.{cause-to, kept-form, other-form, no-other, to-form, from-form, none-form}
+use Rattle.rtp_wire.proofs.packet.rtp_packet_buf.RtpPacketBuf.change_form.Goals as goal
+use Rattle.rtp_wire.proofs.packet.rtp_packet_buf.RtpPacketBuf.change_form.Goals.{Else-has_other_form}
+
+-- a block of another profile is there, or it isn't
+none : (c : Else-has_other_form) → HasOtherForm (bytes_of c.args.self.now) → ⊥
+none c = no-other c.args.self.now (ap (λ (p : PacketParts). is_some p.other_block) (sym c.as_packet.ensures.parts) ∙ sym c.has_other_form.ensures ∙ c.if-has_other_form.false)
+
+pub returns-then-has_other_form-clause-refused : goal.returns-then-has_other_form-clause-refused
+returns-then-has_other_form-clause-refused c = (
+  λ _. (OtherForm, other-form c.args.self.now (ap (λ (p : PacketParts). is_some p.other_block) (sym c.as_packet.ensures.parts) ∙ sym c.has_other_form.ensures ∙ c.if-has_other_form.true)),
+  λ _. refl,
+)
+
+pub returns-then-not-is_in_other-clause-changed : goal.returns-then-not-is_in_other-clause-changed
+returns-then-not-is_in_other-clause-changed c = λ is.
+    absurd (false≢true (sym c.if-not-is_in_other.true
+    ∙ c.is_in_other.ensures.1 (subst (λ (was : Option ExtensionsForm). IsInOther was c.args.form) (sym (kept-form c.args.self.now)) is)))
+
+pub returns-then-not-is_in_other-clause-refused : goal.returns-then-not-is_in_other-clause-refused
+returns-then-not-is_in_other-clause-refused c = (
+  λ wrong. absurd (false≢true wrong),
+  λ fact.
+      absurd (none-form (bytes_of c.args.self.now) (length c.args.self.now.buf.now) (form_of_block (parts_within c.args.self.now).block) c.args.form
+      (λ is.
+      false≢true (sym c.if-not-is_in_other.true
+      ∙ c.is_in_other.ensures.1 (subst (λ (was : Option ExtensionsForm). IsInOther was c.args.form) (sym (kept-form c.args.self.now)) is)))
+      (none (goal.at.returns-then-not-is_in_other-clause-refused c).Else-has_other_form) fact.0 fact.1),
+)
+
+pub returns-clause-same : goal.returns-clause-same
+returns-clause-same c = λ other.
+    absurd (other (subst (λ (was : Option ExtensionsForm). IsInOther was c.args.form) (kept-form c.args.self.now) (c.is_in_other.ensures.0 c.if-not-is_in_other.false)))
+
+pub returns-clause-cause : goal.returns-clause-cause
+returns-clause-cause c =
+    let is = subst (λ (was : Option ExtensionsForm). IsInOther was c.args.form) (kept-form c.args.self.now) (c.is_in_other.ensures.0 c.if-not-is_in_other.false) in
+    cause-to _ _
+    (to-form (bytes_of c.args.self.now) (length c.args.self.now.buf.now) (form_of_block (parts_within c.args.self.now).block) c.args.form is)
+    (from-form (bytes_of c.args.self.now) (length c.args.self.now.buf.now) (form_of_block (parts_within c.args.self.now).block) c.args.form
+    (none (goal.at.returns-clause-cause c).Else-has_other_form)) c.remake.result c.remake.ensures.cause
+
+pub returns-clause-refused : goal.returns-clause-refused
+returns-clause-refused c =
+    let is = subst (λ (was : Option ExtensionsForm). IsInOther was c.args.form) (kept-form c.args.self.now) (c.is_in_other.ensures.0 c.if-not-is_in_other.false) in (
+      λ wrong.
+          let fact = c.remake.ensures.refused.0 wrong in
+          (fact.0, to-form (bytes_of c.args.self.now) (length c.args.self.now.buf.now) (form_of_block (parts_within c.args.self.now).block) c.args.form is fact.0 fact.1),
+      λ fact.
+          c.remake.ensures.refused.1 (
+            fact.0,
+            from-form (bytes_of c.args.self.now) (length c.args.self.now.buf.now) (form_of_block (parts_within c.args.self.now).block) c.args.form
+                (none (goal.at.returns-clause-refused c).Else-has_other_form) fact.0 fact.1,
+          ),
+    )
