@@ -131,6 +131,13 @@ static inline call_number call_restarting_receive(rtpw_wide_restarting_receiver 
     return it;
 }
 
+/* Of a number in the epoch, whose window is that of a wide receiver. */
+static inline uint8_t call_restarting_standing_of(const rtpw_wide_restarting_receiver *receiver, const uint64_t *words,
+                                                  size_t count, uint64_t number) {
+    rtpw_wide_receiver epoch = {receiver->highest, receiver->started};
+    return rtpw_wide_receiver_standing_of(&epoch, words, count, number);
+}
+
 typedef struct {
     rtpw_report report;
     int32_t status;

@@ -232,6 +232,29 @@ func ExamplePacket_Token() {
 	// cam_1 cam_1 true true
 }
 
+// What was refused of the stream counts as received, and what is far from it does not.
+func ExampleRestartingReceiver_InRow() {
+	var receiver rtpwire.RestartingReceiver
+	for _, sequenceNumber := range []uint16{60000, 60000, 58000, 7, 8} {
+		number, verdict := receiver.Receive(sequenceNumber)
+		switch {
+		case verdict != rtpwire.Refused:
+			fmt.Println(sequenceNumber, verdict, number)
+		case receiver.InRow() == 0:
+			number = receiver.NumberOf(sequenceNumber)
+			fmt.Println(sequenceNumber, verdict, number, receiver.StandingOf(number))
+		default:
+			fmt.Println(sequenceNumber, verdict, "far from the stream")
+		}
+	}
+	// Output:
+	// 60000 taken 125536
+	// 60000 refused 125536 taken already
+	// 58000 refused 123536 too old to tell
+	// 7 refused far from the stream
+	// 8 restarted 196616
+}
+
 // The offset of RFC 5450 has three bytes and a sign, and is put into a packet and read as any element.
 func ExampleAppendTransmissionOffset() {
 	const id = 3

@@ -234,6 +234,11 @@ func receiveRestartingPacket(r *C.rtpw_wide_restarting_receiver, words []uint64,
 		size(datagram), m.c(), p.Header.c(), p.parts.c()))
 }
 
+// standingIn is what the receiver knows of a number in its epoch.
+func standingIn(r *C.rtpw_wide_restarting_receiver, words []uint64, number uint64) Standing {
+	return Standing(C.call_restarting_standing_of(r, firstOf(words), C.size_t(len(words)), C.uint64_t(number)))
+}
+
 func (s *ReceptionStatistics) record(number uint64, timestamp, arrival uint32) {
 	C.rtpw_reception_record(s.c(), C.uint64_t(number), C.uint32_t(timestamp), C.uint32_t(arrival))
 }

@@ -132,6 +132,8 @@ CALLS: Dict[Any, str] = {
     WideReceiver: "(words, rollover_count)",
     RestartingReceiver: "(max_dropout=3000, min_sequential=1, max_misorder=None, words=16)",
     Receiver.standing_of: "(self, number)",
+    RestartingReceiver.number_of: "(self, sequence_number)",
+    RestartingReceiver.standing_of: "(self, number)",
     ReceptionStatistics: "()",
     ReceptionStatistics.record: "(self, number, timestamp, arrival)",
     ReceptionReport.block: "(self, ssrc, last_report=0, delay=0)",
