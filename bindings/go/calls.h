@@ -277,6 +277,36 @@ static inline call_len call_put_element(uint8_t *buf, size_t size, size_t len, u
     return it;
 }
 
+static inline call_len call_add_element(uint8_t *buf, size_t size, size_t len, uint8_t id, const uint8_t *data,
+                                        size_t data_len, uint8_t allowed) {
+    call_len it = {0};
+    it.len = len;
+    it.status = rtpw_add_element(buf, size, &it.len, id, data, data_len, allowed);
+    return it;
+}
+
+static inline call_len call_change_form(uint8_t *buf, size_t size, size_t len, uint8_t form) {
+    call_len it = {0};
+    it.len = len;
+    it.status = rtpw_change_form(buf, size, &it.len, form);
+    return it;
+}
+
+static inline call_len call_put_block(uint8_t *buf, size_t size, size_t len, uint16_t profile, const uint8_t *body,
+                                      size_t body_len) {
+    call_len it = {0};
+    it.len = len;
+    it.status = rtpw_put_block(buf, size, &it.len, profile, body, body_len);
+    return it;
+}
+
+static inline call_len call_remove_block(uint8_t *datagram, size_t len) {
+    call_len it = {0};
+    it.len = len;
+    it.status = rtpw_remove_block(datagram, len, &it.len);
+    return it;
+}
+
 static inline call_len call_compact(uint8_t *datagram, size_t len) {
     call_len it = {0};
     it.len = len;

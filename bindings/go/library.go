@@ -387,6 +387,26 @@ func putElement(buf []byte, length int, id uint8, data []byte, allowed Form) (in
 	return lenOr(it)
 }
 
+func addElement(buf []byte, length int, id uint8, data []byte, allowed Form) (int, error) {
+	data = apart(data, buf)
+	it := C.call_add_element(first(buf), size(buf), C.size_t(length), C.uint8_t(id), first(data), size(data), C.uint8_t(allowed))
+	return lenOr(it)
+}
+
+func changeForm(buf []byte, length int, form Form) (int, error) {
+	return lenOr(C.call_change_form(first(buf), size(buf), C.size_t(length), C.uint8_t(form)))
+}
+
+func putBlock(buf []byte, length int, profile uint16, body []byte) (int, error) {
+	body = apart(body, buf)
+	it := C.call_put_block(first(buf), size(buf), C.size_t(length), C.uint16_t(profile), first(body), size(body))
+	return lenOr(it)
+}
+
+func removeBlock(datagram []byte) (int, error) {
+	return lenOr(C.call_remove_block(first(datagram), size(datagram)))
+}
+
 func compact(datagram []byte) (int, error) {
 	return lenOr(C.call_compact(first(datagram), size(datagram)))
 }
