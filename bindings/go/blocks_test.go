@@ -21,6 +21,14 @@ func written(t *testing.T, text string) []byte {
 	return append([]byte{bytes[0], 0x60, 0, 5, 0, 0, 0, 100, 0, 0, 0, 44}, bytes[1:]...)
 }
 
+// largest is how many bytes the longer one has.
+func largest(one, other []byte) int {
+	if len(one) < len(other) {
+		return len(other)
+	}
+	return len(one)
+}
+
 type blockCall func(buf []byte, length int) ([]byte, error)
 
 // becomes makes one packet the other in each buffer that has room for both, and in none with less.
@@ -28,10 +36,7 @@ func becomes(t *testing.T, before string, call blockCall, after string) {
 	t.Helper()
 	packet, wanted := written(t, before), written(t, after)
 	for _, room := range []int{0, 1, 40} {
-		size := len(packet) + room
-		if len(wanted) > len(packet) {
-			size = len(wanted) + room
-		}
+		size := largest(packet, wanted) + room
 		buf := append(append([]byte(nil), packet...), bytes.Repeat([]byte{0xEE}, size-len(packet)+8)...)
 		left := append([]byte(nil), buf...)
 		made, err := call(buf[:size], len(packet))
@@ -39,6 +44,9 @@ func becomes(t *testing.T, before string, call blockCall, after string) {
 			t.Errorf("%s: % X, % X, %v, wanted % X", before, made, buf, err, wanted)
 		}
 	}
+	exact := atEnd(t, append(append([]byte(nil), packet...), wanted...)[:largest(packet, wanted)])
+	made, err := call(exact, len(packet))
+	same(t, "up to the end of the memory", []any{made, err}, []any{wanted, nil})
 	if len(wanted) > len(packet) {
 		buf := append(packet, bytes.Repeat([]byte{0xEE}, len(wanted))...)
 		left := append([]byte(nil), buf...)

@@ -65,7 +65,8 @@ func RemoveElement(datagram []byte, id uint8) error {
 }
 
 // Renumber gives each element its new id, and makes one that has none padding. It returns ErrBadField where the
-// packet's form can't carry a new id that an element gets: one above 14 in the one-byte form.
+// packet's form can't carry a new id that an element gets: one above 14 in the one-byte form, of which [ChangeForm]
+// makes the other.
 func Renumber(datagram []byte, ids *NewIDs) error {
 	return renumber(datagram, ids)
 }

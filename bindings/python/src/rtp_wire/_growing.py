@@ -57,6 +57,7 @@ def add_element(
 def _put(
     call: _library.Function, buffer: WritableBuffer, length: int, id: int, data: Buffer, allowed: Optional[Form]
 ) -> int:
+    """Puts an element by this function of the library."""
     view = writable_view_of(buffer)
     count, number = c_size_t(within("length", length, 0, len(view))), index(id)
     if not 1 <= number <= 255:

@@ -34,8 +34,7 @@ pub fn put_element(
     allowed: Option<Form>,
 ) -> Result<usize, NotPut> {
     let mut new_len = len;
-    let allowed = allowed.map_or(0, Form::number);
-    let status = sys::put_element(buf, &mut new_len, id, data, allowed);
+    let status = sys::put_element(buf, &mut new_len, id, data, number_of(allowed));
     NotPut::of_status(status)?;
     Ok(new_len)
 }
@@ -64,10 +63,14 @@ pub fn add_element(
     allowed: Option<Form>,
 ) -> Result<usize, NotPut> {
     let mut new_len = len;
-    let allowed = allowed.map_or(0, Form::number);
-    let status = sys::add_element(buf, &mut new_len, id, data, allowed);
+    let status = sys::add_element(buf, &mut new_len, id, data, number_of(allowed));
     NotPut::of_status(status)?;
     Ok(new_len)
+}
+
+/// The forms that are allowed, as the library has them: 0 for both.
+fn number_of(allowed: Option<Form>) -> u8 {
+    allowed.map_or(0, Form::number)
 }
 
 /// Makes a block of the other form one of this form, in the packet in the first `len` bytes of the buffer, and returns

@@ -1,6 +1,10 @@
 //! Blocks that are put, taken off and made of the other form, and a second element of an id. The expected packets are
-//! worked out by hand from RFC 3550, 5.3.1, and RFC 8285, 4.2 and 4.3.
+//! worked out by hand from RFC 3550, 5.3.1, and RFC 8285, 4.2 and 4.3. Each buffer ends at a page that may not be
+//! touched.
 
+mod guarded;
+
+use guarded::at_end;
 use rtp_wire::{
     add_element, change_form, compact, put_block, put_element, remove_block, Form, NewIds,
     NotAPacket, NotChanged, NotPut, Packet, PacketMut,
@@ -32,16 +36,16 @@ fn becomes(before: &str, call: impl Fn(&mut [u8], usize) -> Result<usize, NotPut
     let (packet, wanted) = (written(before), written(after));
     let grown = wanted.len().saturating_sub(packet.len());
     for room in [grown, grown + 1, grown + 40] {
-        let mut buf = with_room(&packet, room);
-        let left = buf.clone();
-        assert_eq!(call(&mut buf, packet.len()), Ok(wanted.len()), "{before}");
+        let left = with_room(&packet, room);
+        let buf = at_end(&left);
+        assert_eq!(call(buf, packet.len()), Ok(wanted.len()), "{before}");
         assert_eq!(buf[..wanted.len()], wanted, "{before}");
         assert_eq!(buf[wanted.len()..], left[wanted.len()..], "{before}");
     }
     if grown != 0 {
-        let mut buf = with_room(&packet, grown - 1);
-        let left = buf.clone();
-        let made = call(&mut buf, packet.len());
+        let left = with_room(&packet, grown - 1);
+        let buf = at_end(&left);
+        let made = call(buf, packet.len());
         assert_eq!(made, Err(NotPut::ShortBuffer), "{before}");
         assert_eq!(buf, left);
     }
@@ -61,7 +65,7 @@ fn adds(
     data: &[u8],
     allowed: Option<Form>,
 ) -> impl Fn(&mut [u8], usize) -> Result<usize, NotPut> + '_ {
-    move |buf, len| add_element(buf, len, id, data, allowed)
+    move |buf, len| add_element(buf, len, id, at_end(data), allowed)
 }
 
 #[test]
@@ -235,7 +239,7 @@ fn an_id_above_14_is_put_then() {
 }
 
 fn puts(profile: u16, body: &[u8]) -> impl Fn(&mut [u8], usize) -> Result<usize, NotPut> + '_ {
-    move |buf, len| put_block(buf, len, profile, body)
+    move |buf, len| put_block(buf, len, profile, at_end(body))
 }
 
 #[test]

@@ -40,7 +40,7 @@ def written(text: str) -> bytes:
     return first + bytes.fromhex("600005 00000064 0000002C") + rest
 
 
-class Blocks(unittest.TestCase):
+class ChangedBlocks(unittest.TestCase):
     def becomes(self, before: str, call: Call, after: str) -> None:
         """One packet becomes the other in each buffer that has room for both, and in none with less."""
         packet, wanted = written(before), written(after)
