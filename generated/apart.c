@@ -1,5 +1,5 @@
 /*
- * What stands in front of the five functions of the library for C that write where the data which they read may lie.
+ * What stands in front of the seven functions of the library for C that write where the data which they read may lie.
  * Each refuses data of which a byte lies in the buffer, and else goes on to the proved function, which takes for
  * granted that there is no such byte. It isn't proved: where a slice lies can't be told in the language of what is. The
  * script generated/make compiles it into the texts (generated/anew.sh).
@@ -31,6 +31,10 @@ static inline _Bool share(word data, word data_len, word buf, word size) {
 APART(set_element, (word buf, word size, word id, word data, word data_len), (buf, size, id, data, data_len))
 APART(put_element, (word buf, word size, word len, word id, word data, word data_len, word allowed),
       (buf, size, len, id, data, data_len, allowed))
+APART(add_element, (word buf, word size, word len, word id, word data, word data_len, word allowed),
+      (buf, size, len, id, data, data_len, allowed))
+APART(put_block, (word buf, word size, word len, word profile, word data, word data_len),
+      (buf, size, len, profile, data, data_len))
 APART(write_with, (word header, word data, word data_len, word elements, word count, word buf, word size, word len),
       (header, data, data_len, elements, count, buf, size, len))
 APART(write_with_form,

@@ -87,7 +87,10 @@ enum class [[nodiscard]] status : std::int32_t{ok = RTPW_OK,
                                                bad_field = RTPW_BAD_FIELD,
                                                refused = RTPW_REFUSED,
                                                none = RTPW_NONE,
-                                               restarted = RTPW_RESTARTED};
+                                               restarted = RTPW_RESTARTED,
+                                               bad_id = RTPW_BAD_ID,
+                                               form_not_allowed = RTPW_FORM_NOT_ALLOWED,
+                                               long_block = RTPW_LONG_BLOCK};
 
 inline std::string_view status_text(status it) noexcept {
     return ::rtpw_status_text(static_cast<std::int32_t>(it));
@@ -193,8 +196,21 @@ inline status put_element(buffer buf, std::size_t &len, std::uint8_t id, bytes d
                           std::uint8_t allowed = RTPW_ANY_FORM) noexcept {
     return status(::rtpw_put_element(buf.data(), buf.size(), &len, id, data.data(), data.size(), allowed));
 }
+inline status add_element(buffer buf, std::size_t &len, std::uint8_t id, bytes data,
+                          std::uint8_t allowed = RTPW_ANY_FORM) noexcept {
+    return status(::rtpw_add_element(buf.data(), buf.size(), &len, id, data.data(), data.size(), allowed));
+}
 inline status compact(buffer buf, std::size_t &len) noexcept {
     return status(::rtpw_compact(buf.data(), buf.size(), &len));
+}
+inline status change_form(buffer buf, std::size_t &len, std::uint8_t form) noexcept {
+    return status(::rtpw_change_form(buf.data(), buf.size(), &len, form));
+}
+inline status remove_block(buffer buf, std::size_t &len) noexcept {
+    return status(::rtpw_remove_block(buf.data(), buf.size(), &len));
+}
+inline status put_block(buffer buf, std::size_t &len, std::uint16_t profile, bytes body) noexcept {
+    return status(::rtpw_put_block(buf.data(), buf.size(), &len, profile, body.data(), body.size()));
 }
 
 /* ---- The elements of a block ---- */

@@ -129,10 +129,18 @@ static inline void rtpw_sanitizer_block(const uint8_t *datagram, size_t len) {
     }
 }
 
-/* A packet in a buffer with room behind it. */
-static inline void rtpw_sanitizer_buffer(const uint8_t *buf, size_t size, const size_t *len) {
+/* A packet in a buffer with room behind it: where its parts lie is read. */
+static inline void rtpw_sanitizer_front(const uint8_t *buf, size_t size, const size_t *len) {
     rtpw_sanitizer_room((void *)buf, size);
     rtpw_sanitizer_reads(len, sizeof *len);
+    if (*len <= size) {
+        (void)rtpw_sanitizer_header_len(buf, *len);
+    }
+}
+
+/* The same, and the elements of its block too. */
+static inline void rtpw_sanitizer_buffer(const uint8_t *buf, size_t size, const size_t *len) {
+    rtpw_sanitizer_front(buf, size, len);
     if (*len <= size) {
         rtpw_sanitizer_block(buf, *len);
     }
@@ -512,9 +520,23 @@ RTPW_SANITIZED(put_element, (uint8_t *buf, size_t size, size_t *len, uint8_t id,
     size_t data_len, uint8_t allowed), (buf, size, len, id, data, data_len, allowed),
     rtpw_sanitizer_buffer(buf, size, len); rtpw_sanitizer_reads(data, data_len), RTPW_WROTE_BYTES(buf, *len))
 #define rtpw_put_element rtpw_sanitized_put_element
+RTPW_SANITIZED(add_element, (uint8_t *buf, size_t size, size_t *len, uint8_t id, const uint8_t *data,
+    size_t data_len, uint8_t allowed), (buf, size, len, id, data, data_len, allowed),
+    rtpw_sanitizer_buffer(buf, size, len); rtpw_sanitizer_reads(data, data_len), RTPW_WROTE_BYTES(buf, *len))
+#define rtpw_add_element rtpw_sanitized_add_element
 RTPW_SANITIZED(compact, (uint8_t *buf, size_t size, size_t *len), (buf, size, len),
     rtpw_sanitizer_buffer(buf, size, len), RTPW_WROTE_BYTES(buf, *len))
 #define rtpw_compact rtpw_sanitized_compact
+RTPW_SANITIZED(change_form, (uint8_t *buf, size_t size, size_t *len, uint8_t form), (buf, size, len, form),
+    rtpw_sanitizer_buffer(buf, size, len), RTPW_WROTE_BYTES(buf, *len))
+#define rtpw_change_form rtpw_sanitized_change_form
+RTPW_SANITIZED(remove_block, (uint8_t *buf, size_t size, size_t *len), (buf, size, len),
+    rtpw_sanitizer_front(buf, size, len), RTPW_WROTE_BYTES(buf, *len))
+#define rtpw_remove_block rtpw_sanitized_remove_block
+RTPW_SANITIZED(put_block, (uint8_t *buf, size_t size, size_t *len, uint16_t profile, const uint8_t *body,
+    size_t body_len), (buf, size, len, profile, body, body_len),
+    rtpw_sanitizer_front(buf, size, len); rtpw_sanitizer_reads(body, body_len), RTPW_WROTE_BYTES(buf, *len))
+#define rtpw_put_block rtpw_sanitized_put_block
 RTPW_SANITIZED(next_element, (const uint8_t *body, size_t body_len, uint8_t form, size_t at, rtpw_element *element),
     (body, body_len, form, at, element), rtpw_sanitizer_room((void *)body, body_len); RTPW_ROOM(element),
     RTPW_WROTE(element) rtpw_sanitizer_reads_next(body, body_len, at, status, element))

@@ -131,6 +131,13 @@ static inline call_number call_restarting_receive(rtpw_wide_restarting_receiver 
     return it;
 }
 
+/* Of a number in the epoch, whose window is that of a wide receiver. */
+static inline uint8_t call_restarting_standing_of(const rtpw_wide_restarting_receiver *receiver, const uint64_t *words,
+                                                  size_t count, uint64_t number) {
+    rtpw_wide_receiver epoch = {receiver->highest, receiver->started};
+    return rtpw_wide_receiver_standing_of(&epoch, words, count, number);
+}
+
 typedef struct {
     rtpw_report report;
     int32_t status;
@@ -267,6 +274,36 @@ static inline call_len call_put_element(uint8_t *buf, size_t size, size_t len, u
     call_len it = {0};
     it.len = len;
     it.status = rtpw_put_element(buf, size, &it.len, id, data, data_len, allowed);
+    return it;
+}
+
+static inline call_len call_add_element(uint8_t *buf, size_t size, size_t len, uint8_t id, const uint8_t *data,
+                                        size_t data_len, uint8_t allowed) {
+    call_len it = {0};
+    it.len = len;
+    it.status = rtpw_add_element(buf, size, &it.len, id, data, data_len, allowed);
+    return it;
+}
+
+static inline call_len call_change_form(uint8_t *buf, size_t size, size_t len, uint8_t form) {
+    call_len it = {0};
+    it.len = len;
+    it.status = rtpw_change_form(buf, size, &it.len, form);
+    return it;
+}
+
+static inline call_len call_put_block(uint8_t *buf, size_t size, size_t len, uint16_t profile, const uint8_t *body,
+                                      size_t body_len) {
+    call_len it = {0};
+    it.len = len;
+    it.status = rtpw_put_block(buf, size, &it.len, profile, body, body_len);
+    return it;
+}
+
+static inline call_len call_remove_block(uint8_t *datagram, size_t len) {
+    call_len it = {0};
+    it.len = len;
+    it.status = rtpw_remove_block(datagram, len, &it.len);
     return it;
 }
 

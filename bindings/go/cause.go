@@ -31,11 +31,31 @@ var (
 	ErrShortBuffer = errors.New("rtpwire: a buffer is too short")
 	// ErrBadField: what was given is out of its range, no packet can carry it, or data are not those of a value.
 	ErrBadField = errors.New("rtpwire: an argument is out of its range")
+	// ErrBadID: the id is 0, which no element has. By errors.Is it is an ErrBadField too.
+	ErrBadID error = badField("rtpwire: the id 0, which no element has")
+	// ErrFormNotAllowed: the block has, or an element needs, a form that isn't allowed. By errors.Is it is an
+	// ErrBadField too.
+	ErrFormNotAllowed error = badField("rtpwire: a form of the extension block that isn't allowed")
+	// ErrLongBlock: the block would have more than 65,535 words. By errors.Is it is an ErrBadField too.
+	ErrLongBlock error = badField("rtpwire: an extension block of more than 65,535 words")
 	// ErrRefused: a replay, or too old to tell.
 	ErrRefused = errors.New("rtpwire: a replay, or too old to tell")
 	// ErrNotFound: the packet has no such element, or no such place in its CSRC list.
 	ErrNotFound = errors.New("rtpwire: no such element")
 )
+
+// A badField is an ErrBadField that says which one.
+type badField string
+
+// Error says it in words.
+func (e badField) Error() string {
+	return string(e)
+}
+
+// Is makes it an ErrBadField.
+func (e badField) Is(target error) bool {
+	return target == ErrBadField
+}
 
 var causes = [...]string{
 	CutFixedPart:   "rtpwire: fewer than twelve bytes",
@@ -73,6 +93,12 @@ func errorOf(status int32) error {
 		return ErrRefused
 	case 11:
 		return ErrNotFound
+	case 13:
+		return ErrBadID
+	case 14:
+		return ErrFormNotAllowed
+	case 15:
+		return ErrLongBlock
 	default:
 		return Cause(status)
 	}

@@ -65,7 +65,8 @@ func RemoveElement(datagram []byte, id uint8) error {
 }
 
 // Renumber gives each element its new id, and makes one that has none padding. It returns ErrBadField where the
-// packet's form can't carry a new id that an element gets: one above 14 in the one-byte form.
+// packet's form can't carry a new id that an element gets: one above 14 in the one-byte form, of which [ChangeForm]
+// makes the other.
 func Renumber(datagram []byte, ids *NewIDs) error {
 	return renumber(datagram, ids)
 }
@@ -99,10 +100,11 @@ func RemovePadding(datagram []byte) ([]byte, error) {
 // AnyForm; OneByteForm alone, as for a peer that hasn't agreed to both in one stream (RFC 8285, 4.1.2); or TwoByteForm
 // alone, which the block then gets. It carries no element of the id 0, so these go.
 //
-// It returns ErrBadField where the length isn't one of the buffer, allowed is none of the three, the id is 0, there are
-// more than 255 bytes of data, or the block needs a form that isn't allowed, or more than 65,535 words; ErrOtherForm
-// where the block has another form, and so carries no elements; and ErrShortBuffer where the buffer has no room. Where
-// it returns an error nothing changes.
+// It returns ErrBadField where the length isn't one of the buffer, allowed is none of the three, or there are more than
+// 255 bytes of data; [ErrBadID] where the id is 0; ErrOtherForm where the block has another form, and so carries no
+// elements; [ErrFormNotAllowed] where it has, or the element needs, a form that isn't allowed; [ErrLongBlock] where it
+// would have more than 65,535 words; and ErrShortBuffer where the buffer has no room. Where it returns an error nothing
+// changes.
 func PutElement(buf []byte, length int, id uint8, data []byte, allowed Form) ([]byte, error) {
 	if length < 0 {
 		return nil, ErrBadField
@@ -112,6 +114,73 @@ func PutElement(buf []byte, length int, id uint8, data []byte, allowed Form) ([]
 		return nil, err
 	}
 	return buf[:end], nil
+}
+
+// AddElement puts an element behind all others, and those of its id stay: an id may have several, of which the last one
+// counts ([Packet.Element]). The id, the data, the forms that are allowed, the form that the block gets, the room behind
+// the packet and the errors are as those of [PutElement]. The block is always made anew: elements of the id 0, which is
+// padding's, go, and so does what stands where reading ends.
+func AddElement(buf []byte, length int, id uint8, data []byte, allowed Form) ([]byte, error) {
+	if length < 0 {
+		return nil, ErrBadField
+	}
+	end, err := addElement(buf, length, id, data, allowed)
+	if err != nil {
+		return nil, err
+	}
+	return buf[:end], nil
+}
+
+// ChangeForm makes a block of the other form one of this form, OneByteForm or TwoByteForm, in the packet in the first
+// length bytes of the buffer, and returns the packet's bytes. Its elements stay, in order, and all other parts of the
+// packet too; the payload moves where the body has to grow, and a body never becomes shorter ([Compact]). Elements of
+// the id 0, which is padding's, go, and so does what stands where reading ends. A block that has the form, and a packet
+// without a block, stay as they are. In the two-byte form elements may have ids above 14, as new ones by [Renumber], no
+// data, and more than 16 bytes. A header alone is enough.
+//
+// It returns ErrBadField where the length isn't one of the buffer, or the form is none of the two; ErrOtherForm where
+// the block has another form; [ErrFormNotAllowed] where the one-byte form can't carry an element, which has an id above
+// 14, no data, or more than 16 bytes of them; [ErrLongBlock] where the block would have more than 65,535 words; and
+// ErrShortBuffer where the buffer has no room. Where it returns an error nothing changes.
+func ChangeForm(buf []byte, length int, form Form) ([]byte, error) {
+	if length < 0 {
+		return nil, ErrBadField
+	}
+	end, err := changeForm(buf, length, form)
+	if err != nil {
+		return nil, err
+	}
+	return buf[:end], nil
+}
+
+// PutBlock gives the packet in the first length bytes of the buffer a block that begins with these 16 bits, which a
+// profile defines (RFC 3550, 5.3.1), and has this body, in place of the block that is there, and returns the packet's
+// bytes: X is set, and the payload moves. What the body holds isn't looked at: of 0xBEDE and 0x1000 to 0x100F it is read
+// as elements. A header alone is enough. A body that overlaps the buffer is copied first.
+//
+// It returns ErrBadField where the length isn't one of the buffer, or the body is no whole number of words of four
+// bytes; [ErrLongBlock] where it has more than 65,535 words; and ErrShortBuffer where the buffer has no room. Where it
+// returns an error nothing changes.
+func PutBlock(buf []byte, length int, profile uint16, body []byte) ([]byte, error) {
+	if length < 0 {
+		return nil, ErrBadField
+	}
+	end, err := putBlock(buf, length, profile, body)
+	if err != nil {
+		return nil, err
+	}
+	return buf[:end], nil
+}
+
+// RemoveBlock takes the block off, of whatever form, and clears X, and returns the bytes that the packet then has, the
+// first ones of the datagram: the payload moves to the end of the CSRC list. Without a block nothing changes. So the
+// block of no words goes that [RemoveElement] and Compact leave. A header alone is enough.
+func RemoveBlock(datagram []byte) ([]byte, error) {
+	length, err := removeBlock(datagram)
+	if err != nil {
+		return nil, err
+	}
+	return datagram[:length], nil
 }
 
 // Compact makes the packet as short as its elements allow, and returns the bytes that it then has, the first ones of

@@ -105,7 +105,7 @@ func TestPutElement(t *testing.T) {
 	put("longer", 2, []byte{3, 3, 3, 3, 3}, rtpwire.OneByteForm, 41, nil)
 	same(t, "body", datagram[22:36], []byte{0, 3, 0x10, 0xAA, 0x24, 3, 3, 3, 3, 3, 0x10, 0xDD, 0, 0})
 	same(t, "payload", datagram[36:], sample()[32:])
-	put("form not allowed", 15, []byte{4}, rtpwire.OneByteForm, 0, rtpwire.ErrBadField)
+	put("form not allowed", 15, []byte{4}, rtpwire.OneByteForm, 0, rtpwire.ErrFormNotAllowed)
 	put("no such form", 1, []byte{4}, 3, 0, rtpwire.ErrBadField)
 	put("in the two-byte form", 15, []byte{4}, rtpwire.AnyForm, 45, nil)
 	_, err := rtpwire.PutElement(buf[:48], 45, 16, []byte{4, 5, 6}, rtpwire.AnyForm)

@@ -18,6 +18,9 @@
 // [ParseOrientation], [ParseTiming], [ParseTransportNumber], [ParseColorSpace], [ParseDependencyDescriptor],
 // [ParseMixerLevel], [ParseNTP64] and [ParseNTP56], each with what writes them. [Packet.Token] has a mid as it lies.
 //
+// A packet changes where it lies: [SetElement], [PutElement], [AddElement], [Renumber], [ChangeForm], [PutBlock],
+// [RemoveBlock], [Compact].
+//
 // [NewReceiver] asks for the rollover count: 1 where nothing is authenticated. [WideReceiver] has a window of another
 // size, and [RestartingReceiver], which is not for SRTP, tells that a sender has started again;
 // [WideRestartingReceiver] does so with a window of another size. [ReceptionStatistics] are what a

@@ -210,7 +210,7 @@ func TestLengthsOfNoBuffer(t *testing.T) {
 		same(t, "form of elements", []bool{err == nil, err == rtpwire.ErrBadField}, []bool{is, !is})
 	}
 	_, err := rtpwire.PutElement(buf, 37, 0, nil, rtpwire.AnyForm)
-	same(t, "the id 0", err, rtpwire.ErrBadField)
+	same(t, "the id 0", []any{err, errors.Is(err, rtpwire.ErrBadField)}, []any{rtpwire.ErrBadID, true})
 	same(t, "unchanged", buf, before)
 }
 

@@ -232,6 +232,29 @@ func ExamplePacket_Token() {
 	// cam_1 cam_1 true true
 }
 
+// What was refused of the stream counts as received, and what is far from it does not.
+func ExampleRestartingReceiver_InRow() {
+	var receiver rtpwire.RestartingReceiver
+	for _, sequenceNumber := range []uint16{60000, 60000, 58000, 7, 8} {
+		number, verdict := receiver.Receive(sequenceNumber)
+		switch {
+		case verdict != rtpwire.Refused:
+			fmt.Println(sequenceNumber, verdict, number)
+		case receiver.InRow() == 0:
+			number = receiver.NumberOf(sequenceNumber)
+			fmt.Println(sequenceNumber, verdict, number, receiver.StandingOf(number))
+		default:
+			fmt.Println(sequenceNumber, verdict, "far from the stream")
+		}
+	}
+	// Output:
+	// 60000 taken 125536
+	// 60000 refused 125536 taken already
+	// 58000 refused 123536 too old to tell
+	// 7 refused far from the stream
+	// 8 restarted 196616
+}
+
 // The offset of RFC 5450 has three bytes and a sign, and is put into a packet and read as any element.
 func ExampleAppendTransmissionOffset() {
 	const id = 3
@@ -256,6 +279,55 @@ func ExampleAppendTransmissionOffset() {
 	// Output:
 	// BE DE 00 01 32 FF FF A6
 	// -90 <nil>
+}
+
+// one is a packet whose block has one element: the id 1, and AA. The buffer has room for a block that grows.
+func one() (buf []byte, length int) {
+	packet := []byte{0x90, 96, 0, 5, 0, 0, 0, 100, 0, 0, 0, 44, 0xBE, 0xDE, 0, 1, 0x10, 0xAA, 0, 0, 1}
+	return append(packet, make([]byte, 100)...), len(packet)
+}
+
+func ExampleAddElement() {
+	buf, length := one()
+	datagram, err := rtpwire.AddElement(buf, length, 1, []byte{0xBB}, rtpwire.AnyForm)
+	fmt.Printf("% X %v\n", datagram[12:], err)
+	_, err = rtpwire.AddElement(buf, length, 15, []byte{0xBB}, rtpwire.OneByteForm)
+	fmt.Println(errors.Is(err, rtpwire.ErrFormNotAllowed), errors.Is(err, rtpwire.ErrBadField))
+	// Output:
+	// BE DE 00 01 10 AA 10 BB 01 <nil>
+	// true true
+}
+
+// In the two-byte form an element may have an id above 14.
+func ExampleChangeForm() {
+	buf, length := one()
+	datagram, err := rtpwire.ChangeForm(buf, length, rtpwire.TwoByteForm)
+	fmt.Printf("% X %v\n", datagram[12:], err)
+	ids := new(rtpwire.NewIDs)
+	ids.Set(1, 200)
+	err = rtpwire.Renumber(datagram, ids)
+	fmt.Printf("% X %v\n", datagram[12:], err)
+	// Output:
+	// 10 00 00 01 01 01 AA 00 01 <nil>
+	// 10 00 00 01 C8 01 AA 00 01 <nil>
+}
+
+func ExamplePutBlock() {
+	buf, length := one()
+	datagram, err := rtpwire.PutBlock(buf, length, 0xABAC, []byte{1, 2, 3, 4, 5, 6, 7, 8})
+	fmt.Printf("% X %v\n", datagram[12:], err)
+	_, err = rtpwire.PutBlock(buf, length, 0xABAC, make([]byte, 4*65536))
+	fmt.Println(errors.Is(err, rtpwire.ErrLongBlock))
+	// Output:
+	// AB AC 00 02 01 02 03 04 05 06 07 08 01 <nil>
+	// true
+}
+
+func ExampleRemoveBlock() {
+	buf, length := one()
+	datagram, err := rtpwire.RemoveBlock(buf[:length])
+	fmt.Printf("% X %v\n", datagram, err)
+	// Output: 80 60 00 05 00 00 00 64 00 00 00 2C 01 <nil>
 }
 
 func ExampleParseFrameMarking() {

@@ -95,4 +95,12 @@ func alone(t *testing.T, own byte, round uint16) {
 	is("compact", uint64(len(made)), 18, err)
 	made, err = rtpwire.RemovePadding(made)
 	is("without padding", uint64(len(made)), 18, err)
+	made, err = rtpwire.AddElement(buf, 18, own, make([]byte, own), rtpwire.OneByteForm)
+	is("added", uint64(len(made)), 18+(uint64(own)+1+3)/4*4, err)
+	made, err = rtpwire.ChangeForm(buf, len(made), rtpwire.TwoByteForm)
+	is("changed", uint64(len(made)), 18+(uint64(own)+2+3)/4*4, err)
+	made, err = rtpwire.PutBlock(buf, len(made), 0xABAC, make([]byte, 4*int(own)))
+	is("block", uint64(len(made)), 18+4*uint64(own), err)
+	made, err = rtpwire.RemoveBlock(made)
+	is("no block", uint64(len(made)), 14, err)
 }

@@ -234,6 +234,11 @@ func receiveRestartingPacket(r *C.rtpw_wide_restarting_receiver, words []uint64,
 		size(datagram), m.c(), p.Header.c(), p.parts.c()))
 }
 
+// standingIn is what the receiver knows of a number in its epoch.
+func standingIn(r *C.rtpw_wide_restarting_receiver, words []uint64, number uint64) Standing {
+	return Standing(C.call_restarting_standing_of(r, firstOf(words), C.size_t(len(words)), C.uint64_t(number)))
+}
+
 func (s *ReceptionStatistics) record(number uint64, timestamp, arrival uint32) {
 	C.rtpw_reception_record(s.c(), C.uint64_t(number), C.uint32_t(timestamp), C.uint32_t(arrival))
 }
@@ -380,6 +385,26 @@ func putElement(buf []byte, length int, id uint8, data []byte, allowed Form) (in
 	data = apart(data, buf)
 	it := C.call_put_element(first(buf), size(buf), C.size_t(length), C.uint8_t(id), first(data), size(data), C.uint8_t(allowed))
 	return lenOr(it)
+}
+
+func addElement(buf []byte, length int, id uint8, data []byte, allowed Form) (int, error) {
+	data = apart(data, buf)
+	it := C.call_add_element(first(buf), size(buf), C.size_t(length), C.uint8_t(id), first(data), size(data), C.uint8_t(allowed))
+	return lenOr(it)
+}
+
+func changeForm(buf []byte, length int, form Form) (int, error) {
+	return lenOr(C.call_change_form(first(buf), size(buf), C.size_t(length), C.uint8_t(form)))
+}
+
+func putBlock(buf []byte, length int, profile uint16, body []byte) (int, error) {
+	body = apart(body, buf)
+	it := C.call_put_block(first(buf), size(buf), C.size_t(length), C.uint16_t(profile), first(body), size(body))
+	return lenOr(it)
+}
+
+func removeBlock(datagram []byte) (int, error) {
+	return lenOr(C.call_remove_block(first(datagram), size(datagram)))
 }
 
 func compact(datagram []byte) (int, error) {

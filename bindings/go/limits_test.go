@@ -278,8 +278,11 @@ func TestErrors(t *testing.T) {
 		"CUT_FIXED_PART": rtpwire.CutFixedPart, "OTHER_VERSION": rtpwire.OtherVersion, "CUT_SOURCES": rtpwire.CutSources,
 		"CUT_BLOCK_HEADER": rtpwire.CutBlockHeader, "CUT_BLOCK": rtpwire.CutBlock, "UNKNOWN_FORM": rtpwire.ErrOtherForm,
 		"SHORT_BUFFER": rtpwire.ErrShortBuffer, "BAD_FIELD": rtpwire.ErrBadField, "REFUSED": rtpwire.ErrRefused,
-		"NONE": rtpwire.ErrNotFound,
+		"NONE": rtpwire.ErrNotFound, "BAD_ID": rtpwire.ErrBadID, "FORM_NOT_ALLOWED": rtpwire.ErrFormNotAllowed,
+		"LONG_BLOCK": rtpwire.ErrLongBlock,
 	}
+	// of a bad field these say which one
+	narrow := regexp.MustCompile("BAD_ID|FORM_NOT_ALLOWED|LONG_BLOCK")
 	for name, it := range statuses {
 		text := regexp.MustCompile(`case RTPW_` + name + `: return "(.*)";`).FindStringSubmatch(string(header))
 		same(t, name, it.Error(), "rtpwire: "+text[1])
@@ -290,7 +293,7 @@ func TestErrors(t *testing.T) {
 			same(t, name+" has its number", number.Match(header), true)
 		}
 		for other, that := range statuses {
-			same(t, name+" is "+other, errors.Is(it, that), name == other)
+			same(t, name+" is "+other, errors.Is(it, that), name == other || other == "BAD_FIELD" && narrow.MatchString(name))
 		}
 		wrapped := fmt.Errorf("a datagram: %w", it)
 		same(t, "wrapped", []bool{errors.Is(wrapped, it), errors.Is(wrapped, rtpwire.ErrNotAPacket)}, []bool{true, isCause})

@@ -5,9 +5,9 @@ package rtpwire
 //
 // Record each packet of the source, those that are late and duplicates too, whether the receiver then takes it or
 // refuses it: they count as received, so that the loss may be negative. Its number is that of [Receiver.NumberOf].
-// With SRTP record it once it is authentic. A packet that is outside of the stream, as [RestartingReceiver] says, isn't
-// recorded; where the sender has started again, begin anew with the packet that says so. Packets are expected from the
-// first one's number on, even where one with a lower number comes later.
+// With SRTP record it once it is authentic. A packet that is outside of the stream, after which
+// [RestartingReceiver.InRow] isn't 0, isn't recorded; where the sender has started again, begin anew with the packet
+// that says so. Packets are expected from the first one's number on, even where one with a lower number comes later.
 //
 // The zero ReceptionStatistics have recorded nothing yet. They are 56 bytes, and may be copied.
 type ReceptionStatistics struct {

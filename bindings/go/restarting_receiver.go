@@ -37,7 +37,8 @@ type Verdict uint8
 
 // The verdicts.
 const (
-	// Refused: a replay, or outside of the stream.
+	// Refused: of the stream and a replay, or too old to tell; or outside of the stream. [RestartingReceiver.InRow]
+	// tells these two apart.
 	Refused Verdict = iota
 	// Taken: the packet is of the stream, or the first one of all.
 	Taken
@@ -80,4 +81,32 @@ func (r *RestartingReceiver) Highest() (number uint64, ok bool) {
 		return 0, false
 	}
 	return r.highest, true
+}
+
+// InRow is how many packets outside of the stream came last in a row, up to 255, and 0 where the last packet was of the
+// stream or taken. So it tells why a packet was refused just now: where it is 0 the packet is of the stream, and a replay
+// or too old (StandingOf), and counts in [ReceptionStatistics]; else the packet is far from the stream, and remembered as
+// what may lead up to a new epoch.
+func (r *RestartingReceiver) InRow() int {
+	return int(r.inRow)
+}
+
+// NumberOf is the extended sequence number of a packet of the stream, taken or refused: the nearest to the highest taken
+// that ends in these 16 bits; where nothing is taken yet the one with the rollover count 1.
+func (r *RestartingReceiver) NumberOf(sequenceNumber uint16) uint64 {
+	return numberIn(r.highest, r.started, sequenceNumber)
+}
+
+// StandingOf is what is known of the number in the epoch, as [Receiver.StandingOf]. After Refused, and with an InRow of
+// 0, r.StandingOf(r.NumberOf(p.SequenceNumber)) says why.
+func (r *RestartingReceiver) StandingOf(number uint64) Standing {
+	return standingIn(r.c(), r.words[:], number)
+}
+
+// numberIn is the number of a packet of an epoch with this highest number.
+func numberIn(highest uint64, started bool, sequenceNumber uint16) uint64 {
+	if !started {
+		return 1<<16 + uint64(sequenceNumber)
+	}
+	return Extend16(highest, sequenceNumber)
 }

@@ -179,3 +179,72 @@ func TestEpochsPastTwoToThe32(t *testing.T) {
 	number, verdict, err := r.ReceivePacket(plain(20003), nil, &packet)
 	same(t, "taken", []any{number, verdict, err}, []any{uint64(1<<32 + 5<<16 + 20003), rtpwire.Taken, nil})
 }
+
+// What tells of a refused packet whether it is of the stream, and why it is refused. The window has 1,024 numbers, and
+// 3,000 below is outside.
+func TestRefusedPackets(t *testing.T) {
+	type inEpoch interface {
+		Receive(uint16) (uint64, rtpwire.Verdict)
+		InRow() int
+		NumberOf(uint16) uint64
+		StandingOf(uint64) rtpwire.Standing
+	}
+	for _, r := range []inEpoch{new(rtpwire.RestartingReceiver), wideRestarting(t, 16, rtpwire.RestartBounds{})} {
+		same(t, "nothing is taken", []any{r.InRow(), r.NumberOf(0), r.NumberOf(65535), r.StandingOf(5)},
+			[]any{0, uint64(65536), uint64(131071), rtpwire.StandingNew})
+		for _, row := range []struct {
+			judged
+			inRow    int
+			of       uint64
+			standing rtpwire.Standing
+		}{
+			{judged{60000, 125536, rtpwire.Taken}, 0, 125536, rtpwire.StandingTaken},
+			{judged{60000, 0, rtpwire.Refused}, 0, 125536, rtpwire.StandingTaken},
+			{judged{58977, 124513, rtpwire.Taken}, 0, 124513, rtpwire.StandingTaken},
+			{judged{58976, 0, rtpwire.Refused}, 0, 124512, rtpwire.StandingTooOld},
+			{judged{57001, 0, rtpwire.Refused}, 0, 122537, rtpwire.StandingTooOld},
+			{judged{57000, 0, rtpwire.Refused}, 1, 122536, rtpwire.StandingTooOld},
+			{judged{7, 0, rtpwire.Refused}, 1, 131079, rtpwire.StandingNew},
+			{judged{60000, 0, rtpwire.Refused}, 0, 125536, rtpwire.StandingTaken},
+			{judged{8, 0, rtpwire.Refused}, 1, 131080, rtpwire.StandingNew},
+			{judged{9, 196617, rtpwire.Restarted}, 0, 196617, rtpwire.StandingTaken},
+			{judged{9, 0, rtpwire.Refused}, 0, 196617, rtpwire.StandingTaken},
+			{judged{8, 196616, rtpwire.Taken}, 0, 196616, rtpwire.StandingTaken},
+		} {
+			judges(t, r, []judged{row.judged})
+			same(t, "in a row", r.InRow(), row.inRow)
+			same(t, "number", r.NumberOf(row.low), row.of)
+			same(t, "standing", r.StandingOf(row.of), row.standing)
+		}
+		same(t, "not yet", r.StandingOf(196618), rtpwire.StandingNew)
+		same(t, "of the epoch before", r.StandingOf(125536), rtpwire.StandingTooOld)
+	}
+	// Of a new source the packets before it is valid are outside, and count too.
+	for _, r := range []inEpoch{
+		&rtpwire.RestartingReceiver{MinSequential: 255}, wideRestarting(t, 1, rtpwire.RestartBounds{MinSequential: 255}),
+	} {
+		for low := uint16(1); low < 255; low++ {
+			judges(t, r, []judged{{low, 0, rtpwire.Refused}})
+			same(t, "in a row", r.InRow(), int(low))
+			same(t, "number", []any{r.NumberOf(low), r.StandingOf(65536)}, []any{65536 + uint64(low), rtpwire.StandingNew})
+		}
+		judges(t, r, []judged{{255, 65791, rtpwire.Taken}})
+		same(t, "in a row", r.InRow(), 0)
+	}
+	var none rtpwire.WideRestartingReceiver
+	none.Receive(5)
+	same(t, "no words", []any{none.InRow(), none.NumberOf(5), none.StandingOf(65541)}, []any{0, uint64(65541), rtpwire.StandingTooOld})
+}
+
+// The packets of the stream are received, those that are refused too, and no others: two were expected, and four came.
+func TestPacketsOfTheStreamAreReported(t *testing.T) {
+	var r rtpwire.RestartingReceiver
+	var s rtpwire.ReceptionStatistics
+	for _, low := range []uint16{5, 6, 6, 40000, 5} {
+		r.Receive(low)
+		if r.InRow() == 0 {
+			s.Record(r.NumberOf(low), 0, 0)
+		}
+	}
+	reports(t, &s, 0, -2, 6, 0)
+}

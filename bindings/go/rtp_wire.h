@@ -3,7 +3,7 @@
  *
  * The functions are those of the library rtp-wire, each proved: what is said here of results and
  * outputs holds for every input. Two things are written in C, and tested: rtpw_status_text, and the comparison that
- * stands in front of the five functions of elements, which refuses data that lie in the buffer.
+ * stands in front of seven functions of elements and blocks, which refuses data that lie in the buffer.
  *
  *     if (rtpw_is_rtcp(datagram, len)) { // on a port that RTP and RTCP share
  *         return control(datagram, len);
@@ -23,10 +23,11 @@
  *   - a pointer is to as much memory as is said, and aligned for its type: NULL may stand only where the
  *     size or the count after it is 0 (that this is as a buffer of no bytes is tested, not proved);
  *   - what is written overlaps nothing else that is passed. Of bytes that are read this is looked at: where one of the
- *     data lies in the buffer that rtpw_set_element, rtpw_put_element, rtpw_write_with, rtpw_write_with_form or
- *     rtpw_write_elements may write, as those of another element of the same packet do, the status is RTPW_BAD_FIELD
- *     and nothing is written. Copy such data first: an element has at most 255 bytes. Of structs, arrays of
- *     structs or numbers, and lengths it isn't looked at: they must not lie in a buffer, nor in one another.
+ *     data lies in the buffer that rtpw_set_element, rtpw_put_element, rtpw_add_element, rtpw_write_with,
+ *     rtpw_write_with_form or rtpw_write_elements may write, as those of another element of the same packet do, or one
+ *     of the body in that of rtpw_put_block, the status is RTPW_BAD_FIELD and nothing is written. Copy such data first:
+ *     an element has at most 255 bytes. Of structs, arrays of structs or numbers, and lengths it isn't looked at: they
+ *     must not lie in a buffer, nor in one another.
  *
  * A buffer is a pointer and then its size in bytes. Numbers are in the byte order of the machine:
  * what stands in a packet in network byte order is turned. Outputs are written whole where the
@@ -35,9 +36,11 @@
  * status beside each.
  *
  * Where a call has several faults, the status is that of the first of these:
- *   1. an argument is out of its range whatever the buffers hold, or data lie in the buffer: RTPW_BAD_FIELD;
+ *   1. an argument is out of its range whatever the buffers hold, or data lie in the buffer: RTPW_BAD_FIELD, and from
+ *      the functions that say so RTPW_BAD_ID or RTPW_LONG_BLOCK;
  *   2. the buffer holds no packet, or the form of its block has to be known and isn't: one of the causes 1 to 6;
- *   3. what is named isn't there, or the packet or an element doesn't allow it: RTPW_NONE, or RTPW_BAD_FIELD;
+ *   3. what is named isn't there, or the packet or an element doesn't allow it: RTPW_NONE, or RTPW_BAD_FIELD, and from
+ *      the functions that say so RTPW_FORM_NOT_ALLOWED or RTPW_LONG_BLOCK;
  *   4. there is no room: RTPW_SHORT_BUFFER.
  */
 #ifndef RTPW_H
@@ -74,21 +77,24 @@ uint32_t rtpw_version(void);
 
 /* What a function returns as an int32_t. Those from 1 to 6 are the causes for which bytes are no RTP packet, in
  * the order in which they are looked for: the first that applies is returned. RTPW_UNKNOWN_FORM is one for
- * rtpw_parse and rtpw_parse_layers alone, which have to know the form; rtpw_put_element returns it after the
- * others, for a packet whose block has another form. */
+ * rtpw_parse and rtpw_parse_layers alone, which have to know the form; rtpw_put_element, rtpw_add_element and
+ * rtpw_change_form return it after the others, for a packet whose block has another form. */
 enum {
-    RTPW_OK = 0,               /* the call did what it is for */
-    RTPW_CUT_FIXED_PART = 1,   /* fewer than the twelve bytes that every header has */
-    RTPW_OTHER_VERSION = 2,    /* another version than 2 */
-    RTPW_CUT_SOURCES = 3,      /* the CSRC list is cut short */
-    RTPW_CUT_BLOCK_HEADER = 4, /* X is set, and the first four bytes of the block are cut short */
-    RTPW_UNKNOWN_FORM = 5,     /* the block's form is neither 0xBEDE nor 0x1000 to 0x100F */
-    RTPW_CUT_BLOCK = 6,        /* the block is longer than what is left */
-    RTPW_SHORT_BUFFER = 8,     /* a buffer is too short */
-    RTPW_BAD_FIELD = 9,        /* an argument is out of its range, or data are none of the value that is read */
-    RTPW_REFUSED = 10,         /* a replay, or too old to tell */
-    RTPW_NONE = 11,            /* there is no such element */
-    RTPW_RESTARTED = 12        /* a packet is taken, as the first one after its sender has started again */
+    RTPW_OK = 0,                /* the call did what it is for */
+    RTPW_CUT_FIXED_PART = 1,    /* fewer than the twelve bytes that every header has */
+    RTPW_OTHER_VERSION = 2,     /* another version than 2 */
+    RTPW_CUT_SOURCES = 3,       /* the CSRC list is cut short */
+    RTPW_CUT_BLOCK_HEADER = 4,  /* X is set, and the first four bytes of the block are cut short */
+    RTPW_UNKNOWN_FORM = 5,      /* the block's form is neither 0xBEDE nor 0x1000 to 0x100F */
+    RTPW_CUT_BLOCK = 6,         /* the block is longer than what is left */
+    RTPW_SHORT_BUFFER = 8,      /* a buffer is too short */
+    RTPW_BAD_FIELD = 9,         /* an argument is out of its range, or data are none of the value that is read */
+    RTPW_REFUSED = 10,          /* a replay, or too old to tell */
+    RTPW_NONE = 11,             /* there is no such element */
+    RTPW_RESTARTED = 12,        /* a packet is taken, as the first one after its sender has started again */
+    RTPW_BAD_ID = 13,           /* the id is 0, which no element has */
+    RTPW_FORM_NOT_ALLOWED = 14, /* the block has, or an element needs, a form that isn't allowed */
+    RTPW_LONG_BLOCK = 15        /* the block would have more than 65,535 words */
 };
 
 /* What a status says, in words. */
@@ -106,6 +112,9 @@ static inline const char *rtpw_status_text(int32_t status) {
     case RTPW_REFUSED: return "a replay, or too old to tell";
     case RTPW_NONE: return "no such element";
     case RTPW_RESTARTED: return "taken, and the sender has started again";
+    case RTPW_BAD_ID: return "the id 0, which no element has";
+    case RTPW_FORM_NOT_ALLOWED: return "a form of the extension block that isn't allowed";
+    case RTPW_LONG_BLOCK: return "an extension block of more than 65,535 words";
     default: return "no status of this library";
     }
 }
@@ -214,7 +223,7 @@ RTPW_CHECKED int32_t rtpw_remove_padding(uint8_t *datagram, size_t len, size_t *
 
 /* ---- A packet that grows where it lies, and one that is made short ---- */
 
-/* Both take a buffer of `size` bytes, at whose front a packet of *len bytes lies, and write its new length
+/* Each takes a buffer of `size` bytes, at whose front a packet of *len bytes lies, and writes its new length
  * there. A header alone is enough, as above. Where the status isn't RTPW_OK nothing changes. */
 
 /* Where it is said which forms are allowed: both. */
@@ -239,12 +248,27 @@ enum { RTPW_ANY_FORM = 0 };
  *     memcpy(bytes, datagram, len);
  *     int32_t status = rtpw_put_element(bytes, sizeof bytes, &len, id, mid, strlen(mid), RTPW_ANY_FORM);
  *
- * RTPW_OK; RTPW_BAD_FIELD, before all else, where `allowed` is none of the three, *len is past the buffer, the
- * id is 0, there are more than 255 bytes of data, or one of these lies in the `size` bytes of the buffer, as those
- * of another element of the packet do: copy them first; the first cause for which the bytes are no packet;
- * RTPW_UNKNOWN_FORM where the block is of RTPW_OTHER_FORM; RTPW_BAD_FIELD where it has or needs a form that isn't
- * allowed, or needs more than 65,535 words; RTPW_SHORT_BUFFER. */
+ * RTPW_OK; RTPW_BAD_FIELD, before all else, where one of the data lies in the `size` bytes of the buffer, as those of
+ * another element of the packet do: copy them first; or where `allowed` is none of the three, or *len is past the
+ * buffer; RTPW_BAD_ID where the id is 0; RTPW_BAD_FIELD where there are more than 255 bytes of data; the first cause
+ * for which the bytes are no packet; RTPW_UNKNOWN_FORM where the block is of RTPW_OTHER_FORM; RTPW_FORM_NOT_ALLOWED
+ * where it has or needs a form that isn't allowed; RTPW_LONG_BLOCK where it would have more than 65,535 words;
+ * RTPW_SHORT_BUFFER. */
 RTPW_CHECKED int32_t rtpw_put_element(uint8_t *buf, size_t size, size_t *len, uint8_t id, const uint8_t *data,
+                                      size_t data_len, uint8_t allowed);
+
+/* Puts an element behind all others, and those of its id stay: an id may have several, of which the last one counts
+ * (rtpw_last_element). The id, the data, the forms that are allowed, the form that the block gets, the room that is
+ * used and the statuses are as for rtpw_put_element. The block is always made anew: elements of the id 0, which is
+ * padding's, go, and so does what stands where reading ends.
+ *
+ *     uint8_t bytes[21] = {0x90, 96, 0, 5, 0, 0, 0, 100, 0, 0, 0, 44, 0xBE, 0xDE, 0, 1, 0x10, 0xAA, 0, 0, 1};
+ *     uint8_t second = 0xBB;
+ *     size_t len = sizeof bytes;
+ *     int32_t status = rtpw_add_element(bytes, sizeof bytes, &len, 1, &second, 1, RTPW_ANY_FORM);
+ *     // the body of the block is 10 AA 10 BB
+ */
+RTPW_CHECKED int32_t rtpw_add_element(uint8_t *buf, size_t size, size_t *len, uint8_t id, const uint8_t *data,
                                       size_t data_len, uint8_t allowed);
 
 /* Makes the packet as short as its elements allow: these stand in a row, the body is filled up to whole words,
@@ -253,6 +277,49 @@ RTPW_CHECKED int32_t rtpw_put_element(uint8_t *buf, size_t size, size_t *len, ui
  * one of no words, and X stays set; a block of RTPW_OTHER_FORM stays as it is. RTPW_OK; RTPW_BAD_FIELD where *len is
  * past the buffer; or the first cause for which the bytes are no packet. */
 RTPW_CHECKED int32_t rtpw_compact(uint8_t *buf, size_t size, size_t *len);
+
+/* Makes a block of the other form one of this form, RTPW_ONE_BYTE_FORM or RTPW_TWO_BYTE_FORM. Its elements stay, in
+ * order, and all other parts of the packet too; the payload moves where the body has to grow, and a body never becomes
+ * shorter (rtpw_compact). Elements of the id 0, which is padding's, go, and so does what stands where reading ends; the
+ * low four bits of the new profile 0x1000 are 0. A block that has the form, and a packet without a block, stay as
+ * they are. What lies behind the packet's new end stays. In the two-byte form elements may have ids above 14, as new
+ * ones by rtpw_renumber, no data, and more than 16 bytes:
+ *
+ *     int32_t status = rtpw_change_form(bytes, sizeof bytes, &len, RTPW_TWO_BYTE_FORM);
+ *     if (status == RTPW_OK) {
+ *         status = rtpw_renumber(bytes, len, &ids);
+ *     }
+ *
+ * RTPW_OK; RTPW_BAD_FIELD, before all else, where the form is none of the two, or *len is past the buffer; the first
+ * cause for which the bytes are no packet; RTPW_UNKNOWN_FORM where the block is of RTPW_OTHER_FORM;
+ * RTPW_FORM_NOT_ALLOWED where the one-byte form can't carry an element, which has an id above 14, no data, or more than
+ * 16 bytes of them; RTPW_LONG_BLOCK where the block would have more than 65,535 words; RTPW_SHORT_BUFFER. */
+RTPW_CHECKED int32_t rtpw_change_form(uint8_t *buf, size_t size, size_t *len, uint8_t form);
+
+/* Takes the block off, of whatever form, and clears X: the payload moves to the end of the CSRC list. Without a block
+ * nothing changes. What lies behind the packet's new end stays. So the block of no words goes that rtpw_remove_element
+ * and rtpw_compact leave:
+ *
+ *     int32_t status = rtpw_packet_parse(bytes, len, &packet);
+ *     if (status == RTPW_OK && packet.body_len == 0) {
+ *         status = rtpw_remove_block(bytes, sizeof bytes, &len);
+ *     }
+ *
+ * RTPW_OK; RTPW_BAD_FIELD where *len is past the buffer; or the first cause for which the bytes are no packet. */
+RTPW_CHECKED int32_t rtpw_remove_block(uint8_t *buf, size_t size, size_t *len);
+
+/* Gives the packet a block that begins with these 16 bits, which a profile defines (RFC 3550, 5.3.1), and has this
+ * body, in place of the block that is there: X is set, and the payload moves. What the body holds isn't looked at: of
+ * 0xBEDE and 0x1000 to 0x100F it is read as elements. What lies behind the packet's new end stays.
+ *
+ *     const uint8_t body[12] = {0}; // of ONVIF: an NTP time, flags, a number, and the rest of the last word
+ *     int32_t status = rtpw_put_block(bytes, sizeof bytes, &len, 0xABAC, body, sizeof body);
+ *
+ * RTPW_OK; RTPW_BAD_FIELD, before all else, where a byte of the body lies in the `size` bytes of the buffer, *len is
+ * past the buffer, or the body is no whole number of words of four bytes; RTPW_LONG_BLOCK where it has more than 65,535
+ * words; the first cause for which the bytes are no packet; RTPW_SHORT_BUFFER. */
+RTPW_CHECKED int32_t rtpw_put_block(uint8_t *buf, size_t size, size_t *len, uint16_t profile, const uint8_t *body,
+                                    size_t body_len);
 
 /* ---- The elements of a block ---- */
 

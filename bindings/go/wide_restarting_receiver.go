@@ -71,3 +71,22 @@ func (r *WideRestartingReceiver) Highest() (number uint64, ok bool) {
 	}
 	return r.state.highest, true
 }
+
+// InRow is how many packets outside of the stream came last in a row, as [RestartingReceiver.InRow].
+func (r *WideRestartingReceiver) InRow() int {
+	return int(r.state.inRow)
+}
+
+// NumberOf is the extended sequence number of a packet of the stream, as [RestartingReceiver.NumberOf].
+func (r *WideRestartingReceiver) NumberOf(sequenceNumber uint16) uint64 {
+	return numberIn(r.state.highest, r.state.started, sequenceNumber)
+}
+
+// StandingOf is what is known of the number, as [RestartingReceiver.StandingOf]; of the zero WideRestartingReceiver it
+// is StandingTooOld.
+func (r *WideRestartingReceiver) StandingOf(number uint64) Standing {
+	if len(r.words) == 0 {
+		return StandingTooOld
+	}
+	return standingIn(r.c(), r.words, number)
+}

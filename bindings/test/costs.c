@@ -20,6 +20,11 @@ static const uint8_t rtcp[8] = {0x80, 201, 0, 1};
 static const char uri[] = "urn:ietf:params:rtp-hdrext:sdes:mid";
 /* The first one, with room to become a retransmission. */
 static uint8_t kept[sizeof packet + 2];
+/* The first one: with the padding of its block put back before an element is added, with its block put back before that
+ * is taken off, and in the other form with each call. */
+static uint8_t added[sizeof packet], removed[sizeof packet], changed[sizeof packet + 4];
+static size_t changed_len = sizeof packet;
+static uint8_t form = RTPW_ONE_BYTE_FORM;
 static uint8_t buf[1500];
 static size_t len, count;
 static uint32_t kinds;
@@ -68,6 +73,7 @@ static rtpw_receiver before, after;
 static volatile int64_t sink;
 
 enum { BODY_AT = 16, BODY_LEN = 16 };
+static uint8_t body[BODY_LEN];
 
 #define MANY(X)                                                                                                       \
     X(rtpw_packet_parse_many, (rtpw_packet_parse_many(packets[0], sizeof packets, datagrams, at_once), 0))            \
@@ -92,7 +98,13 @@ enum { BODY_AT = 16, BODY_LEN = 16 };
     X(rtpw_set_element, rtpw_set_element(packet, sizeof packet, 3, rtcp, 2))                                          \
     X(rtpw_remove_element, rtpw_remove_element(packet, sizeof packet, 9))                                             \
     X(rtpw_put_element, (len = sizeof packet, rtpw_put_element(packet, sizeof packet, &len, 3, rtcp, 2, RTPW_ANY_FORM))) \
+    X(rtpw_add_element, (len = sizeof added, memset(added + 29, 0, 3),                                                \
+      rtpw_add_element(added, sizeof added, &len, 5, rtcp, 2, RTPW_ANY_FORM)))                                        \
     X(rtpw_compact, (len = sizeof packet, rtpw_compact(packet, sizeof packet, &len)))                                  \
+    X(rtpw_change_form, (form ^= 3, rtpw_change_form(changed, sizeof changed, &changed_len, form)))                   \
+    X(rtpw_remove_block, (len = sizeof removed, memcpy(removed, packet, 16),                                          \
+      rtpw_remove_block(removed, sizeof removed, &len)))                                                              \
+    X(rtpw_put_block, (len = sizeof packet, rtpw_put_block(packet, sizeof packet, &len, 0xBEDE, body, BODY_LEN)))     \
     X(rtpw_set_csrc, rtpw_set_csrc(mixed, sizeof mixed, 1, 7))                                                        \
     X(rtpw_renumber, rtpw_renumber(packet, sizeof packet, &ids))                                                      \
     X(rtpw_set_padding, rtpw_set_padding(packet, sizeof packet, false))                                               \
@@ -206,6 +218,10 @@ int main(int argc, char **argv) {
     }
     rtpw_map_standard(&map);
     memcpy(kept, packet, sizeof packet);
+    memcpy(added, packet, sizeof packet);
+    memcpy(removed, packet, sizeof packet);
+    memcpy(changed, packet, sizeof packet);
+    memcpy(body, packet + BODY_AT, sizeof body);
     memset(&fields, 1, sizeof fields);
     if (rtpw_parse(packet, sizeof packet, &map, &written) != RTPW_OK || rtpw_receiver_start(&receiver, 1) != RTPW_OK) return 1;
     /* three streams of a layer of three rates, which the map has beside the usual kinds */

@@ -1,7 +1,7 @@
 /*
  * For a fuzzer: calls every function of the library with the input, by the parts of the program `hostile`. Each
  * buffer is a block of exactly its length beside a page that may not be touched, and each output is compared with
- * that of walk.h, of walk_values.h, or of the test's own writer: what differs aborts.
+ * that of walk.h, of walk_values.h, of walk_growing.h, or of the test's own writer: what differs aborts.
  *
  * The input is a datagram. Its last eight bytes choose what else is passed: maps, values, fields, numbers.
  * The library is assembly, in which a fuzzer counts no branches; those of what is compared are as many.

@@ -1,8 +1,8 @@
 /*
  * Calls every function of the library with random bytes and structs, in blocks of exactly their
  * length between pages that may not be touched, and compares each output with that of walk.h, of
- * walk_values.h, or of the test's own writer. A call that is refused must change nothing, and no call may
- * change what it isn't to.
+ * walk_values.h, of walk_growing.h, or of the test's own writer. A call that is refused must change nothing, and no
+ * call may change what it isn't to.
  *
  * usage: hostile SEED ROUNDS [malloc]      with `malloc`: blocks of malloc, for a memory checker
  */

@@ -120,6 +120,27 @@ static void compact(void) {
     count = sizeof datagram;
     status = rtpw_compact(datagram, sizeof datagram, &count);
 }
+static size_t few_elements(void) { /* and a long payload, with room behind it */
+    datagram[74] = 0;
+    datagram[75] = 8;
+    return sizeof datagram - 64;
+}
+static void add_element(void) {
+    count = few_elements();
+    status = rtpw_add_element(datagram, sizeof datagram, &count, 3, data, sizeof data, RTPW_ANY_FORM);
+}
+static void change_form(void) {
+    count = few_elements();
+    status = rtpw_change_form(datagram, sizeof datagram, &count, RTPW_TWO_BYTE_FORM);
+}
+static void remove_block(void) {
+    count = sizeof datagram;
+    status = rtpw_remove_block(datagram, sizeof datagram, &count);
+}
+static void put_block(void) {
+    count = few_elements();
+    status = rtpw_put_block(datagram, sizeof datagram, &count, 0xABAC, bytes, sizeof bytes);
+}
 static void next_element(void) { status = rtpw_next_element(datagram + 76, 262140, RTPW_ONE_BYTE_FORM, 0, &element); }
 static void last_element(void) { status = rtpw_last_element(datagram + 76, 262140, RTPW_ONE_BYTE_FORM, 5, &element); }
 static void receiver_start(void) { status = rtpw_receiver_start(&receiver, 1); }
@@ -248,6 +269,7 @@ int main(void) {
         CALL(packet_parse), CALL(set_marker), CALL(set_payload_type), CALL(set_sequence_number),
         CALL(set_timestamp), CALL(set_ssrc), CALL(set_fields), CALL(set_csrc), CALL(set_element),
         CALL(remove_element), CALL(put_element), CALL(compact),
+        CALL(add_element), CALL(change_form), CALL(remove_block), CALL(put_block),
         CALL(next_element), CALL(last_element), CALL(receiver_start), CALL(receiver_number_of),
         CALL(receiver_accepts), CALL(receiver_record), CALL(receiver_receive), CALL(wide_receiver_start),
         CALL(wide_receiver_number_of), CALL(wide_receiver_accepts), CALL(wide_receiver_record),

@@ -1,4 +1,4 @@
-/* Data that lie where the call writes: each of the five calls refuses them and writes nothing, and takes data that only
+/* Data that lie where the call writes: each of the seven calls refuses them and writes nothing, and takes data that only
  * lie beside it. The expected bytes are worked out by hand from RFC 3550, 5.1 and RFC 8285, 4.2 and 4.3. */
 #include "../rtp_wire.h"
 
@@ -44,6 +44,17 @@ static int32_t set(size_t size, const uint8_t *data, size_t data_len) {
 static int32_t put(size_t size, const uint8_t *data, size_t data_len) {
     len = size == 0 ? 0 : PACKET;
     return rtpw_put_element(BUF, size, &len, 3, data, data_len, RTPW_ANY_FORM);
+}
+
+static int32_t add(size_t size, const uint8_t *data, size_t data_len) {
+    len = size == 0 ? 0 : PACKET;
+    return rtpw_add_element(BUF, size, &len, 1, data, data_len, RTPW_ANY_FORM);
+}
+
+/* The data are the body of a block of another form, and so whole words. */
+static int32_t block(size_t size, const uint8_t *data, size_t data_len) {
+    len = size == 0 ? 0 : PACKET;
+    return rtpw_put_block(BUF, size, &len, 0xABAC, data, data_len);
 }
 
 /* The header of the sample, and one element, 1, of all data. */
@@ -98,14 +109,15 @@ static bool share(const uint8_t *data, size_t data_len, size_t size) {
 
 typedef int32_t call(size_t size, const uint8_t *data, size_t data_len);
 
-/* All data in the room are refused where they share a byte with the buffer, of this size, and else not. */
+/* All data in the room are refused where they share a byte with the buffer, of this size, and else not, but for a body
+ * that is no whole words. */
 static void is_refused(const char *name, call *it, size_t size, size_t old_len) {
     size_t data_len, at;
     for (data_len = 0; data_len <= LONGEST; data_len++) {
         for (at = 0; at + data_len <= sizeof room; at++) {
             const uint8_t *data = room + at;
             fill();
-            if (share(data, data_len, size)) {
+            if (share(data, data_len, size) || (it == block && data_len % 4 != 0)) {
                 CHECK(it(size, data, data_len) == RTPW_BAD_FIELD);
                 CHECK(len == old_len);
                 CHECK(memcmp(room, before, sizeof room) == 0);
@@ -118,9 +130,9 @@ static void is_refused(const char *name, call *it, size_t size, size_t old_len) 
     }
 }
 
-/* The two bytes before the buffer are taken as they are, and so are the two behind it; and so is what has no byte,
- * within the buffer, at its ends and at NULL. Expected are the front of the buffer, where `xy` stands for the two
- * bytes, and without any the status and the front. */
+/* The two bytes before the buffer are taken as they are, and so are the two behind it, and of a body the four; and so
+ * is what has no byte, within the buffer, at its ends and at NULL. Expected are the front of the buffer, where `xy`
+ * stands for the two bytes, and `xyzw` for the four, and without any the status and the front. */
 static void is_taken(const char *name, call *it, size_t size, const char *two, size_t two_len, int32_t none_status,
                      const char *none, size_t none_len) {
     uint8_t expected[SIZE];
@@ -128,10 +140,11 @@ static void is_taken(const char *name, call *it, size_t size, const char *two, s
     size_t data_len, i;
     int side;
     for (side = 0; side < 2; side++) {
-        data = side == 0 ? BUF - 2 : BUF + size, data_len = 2;
+        data_len = it == block ? 4 : 2;
+        data = side == 0 ? BUF - data_len : BUF + size;
         fill();
         memcpy(expected, two, two_len);
-        memcpy(memchr(expected, 'x', two_len), data, 2);
+        memcpy(memchr(expected, 'x', two_len), data, data_len);
         CHECK(it(size, data, data_len) == RTPW_OK);
         CHECK(memcmp(BUF, expected, two_len) == 0);
         CHECK(memcmp(BUF + two_len, before + LONGEST + two_len, SIZE - two_len) == 0);
@@ -153,8 +166,8 @@ static void is_taken(const char *name, call *it, size_t size, const char *two, s
 /* A buffer of no bytes shares none. */
 static void is_empty(const char *name, call *it, int32_t status) {
     const uint8_t *data = BUF - 1;
-    size_t data_len;
-    for (data_len = 1; data_len <= 3; data_len++) {
+    size_t data_len, step = it == block ? 4 : 1;
+    for (data_len = step; data_len <= 3 * step; data_len += step) {
         fill();
         CHECK(it(0, data, data_len) == status);
         CHECK(memcmp(room, before, sizeof room) == 0);
@@ -181,8 +194,9 @@ static void all_data_count(void) {
 
 /* Lengths and sizes of more than 32 bits are looked at whole, before a byte is. */
 static void none_is_cut(void) {
-    static call *const CALLS[] = {set, put, with, with_form, elements};
-    static const char *const NAMES[] = {"set_element", "put_element", "write_with", "write_with_form", "write_elements"};
+    static call *const CALLS[] = {set, put, add, block, with, with_form, elements};
+    static const char *const NAMES[] = {"set_element", "put_element",     "add_element",   "put_block",
+                                        "write_with",  "write_with_form", "write_elements"};
     const size_t far = (size_t)1 << 32;
     rtpw_header header = header_of();
     rtpw_element element = element_of(2);
@@ -193,7 +207,7 @@ static void none_is_cut(void) {
         size_t data_len = far + 4;
         fill();
         CHECK(CALLS[i](i == 0 ? PACKET : SIZE, data, data_len) == RTPW_BAD_FIELD);
-        data = BUF + SIZE, data_len = 2;
+        data = BUF + SIZE, data_len = 4;
         CHECK(CALLS[i](far + PACKET, data, data_len) == RTPW_BAD_FIELD);
         CHECK(memcmp(room, before, sizeof room) == 0);
     }
@@ -212,6 +226,8 @@ static void none_is_cut(void) {
 int main(void) {
     is_refused("set_element", set, PACKET, 0);
     is_refused("put_element", put, SIZE, PACKET);
+    is_refused("add_element", add, SIZE, PACKET);
+    is_refused("put_block", block, SIZE, PACKET);
     is_refused("write_with", with, SIZE, 77);
     is_refused("write_with_form", with_form, SIZE, 77);
     is_refused("write_elements", elements, SIZE, 77);
@@ -228,11 +244,20 @@ int main(void) {
                    "ab\x22"
                    "cde\x31xy\0\0\1\2\3\4",
              32, RTPW_OK, FIXED "\x10\0\0\3\1\2ab\2\3cde\3\0\0\1\2\3\4", 32);
+    is_taken("add_element", add, SIZE,
+             FIXED "\xBE\xDE\0\3\x11"
+                   "ab\x22"
+                   "cde\x11xy\0\0\1\2\3\4",
+             32, RTPW_OK, FIXED "\x10\0\0\3\1\2ab\2\3cde\1\0\0\1\2\3\4", 32);
+    is_taken("put_block", block, SIZE, FIXED "\xAB\xAC\0\1xyzw\1\2\3\4", 24, RTPW_OK,
+             FIXED "\xAB\xAC\0\0\1\2\3\4", 20);
     is_taken("write_with", with, SIZE, FIXED "\xBE\xDE\0\1\x11xy\0", 20, RTPW_OK, FIXED "\x10\0\0\1\1\0\0\0", 20);
     is_taken("write_with_form", with_form, SIZE, FIXED "\x10\0\0\1\1\2xy", 20, RTPW_OK, FIXED "\x10\0\0\1\1\0\0\0", 20);
     is_taken("write_elements", elements, SIZE, "\1\2xy", 4, RTPW_OK, "\1\0", 2);
     is_empty("set_element", set, RTPW_CUT_FIXED_PART);
     is_empty("put_element", put, RTPW_CUT_FIXED_PART);
+    is_empty("add_element", add, RTPW_CUT_FIXED_PART);
+    is_empty("put_block", block, RTPW_CUT_FIXED_PART);
     is_empty("write_with", with, RTPW_SHORT_BUFFER);
     is_empty("write_with_form", with_form, RTPW_SHORT_BUFFER);
     is_empty("write_elements", elements, RTPW_SHORT_BUFFER);

@@ -46,7 +46,7 @@ static void forms_of_a_put_element(void) {
     CHECK(put_gives(ONE_BYTE, 0xBB, RTPW_ONE_BYTE_FORM, RTPW_OK, ONE));
     CHECK(put_gives(ONE_BYTE, 0xBB, RTPW_TWO_BYTE_FORM, RTPW_OK, MADE_TWO));
     CHECK(put_gives(TWO_BYTE, 0xBB, RTPW_ANY_FORM, RTPW_OK, TWO));
-    CHECK(put_gives(TWO_BYTE, 0xBB, RTPW_ONE_BYTE_FORM, RTPW_BAD_FIELD, TWO_BYTE + 12));
+    CHECK(put_gives(TWO_BYTE, 0xBB, RTPW_ONE_BYTE_FORM, RTPW_FORM_NOT_ALLOWED, TWO_BYTE + 12));
     CHECK(put_gives(TWO_BYTE, 0xBB, RTPW_TWO_BYTE_FORM, RTPW_OK, TWO));
 }
 

@@ -185,6 +185,30 @@ static void put_element(void) {
     done(rtpw_put_element(bytes, LEN + 9, len, 30, DATA, 2, RTPW_ANY_FORM));
     set(bytes, *len);
 }
+static void add_element(void) {
+    uint8_t *bytes = buffer();
+    size_t *len = in(&length, sizeof length);
+    done(rtpw_add_element(bytes, LEN + 9, len, 3, DATA, 2, RTPW_ANY_FORM));
+    set(bytes, *len);
+}
+static void change_form(void) {
+    uint8_t *bytes = buffer();
+    size_t *len = in(&length, sizeof length);
+    done(rtpw_change_form(bytes, LEN + 9, len, RTPW_TWO_BYTE_FORM));
+    set(bytes, *len);
+}
+static void remove_block(void) {
+    uint8_t *bytes = buffer();
+    size_t *len = in(&length, sizeof length);
+    done(rtpw_remove_block(bytes, LEN + 9, len));
+    set(bytes, *len);
+}
+static void put_block(void) { /* of a body whose bytes aren't looked at */
+    uint8_t *bytes = buffer();
+    size_t *len = in(&length, sizeof length);
+    done(rtpw_put_block(bytes, LEN + 9, len, 0xabac, in("12345678", 8), 8));
+    set(bytes, *len);
+}
 static void compact(void) {
     uint8_t *bytes = buffer();
     size_t *len = in(&length, sizeof length);
@@ -734,6 +758,10 @@ static void no_bytes(void) { /* NULL, where the size is 0 */
     if (rtpw_is_rtcp(NULL, 0) || rtpw_packet_parse(NULL, 0, &packet) != RTPW_CUT_FIXED_PART ||
         rtpw_next_element(NULL, 0, RTPW_ONE_BYTE_FORM, 0, &element) != RTPW_NONE ||
         rtpw_put_element(NULL, 0, &len, 1, NULL, 0, RTPW_ANY_FORM) != RTPW_CUT_FIXED_PART ||
+        rtpw_add_element(NULL, 0, &len, 1, NULL, 0, RTPW_ANY_FORM) != RTPW_CUT_FIXED_PART ||
+        rtpw_change_form(NULL, 0, &len, RTPW_TWO_BYTE_FORM) != RTPW_CUT_FIXED_PART ||
+        rtpw_remove_block(NULL, 0, &len) != RTPW_CUT_FIXED_PART ||
+        rtpw_put_block(NULL, 0, &len, 0xabac, NULL, 0) != RTPW_CUT_FIXED_PART ||
         rtpw_from_retransmission(NULL, 0, &len, 1, 1, (const rtpw_new_ids *)(const void *)&map) !=
             RTPW_CUT_FIXED_PART ||
         rtpw_read_original(NULL, 0, &original) != RTPW_SHORT_BUFFER || rtpw_kind_of_uri(NULL, 0) != RTPW_KIND_NONE ||
@@ -770,6 +798,10 @@ static const struct {
     CASE(remove_element),
     CASE(remove_padding),
     CASE(put_element),
+    CASE(add_element),
+    CASE(change_form),
+    CASE(remove_block),
+    CASE(put_block),
     CASE(compact),
     CASE(next_element),
     CASE(last_element),

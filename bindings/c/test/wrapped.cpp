@@ -114,7 +114,8 @@ void grows() {
         CHECK(it.id == 3 || same(it.data, {1, 2}));
     }
     CHECK(ids == 35);
-    CHECK(rtpw::put_element(buf, len, 15, data, RTPW_ONE_BYTE_FORM) == status::bad_field);
+    CHECK(rtpw::put_element(buf, len, 15, data, RTPW_ONE_BYTE_FORM) == status::form_not_allowed);
+    CHECK(rtpw::put_element(buf, len, 0, data) == status::bad_id);
     CHECK(rtpw::remove_element({buf.data(), len}, 5) == status::ok);
     CHECK(rtpw::compact(buf, len) == status::ok && len == 27);
     CHECK(same({buf.data(), len},
@@ -134,6 +135,30 @@ void grows() {
     CHECK(rtpw::write_original(pads, 65538) == status::ok && pads[0] == 0 && pads[1] == 2);
     CHECK(*rtpw::read_original(pads) == 2);
     CHECK(rtpw::read_original({pads, 1}).status() == status::short_buffer);
+}
+
+// The block is made anew, taken off, and put there again.
+void blocks() {
+    std::array<std::uint8_t, 64> buf{};
+    std::size_t len = datagram.size();
+    std::memcpy(buf.data(), datagram.data(), len);
+    const std::uint8_t level[] = {0x8b};
+    CHECK(rtpw::add_element(buf, len, 3, level) == status::ok && len == 27);
+    CHECK(same({buf.data() + 16, 8}, {0xbe, 0xde, 0, 1, 0x30, 0x8a, 0x30, 0x8b}));
+    CHECK(rtpw::add_element(buf, len, 15, level, RTPW_ONE_BYTE_FORM) == status::form_not_allowed);
+    CHECK(rtpw::add_element(buf, len, 0, level) == status::bad_id && len == 27);
+    CHECK(rtpw::change_form(buf, len, RTPW_TWO_BYTE_FORM) == status::ok && len == 31);
+    CHECK(same({buf.data() + 16, 12}, {0x10, 0, 0, 2, 3, 1, 0x8a, 3, 1, 0x8b, 0, 0}));
+    CHECK(rtpw::change_form(buf, len, RTPW_OTHER_FORM) == status::bad_field);
+    CHECK(rtpw::remove_block(buf, len) == status::ok && len == 19);
+    CHECK(same({buf.data(), len}, {0xa1, 111, 1, 2, 0, 0, 3, 4, 0, 0, 0, 44, 0, 0, 0, 9, 7, 8, 1}));
+    const std::array<std::uint8_t, 4> body = {1, 2, 3, 4};
+    CHECK(rtpw::put_block(buf, len, 0xabac, body) == status::ok && len == 27 && buf[0] == 0xb1);
+    CHECK(same({buf.data() + 16, 11}, {0xab, 0xac, 0, 1, 1, 2, 3, 4, 7, 8, 1}));
+    CHECK(rtpw::put_block(buf, len, 0xabac, {body.data(), 3}) == status::bad_field);
+    const std::vector<std::uint8_t> long_body(262144);
+    CHECK(rtpw::put_block(buf, len, 0xabac, long_body) == status::long_block);
+    CHECK(rtpw::status_text(status::long_block) == "an extension block of more than 65,535 words");
 }
 
 void writes() {
@@ -377,6 +402,7 @@ int main() {
     reads();
     changes();
     grows();
+    blocks();
     writes();
     receives();
     standards();

@@ -92,6 +92,10 @@ CALLS: Dict[Any, str] = {
     rtp_wire.is_rtcp: "(datagram)",
     rtp_wire.elements: "(body, form)",
     rtp_wire.put_element: "(buffer, length, id, data, allowed=None)",
+    rtp_wire.add_element: "(buffer, length, id, data, allowed=None)",
+    rtp_wire.change_form: "(buffer, length, form)",
+    rtp_wire.put_block: "(buffer, length, profile, body)",
+    rtp_wire.remove_block: "(datagram)",
     rtp_wire.compact: "(datagram)",
     rtp_wire.write_elements: "(elements, form)",
     rtp_wire.pad: "(datagram, header_len, pad_len, block_size=1)",
@@ -132,6 +136,8 @@ CALLS: Dict[Any, str] = {
     WideReceiver: "(words, rollover_count)",
     RestartingReceiver: "(max_dropout=3000, min_sequential=1, max_misorder=None, words=16)",
     Receiver.standing_of: "(self, number)",
+    RestartingReceiver.number_of: "(self, sequence_number)",
+    RestartingReceiver.standing_of: "(self, number)",
     ReceptionStatistics: "()",
     ReceptionStatistics.record: "(self, number, timestamp, arrival)",
     ReceptionReport.block: "(self, ssrc, last_report=0, delay=0)",
@@ -371,6 +377,8 @@ class Calls(unittest.TestCase):
         self.assertEqual(bases[RtpError], (ValueError,))
         self.assertEqual([bases[it] for it in (NotAPacket, OtherForm, BadField, ShortBuffer)], [one] * 4)
         self.assertEqual(bases[NoElement], (RtpError, LookupError))
+        for kind in (rtp_wire.BadId, rtp_wire.FormNotAllowed, rtp_wire.LongBlock):
+            self.assertEqual(kind.__bases__, (BadField,))
         for status in Status:
             error = _errors.error_of(int(status))
             self.assertEqual((str(error), error.args, error.status), (status.text, (status.text,), status))

@@ -122,7 +122,7 @@ class Headers(unittest.TestCase):
             (lambda: put_element(packet, 28, 1, bytes(256)), "the length of data is 256, and not 0 to 255"),
             (
                 lambda: put_element(two_bytes, 16, 1, b"1", Form.ONE_BYTE),
-                "the block needs a form that isn't allowed, or more than 65535 words",
+                "a form of the extension block that isn't allowed",
             ),
             (lambda: self.told(mid="a-1"), "mid is 'a-1', and not up to 16 letters, digits and underscores"),
             (lambda: self.told(rid="9" * 9), "rid is '999999999', and not up to 8 letters, digits and underscores"),

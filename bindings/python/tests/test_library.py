@@ -155,6 +155,9 @@ class Library(unittest.TestCase):
             Status.SHORT_BUFFER: rtp_wire.ShortBuffer,
             Status.BAD_FIELD: rtp_wire.BadField,
             Status.NONE: rtp_wire.NoElement,
+            Status.BAD_ID: rtp_wire.BadId,
+            Status.FORM_NOT_ALLOWED: rtp_wire.FormNotAllowed,
+            Status.LONG_BLOCK: rtp_wire.LongBlock,
             Status.REFUSED: rtp_wire.RtpError,
             **{Status(cause): rtp_wire.NotAPacket for cause in Cause},
         }

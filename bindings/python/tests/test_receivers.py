@@ -275,6 +275,58 @@ class RestartingReceivers(unittest.TestCase):
             with self.assertRaises(BadField):
                 RestartingReceiver().receive(number)
 
+    def test_why_a_packet_is_refused(self) -> None:
+        # the window has 1,024 numbers, and 3,000 below is outside
+        taken, old, new = Standing.TAKEN, Standing.TOO_OLD, Standing.NEW
+        rows: List[Tuple[int, Optional[Taken], int, int, Standing]] = [
+            (60000, Taken(125536, False), 0, 125536, taken),
+            (60000, None, 0, 125536, taken),
+            (58977, Taken(124513, False), 0, 124513, taken),
+            (58976, None, 0, 124512, old),
+            (57001, None, 0, 122537, old),
+            (57000, None, 1, 122536, old),
+            (7, None, 1, 131079, new),
+            (60000, None, 0, 125536, taken),
+            (8, None, 1, 131080, new),
+            (9, Taken(196617, True), 0, 196617, taken),
+            (9, None, 0, 196617, taken),
+            (8, Taken(196616, False), 0, 196616, taken),
+        ]
+        receiver = RestartingReceiver()
+        self.assertEqual((receiver.in_row, receiver.number_of(0), receiver.number_of(65535)), (0, 65536, 131071))
+        self.assertEqual(receiver.standing_of(5), new)
+        for low, due, in_row, number, standing in rows:
+            self.judges(receiver, [(low, due)])
+            self.assertEqual((receiver.in_row, receiver.number_of(low)), (in_row, number))
+            self.assertIs(receiver.standing_of(number), standing)
+        self.assertEqual((receiver.standing_of(196618), receiver.standing_of(125536)), (new, old))
+        for call in (receiver.number_of, receiver.standing_of):
+            for number in (-1, 1 << 64):
+                self.assertRaises(BadField, call, number)
+        self.assertRaises(BadField, receiver.number_of, 65536)
+
+    def test_packets_before_a_source_is_valid(self) -> None:
+        # they are outside of the stream, and count too
+        for words in (1, 16):
+            receiver = RestartingReceiver(min_sequential=255, words=words)
+            for low in range(1, 255):
+                self.judges(receiver, [(low, None)])
+                self.assertEqual((receiver.in_row, receiver.number_of(low)), (low, 65536 + low))
+                self.assertIs(receiver.standing_of(65536), Standing.NEW)
+            stored = pickle.loads(pickle.dumps(receiver))
+            self.assertEqual(stored.in_row, 254)
+            self.judges(stored, [(255, Taken(65791, False))])
+            self.assertEqual((stored.in_row, receiver.in_row), (0, 254))
+
+    def test_packets_of_the_stream_are_reported(self) -> None:
+        # two were expected, and four came
+        receiver, statistics = RestartingReceiver(), rtp_wire.ReceptionStatistics()
+        for low in (5, 6, 6, 40000, 5):
+            receiver.receive(low)
+            if not receiver.in_row:
+                statistics.record(receiver.number_of(low), 0, 0)
+        self.assertEqual(statistics.report(), rtp_wire.ReceptionReport(0, -2, 6, 0))
+
     def test_the_state_is_copied_and_stored(self) -> None:
         receiver = RestartingReceiver(max_dropout=100)
         self.assertNotEqual(receiver, RestartingReceiver())

@@ -96,6 +96,10 @@ class Shapes(unittest.TestCase):
             buffer: Any = data
             calls: Dict[str, Callable[[], Any]] = {
                 "put_element": lambda: rtp_wire.put_element(buffer, 40, 1, b"a"),
+                "add_element": lambda: rtp_wire.add_element(buffer, 40, 1, b"a"),
+                "change_form": lambda: rtp_wire.change_form(buffer, 40, Form.TWO_BYTE),
+                "put_block": lambda: rtp_wire.put_block(buffer, 40, 0, b""),
+                "remove_block": lambda: rtp_wire.remove_block(buffer),
                 "compact": lambda: rtp_wire.compact(buffer),
                 "pad": lambda: rtp_wire.pad(buffer, 12, 1),
                 "write_original": lambda: rtp_wire.write_original(buffer, 1),
@@ -119,6 +123,10 @@ class Shapes(unittest.TestCase):
             lambda: rtp_wire.compact(apart),
             lambda: next(rtp_wire.elements(apart, 1)),
             lambda: rtp_wire.put_element(bytearray(EVEN), 40, 1, apart),
+            lambda: rtp_wire.add_element(bytearray(EVEN), 40, 1, apart),
+            lambda: rtp_wire.put_block(bytearray(EVEN), 40, 0, apart),
+            lambda: rtp_wire.change_form(apart, 40, Form.ONE_BYTE),
+            lambda: rtp_wire.remove_block(apart),
             lambda: rtp_wire.write_elements([(1, apart)], 1),
             lambda: Packet.parse(bytearray(EVEN)).set_element(1, apart),
         ]
@@ -199,6 +207,10 @@ class Sharing(unittest.TestCase):
             lambda: rtp_wire.put_element(datagram, 37, 2, b"ab"),
             lambda: rtp_wire.put_element(datagram, 37, 2, memoryview(datagram)[:2]),
             lambda: rtp_wire.put_element(datagram, 99, 2, b"ab"),
+            lambda: rtp_wire.add_element(datagram, 37, 2, memoryview(datagram)[:2]),
+            lambda: rtp_wire.put_block(datagram, 37, 0, memoryview(datagram)[:4]),
+            lambda: rtp_wire.change_form(datagram, 99, Form.ONE_BYTE),
+            lambda: rtp_wire.remove_block(datagram),
             lambda: rtp_wire.compact(datagram),
             lambda: rtp_wire.pad(datagram, 37, 1),
             lambda: rtp_wire.write_original(datagram, 0x80),

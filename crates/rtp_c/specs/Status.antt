@@ -47,6 +47,18 @@ none = pos 11
 abbrev pub restarted : ℤ
 restarted = pos 12
 
+-- the id 0, which no element has
+abbrev pub bad_id : ℤ
+bad_id = pos 13
+
+-- the block has, or the element needs, a form that isn't allowed
+abbrev pub form_not_allowed : ℤ
+form_not_allowed = pos 14
+
+-- a block of more than 65,535 words
+abbrev pub long_block : ℤ
+long_block = pos 15
+
 -- the status of the first cause for which these bytes are no packet
 pub record IsCauseStatus (bytes : List ℕ) (status : ℤ) : Type 0 where
   pub cause : NotAPacket

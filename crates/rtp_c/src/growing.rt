@@ -10,18 +10,22 @@ ghost use Rattle.rtp_c.specs.Status.{ok, bad_field, IsCauseStatus};
 ghost use Rattle.rtp_c.specs.PutStatus.{put_status, IsPutStatus};
 
 use super::packet::allowed_of;
-use super::status::{BAD_FIELD, OK, SHORT_BUFFER, UNKNOWN_FORM, status_of};
+use super::status::{
+    BAD_FIELD, BAD_ID, FORM_NOT_ALLOWED, LONG_BLOCK, OK, SHORT_BUFFER, UNKNOWN_FORM, status_of,
+};
 use rtp_wire::{NotPut, compact, put_element};
 
 // The status of this cause.
-fn put_status_of(cause: NotPut) -> i32
+pub fn put_status_of(cause: NotPut) -> i32
     ensures { result ≡ put_status cause }
 {
     match cause {
-        NotPut::CutPacket | NotPut::ZeroId | NotPut::LongData => BAD_FIELD,
+        NotPut::CutPacket | NotPut::LongData => BAD_FIELD,
+        NotPut::ZeroId => BAD_ID,
         NotPut::NotAPacket(cause) => status_of(cause),
         NotPut::OtherForm => UNKNOWN_FORM,
-        NotPut::OneByteOnly | NotPut::LongBlock => BAD_FIELD,
+        NotPut::OneByteOnly => FORM_NOT_ALLOWED,
+        NotPut::LongBlock => LONG_BLOCK,
         NotPut::NoRoom { needed: _ } => SHORT_BUFFER,
     }
 }
@@ -32,11 +36,12 @@ fn put_status_of(cause: NotPut) -> i32
 /// becomes its new length. Of the block's forms the number `allowed` allows both where it is 0, the
 /// one-byte form alone where it is 1, and the two-byte form alone where it is 2.
 ///
-/// `OK`; `BAD_FIELD` where `allowed` is above 2, `len` is past the buffer, the id is 0, there are
-/// more than 255 bytes of data, the block needs the two-byte form and that isn't allowed, or it
-/// would have more than 65,535 words; the status of the first cause for which the bytes are no
-/// packet; `UNKNOWN_FORM` where the block's form is another, which carries no elements; or
-/// `SHORT_BUFFER` where there is no room behind the packet. Where it isn't `OK` nothing changes.
+/// `OK`; `BAD_FIELD` where `allowed` is above 2, or `len` is past the buffer; `BAD_ID` where the id
+/// is 0; `BAD_FIELD` where there are more than 255 bytes of data; the status of the first cause for
+/// which the bytes are no packet; `UNKNOWN_FORM` where the block's form is another, which carries
+/// no elements; `FORM_NOT_ALLOWED` where the two-byte form is needed, and isn't allowed;
+/// `LONG_BLOCK` where the block would have more than 65,535 words; or `SHORT_BUFFER` where there is
+/// no room behind the packet. Where it isn't `OK` nothing changes.
 #[unsafe(no_mangle)]
 pub extern "C" fn rtpw_put_element(
     buf: &mut [u8],

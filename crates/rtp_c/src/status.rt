@@ -29,6 +29,12 @@ pub const REFUSED: i32 = 10;
 pub const NONE: i32 = 11;
 /// A packet is taken, as the first one after its sender has started again.
 pub const RESTARTED: i32 = 12;
+/// The id is 0, which no element has.
+pub const BAD_ID: i32 = 13;
+/// The block has, or the element needs, a form that isn't allowed.
+pub const FORM_NOT_ALLOWED: i32 = 14;
+/// The block would have more than 65,535 words.
+pub const LONG_BLOCK: i32 = 15;
 
 // The status of this cause.
 pub fn status_of(cause: NotAPacket) -> i32

@@ -9,8 +9,21 @@ from . import _library
 from ._color_space import ChromaSiting, Chromaticity, ColorRange, ColorSpace, HdrMetadata
 from ._column import Column, TextColumn
 from ._columns import Columns, Verdict, Verdicts
-from ._errors import BadField, Cause, LeftOut, NoElement, NotAPacket, OtherForm, RtpError, ShortBuffer, Status
-from ._growing import compact, put_element
+from ._errors import (
+    BadField,
+    BadId,
+    Cause,
+    FormNotAllowed,
+    LeftOut,
+    LongBlock,
+    NoElement,
+    NotAPacket,
+    OtherForm,
+    RtpError,
+    ShortBuffer,
+    Status,
+)
+from ._growing import add_element, change_form, compact, put_block, put_element, remove_block
 from ._header import Header, write_elements
 from ._layers import Layer, Layers, Resolution
 from ._map import Kind, Map, NewIds
@@ -55,6 +68,7 @@ from ._values import Time, Values, VideoTiming
 
 __all__ = [
     "BadField",
+    "BadId",
     "Camera",
     "Cause",
     "ChromaSiting",
@@ -67,6 +81,7 @@ __all__ = [
     "Element",
     "FeedbackRequest",
     "Form",
+    "FormNotAllowed",
     "FrameLayers",
     "FrameMarking",
     "HdrMetadata",
@@ -75,6 +90,7 @@ __all__ = [
     "Layer",
     "Layers",
     "LeftOut",
+    "LongBlock",
     "Map",
     "NewIds",
     "NoElement",
@@ -101,6 +117,8 @@ __all__ = [
     "Verdicts",
     "VideoTiming",
     "WideReceiver",
+    "add_element",
+    "change_form",
     "compact",
     "elements",
     "extend_ntp_56",
@@ -115,6 +133,7 @@ __all__ = [
     "ntp_56_data",
     "ntp_64_data",
     "pad",
+    "put_block",
     "put_element",
     "read_mixer_level",
     "read_ntp_56",
@@ -122,6 +141,7 @@ __all__ = [
     "read_original",
     "read_token",
     "read_transmission_offset",
+    "remove_block",
     "to_retransmission",
     "transmission_offset_data",
     "write_elements",

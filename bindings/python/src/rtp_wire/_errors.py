@@ -26,6 +26,9 @@ class Status(IntEnum):
     REFUSED = 10
     NONE = 11
     RESTARTED = 12
+    BAD_ID = 13
+    FORM_NOT_ALLOWED = 14
+    LONG_BLOCK = 15
 
     @property
     def text(self) -> str:
@@ -46,6 +49,9 @@ _TEXTS = {
     Status.REFUSED: "a replay, or too old to tell",
     Status.NONE: "no such element",
     Status.RESTARTED: "taken, and the sender has started again",
+    Status.BAD_ID: "the id 0, which no element has",
+    Status.FORM_NOT_ALLOWED: "a form of the extension block that isn't allowed",
+    Status.LONG_BLOCK: "an extension block of more than 65,535 words",
 }
 
 
@@ -89,6 +95,19 @@ class BadField(RtpError):
     """An argument or a field is out of its range."""
 
 
+class BadId(BadField):
+    """The id isn't 1 to 255: no element has the id 0."""
+
+
+class FormNotAllowed(BadField):
+    """The block has, or an element needs, a form that isn't allowed; or an element can't be in the form that the block
+    is to get."""
+
+
+class LongBlock(BadField):
+    """The block would have more than 65,535 words."""
+
+
 class LeftOut(BadField):
     """Values of these kinds would be left out where a header is written (`Header.write_all`)."""
 
@@ -117,6 +136,9 @@ _KINDS = {
     Status.SHORT_BUFFER: ShortBuffer,
     Status.BAD_FIELD: BadField,
     Status.NONE: NoElement,
+    Status.BAD_ID: BadId,
+    Status.FORM_NOT_ALLOWED: FormNotAllowed,
+    Status.LONG_BLOCK: LongBlock,
 }
 
 

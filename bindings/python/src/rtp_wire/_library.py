@@ -395,6 +395,12 @@ remove_padding = _declare(_STATUS, "rtpw_remove_padding", _BYTES, _SIZE, POINTER
 put_element = _declare(
     _STATUS, "rtpw_put_element", _BYTES, _SIZE, POINTER(c_size_t), c_uint8, _BYTES, _SIZE, c_uint8
 )
+add_element = _declare(
+    _STATUS, "rtpw_add_element", _BYTES, _SIZE, POINTER(c_size_t), c_uint8, _BYTES, _SIZE, c_uint8
+)
+change_form = _declare(_STATUS, "rtpw_change_form", _BYTES, _SIZE, POINTER(c_size_t), c_uint8)
+put_block = _declare(_STATUS, "rtpw_put_block", _BYTES, _SIZE, POINTER(c_size_t), c_uint16, _BYTES, _SIZE)
+remove_block = _declare(_STATUS, "rtpw_remove_block", _BYTES, _SIZE, POINTER(c_size_t))
 compact = _declare(_STATUS, "rtpw_compact", _BYTES, _SIZE, POINTER(c_size_t))
 
 next_element = _declare(_STATUS, "rtpw_next_element", _BYTES, _SIZE, c_uint8, _SIZE, POINTER(RawElement))

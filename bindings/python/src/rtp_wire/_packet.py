@@ -310,6 +310,6 @@ class Packet:
 
     def renumber(self, ids: NewIds) -> None:
         """Gives each element its new id, and makes one that gets none padding. BadField where the form of the block
-        can't carry a new id, one above 14 in the one-byte form; then nothing changes. To read the values under the
-        receiver's map parse the packet again."""
+        can't carry a new id, one above 14 in the one-byte form, of which `change_form` makes the other; then nothing
+        changes. To read the values under the receiver's map parse the packet again."""
         self._set(_library.renumber, ids._raw)

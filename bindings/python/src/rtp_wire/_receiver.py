@@ -221,7 +221,7 @@ class RestartingReceiver(_State):
 
     def receive(self, sequence_number: int) -> Optional[Taken]:
         """Judges the next packet of the source: its number, and whether its sender has started again. None where it is
-        a replay, too old to tell, or outside of the stream.
+        refused: a replay, too old to tell, or outside of the stream, which `in_row` then tells.
 
         >>> receiver = RestartingReceiver()
         >>> [receiver.receive(it).number for it in (1999, 1800)]  # a late one
@@ -235,6 +235,40 @@ class RestartingReceiver(_State):
         if status == Status.REFUSED:
             return None
         return Taken(number.value, restarted=status == Status.RESTARTED)
+
+    @property
+    def in_row(self) -> int:
+        """How many packets outside of the stream came last in a row, up to 255, and 0 where the last packet was of the
+        stream or taken. So it tells why `receive` returned None just now: where it is 0 the packet is of the stream, and
+        a replay or too old (`standing_of`), and counts in `ReceptionStatistics`; else the packet is far from the stream,
+        and remembered as what may lead up to a new epoch.
+
+        >>> receiver = RestartingReceiver()
+        >>> for low in (60000, 60000, 58000, 7, 8):
+        ...     print(low, receiver.receive(low), receiver.in_row, receiver.standing_of(receiver.number_of(low)).name)
+        60000 Taken(number=125536, restarted=False) 0 TAKEN
+        60000 None 0 TAKEN
+        58000 None 0 TOO_OLD
+        7 None 1 NEW
+        8 Taken(number=196616, restarted=True) 0 TAKEN
+        """
+        return int(self._raw.in_row)
+
+    def number_of(self, sequence_number: int) -> int:
+        """The number of a packet of the stream, taken or refused: the nearest to the highest taken that ends in these
+        16 bits; where nothing is taken yet the one with the rollover count 1."""
+        return int(_library.wide_receiver_number_of(self._epoch(), unsigned("sequence_number", sequence_number, 16)))
+
+    def standing_of(self, number: int) -> Standing:
+        """What is known of the number in the epoch, as `Receiver.standing_of` has it. Of a packet that was refused and
+        is of the stream it says why."""
+        number = unsigned("number", number, 64)
+        return Standing(_library.wide_receiver_standing_of(self._epoch(), self._words, len(self._words), number))
+
+    def _epoch(self) -> _library.RawWideReceiver:
+        """The epoch, whose window is that of a `WideReceiver`."""
+        raw = self._raw
+        return _library.RawWideReceiver(raw.highest if raw.started else 1 << 16, raw.started)
 
     def __repr__(self) -> str:
         raw = self._raw

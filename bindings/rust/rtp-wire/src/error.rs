@@ -276,13 +276,22 @@ impl fmt::Display for TooManyLayers {
 
 impl Error for TooManyLayers {}
 
-/// Why an element wasn't put into a packet ([`put_element`](crate::put_element)).
+/// Why an element or a block wasn't put into a packet ([`put_element`](crate::put_element),
+/// [`add_element`](crate::add_element), [`put_block`](crate::put_block)), or a block kept its form
+/// ([`change_form`](crate::change_form)).
 #[derive(Clone, Copy, Debug, PartialEq, Eq, Hash)]
 #[non_exhaustive]
 pub enum NotPut {
-    /// The packet is longer than the buffer, the id is 0, there are more than 255 bytes of data, or the block
-    /// needs a form that isn't allowed, or more than 65,535 words.
+    /// The packet is longer than the buffer, there are more than 255 bytes of data, or a body is no whole number of
+    /// words of four bytes.
     BadField,
+    /// The id is 0, which no element has.
+    BadId,
+    /// The block has, or an element needs, a form that isn't allowed; or an element can't be in the form that the
+    /// block is to get.
+    FormNotAllowed,
+    /// The block would have more than 65,535 words.
+    LongBlock,
     /// The bytes are no packet: [`source`](Error::source) says why.
     NotAPacket(NotAPacket),
     /// The block's form is neither 0xBEDE nor 0x1000 to 0x100F.
@@ -295,6 +304,9 @@ impl NotPut {
     pub(crate) fn of_status(status: i32) -> Result<(), NotPut> {
         match status {
             sys::BAD_FIELD => Err(NotPut::BadField),
+            sys::BAD_ID => Err(NotPut::BadId),
+            sys::FORM_NOT_ALLOWED => Err(NotPut::FormNotAllowed),
+            sys::LONG_BLOCK => Err(NotPut::LongBlock),
             sys::UNKNOWN_FORM => Err(NotPut::OtherForm),
             sys::SHORT_BUFFER => Err(NotPut::ShortBuffer),
             _ => NotAPacket::of_status(status).map_err(NotPut::NotAPacket),
@@ -306,6 +318,9 @@ impl fmt::Display for NotPut {
     fn fmt(&self, f: &mut fmt::Formatter<'_>) -> fmt::Result {
         f.write_str(match self {
             NotPut::BadField => "an argument is out of its range",
+            NotPut::BadId => "the id 0, which no element has",
+            NotPut::FormNotAllowed => "a form of the extension block that isn't allowed",
+            NotPut::LongBlock => "an extension block of more than 65,535 words",
             NotPut::NotAPacket(_) => "no RTP packet",
             NotPut::OtherForm => UNKNOWN_FORM,
             NotPut::ShortBuffer => "a buffer is too short",

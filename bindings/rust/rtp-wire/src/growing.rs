@@ -34,10 +34,115 @@ pub fn put_element(
     allowed: Option<Form>,
 ) -> Result<usize, NotPut> {
     let mut new_len = len;
-    let allowed = allowed.map_or(0, Form::number);
-    let status = sys::put_element(buf, &mut new_len, id, data, allowed);
+    let status = sys::put_element(buf, &mut new_len, id, data, number_of(allowed));
     NotPut::of_status(status)?;
     Ok(new_len)
+}
+
+/// Puts an element behind all others, and those of its id stay: an id may have several, of which the last one counts
+/// ([`Packet::element`](crate::Packet::element)). The id, the data, the form that is `allowed`, the form that the
+/// block gets, and the room behind the packet are as those of [`put_element`]. The block is always made anew: elements
+/// of the id 0, which is padding's, go, and so does what stands where reading ends.
+///
+/// # Errors
+///
+/// [`NotPut`] says why the element can't be put; nothing changes then.
+///
+/// ```
+/// let mut packet = [
+///     0x90, 0x60, 0, 5, 0, 0, 0, 100, 0, 0, 0, 44, 0xBE, 0xDE, 0, 1, 0x10, 0xAA, 0, 0, 1,
+/// ];
+/// assert_eq!(rtp_wire::add_element(&mut packet, 21, 1, &[0xBB], None), Ok(21));
+/// assert_eq!(packet[12..], [0xBE, 0xDE, 0, 1, 0x10, 0xAA, 0x10, 0xBB, 1]);
+/// ```
+pub fn add_element(
+    buf: &mut [u8],
+    len: usize,
+    id: u8,
+    data: &[u8],
+    allowed: Option<Form>,
+) -> Result<usize, NotPut> {
+    let mut new_len = len;
+    let status = sys::add_element(buf, &mut new_len, id, data, number_of(allowed));
+    NotPut::of_status(status)?;
+    Ok(new_len)
+}
+
+/// The forms that are allowed, as the library has them: 0 for both.
+fn number_of(allowed: Option<Form>) -> u8 {
+    allowed.map_or(0, Form::number)
+}
+
+/// Makes a block of the other form one of this form, in the packet in the first `len` bytes of the buffer, and returns
+/// how many bytes the packet then has. Its elements stay, in order, and all other parts of the packet too; the payload
+/// moves where the body has to grow, and a body never becomes shorter ([`compact`]). Elements of the id 0, which is
+/// padding's, go, and so does what stands where reading ends. A block that has the form, and a packet without a block,
+/// stay as they are. A header alone is enough.
+///
+/// In the two-byte form elements may have ids above 14, as new ones by
+/// [`renumber`](crate::PacketMut::renumber), no data, and more than 16 bytes. The one-byte form is refused, by
+/// [`NotPut::FormNotAllowed`], where an element has such.
+///
+/// # Errors
+///
+/// [`NotPut`] says why the block keeps its form; nothing changes then.
+///
+/// ```
+/// let mut packet = [
+///     0x90, 0x60, 0, 5, 0, 0, 0, 100, 0, 0, 0, 44, 0xBE, 0xDE, 0, 1, 0x10, 0xAA, 0, 0, 1,
+/// ];
+/// assert_eq!(rtp_wire::change_form(&mut packet, 21, rtp_wire::Form::TwoByte), Ok(21));
+/// assert_eq!(packet[12..], [0x10, 0, 0, 1, 1, 1, 0xAA, 0, 1]);
+/// ```
+pub fn change_form(buf: &mut [u8], len: usize, form: Form) -> Result<usize, NotPut> {
+    let mut new_len = len;
+    NotPut::of_status(sys::change_form(buf, &mut new_len, form.number()))?;
+    Ok(new_len)
+}
+
+/// Gives the packet in the first `len` bytes of the buffer a block that begins with these 16 bits, which a profile
+/// defines (RFC 3550, 5.3.1), and has this body, in place of the block that is there, and returns how many bytes the
+/// packet then has: X is set, and the payload moves. What the body holds isn't looked at: of 0xBEDE and 0x1000 to
+/// 0x100F it is read as elements. A header alone is enough.
+///
+/// # Errors
+///
+/// [`NotPut::BadField`] where the packet is longer than the buffer, or the body is no whole number of words of four
+/// bytes; [`NotPut::LongBlock`] where it has more than 65,535 words; [`NotPut::NotAPacket`]; or
+/// [`NotPut::ShortBuffer`]. Nothing changes then.
+///
+/// ```
+/// let mut buf = [0; 21];
+/// buf[..13].copy_from_slice(&[0x80, 0x60, 0, 5, 0, 0, 0, 100, 0, 0, 0, 44, 1]);
+/// assert_eq!(rtp_wire::put_block(&mut buf, 13, 0xABAC, &[1, 2, 3, 4]), Ok(21));
+/// assert_eq!((buf[0], &buf[12..]), (0x90, &[0xAB, 0xAC, 0, 1, 1, 2, 3, 4, 1][..]));
+/// ```
+pub fn put_block(buf: &mut [u8], len: usize, profile: u16, body: &[u8]) -> Result<usize, NotPut> {
+    let mut new_len = len;
+    NotPut::of_status(sys::put_block(buf, &mut new_len, profile, body))?;
+    Ok(new_len)
+}
+
+/// Takes the block off the packet in the buffer, of whatever form, and clears X, and returns how many bytes the packet
+/// then has, which are the first ones of the buffer: the payload moves to the end of the CSRC list. Without a block
+/// nothing changes. So the block of no words goes that [`remove_element`](crate::PacketMut::remove_element) and
+/// [`compact`] leave. A header alone is enough.
+///
+/// # Errors
+///
+/// The first cause for which the buffer holds no packet; nothing changes then.
+///
+/// ```
+/// let mut packet = [
+///     0x90, 0x60, 0, 5, 0, 0, 0, 100, 0, 0, 0, 44, 0xBE, 0xDE, 0, 1, 0x10, 0xAA, 0, 0, 1,
+/// ];
+/// assert_eq!(rtp_wire::remove_block(&mut packet), Ok(13));
+/// assert_eq!((packet[0], packet[12]), (0x80, 1));
+/// ```
+pub fn remove_block(datagram: &mut [u8]) -> Result<usize, NotAPacket> {
+    let mut len = datagram.len();
+    NotAPacket::of_status(sys::remove_block(datagram, &mut len))?;
+    Ok(len)
 }
 
 /// Makes the packet in the buffer as short as its elements allow, and returns how many bytes it then has, which

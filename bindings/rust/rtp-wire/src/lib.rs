@@ -8,7 +8,8 @@
 //! - To report what came: [`ReceptionStatistics`].
 //! - To send: [`Header::with_values`], [`Header::write_all`], [`Header::write_to`], [`Header::write_with`],
 //!   [`Header::write_with_layers`], [`write_elements`], [`pad`].
-//! - To send on: [`PacketMut`], [`put_element`], [`compact`], [`Fields`], [`Values::data_of`], [`NewIds`].
+//! - To send on: [`PacketMut`], [`put_element`], [`add_element`], [`change_form`], [`put_block`], [`remove_block`],
+//!   [`compact`], [`Fields`], [`Values::data_of`], [`NewIds`].
 //! - To send again: [`to_retransmission`], [`from_retransmission`], [`read_original`], [`write_original`].
 //! - Elements as their standards have them, for any peer: [`standard`], [`Packet::token`].
 //! - What went wrong: [`NotAPacket`], [`NotAHeader`], [`NotAValue`], [`NotRead`], [`NotTaken`], [`NotWritten`], [`OutOfRange`], [`NotChanged`],
@@ -46,7 +47,7 @@ pub use error::{
     BadId, BadRolloverCount, NotAHeader, NotAPacket, NotAValue, NotChanged, NotPut, NotRead,
     NotRetransmitted, NotTaken, NotWritten, OutOfRange, TooManyLayers,
 };
-pub use growing::{compact, put_element};
+pub use growing::{add_element, change_form, compact, put_block, put_element, remove_block};
 pub use header::Header;
 pub use kind_set::KindSet;
 pub use layers::{Layer, Layers, Resolution, Stream};

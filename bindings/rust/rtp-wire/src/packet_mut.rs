@@ -196,7 +196,8 @@ impl<'a> PacketMut<'a> {
     /// # Errors
     ///
     /// [`NotChanged::BadNewId`] where the packet's form can't carry a new id that an element gets: one above
-    /// 14 in the one-byte form; nothing changes then.
+    /// 14 in the one-byte form, of which [`change_form`](crate::change_form) makes the other; nothing changes
+    /// then.
     pub fn renumber(&mut self, ids: &NewIds) -> Result<(), NotChanged> {
         let status = sys::renumber(self.datagram, &ids.ids);
         NotChanged::of_status(status, NotChanged::BadNewId)

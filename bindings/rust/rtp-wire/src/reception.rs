@@ -9,8 +9,9 @@ use crate::views::ReceptionState;
 /// [`Receiver::number_of`](crate::Receiver::number_of). With SRTP record it once it is authentic. Packets are
 /// expected from the first one's number on, even where one with a lower number comes later.
 ///
-/// A packet that is outside of the stream, as [`RestartingReceiver`](crate::RestartingReceiver) says, isn't
-/// recorded; where the sender has started again, begin anew with the packet that says so.
+/// A packet that is outside of the stream, after which
+/// [`in_row`](crate::WideRestartingReceiver::in_row) of a `RestartingReceiver` isn't 0, isn't recorded; where the
+/// sender has started again, begin anew with the packet that says so.
 ///
 /// ```
 /// use rtp_wire::{ReceptionReport, ReceptionStatistics};

@@ -1,5 +1,6 @@
+use crate::receiver::Standing;
 use crate::sys;
-use crate::views::RestartingState;
+use crate::views::{RestartingState, WideState};
 
 /// What a [`RestartingReceiver`] says of a packet. The low 16 bits of a number are those of the header.
 #[derive(Clone, Copy, Debug, PartialEq, Eq)]
@@ -9,7 +10,8 @@ pub enum Arrival {
     /// The sender has started again, and the packet is taken as the first one of a new epoch, with this
     /// extended number: what hangs on numbers begins anew.
     Restarted(u64),
-    /// It is a replay, or outside of the stream.
+    /// It is of the stream and a replay, or too old to tell; or it is outside of the stream.
+    /// [`in_row`](WideRestartingReceiver::in_row) tells these two apart.
     Refused,
 }
 
@@ -114,6 +116,58 @@ impl<const WORDS: usize> WideRestartingReceiver<WORDS> {
     #[must_use]
     pub fn highest(&self) -> Option<u64> {
         (self.state.started != 0).then_some(self.state.highest)
+    }
+
+    /// How many packets outside of the stream came last in a row, up to 255, and 0 where the last packet was of
+    /// the stream or taken.
+    ///
+    /// So it tells why a packet was refused just now: where it is 0 the packet is of the stream, and a replay or
+    /// too old ([`standing_of`](Self::standing_of)), and counts in
+    /// [`ReceptionStatistics`](crate::ReceptionStatistics); else the packet is far from the stream, and remembered
+    /// as what may lead up to a new epoch.
+    ///
+    /// ```
+    /// use rtp_wire::{Arrival, RestartingReceiver, Standing};
+    ///
+    /// let mut receiver = RestartingReceiver::new();
+    /// assert_eq!(receiver.receive(60_000), Arrival::Taken(125_536));
+    /// assert_eq!(receiver.receive(58_000), Arrival::Refused);
+    /// assert_eq!(receiver.in_row(), 0); // it is of the stream
+    /// assert_eq!(receiver.standing_of(receiver.number_of(58_000)), Standing::TooOld);
+    /// assert_eq!(receiver.receive(7), Arrival::Refused);
+    /// assert_eq!(receiver.in_row(), 1); // it is far from it
+    /// assert_eq!(receiver.receive(8), Arrival::Restarted(196_616));
+    /// assert_eq!(receiver.in_row(), 0);
+    /// ```
+    #[must_use]
+    pub fn in_row(&self) -> u8 {
+        self.state.in_row
+    }
+
+    /// The extended sequence number of a packet of the stream, taken or refused: the nearest to the highest taken
+    /// that ends in these 16 bits; where nothing is taken yet the one with the rollover count 1.
+    #[must_use]
+    pub fn number_of(&self, sequence_number: u16) -> u64 {
+        sys::wide_receiver_number_of(&self.epoch(), sequence_number)
+    }
+
+    /// What is known of the number in the epoch, as [`Receiver::standing_of`](crate::Receiver::standing_of) tells
+    /// it. Of a packet that was refused and is of the stream it says why.
+    #[must_use]
+    pub fn standing_of(&self, number: u64) -> Standing {
+        Standing::told(sys::wide_receiver_standing_of(
+            &self.epoch(),
+            &self.words,
+            number,
+        ))
+    }
+
+    /// The epoch, whose window is that of a `WideReceiver`.
+    fn epoch(&self) -> WideState {
+        WideState {
+            highest: self.highest().unwrap_or(1 << 16),
+            started: self.state.started,
+        }
     }
 
     /// The verdict on the next packet of the source.

@@ -28,6 +28,9 @@ pub const BAD_FIELD: i32 = 9;
 pub const REFUSED: i32 = 10;
 pub const NONE: i32 = 11;
 pub const RESTARTED: i32 = 12;
+pub const BAD_ID: i32 = 13;
+pub const FORM_NOT_ALLOWED: i32 = 14;
+pub const LONG_BLOCK: i32 = 15;
 
 pub const NO_BLOCK: u8 = 0;
 pub const ONE_BYTE_FORM: u8 = 1;
@@ -74,6 +77,25 @@ mod c {
             data_len: usize,
             allowed: u8,
         ) -> i32;
+        pub fn rtpw_add_element(
+            buf: *mut u8,
+            size: usize,
+            len: *mut usize,
+            id: u8,
+            data: *const u8,
+            data_len: usize,
+            allowed: u8,
+        ) -> i32;
+        pub fn rtpw_change_form(buf: *mut u8, size: usize, len: *mut usize, form: u8) -> i32;
+        pub fn rtpw_put_block(
+            buf: *mut u8,
+            size: usize,
+            len: *mut usize,
+            profile: u16,
+            body: *const u8,
+            body_len: usize,
+        ) -> i32;
+        pub fn rtpw_remove_block(buf: *mut u8, size: usize, len: *mut usize) -> i32;
         pub fn rtpw_compact(buf: *mut u8, size: usize, len: *mut usize) -> i32;
         pub fn rtpw_next_element(
             body: *const u8,
@@ -499,6 +521,45 @@ pub fn put_element(buf: &mut [u8], len: &mut usize, id: u8, data: &[u8], allowed
             allowed,
         )
     }
+}
+
+pub fn add_element(buf: &mut [u8], len: &mut usize, id: u8, data: &[u8], allowed: u8) -> i32 {
+    // SAFETY: an exclusive slice, an exclusive reference, and a slice that is read and so overlaps neither.
+    unsafe {
+        c::rtpw_add_element(
+            buf.as_mut_ptr(),
+            buf.len(),
+            len,
+            id,
+            data.as_ptr(),
+            data.len(),
+            allowed,
+        )
+    }
+}
+
+pub fn change_form(buf: &mut [u8], len: &mut usize, form: u8) -> i32 {
+    // SAFETY: an exclusive slice, and an exclusive reference.
+    unsafe { c::rtpw_change_form(buf.as_mut_ptr(), buf.len(), len, form) }
+}
+
+pub fn put_block(buf: &mut [u8], len: &mut usize, profile: u16, body: &[u8]) -> i32 {
+    // SAFETY: an exclusive slice, an exclusive reference, and a slice that is read and so overlaps neither.
+    unsafe {
+        c::rtpw_put_block(
+            buf.as_mut_ptr(),
+            buf.len(),
+            len,
+            profile,
+            body.as_ptr(),
+            body.len(),
+        )
+    }
+}
+
+pub fn remove_block(buf: &mut [u8], len: &mut usize) -> i32 {
+    // SAFETY: an exclusive slice, and an exclusive reference.
+    unsafe { c::rtpw_remove_block(buf.as_mut_ptr(), buf.len(), len) }
 }
 
 pub fn compact(buf: &mut [u8], len: &mut usize) -> i32 {

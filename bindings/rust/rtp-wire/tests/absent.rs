@@ -240,6 +240,15 @@ fn errors_tell_what_they_wrap() {
     assert_eq!(of(&NotRetransmitted::from(cut)), wrapped);
     for (put, said) in [
         (NotPut::BadField, "an argument is out of its range"),
+        (NotPut::BadId, "the id 0, which no element has"),
+        (
+            NotPut::FormNotAllowed,
+            "a form of the extension block that isn't allowed",
+        ),
+        (
+            NotPut::LongBlock,
+            "an extension block of more than 65,535 words",
+        ),
         (NotPut::OtherForm, "a header extension of an unknown form"),
         (NotPut::ShortBuffer, "a buffer is too short"),
     ] {

@@ -77,7 +77,7 @@ fn they_get_no_elements() {
         assert_eq!(put, Err(NotPut::OtherForm));
     }
     let put = put_element(&mut bytes, 31, 0, &[7], None);
-    assert_eq!(put, Err(NotPut::BadField));
+    assert_eq!(put, Err(NotPut::BadId));
     assert_eq!(compact(&mut bytes[..31]), Ok(31));
     assert_eq!(bytes[..31], CAMERA);
 }

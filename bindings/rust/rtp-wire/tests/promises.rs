@@ -12,14 +12,15 @@ use std::panic::{RefUnwindSafe, UnwindSafe};
 use std::str::FromStr;
 
 use rtp_wire::{
-    compact, extend_u15, extend_u16, extend_u32, extend_u8, from_retransmission, is_rtcp, pad,
-    parse_headers, parse_packets, put_element, read_original, receive_many, to_retransmission,
-    version, write_elements, write_original, Arrival, ArrivalSlot, BadId, BadRolloverCount, Csrcs,
-    Datagram, Datagrams, Element, Elements, Fields, Form, Header, HeaderSlot, Kind, Layer, Layers,
-    Map, Mid, NewIds, NotAHeader, NotAPacket, NotAText, NotChanged, NotPut, NotRead,
-    NotRetransmitted, NotTaken, NotWritten, OwnKind, Packet, PacketMut, PacketSlot, Place, Places,
-    Receiver, ReceptionReport, ReceptionStatistics, Resolution, RestartingReceiver, Rid, Stream,
-    Text, TooManyLayers, Values, VideoTiming, WideReceiver,
+    add_element, change_form, compact, extend_u15, extend_u16, extend_u32, extend_u8,
+    from_retransmission, is_rtcp, pad, parse_headers, parse_packets, put_block, put_element,
+    read_original, receive_many, remove_block, to_retransmission, version, write_elements,
+    write_original, Arrival, ArrivalSlot, BadId, BadRolloverCount, Csrcs, Datagram, Datagrams,
+    Element, Elements, Fields, Form, Header, HeaderSlot, Kind, Layer, Layers, Map, Mid, NewIds,
+    NotAHeader, NotAPacket, NotAText, NotChanged, NotPut, NotRead, NotRetransmitted, NotTaken,
+    NotWritten, OwnKind, Packet, PacketMut, PacketSlot, Place, Places, Receiver, ReceptionReport,
+    ReceptionStatistics, Resolution, RestartingReceiver, Rid, Stream, Text, TooManyLayers, Values,
+    VideoTiming, WideReceiver,
 };
 
 /// What every type has: it goes to another thread, and may be moved and logged.
@@ -316,7 +317,12 @@ mod may_grow {
     pub fn put(it: NotPut) -> bool {
         match it {
             NotPut::NotAPacket(cause) => a_packet(cause),
-            NotPut::BadField | NotPut::OtherForm | NotPut::ShortBuffer => true,
+            NotPut::BadField
+            | NotPut::BadId
+            | NotPut::FormNotAllowed
+            | NotPut::LongBlock
+            | NotPut::OtherForm
+            | NotPut::ShortBuffer => true,
             _ => false,
         }
     }
@@ -409,7 +415,10 @@ fn each_function_has_its_type() {
         parse_headers;
     let _: fn(&mut [Receiver], &mut [ArrivalSlot]) = receive_many;
     let _: fn(&mut [u8], usize, u8, usize) -> Written = pad;
-    let _: fn(&mut [u8], usize, u8, &[u8], Option<Form>) -> Put = put_element;
+    let _: [fn(&mut [u8], usize, u8, &[u8], Option<Form>) -> Put; 2] = [put_element, add_element];
+    let _: fn(&mut [u8], usize, Form) -> Put = change_form;
+    let _: fn(&mut [u8], usize, u16, &[u8]) -> Put = put_block;
+    let _: fn(&mut [u8]) -> Result<usize, NotAPacket> = remove_block;
     let _: fn(&[u8]) -> Option<(u16, &[u8])> = read_original;
     let _: fn(&mut [u8], u64) -> Result<(), NotWritten> = write_original;
     let _: fn(&mut [u8], Form, &[u8], &[Place]) -> Written = write_elements;

@@ -3,7 +3,7 @@
 
 use rtp_wire::{
     extend_u15, extend_u16, extend_u32, extend_u8, Arrival, BadRolloverCount, Receiver,
-    RestartingReceiver, Standing, WideReceiver, WideRestartingReceiver,
+    ReceptionStatistics, RestartingReceiver, Standing, WideReceiver, WideRestartingReceiver,
 };
 
 const FAR: u64 = 1 << 40; // past 2^32
@@ -269,6 +269,55 @@ fn late_packets_are_no_restart() {
 }
 
 #[test]
+fn refused_packets_are_of_the_stream_or_not() {
+    use Arrival::{Refused, Restarted, Taken};
+    // the window has 1,024 numbers, and 3,000 below is outside
+    let (taken, old, new) = (Standing::Taken, Standing::TooOld, Standing::New);
+    let mut receiver = RestartingReceiver::new();
+    assert_eq!(receiver.in_row(), 0);
+    assert_eq!(receiver.number_of(0), 65_536);
+    assert_eq!(receiver.number_of(65_535), 131_071);
+    assert_eq!(receiver.standing_of(5), new);
+    for (low, arrival, in_row, number, standing) in [
+        (60_000, Taken(125_536), 0, 125_536, taken),
+        (60_000, Refused, 0, 125_536, taken),
+        (58_977, Taken(124_513), 0, 124_513, taken),
+        (58_976, Refused, 0, 124_512, old),
+        (57_001, Refused, 0, 122_537, old),
+        (57_000, Refused, 1, 122_536, old),
+        (7, Refused, 1, 131_079, new),
+        (60_000, Refused, 0, 125_536, taken),
+        (8, Refused, 1, 131_080, new),
+        (9, Restarted(196_617), 0, 196_617, taken),
+        (9, Refused, 0, 196_617, taken),
+        (8, Taken(196_616), 0, 196_616, taken),
+    ] {
+        assert_eq!(receiver.receive(low), arrival);
+        assert_eq!(
+            (receiver.in_row(), receiver.number_of(low)),
+            (in_row, number)
+        );
+        assert_eq!(receiver.standing_of(number), standing, "{low}");
+    }
+    assert_eq!(receiver.standing_of(196_618), new);
+    assert_eq!(receiver.standing_of(125_536), old);
+}
+
+// The packets of the stream are received, those that are refused too, and no others.
+#[test]
+fn packets_of_the_stream_are_reported() {
+    let (mut receiver, mut statistics) = (RestartingReceiver::new(), ReceptionStatistics::new());
+    for low in [5, 6, 6, 40_000, 5] {
+        receiver.receive(low);
+        if receiver.in_row() == 0 {
+            statistics.record(receiver.number_of(low), 0, 0);
+        }
+    }
+    assert_eq!(statistics.received(), 4);
+    assert_eq!(statistics.report().unwrap().cumulative_lost, -2);
+}
+
+#[test]
 fn numbers_are_told_apart() {
     let mut receiver = Receiver::starting_at(1).unwrap();
     assert_eq!(receiver.standing_of(0), Standing::New);
@@ -327,6 +376,9 @@ fn many_packets_in_a_row_may_be_asked_for() {
         let mut receiver = RestartingReceiver::with_bounds(3000, count);
         for low in 1..count {
             assert_eq!(receiver.receive(low.into()), Arrival::Refused, "{count}");
+            assert_eq!(receiver.in_row(), low);
+            assert_eq!(receiver.number_of(low.into()), 65_536 + u64::from(low));
+            assert_eq!(receiver.standing_of(65_536), Standing::New);
         }
         let number = 65_536 + u64::from(count);
         assert_eq!(receiver.receive(count.into()), Arrival::Taken(number));

@@ -148,6 +148,14 @@ fn texts_are_those_of_the_header_file() {
         assert_eq!(told(cause), text);
         assert!(cause.source().is_none());
     }
+    for (cause, number, name) in [
+        (NotPut::BadId, 13, "BAD_ID"),
+        (NotPut::FormNotAllowed, 14, "FORM_NOT_ALLOWED"),
+        (NotPut::LongBlock, 15, "LONG_BLOCK"),
+    ] {
+        has(name, number, &told(&cause));
+        assert!(cause.source().is_none());
+    }
     has("SHORT_BUFFER", 8, "a buffer is too short");
     has("BAD_FIELD", 9, "an argument is out of its range");
     assert_eq!(told(&NotWritten::ShortBuffer), "a buffer is too short");
