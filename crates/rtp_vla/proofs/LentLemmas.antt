@@ -1,5 +1,5 @@
--- What stands at an index, behind what stands before it, and in front of what stands after it.
-use Rattle.rtp_vla.proofs.Common.{◌≡◌, ℕ, zero, suc, ◌+◌, List, [], ◌∷◌, ◌++◌, take, drop, Bool, true, false, Some, ap, ◌∙◌, arith, slice_get, list_all, and_from, and_left, and_right, take_more, list_all_more, list_all_at, slice_get_within, get_or_from_slice_get}
+-- What stands at an index, behind what stands before it.
+use Rattle.rtp_vla.proofs.Common.{◌≡◌, ℕ, ◌+◌, List, [], ◌∷◌, ◌++◌, take, Bool, true, false, Some, ap, ◌∙◌, slice_get, list_all, and_from, take_more, list_all_more, list_all_at, slice_get_within, get_or_from_slice_get}
 
 pub take_with : {A : Type 0} (xs : List A) (i : ℕ) (x : A) → slice_get xs i ≡ Some x → take (i + 1) xs ≡ take i xs ++ x ∷ []
 take_with {A} xs i x is = take_more xs i x (slice_get_within xs i x is) ∙ ap (λ (y : A). take i xs ++ y ∷ []) (get_or_from_slice_get xs i x x is)
@@ -12,17 +12,3 @@ list_all-with p xs i x is fails = list_all_at p xs i x (slice_get_within xs i x 
 pub list_all-up_to : {A : Type 0} (p : A → Bool) (xs : List A) (i : ℕ) (x : A) → slice_get xs i ≡ Some x → list_all p (take i xs) ≡ true → p x ≡ true → list_all p (take (i + 1) xs) ≡ true
 list_all-up_to p xs i x is before at =
     list_all_more p xs i x (slice_get_within xs i x is) ∙ and_from _ _ before (ap p (get_or_from_slice_get xs i x x is) ∙ at)
-
--- the first of what is left at an index
-pub front_at : {A : Type 0} (xs rest : List A) (i : ℕ) (x : A) → drop i xs ≡ x ∷ rest → (slice_get xs i ≡ Some x) × (rest ≡ drop (i + 1) xs)
-front_at [] rest zero x is = absurd (cc)
-front_at [] rest (suc i) x is = absurd (cc)
-front_at (y ∷ xs) rest zero x is = (cc, cc)
-front_at {A} (y ∷ xs) rest (suc i) x is =
-    let more = front_at xs rest i x is in
-    let next : suc (i + 1) ≡ suc i + 1 = omega arith in
-    (more.0, more.1 ∙ ap (λ (k : ℕ). drop k (y ∷ xs)) next)
-
-pub list_all-amid : {A : Type 0} (p : A → Bool) (rest after : List A) (x : A) → p x ≡ false → list_all p (rest ++ (x ∷ after)) ≡ false
-list_all-amid p [] after x fails = and_left (p x) (list_all p after) fails
-list_all-amid p (y ∷ rest) after x fails = and_right (p y) (list_all p (rest ++ (x ∷ after))) (list_all-amid p rest after x fails)

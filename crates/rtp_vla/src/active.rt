@@ -1,32 +1,33 @@
 //! The active layers of an allocation, one after another.
 
-ghost use Rattle.std.specs.Prelude.{◌≡◌};
+ghost use Rattle.std.specs.Prelude.{◌≡◌, map};
 ghost use Rattle.rtp_vla.specs.Allocation.{active_layers};
 
-use super::lent::{Layered, LentLayer, LentLayers, LentStreams};
+use super::lent::{Layered, LentLayer, LentLayers};
 use std::marker::Model;
 
 /// The active layers, in order of the streams and then of the layers.
 #[derive(Drop)]
 pub(super) struct ActiveLayers<'a, S: Layered> {
     layers: LentLayers<'a, S::Layer>,
-    streams: LentStreams<'a, S>,
+    streams: &'a [S],
 }
 
 impl<'a, S: Layered> Model for ActiveLayers<'a, S> {
-    ghost use Rattle.std.specs.Prelude.{◌++◌, List};
+    ghost use Rattle.std.specs.Prelude.{◌++◌, List, map};
     ghost use Rattle.std.specs.List.{filter};
     ghost use Rattle.rtp_vla.specs.Allocation.{Layer, is_active, active_layers};
 
     ghost Value = { List Layer };
 
-    ghost view = { λ active. filter is_active active.layers ++ active_layers active.streams };
+    ghost view = { λ active.
+        filter is_active active.layers ++ active_layers (map S.stream active.streams.now) };
 }
 
 impl<'a, S: Layered> ActiveLayers<'a, S> {
     // Those of the streams.
-    pub(super) fn new(streams: LentStreams<'a, S>) -> Self
-        ensures { result ≡ active_layers streams.entry }
+    pub(super) fn new(streams: &'a [S]) -> Self
+        ensures { result ≡ active_layers (map S.stream streams.now) }
     {
         ActiveLayers {
             layers: LentLayers::new(),
@@ -50,7 +51,9 @@ impl<'a, S: Layered> Iterator for ActiveLayers<'a, S> {
             if let Some(layer) = self.layers.next_active() {
                 return Some(layer);
             }
-            self.layers = self.streams.next()?;
+            let (stream, after) = self.streams.split_first()?;
+            self.layers = stream.layers();
+            self.streams = after;
         }
     }
 }

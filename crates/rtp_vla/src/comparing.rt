@@ -5,7 +5,7 @@ ghost use Rattle.std.specs.Cmp.{partial_equiv_from_equiv};
 ghost use Rattle.rtp_vla.specs.AllocationEqual.{same_layer, same_stream, same_allocation, same_layer-equiv, same_stream-equiv, same_allocation-equiv};
 
 use super::allocation::{SimulcastStreamAllocation, SpatialLayerAllocation, VideoLayersAllocation};
-use super::lent::LentLayer;
+use super::lent::{Lendable, LentLayer};
 use super::video_layers::{VideoLayer, VideoLayers, VideoStream};
 
 // Whether the rates and the resolutions are the same.
@@ -27,7 +27,7 @@ impl PartialEq for SpatialLayerAllocation {
         ensures test { result ≡ same_layer self.now other.now }
         ensures same { IsTrue result ↔ (self.now ≡ other.now) }
     {
-        same_layers(&LentLayer::listed(self), &LentLayer::listed(other))
+        same_layers(&self.lend(), &other.lend())
     }
 }
 
@@ -46,7 +46,7 @@ impl PartialEq for VideoLayer {
         ensures test { result ≡ same_layer self.now other.now }
         ensures same { IsTrue result ↔ (self.now ≡ other.now) }
     {
-        same_layers(&LentLayer::held(self), &LentLayer::held(other))
+        same_layers(&self.lend(), &other.lend())
     }
 }
 

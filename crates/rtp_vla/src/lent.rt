@@ -33,30 +33,6 @@ impl<'a> Model for LentLayer<'a> {
     } };
 }
 
-impl<'a> LentLayer<'a> {
-    // A layer of a list.
-    #[inline(always)]
-    pub(super) fn listed(layer: &'a SpatialLayerAllocation) -> Self
-        ensures { result ≡ layer.now }
-    {
-        LentLayer {
-            temporal_layers: &layer.temporal_layers,
-            resolution_and_framerate: layer.resolution_and_framerate,
-        }
-    }
-
-    // A layer of a value of fixed size.
-    #[inline(always)]
-    pub(super) fn held(layer: &'a VideoLayer) -> Self
-        ensures { result ≡ layer.now }
-    {
-        LentLayer {
-            temporal_layers: layer.temporal_layers(),
-            resolution_and_framerate: layer.resolution_and_framerate(),
-        }
-    }
-}
-
 /// A spatial layer that can be lent: one of a list, one in a value of fixed size, or a type of the
 /// caller's own that has its rates as [`TemporalLayerAllocation`]s.
 pub trait Lendable {
@@ -76,7 +52,10 @@ impl Lendable for SpatialLayerAllocation {
 
     #[inline(always)]
     fn lend(&self) -> LentLayer<'_> {
-        LentLayer::listed(self)
+        LentLayer {
+            temporal_layers: &self.temporal_layers,
+            resolution_and_framerate: self.resolution_and_framerate,
+        }
     }
 }
 
@@ -85,7 +64,10 @@ impl Lendable for VideoLayer {
 
     #[inline(always)]
     fn lend(&self) -> LentLayer<'_> {
-        LentLayer::held(self)
+        LentLayer {
+            temporal_layers: self.temporal_layers(),
+            resolution_and_framerate: self.resolution_and_framerate(),
+        }
     }
 }
 
@@ -197,57 +179,5 @@ impl Layered for VideoStream {
     #[inline(always)]
     fn layers(&self) -> LentLayers<'_, VideoLayer> {
         LentLayers::of(self.spatial_layers())
-    }
-}
-
-/// Streams.
-#[derive(Drop)]
-pub(super) struct LentStreams<'a, S: Layered> {
-    left: &'a [S],
-}
-
-impl<'a, S: Layered> Model for LentStreams<'a, S> {
-    ghost use Rattle.std.specs.Prelude.{map, List};
-    ghost use Rattle.rtp_vla.specs.Allocation.{Stream};
-
-    ghost Value = { List Stream };
-
-    ghost view = { λ streams. map S.stream streams.left.now };
-}
-
-impl<'a, S: Layered> LentStreams<'a, S> {
-    // These streams.
-    #[inline(always)]
-    pub(super) fn of(left: &'a [S]) -> Self
-        ensures { result ≡ map S.stream left.now }
-    {
-        LentStreams { left }
-    }
-
-    // The same streams.
-    #[inline(always)]
-    pub(super) fn again(&self) -> Self
-        ensures { result ≡ self.now }
-    {
-        LentStreams { left: self.left }
-    }
-
-    // How many streams there are.
-    #[inline(always)]
-    pub(super) fn len(&self) -> usize
-        ensures { result ≡ length self.now }
-    {
-        self.left.len()
-    }
-
-    // Takes the first stream.
-    #[inline(always)]
-    pub(super) fn next(&mut self) -> Option<LentLayers<'a, S::Layer>>
-        ensures found { IfSome result (λ stream. self.old ≡ stream ∷ self.new) }
-        ensures none { IfNone result ((self.old ≡ []) × (self.new ≡ [])) }
-    {
-        let (stream, after) = self.left.split_first()?;
-        self.left = after;
-        Some(stream.layers())
     }
 }

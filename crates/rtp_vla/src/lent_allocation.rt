@@ -4,7 +4,7 @@ ghost use Rattle.std.specs.Prelude.{◌≡◌, ◌++◌, ◌≤◌, drop, length
 ghost use Rattle.rtp_vla.specs.AllocationWritten as written;
 
 use super::allocation::{SimulcastStreamAllocation, VideoLayersAllocation};
-use super::lent::{Layered, LentStreams};
+use super::lent::Layered;
 use super::measuring::writable_len;
 use super::video_layers::{VideoLayers, VideoStream};
 use super::writing::put_allocation;
@@ -16,17 +16,18 @@ use std::marker::Model;
 #[derive(Drop)]
 pub struct LentAllocation<'a, S: Layered> {
     pub(super) index: u8,
-    pub(super) streams: LentStreams<'a, S>,
+    pub(super) streams: &'a [S],
 }
 
 impl<'a, S: Layered> Model for LentAllocation<'a, S> {
+    ghost use Rattle.std.specs.Prelude.{map};
     ghost use Rattle.rtp_vla.specs.Allocation.{Allocation};
 
     ghost Value = { Allocation };
 
     ghost view = { λ allocation. record {
       current_simulcast_stream_index = allocation.index;
-      simulcast_streams = allocation.streams;
+      simulcast_streams = map S.stream allocation.streams.now;
     } };
 }
 
@@ -38,7 +39,7 @@ impl<'a> LentAllocation<'a, SimulcastStreamAllocation> {
     {
         LentAllocation {
             index: v.current_simulcast_stream_index,
-            streams: LentStreams::of(&v.simulcast_streams),
+            streams: &v.simulcast_streams,
         }
     }
 }
@@ -51,7 +52,7 @@ impl<'a> LentAllocation<'a, VideoStream> {
     {
         LentAllocation {
             index: v.current_simulcast_stream_index(),
-            streams: LentStreams::of(v.simulcast_streams()),
+            streams: v.simulcast_streams(),
         }
     }
 }
@@ -65,10 +66,7 @@ impl<'a, S: Layered> LentAllocation<'a, S> {
           simulcast_streams = map S.stream streams.now;
         } }
     {
-        LentAllocation {
-            index,
-            streams: LentStreams::of(streams),
-        }
+        LentAllocation { index, streams }
     }
 
     /// How many bytes [`write_to`](Self::write_to) writes, and `None` exactly when the allocation

@@ -10,7 +10,7 @@ ghost use Rattle.rtp_vla.specs.Leb.{shortest_of};
 use super::active::ActiveLayers;
 use super::allocation::{ResolutionAndFramerate, TemporalLayerAllocation};
 use super::leb::checked_leb_len;
-use super::lent::{Layered, Lendable, LentLayers, LentStreams};
+use super::lent::{Layered, Lendable, LentLayers};
 use super::lent_allocation::LentAllocation;
 
 // The mask of a stream that can be written.
@@ -105,20 +105,17 @@ fn layers_len<S: Layered>(mut left: ActiveLayers<S>) -> Option<usize>
 }
 
 // Reads off the masks of streams that can be written, and says whether they can.
-#[tactic(auto, using(crate::proofs::LentLemmas::take_with))]
-pub(super) fn put_masks_of<S: Layered>(streams: &LentStreams<S>, masks: &mut [u8]) -> bool
+pub(super) fn put_masks_of<S: Layered>(streams: &[S], masks: &mut [u8]) -> bool
     requires { length streams.now ≡ length masks.old }
-    ensures fits { IsTrue result ↔ (list_all written.stream_fits streams.now ≡ true) }
-    ensures masks { OnTrue result (masks.new ≡ map mask_of streams.now) }
+    ensures fits { IsTrue result
+        ↔ (list_all written.stream_fits (map S.stream streams.now) ≡ true) }
+    ensures masks { OnTrue result (masks.new ≡ map mask_of (map S.stream streams.now)) }
 {
-    let mut left = streams.again();
-    let mut count = 0;
-    while let Some(layers) = left.next() {
-        let Some(mask) = mask_of(layers) else {
+    for i in 0..streams.len() {
+        let Some(mask) = mask_of(streams[i].layers()) else {
             return false;
         };
-        masks[count] = mask;
-        count += 1;
+        masks[i] = mask;
     }
     true
 }
@@ -171,9 +168,9 @@ pub(super) fn writable_len<S: Layered>(v: &LentAllocation<S>) -> Option<usize>
         return None;
     }
     let mut masks = [0; 4];
-    if !put_masks_of(&v.streams, &mut masks[..streams]) {
+    if !put_masks_of(v.streams, &mut masks[..streams]) {
         return None;
     }
-    let layers = layers_len(ActiveLayers::new(v.streams.again()))?;
+    let layers = layers_len(ActiveLayers::new(v.streams))?;
     Some(1 + masks_len(&masks[..streams]) + layers)
 }

@@ -1,6 +1,6 @@
 //! What an allocation is read into, without memory.
 
-use super::video_layers::{VideoLayer, VideoLayers};
+use super::video_layers::{VideoLayer, VideoLayers, VideoStream};
 
 /// What a layer allocation is read into where it lies, as [`VideoLayers`]: it is begun anew, and then each
 /// stream is put after the others, and each layer after the others of the last stream.
@@ -59,11 +59,11 @@ impl SetLayers for VideoLayers {
 
     #[inline(always)]
     fn put_stream(&mut self) {
-        self.push_empty();
+        self.push(VideoStream::new());
     }
 
     #[inline(always)]
     fn put_layer(&mut self, layer: &VideoLayer) {
-        self.push_layer(layer);
+        self.simulcast_streams.push_layer(layer);
     }
 }

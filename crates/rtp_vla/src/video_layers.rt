@@ -1,8 +1,6 @@
 //! The allocation in a value of fixed size.
 
 ghost use Rattle.std.specs.Prelude.{◌≡◌, ◌+◌, ◌-◌, ◌<◌, ◌≤◌, ◌∷◌, ◌++◌, [], length, replicate};
-ghost use Rattle.rtp_vla.specs.Allocation.{Allocation, Stream};
-ghost use Rattle.rtp_vla.specs.AllocationReading.{and_stream, layer_room};
 
 use super::allocation::{ResolutionAndFramerate, TemporalLayerAllocation};
 use super::up_to::{Unused, UpTo};
@@ -192,7 +190,7 @@ impl VideoStream {
 #[derive(Clone, Copy, Debug)]
 pub struct VideoLayers {
     current_simulcast_stream_index: u8,
-    simulcast_streams: UpTo<VideoStream, 4>,
+    pub(super) simulcast_streams: UpTo<VideoStream, 4>,
 }
 
 impl Model for VideoLayers {
@@ -245,30 +243,6 @@ impl VideoLayers {
         } }
     {
         self.simulcast_streams.push(stream);
-    }
-
-    // Puts a stream without layers after the others.
-    #[inline(always)]
-    pub(super) fn push_empty(&mut self)
-        requires { length self.old.simulcast_streams < 4 }
-        ensures { self.new ≡ record self.old {
-          simulcast_streams = self.old.simulcast_streams ++ [] ∷ [];
-        } }
-    {
-        self.simulcast_streams.push(VideoStream::new());
-    }
-
-    // Puts a layer after the others of the last stream.
-    #[inline(always)]
-    pub(super) fn push_layer(&mut self, layer: &VideoLayer)
-        requires { 1 ≤ layer_room self.old.simulcast_streams }
-        ensures put { (a : Allocation) (stream : Stream) → self.old ≡ and_stream a stream →
-            self.new ≡ and_stream a (stream ++ layer.now ∷ []) }
-        ensures room { layer_room self.new.simulcast_streams + 1
-            ≡ layer_room self.old.simulcast_streams }
-        ensures streams { length self.new.simulcast_streams ≡ length self.old.simulcast_streams }
-    {
-        self.simulcast_streams.push_layer(layer);
     }
 
     /// Which of the streams the packet is of, from 0. It is 0 where nothing is sent.

@@ -11,7 +11,7 @@ ghost use Rattle.rtp_vla.specs.Leb.{shortest_of};
 use super::active::ActiveLayers;
 use super::allocation::{ResolutionAndFramerate, TemporalLayerAllocation, VideoLayersAllocation};
 use super::leb::put_leb;
-use super::lent::{Layered, LentStreams};
+use super::lent::Layered;
 use super::lent_allocation::LentAllocation;
 use super::measuring::{put_masks_of, shared_of, writable_len};
 use super::video_layers::VideoLayers;
@@ -152,12 +152,12 @@ fn put_masks(buf: &mut [u8], at: usize, masks: &[u8], shared: u8) -> usize
 }
 
 // Puts streams, of which there are some, and returns how many bytes they have.
-fn put_streams<S: Layered>(buf: &mut [u8], index: u8, streams: &LentStreams<S>) -> usize
-    requires some { 1 ≤ length streams.now }
-    requires fit { written.streams_fit index streams.now ≡ true }
-    requires room { length (written.packed_bytes index streams.now) ≤ length buf.old }
-    ensures written { buf.new ≡ overwritten buf.old 0 (written.packed_bytes index streams.now) }
-    ensures end { result ≡ length (written.packed_bytes index streams.now) }
+fn put_streams<S: Layered>(buf: &mut [u8], index: u8, streams: &[S]) -> usize
+    requires some { 1 ≤ length (map S.stream streams.now) }
+    requires fit { written.streams_fit index (map S.stream streams.now) ≡ true }
+    requires room { length (written.packed_bytes index (map S.stream streams.now)) ≤ length buf.old }
+    ensures written { buf.new ≡ overwritten buf.old 0 (written.packed_bytes index (map S.stream streams.now)) }
+    ensures end { result ≡ length (written.packed_bytes index (map S.stream streams.now)) }
 {
     let mut masks = [0; 4];
     let masks = &mut masks[..streams.len()];
@@ -166,9 +166,9 @@ fn put_streams<S: Layered>(buf: &mut [u8], index: u8, streams: &LentStreams<S>) 
     let head = 64 * index + 16 * (streams.len() - 1) as u8 + shared;
     let end = put(buf, 0, &[head]);
     let end = put_masks(buf, end, masks, shared);
-    let end = put_counts(buf, end, ActiveLayers::new(streams.again()));
-    let end = put_rates(buf, end, ActiveLayers::new(streams.again()));
-    put_resolutions(buf, end, ActiveLayers::new(streams.again()))
+    let end = put_counts(buf, end, ActiveLayers::new(streams));
+    let end = put_rates(buf, end, ActiveLayers::new(streams));
+    put_resolutions(buf, end, ActiveLayers::new(streams))
 }
 
 // Puts an allocation, and returns how many bytes it has.
@@ -181,7 +181,7 @@ pub(super) fn put_allocation<S: Layered>(v: &LentAllocation<S>, buf: &mut [u8]) 
     if v.streams.len() == 0 {
         return put(buf, 0, &[0]);
     }
-    put_streams(buf, v.index, &v.streams)
+    put_streams(buf, v.index, v.streams)
 }
 
 /// Whether the allocation can be written: some bytes mean it, once the layers at the end of each
