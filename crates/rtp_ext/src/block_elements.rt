@@ -21,6 +21,9 @@ use super::known_ids::{KnownIds, KnownItems};
 use super::{ExtensionMap, ExtensionsForm};
 use rtp_values::{ElementValues, ExtensionValues, KnownKind};
 
+// The most bytes of data that an element can have (RFC 8285, 4.3).
+const MAX_DATA: usize = 255;
+
 // How many bytes the element of a kind takes, 0 where a value that it needs is absent.
 fn element_len<V: ElementValues>(kind: KnownKind, ev: &V, form: ExtensionsForm) -> usize
     ensures length { (id : ℕ) → result ≡ length
@@ -152,7 +155,7 @@ fn most_in_two_byte_form<K: Kinds>(mut items: KnownItems<'_, K>) -> usize
 }
 
 /// An upper bound of how many bytes [`write_values`] writes in the form, told by the mapped kinds
-/// and by whether there are layers, so that no other value is looked at. The form is what
+/// and by how long the layers are at most, so that no other value is looked at. The form is what
 /// [`values_form`] returned.
 #[inline(always)]
 pub fn values_len_at_most<K: Kinds, V: ElementValues>(
@@ -168,8 +171,14 @@ pub fn values_len_at_most<K: Kinds, V: ElementValues>(
 {
     match form {
         ExtensionsForm::OneByte => 17 * ids.at_most(),
-        ExtensionsForm::TwoByte if ev.may_have_layers() => most_in_two_byte_form(ids.iter()),
-        ExtensionsForm::TwoByte => 18 * ids.at_most(),
+        ExtensionsForm::TwoByte => {
+            let longest = ev.layers_at_most().max(16);
+            if longest == MAX_DATA {
+                most_in_two_byte_form(ids.iter())
+            } else {
+                (2 + longest) * ids.at_most()
+            }
+        }
     }
 }
 
