@@ -254,9 +254,9 @@ impl<'a> ElementValues for GivenValues<'a> {
     }
 
     #[inline(always)]
-    fn may_have_layers(&self) -> bool {
+    fn layers_at_most(&self) -> usize {
         let _view = self.view;
-        false
+        0
     }
 
     #[inline(always)]

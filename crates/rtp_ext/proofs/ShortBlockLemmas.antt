@@ -1,5 +1,6 @@
 -- The elements of the one-byte form are short, and so are those of the two-byte form without a layer allocation.
 use Rattle.rtp_ext.proofs.Common.{refl, ◌≡◌, ℕ, ◌+◌, ◌*◌, ◌≤◌, List, [], ◌∷◌, length, length-append, Bool, false, Option, Some, None, sym, ap, ◌∙◌, arith, IfSome, nat_lt, list_any, or_parts, OneByte, TwoByte, Extension, VideoLayersAllocation, KnownKind, extension_of_kind, ExtensionValues, spelled_data, longest, Element, elements_bytes, element_or_nothing, items_bytes, Slots, items_from, known_slots, is_long_item, TakesAtMost17Each, HasFewData, written_elements}
+use Rattle.std.proofs.Math.Nat.{mul-suc, mul-le-mul_left}
 use Rattle.rtp_values.specs.declared.known_kind.KnownKind.TheVariants as known
 use Rattle.rtp_values.specs.contracts.known_kind.KnownKindPartialEq.TheImpl as kind_eq
 use Rattle.rtp_ext.proofs.FormLemmas.{Item, at_most, long_kind}
@@ -40,33 +41,43 @@ short_known exts known values is short =
 
 -- ---- the two-byte form
 
-plain-element : (id : ℕ) (bytes : Option (List ℕ)) → IfSome bytes (λ b. length b ≤ 16) → length (element_or_nothing TwoByte id bytes) ≤ 18
-plain-element id None few = omega arith
-plain-element id (Some bytes) few = omega (arith, few)
+plain-element : (id n : ℕ) (bytes : Option (List ℕ)) → IfSome bytes (λ b. length b ≤ n) → length (element_or_nothing TwoByte id bytes) ≤ 2 + n
+plain-element id n None few = omega arith
+plain-element id n (Some bytes) few = omega (arith, few)
 
--- where no layer allocation is written
-few-plain : (kind : Extension) (values : ExtensionValues) → HasFewData values → spelled_data VideoLayersAllocation values ≡ None
-    → IfSome (spelled_data kind values) (λ b. length b ≤ 16)
-few-plain VideoLayersAllocation values few none = rw none tt
-few-plain kind values few none = few kind
+pub weakened : (m n : ℕ) (bytes : Option (List ℕ)) → m ≤ n → IfSome bytes (λ b. length b ≤ m) → IfSome bytes (λ b. length b ≤ n)
+weakened m n None above few = tt
+weakened m n (Some bytes) above few = omega (arith, above, few)
 
-plain-items : (values : ExtensionValues) (items : List Item) → HasFewData values → spelled_data VideoLayersAllocation values ≡ None
-    → length (items_bytes TwoByte values items) ≤ 18 * length items
-plain-items values [] few none = omega (arith, ap length (items_bytes-nil TwoByte values))
-plain-items values (item ∷ items) few none =
+-- where the layer allocation that is written has at most so many bytes
+few-plain : (kind : Extension) (values : ExtensionValues) (n : ℕ) → HasFewData values → 16 ≤ n → IfSome (spelled_data VideoLayersAllocation values) (λ b. length b ≤ n)
+    → IfSome (spelled_data kind values) (λ b. length b ≤ n)
+few-plain VideoLayersAllocation values n few above layers = layers
+few-plain kind values n few above layers = weakened 16 n (spelled_data kind values) above (few kind)
+
+plain-items : (values : ExtensionValues) (n : ℕ) (items : List Item) → HasFewData values → 16 ≤ n
+    → IfSome (spelled_data VideoLayersAllocation values) (λ b. length b ≤ n) → length (items_bytes TwoByte values items) ≤ (2 + n) * length items
+plain-items values n [] few above layers = omega (arith, ap length (items_bytes-nil TwoByte values))
+plain-items values n (item ∷ items) few above layers =
     omega (
       arith,
       ap length (items_bytes-cons TwoByte values item items),
       length-append (element_or_nothing TwoByte item.0 (spelled_data item.1 values)) (items_bytes TwoByte values items),
-      plain-element item.0 (spelled_data item.1 values) (few-plain item.1 values few none),
-      plain-items values items few none,
+      plain-element item.0 n (spelled_data item.1 values) (few-plain item.1 values n few above layers),
+      plain-items values n items few above layers,
+      mul-suc (2 + n) (length items),
     )
 
-pub plain_block : (exts known : Slots) (values : ExtensionValues) (most : ℕ) → known ≡ known_slots exts → HasFewData values
-    → spelled_data VideoLayersAllocation values ≡ None → length (items_from 0 known) ≤ most
-    → length (elements_bytes TwoByte (written_elements exts values)) ≤ 18 * most
-plain_block exts known values most is few none fits =
-    omega (arith, plain-items values (items_from 0 known) few none, ap length (known_bytes TwoByte exts known values is), fits)
+pub plain_block : (exts known : Slots) (values : ExtensionValues) (n most : ℕ) → known ≡ known_slots exts → HasFewData values
+    → 16 ≤ n → IfSome (spelled_data VideoLayersAllocation values) (λ b. length b ≤ n) → length (items_from 0 known) ≤ most
+    → length (elements_bytes TwoByte (written_elements exts values)) ≤ (2 + n) * most
+plain_block exts known values n most is few above layers fits =
+    omega (
+      arith,
+      plain-items values n (items_from 0 known) few above layers,
+      ap length (known_bytes TwoByte exts known values is),
+      mul-le-mul_left (2 + n) fits,
+    )
 
 pub short_by : (exts known : Slots) (values : ExtensionValues) (most : ℕ) → known ≡ known_slots exts → TakesAtMost17Each known values
     → length (items_from 0 known) ≤ most → length (elements_bytes OneByte (written_elements exts values)) ≤ 17 * most

@@ -1,5 +1,5 @@
 -- The elements that a map writes: their bytes, and what those are read as.
-use Rattle.rtp_ext.proofs.Common.{◌≡◌, ℕ, ◌+◌, ◌*◌, ◌<◌, ◌≤◌, List, [], ◌∷◌, ◌++◌, length, drop, Option, Some, None, refl, sym, ap, ◌∙◌, subst, arith, length-append, IfSome, AllByRecursion, cons_option, option_map, unwrap_or, ExtensionsForm, OneByte, TwoByte, Extension, ExtensionValues, Element, IsElement, elements_bytes, Slots, items_from, overwritten, spelled_data, carried_values, longest, Reads, written_elements, overwritten-overwritten, overwritten-before, overwritten-nil, overwritten-front, length-overwritten}
+use Rattle.rtp_ext.proofs.Common.{◌≡◌, ℕ, ◌+◌, ◌-◌, ◌*◌, ◌<◌, ◌≤◌, List, [], ◌∷◌, ◌++◌, length, drop, Option, Some, None, refl, sym, ap, ◌∙◌, subst, arith, inl, inr, cases_lt, length-append, IfSome, AllByRecursion, cons_option, option_map, unwrap_or, ExtensionsForm, OneByte, TwoByte, Extension, ExtensionValues, Element, IsElement, elements_bytes, Slots, items_from, overwritten, spelled_data, carried_values, longest, Reads, written_elements, overwritten-overwritten, overwritten-before, overwritten-nil, overwritten-front, length-overwritten}
 use Rattle.rtp_ext.specs.ElementWriting.{element_header, element_or_nothing, items_bytes, CanCarry, IsCarried}
 use Rattle.rtp_values.proofs.ValueLemmas.{longest-fits}
 use Rattle.rtp_ext.proofs.FormLemmas.{Item, elements_of, IsFit}
@@ -183,8 +183,20 @@ IsUnderWay-step form values old buf new items left more item at end before split
       carried = λ rest. before.carried (subst (AllByRecursion (IsCarried form values)) (sym split) (carried, rest));
     }
 
+-- without room for a header nothing is written of what is left
+pub IsUnderWay-without_room : (form : ExtensionsForm) (values : ExtensionValues) (old buf : List ℕ) (items left : List Item) (at header : ℕ)
+    → ((i l : ℕ) → header ≡ length (element_header form i l)) → length buf < at + header → length (items_bytes form values items) ≤ length old
+    → IsUnderWay form values old buf items left at → IsUnderWay form values old buf items [] at
+IsUnderWay-without_room form values old buf items [] at header is short room before = before
+IsUnderWay-without_room form values old buf items (item ∷ left) at header is short room before =
+    let next = (IsUnderWay-next form values old buf items (item ∷ left) left item at before refl room).0 in
+    let none = none-without_room form item.0 (spelled_data item.1 values) header (length buf - at) is (omega (arith, next)) (omega (arith, next, short)) in
+    let has = HasNone-from_none form values buf at item.0 item.1 none in
+    IsUnderWay-without_room form values old buf items left at header is short room
+    (IsUnderWay-step form values old buf buf items (item ∷ left) left item at at before refl room has.written has.end has.carried)
+
 -- all were written
-pub IsUnderWay-end : (form : ExtensionsForm) (values : ExtensionValues) (old buf : List ℕ) (items left : List Item) (at : ℕ)
+IsUnderWay-end : (form : ExtensionsForm) (values : ExtensionValues) (old buf : List ℕ) (items left : List Item) (at : ℕ)
     → IsUnderWay form values old buf items left at → left ≡ []
     → (at ≡ length (items_bytes form values items)) × (buf ≡ items_bytes form values items ++ drop (length (items_bytes form values items)) old)
     × AllByRecursion (IsCarried form values) items
@@ -195,3 +207,14 @@ IsUnderWay-end form values old buf items left at before none =
           ∙ (before.makes ∙ overwritten-front old (items_bytes form values items))),
       before.carried (subst (AllByRecursion (IsCarried form values)) (sym none) tt),
     )
+
+-- the same, where the walk ends for want of room too
+pub IsUnderWay-stopped : (form : ExtensionsForm) (values : ExtensionValues) (old buf : List ℕ) (items left : List Item) (at header : ℕ)
+    → ((i l : ℕ) → header ≡ length (element_header form i l)) → length (items_bytes form values items) ≤ length old
+    → IsUnderWay form values old buf items left at → (at + header ≤ length buf → left ≡ [])
+    → (at ≡ length (items_bytes form values items)) × (buf ≡ items_bytes form values items ++ drop (length (items_bytes form values items)) old)
+    × AllByRecursion (IsCarried form values) items
+IsUnderWay-stopped form values old buf items left at header is room before none = elim (cases_lt (length buf) (at + header)) [
+  | inl short ↦ IsUnderWay-end form values old buf items [] at (IsUnderWay-without_room form values old buf items left at header is short room before) refl
+  | inr fits ↦ IsUnderWay-end form values old buf items left at before (none fits)
+]

@@ -1,6 +1,6 @@
 //! The elements of a block, from values to bytes.
 
-ghost use Rattle.std.specs.Prelude.{◌≡◌, ◌⊎◌, ℕ, ◌+◌, ◌*◌, ◌≤◌, ◌++◌, length, drop, replicate, false};
+ghost use Rattle.std.specs.Prelude.{◌≡◌, ◌⊎◌, ℕ, ◌+◌, ◌*◌, ◌≤◌, ◌∷◌, [], ◌++◌, length, drop, replicate, false, IfSome, IfNone};
 ghost use Rattle.std.specs.List.{list_any};
 ghost use Rattle.rtp_ext.specs.declared.form.ExtensionsForm.TheVariants.{OneByte, TwoByte};
 ghost use Rattle.rtp_ext.specs.Elements.{AreElements, elements_bytes};
@@ -21,6 +21,9 @@ use super::known_ids::{KnownIds, KnownItems};
 use super::{ExtensionMap, ExtensionsForm};
 use rtp_values::{ElementValues, ExtensionValues, KnownKind};
 
+// The most bytes of data that an element can have (RFC 8285, 4.3).
+const MAX_DATA: usize = 255;
+
 // How many bytes the element of a kind takes, 0 where a value that it needs is absent.
 fn element_len<V: ElementValues>(kind: KnownKind, ev: &V, form: ExtensionsForm) -> usize
     ensures length { (id : ℕ) → result ≡ length
@@ -34,7 +37,7 @@ fn element_len<V: ElementValues>(kind: KnownKind, ev: &V, form: ExtensionsForm) 
 }
 
 // Writes the element of a mapped id at the offset, where the values that its kind needs are there,
-// and returns the offset after it.
+// and returns the offset after it. There is room for its header.
 #[inline(always)]
 fn write_element<V: ElementValues>(
     id: u8,
@@ -44,6 +47,7 @@ fn write_element<V: ElementValues>(
     buf: &mut [u8],
     at: usize,
 ) -> usize
+    requires header { at + length (element_header form id 0) ≤ length buf.old }
     requires room { at + length
         (element_or_nothing form id (spelled_data (extension_of_kind kind) (V.values ev.now)))
         ≤ length buf.old }
@@ -57,14 +61,29 @@ fn write_element<V: ElementValues>(
     ensures carried { IsCarried form (V.values ev.now) (id, extension_of_kind kind) }
 {
     let start = at + element_header_len(form);
-    if start > buf.len() {
-        return at;
-    }
     let Some(len) = ev.write_data(kind, &mut buf[start..]) else {
         return at;
     };
     write_header(buf, at, form, id, len as u8);
     start + len
+}
+
+// The next id and its kind, where data that begin at `start` are within the room. Where they can't
+// be, nothing is written of those that are left.
+#[inline(always)]
+fn next_within<K: Kinds>(
+    items: &mut KnownItems<'_, K>,
+    start: usize,
+    room: usize,
+) -> Option<(u8, KnownKind)>
+    ensures some { IfSome result (λ item. (start ≤ room)
+        × (items.old ≡ (item.0, extension_of_kind item.1) ∷ items.new)) }
+    ensures none { IfNone result (start ≤ room → items.old ≡ []) }
+{
+    if start > room {
+        return None;
+    }
+    items.next()
 }
 
 // Whether a text is written that is empty. It stays out of line, since few values have an empty
@@ -136,7 +155,7 @@ fn most_in_two_byte_form<K: Kinds>(mut items: KnownItems<'_, K>) -> usize
 }
 
 /// An upper bound of how many bytes [`write_values`] writes in the form, told by the mapped kinds
-/// and by whether there are layers, so that no other value is looked at. The form is what
+/// and by how long the layers are at most, so that no other value is looked at. The form is what
 /// [`values_form`] returned.
 #[inline(always)]
 pub fn values_len_at_most<K: Kinds, V: ElementValues>(
@@ -152,8 +171,14 @@ pub fn values_len_at_most<K: Kinds, V: ElementValues>(
 {
     match form {
         ExtensionsForm::OneByte => 17 * ids.at_most(),
-        ExtensionsForm::TwoByte if ev.may_have_layers() => most_in_two_byte_form(ids.iter()),
-        ExtensionsForm::TwoByte => 18 * ids.at_most(),
+        ExtensionsForm::TwoByte => {
+            let longest = ev.layers_at_most().max(16);
+            if longest == MAX_DATA {
+                most_in_two_byte_form(ids.iter())
+            } else {
+                (2 + longest) * ids.at_most()
+            }
+        }
     }
 }
 
@@ -208,8 +233,10 @@ pub fn write_values<K: Kinds, V: ElementValues>(
         (image_values ids.now (V.values ev.now)) }
 {
     let mut items = ids.iter();
+    let header_len = element_header_len(form);
     let mut at = 0;
-    while let Some((id, kind)) = items.next() {
+    // The room is looked at before the kind, which then goes straight from the map to its data.
+    while let Some((id, kind)) = next_within(&mut items, at + header_len, buf.len()) {
         at = write_element(id, kind, ev, form, buf, at);
     }
     at

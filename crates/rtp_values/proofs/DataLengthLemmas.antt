@@ -35,7 +35,8 @@ few_where : (a : Allocation) (fits : Bool) → (fits ≡ true → length (writte
 few_where a true few = few refl
 few_where a false few = tt
 
-few_of_allocation : (value : Option Allocation) → IfSome (option_map written_of (element_allocation value)) (λ bytes. length bytes ≤ 255)
+-- a layer allocation that is written has at most 255 bytes
+pub few_of_allocation : (value : Option Allocation) → IfSome (option_map written_of (element_allocation value)) (λ bytes. length bytes ≤ 255)
 few_of_allocation None = tt
 few_of_allocation (Some a) =
     few_where a (can_be_written a && nat_le (length (written_of a)) 255)

@@ -85,6 +85,17 @@ impl<'a, V: ElementValues, S: Layered> ElementValues for CarriedLayers<'a, V, S>
         self.values.has_empty_text()
     }
 
+    #[inline(always)]
+    fn layers_at_most(&self) -> usize
+        ensures exact { Some result
+            ≡ option_map length (spelled_data kind.VideoLayersAllocation self.now) }
+        ensures most { IfSome (spelled_data kind.VideoLayersAllocation self.now) (λ bytes.
+            length bytes ≤ result) }
+        ensures few { result ≤ 255 }
+    {
+        self.len
+    }
+
     // The data of an allocation are never empty.
     #[inline(always)]
     fn has_empty_data(&self, kind: KnownKind) -> bool {

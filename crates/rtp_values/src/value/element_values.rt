@@ -1,6 +1,6 @@
 //! What the elements of a block are written from.
 
-ghost use Rattle.std.specs.Prelude.{◌≡◌, ◌≤◌, [], ◌++◌, drop, length, unwrap_or, false, None, is_some, IfSome};
+ghost use Rattle.std.specs.Prelude.{◌≡◌, ◌≤◌, [], ◌++◌, drop, length, unwrap_or, is_some, if◌then◌else◌, IfSome};
 ghost use Rattle.std.specs.Option.{option_map};
 ghost use Rattle.rtp_values.specs.declared.kind.Extension.{Extension};
 ghost use Rattle.rtp_values.specs.declared.kind.Extension.TheVariants.{VideoLayersAllocation};
@@ -28,12 +28,15 @@ pub trait ElementValues {
         ensures few { (kind : Extension) → IfSome (spelled_data kind (values self.now)) (λ bytes.
             length bytes ≤ longest kind) };
 
-    /// Whether a layer allocation may be written. `false` only where none is.
-    fn may_have_layers(&self) -> bool
-        ensures { result ≡ false
-            → spelled_data VideoLayersAllocation (values self.now) ≡ None }
+    /// A layer allocation that is written has at most so many bytes of data: 0 only where none is
+    /// written, and 255 where nothing is known of it.
+    #[tactic(auto, using(crate::proofs::DataLengthLemmas::few_of_allocation))]
+    fn layers_at_most(&self) -> usize
+        ensures most { IfSome (spelled_data VideoLayersAllocation (values self.now)) (λ bytes.
+            length bytes ≤ result) }
+        ensures few { result ≤ 255 }
     {
-        true
+        255
     }
 
     /// Whether [`write_data`](Self::write_data) writes data of no bytes, which only a text can
@@ -75,11 +78,18 @@ impl ElementValues for ExtensionValues {
     }
 
     #[inline(always)]
-    fn may_have_layers(&self) -> bool
-        ensures exact { result ≡ is_some self.now.video_layers_allocation }
-        ensures none { result ≡ false → spelled_data VideoLayersAllocation self.now ≡ None }
+    #[tactic(auto, using(crate::proofs::DataLengthLemmas::few_of_allocation))]
+    fn layers_at_most(&self) -> usize
+        ensures exact { result ≡ if is_some self.now.video_layers_allocation then 255 else 0 }
+        ensures most { IfSome (spelled_data VideoLayersAllocation self.now) (λ bytes.
+            length bytes ≤ result) }
+        ensures few { result ≤ 255 }
     {
-        self.video_layers_allocation.is_some()
+        if self.video_layers_allocation.is_some() {
+            255
+        } else {
+            0
+        }
     }
 
     #[inline(always)]

@@ -1,6 +1,6 @@
 //! Values whose layer allocation is in a value of fixed size.
 
-ghost use Rattle.std.specs.Prelude.{◌≡◌, false, None, is_some};
+ghost use Rattle.std.specs.Prelude.{◌≡◌, ◌≤◌, length, is_some, if◌then◌else◌, IfSome};
 ghost use Rattle.rtp_values.specs.Spelling.{spelled_data};
 ghost use Rattle.rtp_values.specs.declared.kind.Extension.TheVariants.{VideoLayersAllocation};
 
@@ -29,12 +29,14 @@ impl<'a> ElementValues for WithLayers<'a> {
     }
 
     #[inline(always)]
-    fn may_have_layers(&self) -> bool
-        ensures exact { result ≡ is_some self.now.layers }
-        ensures none { result ≡ false
-            → spelled_data VideoLayersAllocation (values_with_layers self.now) ≡ None }
+    #[tactic(auto, using(crate::proofs::DataLengthLemmas::few_of_allocation))]
+    fn layers_at_most(&self) -> usize
+        ensures exact { result ≡ if is_some self.now.layers then 255 else 0 }
+        ensures most { IfSome (spelled_data VideoLayersAllocation (values_with_layers self.now))
+            (λ bytes. length bytes ≤ result) }
+        ensures few { result ≤ 255 }
     {
-        self.layers.is_some()
+        if self.layers.is_some() { 255 } else { 0 }
     }
 
     // The data of an allocation are never empty.

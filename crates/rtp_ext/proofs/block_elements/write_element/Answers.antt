@@ -1,30 +1,15 @@
 use Rattle.rtp_ext.proofs.Common.{arith, sym, ap, ◌∙◌, refl, [], ◌+◌, ◌-◌, ◌≤◌, ◌≡◌, ℕ, length, unwrap_or, take_rest, length-drop, element_or_nothing, element_header, ExtensionsForm, OneByte, TwoByte, overwritten, extension_of_kind, spelled_data, overwritten-nil, overwritten-rest}
-use Rattle.rtp_ext.proofs.WrittenBlockLemmas.{HasNone, HasNone-from_none, none-without_room, room-for_data, none-from_map, element_or_nothing-put, IsCarried-from}
+use Rattle.rtp_ext.proofs.WrittenBlockLemmas.{HasNone-from_none, room-for_data, none-from_map, element_or_nothing-put, IsCarried-from}
 use Rattle.rtp_ext.proofs.block_elements.write_element.Goals as goal
-
--- there are no data
-without_room : (g : _) (c : goal.Then-start-buf g) → HasNone c.args.form (g.V.ElementValues.values c.args.ev.now) c.args.buf.now c.args.at (c.args.id, (extension_of_kind c.args.kind))
-without_room g c =
-    HasNone-from_none _ _ _ _ _ _ (none-without_room c.args.form c.args.id (spelled_data (extension_of_kind c.args.kind) (g.V.ElementValues.values c.args.ev.now)) c.element_header_len.result
-    (length c.args.buf.now - c.args.at) c.element_header_len.ensures (omega (arith, c.requires.room)) (omega (arith, c.requires.room, c.if-start-buf.true)))
-
-pub returns-then-start-buf-clause-written : goal.returns-then-start-buf-clause-written
-returns-then-start-buf-clause-written g c = (without_room g c).written
-
-pub returns-then-start-buf-clause-end : goal.returns-then-start-buf-clause-end
-returns-then-start-buf-clause-end g c = (without_room g c).end
-
-pub returns-then-start-buf-clause-carried : goal.returns-then-start-buf-clause-carried
-returns-then-start-buf-clause-carried g c = (without_room g c).carried
 
 pub write_data-requires : goal.write_data-requires
 write_data-requires g c = record {
   room = λ short bytes is.
       let start = c.args.at + c.element_header_len.result in
       let room = room-for_data c.args.form c.args.id (spelled_data (extension_of_kind c.args.kind) (g.V.ElementValues.values c.args.ev.now)) c.element_header_len.result
-      (length c.args.buf.now - c.args.at) c.element_header_len.ensures (omega (arith, c.requires.room)) (omega (arith, c.if-start-buf.false)) in
+      (length c.args.buf.now - c.args.at) c.element_header_len.ensures (omega (arith, c.requires.room)) (omega (arith, c.requires.header, c.element_header_len.ensures c.args.id 0)) in
       let long = rw is at room in
-      rw (take_rest c.args.buf.now start) (omega (arith, length-drop start c.args.buf.now, long, c.if-start-buf.false));
+      rw (take_rest c.args.buf.now start) (omega (arith, length-drop start c.args.buf.now, long, c.requires.header, c.element_header_len.ensures c.args.id 0));
 }
 
 pub returns-in_default-clause-written : goal.returns-in_default-clause-written
@@ -36,7 +21,7 @@ returns-in_default-clause-written g c =
     start (omega (
       arith,
       room-for_data c.args.form c.args.id (spelled_data (extension_of_kind c.args.kind) (g.V.ElementValues.values c.args.ev.now)) c.element_header_len.result
-          (length c.args.buf.now - c.args.at) c.element_header_len.ensures (omega (arith, c.requires.room)) (omega (arith, c.if-start-buf.false)),
+          (length c.args.buf.now - c.args.at) c.element_header_len.ensures (omega (arith, c.requires.room)) (omega (arith, c.requires.header, c.element_header_len.ensures c.args.id 0)),
     )) c.write_data.ensures.written in
     data_put ∙ (ap (λ bytes. overwritten c.args.buf.now start (unwrap_or bytes [])) none
     ∙ (overwritten-nil c.args.buf.now start ∙ back.written))
@@ -50,10 +35,10 @@ element_put g c =
     let start = c.args.at + c.element_header_len.result in
     let room : c.element_header_len.result + length (unwrap_or bytes []) ≤ length c.args.buf.now - c.args.at =
     room-for_data c.args.form c.args.id bytes c.element_header_len.result
-    (length c.args.buf.now - c.args.at) c.element_header_len.ensures (omega (arith, c.requires.room)) (omega (arith, c.if-start-buf.false)) in
+    (length c.args.buf.now - c.args.at) c.element_header_len.ensures (omega (arith, c.requires.room)) (omega (arith, c.requires.header, c.element_header_len.ensures c.args.id 0)) in
     element_or_nothing-put c.args.form c.args.id c.in-Some.len c.args.at start c.args.buf.now _ c.write_header.new.buf bytes
     (sym c.in-Some.is ∙ c.write_data.ensures.length) (ap (λ (h : ℕ). c.args.at + h) (c.element_header_len.ensures c.args.id c.in-Some.len)) c.requires.room
-    (overwritten-rest c.args.buf.now c.write_data.new.buf (unwrap_or bytes []) start (omega (arith, room, c.if-start-buf.false)) c.write_data.ensures.written)
+    (overwritten-rest c.args.buf.now c.write_data.new.buf (unwrap_or bytes []) start (omega (arith, room, c.requires.header, c.element_header_len.ensures c.args.id 0)) c.write_data.ensures.written)
     c.write_header.ensures
 
 pub returns-clause-written : goal.returns-clause-written

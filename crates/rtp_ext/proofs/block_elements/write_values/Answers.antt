@@ -1,6 +1,6 @@
 use Rattle.rtp_ext.proofs.Common.{refl, arith, sym, ap, ◌∙◌, ◌≡◌, ◌++◌, List, length, drop, replicate, subst, AllByRecursion, extension_of_kind, items_bytes, IsCarried, items_from, elements_bytes, written_elements, Element, AreElements, known_slots}
 use Rattle.rtp_ext.proofs.FormLemmas.{all_fit}
-use Rattle.rtp_ext.proofs.WrittenBlockLemmas.{IsUnderWay, IsUnderWay-start, IsUnderWay-next, IsUnderWay-step, IsUnderWay-end, length-items}
+use Rattle.rtp_ext.proofs.WrittenBlockLemmas.{IsUnderWay, IsUnderWay-start, IsUnderWay-next, IsUnderWay-step, IsUnderWay-stopped, length-items, length-header_bytes}
 use Rattle.rtp_ext.proofs.KnownWritingLemmas.{known_bytes, AreValues_by}
 use Rattle.rtp_ext.proofs.KnownItemsLemmas.{chosen_known, written_known, count_known}
 use Rattle.rtp_ext.proofs.WrittenElementsLemmas.{AreElements-written}
@@ -17,16 +17,21 @@ loop-id-init g c =
 pub write_element-at-requires : goal.write_element-at-requires
 write_element-at-requires g c =
     let exts = known_slots c.args.ids.now in
-    let next = IsUnderWay-next _ _ _ _ (items_from 0 exts) _ c.next.new.self (c.in-Some.id, (extension_of_kind c.in-Some.kind)) c.loop-id.at
-    c.loop-id.invariant c.in-Some.ensures.some
+    let next = IsUnderWay-next _ _ _ _ (items_from 0 exts) _ c.next_within.new.items (c.in-Some.id, (extension_of_kind c.in-Some.kind)) c.loop-id.at
+    c.loop-id.invariant c.in-Some.ensures.some.1
     (omega (arith, c.requires.room, ap length (known_bytes c.args.form c.args.ids.now (known_slots c.args.ids.now) (g.V.ElementValues.values c.args.ev.now) refl))) in
-    record { room = next.0; id = next.1.0; fits = next.1.1 }
+    record {
+      header = omega (arith, c.in-Some.ensures.some.0, c.element_header_len-header_len.ensures c.in-Some.id 0);
+      room = next.0;
+      id = next.1.0;
+      fits = next.1.1;
+    }
 
 pub loop-id-preserved : goal.loop-id-preserved
 loop-id-preserved g c =
     let exts = known_slots c.args.ids.now in
-    IsUnderWay-step c.args.form (g.V.ElementValues.values c.args.ev.now) c.args.buf.now c.loop-id.buf _ (items_from 0 exts) _ c.next.new.self (c.in-Some.id, (extension_of_kind c.in-Some.kind))
-    c.loop-id.at _ c.loop-id.invariant c.in-Some.ensures.some
+    IsUnderWay-step c.args.form (g.V.ElementValues.values c.args.ev.now) c.args.buf.now c.loop-id.buf _ (items_from 0 exts) _ c.next_within.new.items (c.in-Some.id, (extension_of_kind c.in-Some.kind))
+    c.loop-id.at _ c.loop-id.invariant c.in-Some.ensures.some.1
     (omega (arith, c.requires.room, ap length (known_bytes c.args.form c.args.ids.now (known_slots c.args.ids.now) (g.V.ElementValues.values c.args.ev.now) refl)))
     c.write_element-at.ensures.written c.write_element-at.ensures.end c.write_element-at.ensures.carried
 
@@ -36,7 +41,10 @@ ended : (g : _) (c : goal.In_default g) →
     × (c.loop-id.buf ≡ items_bytes c.args.form (g.V.ElementValues.values c.args.ev.now) (items_from 0 (known_slots c.args.ids.now))
     ++ drop (length (items_bytes c.args.form (g.V.ElementValues.values c.args.ev.now) (items_from 0 (known_slots c.args.ids.now)))) c.args.buf.now)
     × AllByRecursion (IsCarried c.args.form (g.V.ElementValues.values c.args.ev.now)) (items_from 0 (known_slots c.args.ids.now))
-ended g c = IsUnderWay-end _ _ _ _ _ _ _ c.loop-id.invariant c.in_default.ensures.none
+ended g c =
+    IsUnderWay-stopped _ _ _ _ _ _ c.loop-id.at c.element_header_len-header_len.result c.element_header_len-header_len.ensures
+    (omega (arith, c.requires.room, ap length (known_bytes c.args.form c.args.ids.now (known_slots c.args.ids.now) (g.V.ElementValues.values c.args.ev.now) refl)))
+    c.loop-id.invariant c.in_default.ensures.none
 
 pub returns-clause-length : goal.returns-clause-length
 returns-clause-length g c = (ended g c).0 ∙ ap length (known_bytes c.args.form c.args.ids.now (known_slots c.args.ids.now) (g.V.ElementValues.values c.args.ev.now) refl)
@@ -69,3 +77,15 @@ pub returns-clause-values : goal.returns-clause-values
 returns-clause-values g c =
     AreValues_by c.args.ids.now (known_slots c.args.ids.now) (g.V.ElementValues.values c.args.ev.now) refl
     (AreValues-written c.args.form (known_slots c.args.ids.now) (g.V.ElementValues.values c.args.ev.now) (ended g c).2)
+
+pub overflow_add-at : goal.overflow_add-at
+overflow_add-at g c =
+    omega (
+      arith,
+      c.loop-id.invariant.ends,
+      c.loop-id.invariant.long,
+      c.requires.room,
+      ap length (known_bytes c.args.form c.args.ids.now (known_slots c.args.ids.now) (g.V.ElementValues.values c.args.ev.now) refl),
+      c.element_header_len-header_len.ensures 0 0,
+      length-header_bytes c.args.form 0 0,
+    )
