@@ -6,13 +6,13 @@ mod BlockLemmas
 pub mod PacketLemmas
 pub mod HeaderFound
 pub mod PartsLemmas
-mod BytesBetween
+pub mod BytesBetween
 mod PacketChanges
 mod PacketBufLemmas
 mod AddedPaddingLemmas
 mod PacketParts
-mod PaddingChanges
-mod ChangedPackets
+pub mod PaddingChanges
+pub mod ChangedPackets
 mod AnyBlockLemmas
 pub mod NotAPacketLemmas
 pub mod NoHeaderLemmas
@@ -26,7 +26,7 @@ mod WrittenInFormLemmas
 mod WritingWithLemmas
 mod PaddingLemmas
 mod BlockLaidLemmas
-mod ResizedLemmas
+pub mod ResizedLemmas
 mod GrowthLemmas
 mod PutPlanLemmas
 mod SetInPlaceLemmas

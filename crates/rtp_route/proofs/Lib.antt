@@ -1,0 +1,2 @@
+mod LentLemmas
+mod RoutingLemmas

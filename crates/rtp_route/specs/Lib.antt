@@ -1,0 +1,3 @@
+-- What public contracts cite.
+pub mod Routing
+pub mod Calls

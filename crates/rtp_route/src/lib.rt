@@ -1,0 +1,8 @@
+//! One packet to all its receivers: a header for each, while the payload stays where it lies.
+#![tactic(auto)]
+
+mod by_calls;
+mod not_routed;
+
+pub use by_calls::{Group, routes_as_the_calls_do};
+pub use not_routed::NotRouted;
