@@ -1,2 +1,3 @@
 mod LentLemmas
+mod ByCallsLemmas
 mod RoutingLemmas

@@ -19,7 +19,7 @@ use Rattle.rtp_wire.specs.GivenFields.{with_header_fields}
 use Rattle.rtp_wire.specs.NotAHeader.{sources_end}
 use Rattle.rtp_wire.specs.Packet.{PacketParts, IsPacket, block_len}
 use Rattle.rtp_wire.specs.PacketElements.{AreElementsOf}
-use Rattle.rtp_wire.specs.PutIntoPacket.{form_of_block, elements_with, compact_block, PutsElement, Compacts}
+use Rattle.rtp_wire.specs.PutIntoPacket.{form_of_block, body_of_block, elements_with, compact_block, PutsElement, Compacts}
 use Rattle.rtp_wire.proofs.PacketLemmas.{one_packet}
 use Rattle.rtp_wire.proofs.PartsLemmas.{length-packet}
 use Rattle.rtp_wire.proofs.ResizedLemmas.{sources_end-is}
@@ -352,3 +352,42 @@ routed-by_calls old new len fields ids news allowed gives no_zero calls =
   where
     from_twelve : (s : ℕ) (xs : List ℕ) → 12 ≤ s → drop s xs ≡ drop (s - 12) (drop 12 xs)
     from_twelve s xs more = ap (λ (k : ℕ). drop k xs) (omega arith) ∙ sym (drop-drop (s - 12) 12 xs)
+
+-- ---- the header alone and the whole packet
+
+-- a header that is made of the packet's header is made of the packet
+pub routed-whole : (whole header : List ℕ) (parts : PacketParts) (new : List ℕ) (len : ℕ) (fields : Fields) (ids : ℕ → Option ℕ) (news : List Element) (allowed : Option ExtensionsForm)
+    → IsPacket whole parts → IsPacket header (record parts { payload = [] }) → whole ≡ header ++ parts.payload → GivesIds ids → HasNone news 0 → IsRoutedByCalls header fields ids news allowed new len
+    → IsRouted whole fields ids news allowed (take len new)
+routed-whole whole header parts new len fields ids news allowed is alone front gives no_zero calls =
+    let made = routed-by_calls header new len fields ids news allowed gives no_zero calls in
+    let same : calls.parts ≡ record parts { payload = [] } = same_parts header calls.parts (record parts { payload = [] }) calls.was_packet alone in
+    let all : take len new ≡ made.0 = made.1 ∙ ap (λ (p : PacketParts). made.0 ++ p.payload) same ∙ append-nil made.0 in
+    subst (IsRouted whole fields ids news allowed) (sym all) (of_whole made.0 made.2)
+  where
+    of_whole : (made : List ℕ) → IsRouted header fields ids news allowed made → IsRouted whole fields ids news allowed made
+    of_whole made routed =
+        let same : routed.parts ≡ record parts { payload = [] } = same_parts header routed.parts (record parts { payload = [] }) routed.was_packet alone in
+        let s : ℕ = 12 + 4 * length parts.sources in
+        let form_was : form_of_block routed.parts.block ≡ form_of_block parts.block = ap (λ (p : PacketParts). form_of_block p.block) same in
+        let word : (f : ExtensionsForm) → form_of_block parts.block ≡ Some f → word_bytes header ≡ word_bytes whole =
+        λ f is_form. word_of header (record parts { payload = [] }) alone
+        ∙ sym (word_in_front s header parts.payload (word_within header (record parts { payload = [] }) (f, body_of_block parts.block) alone (block-there parts.block f is_form)))
+        ∙ ap (λ (xs : List ℕ). take 2 (drop s xs)) (sym front)
+        ∙ sym (word_of whole parts is) in
+        record {
+          parts = parts;
+          elements = routed.elements;
+          form = routed.form;
+          was_packet = is;
+          were_elements = subst (λ (p : PacketParts). AreElementsOf p.block routed.elements) same routed.were_elements;
+          form_is = subst (λ (p : PacketParts). IsFormAfter allowed (form_of_block p.block) news routed.form) same routed.form_is;
+          is_packet = subst (λ (p : PacketParts). IsPacket made (record (routed_parts fields ids news routed.form routed.elements p) { payload = [] })) same routed.is_packet;
+          word_is = record {
+            word_is = λ f is_form was_form. routed.word_is.word_is f is_form (form_was ∙ was_form) ∙ word f was_form;
+            new_word_is = λ f is_form other. routed.word_is.new_word_is f is_form (λ was_form. other (sym form_was ∙ was_form));
+          };
+        }
+    block-there : (block : Option (ExtensionsForm × List ℕ)) (f : ExtensionsForm) → form_of_block block ≡ Some f → block ≡ Some (f, body_of_block block)
+    block-there None f is = absurd cc
+    block-there (Some block) f is = let here : block.0 ≡ f = cc in ap (λ (g : ExtensionsForm). Some (g, block.1)) here

@@ -1,24 +1,21 @@
 //! The header of a group of receivers, made by the calls for one packet.
 
-ghost use Rattle.std.specs.Prelude.{◌≡◌, ◌≤◌, ℕ, List, Option, ◌++◌, length, take, IfOk};
+ghost use Rattle.std.specs.Prelude.{◌≡◌, ◌≤◌, ℕ, List, Option, ◌++◌, length, take, IfOk, IfSome};
 ghost use Rattle.rtp_ext.specs.declared.form.ExtensionsForm.{ExtensionsForm};
 ghost use Rattle.rtp_ext.specs.Elements.{Element};
 ghost use Rattle.rtp_ext.specs.ElementsInARow.{elements_of};
 ghost use Rattle.rtp_ext.specs.ElementsInPlace.{HasNone};
 ghost use Rattle.rtp_ext.specs.NewIds.{new_id};
 ghost use Rattle.rtp_wire.specs.declared.packet.fields.Fields.{Fields};
-ghost use Rattle.std.specs.Bool.{OnTrue};
-ghost use Rattle.rtp_wire.specs.Packet.{PacketParts, IsPacket};
-ghost use Rattle.rtp_wire.specs.PacketElements.{AreElementsOf};
-ghost use Rattle.rtp_wire.specs.PartsAt.{HasLayout};
-ghost use Rattle.rtp_wire.specs.PartsOf.{parts_of, datagram_of};
-ghost use Rattle.rtp_route.specs.Calls.{ArePut, IsRoutedByCalls, IsUnderNewIds, no_fields, header_in};
+ghost use Rattle.rtp_wire.specs.PartsOf.{datagram_of};
+ghost use Rattle.rtp_route.specs.Calls.{ArePut, IsRoutedByCalls, header_in};
 ghost use Rattle.rtp_route.specs.Routing.{GivesIds, IsRouted};
 
 use super::NotRouted;
+use super::in_place::{renumber, set_fields};
 use rtp_base::put;
 use rtp_ext::{ExtensionsForm, NewIds};
-use rtp_wire::{NotPut, RtpPacket, RtpPacketMut, compact, put_element};
+use rtp_wire::{Fields, NotPut, RtpPacket, compact, put_element};
 
 /// What receivers of a packet have in common.
 #[derive(Clone, Copy)]
@@ -48,33 +45,18 @@ fn put_each(buf: &mut [u8], len: usize, group: &Group<'_>) -> Result<usize, NotP
     Ok(len)
 }
 
-// Gives the elements of the packet of these bytes, whose header has this length and whose block this
-// form, their new ids, and returns whether its form can carry them.
-fn renumber(
-    header: &mut [u8],
-    header_len: usize,
-    form: Option<ExtensionsForm>,
-    ids: &NewIds,
-) -> bool
-    requires { HasLayout header.old header_len form }
-    ensures renumbered { (parts : PacketParts) (elements : List Element) →
-        IsPacket header.old parts → AreElementsOf parts.block elements →
-        OnTrue result (IsUnderNewIds (new_id ids.now) elements header.old parts header.new) }
-{
-    let mut packet = RtpPacketMut::new(header, header_len, form);
-    packet.renumber(ids)
-}
-
-// Makes the header that the packet gets for the group in the first bytes of the buffer, and returns
-// how many bytes it has.
-pub(super) fn make_header(
+// Makes the header that the packet gets with these fields for the group in the first bytes of the
+// buffer, and returns how many bytes it has.
+fn make_header(
     packet: &RtpPacket<'_>,
+    fields: &Fields,
     group: &Group<'_>,
     buf: &mut [u8],
 ) -> Result<usize, NotRouted>
-    ensures made { IfOk result (λ len. IsRoutedByCalls (header_in packet.now) no_fields
+    requires { IfSome fields.now.payload_type (λ pt. pt ≤ 127) }
+    ensures made { IfOk result (λ len. IsRoutedByCalls (header_in packet.now) fields.now
         (new_id group.now.ids.now) (elements_of group.now.elements.now) group.now.allowed
-        (take len buf.new) len) }
+        buf.new len) }
     ensures ids { IfOk result (λ _. HasNone (elements_of group.now.elements.now) 0) }
     ensures within { IfOk result (λ len. len ≤ length buf.new) }
 {
@@ -84,7 +66,9 @@ pub(super) fn make_header(
         return Err(NotRouted::NotPut(NotPut::NoRoom { needed }));
     }
     put(buf, 0, header);
-    if !renumber(&mut buf[..needed], packet.header_len(), packet.form(), group.ids) {
+    let (header_len, form) = (packet.header_len(), packet.form());
+    set_fields(&mut buf[..needed], header_len, form, fields);
+    if !renumber(&mut buf[..needed], header_len, form, group.ids) {
         return Err(NotRouted::LongId);
     }
     let len = put_each(buf, needed, group)?;
@@ -92,6 +76,22 @@ pub(super) fn make_header(
         Ok(len) => Ok(len),
         Err(cause) => Err(NotRouted::NotPut(NotPut::NotAPacket(cause))),
     }
+}
+
+/// Writes the header that the packet gets on its way to a receiver.
+pub fn route_header(
+    packet: &RtpPacket<'_>,
+    fields: &Fields,
+    group: &Group<'_>,
+    buf: &mut [u8],
+) -> Result<usize, NotRouted>
+    requires { IfSome fields.now.payload_type (λ pt. pt ≤ 127) }
+    ensures routed { GivesIds (new_id group.now.ids.now) → IfOk result (λ len.
+        IsRouted (datagram_of packet.now) fields.now (new_id group.now.ids.now)
+        (elements_of group.now.elements.now) group.now.allowed (take len buf.new)) }
+    ensures within { IfOk result (λ len. len ≤ length buf.new) }
+{
+    make_header(packet, fields, group, buf)
 }
 
 // The law: where the calls for one packet, one after another, don't refuse, they make the header

@@ -2,7 +2,8 @@
 #![tactic(auto)]
 
 mod by_calls;
+mod in_place;
 mod not_routed;
 
-pub use by_calls::{Group, routes_as_the_calls_do};
+pub use by_calls::{Group, route_header, routes_as_the_calls_do};
 pub use not_routed::NotRouted;

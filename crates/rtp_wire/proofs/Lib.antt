@@ -11,8 +11,8 @@ mod PacketChanges
 mod PacketBufLemmas
 mod AddedPaddingLemmas
 mod PacketParts
-pub mod PaddingChanges
-pub mod ChangedPackets
+mod PaddingChanges
+mod ChangedPackets
 mod AnyBlockLemmas
 pub mod NotAPacketLemmas
 pub mod NoHeaderLemmas
