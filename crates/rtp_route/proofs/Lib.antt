@@ -1,3 +1,4 @@
 mod LentLemmas
 mod ByCallsLemmas
 mod RoutingLemmas
+mod SetDataLemmas

@@ -1,5 +1,5 @@
 -- The calls one after another make the header that the route makes.
-use Rattle.std.proofs.Common.{◌≡◌, ◌≢◌, ℕ, ◌+◌, ◌-◌, ◌*◌, ◌≤◌, ◌⊎◌, inl, inr, Bool, true, false, cond, List, [], ◌∷◌, ◌++◌, length, take, drop, Option, Some, None, option_map, refl, sym, ap, subst, ◌∙◌, arith, append_assoc, append-nil, length-append}
+use Rattle.std.proofs.Common.{◌≡◌, ◌≢◌, ℕ, ◌+◌, ◌-◌, ◌*◌, ◌≤◌, ◌⊎◌, inl, inr, Bool, true, false, cond, List, [], ◌∷◌, ◌++◌, length, take, drop, Option, Some, None, option_map, refl, sym, ap, subst, ◌∙◌, arith, append_assoc, append-nil, length-append, take_at, Result, Ok, Err, IfOk}
 use Rattle.std.specs.List.{concat, filter_map, list_any, cons_option}
 use Rattle.std.specs.Int.{w16, to_be_bytes}
 use Rattle.std.proofs.lemmas.List.{drop-drop, drop-take, take-take, take-append-drop, drop-append-le, take-append-le, length-drop}
@@ -17,13 +17,15 @@ use Rattle.rtp_wire.specs.declared.packet.fields.Fields.{Fields}
 use Rattle.rtp_wire.specs.ChangedPacket.{ChangesOnly, ChangesOnlyBody}
 use Rattle.rtp_wire.specs.GivenFields.{with_header_fields}
 use Rattle.rtp_wire.specs.NotAHeader.{sources_end}
-use Rattle.rtp_wire.specs.Packet.{PacketParts, IsPacket, block_len}
+use Rattle.rtp_wire.specs.Packet.{PacketParts, IsPacket, block_len, header_len_of}
+use Rattle.rtp_wire.specs.PartsOf.{parts_of, datagram_of}
+use Rattle.rtp_wire.specs.declared.packet.rtp_packet.RtpPacket.{RtpPacket}
 use Rattle.rtp_wire.specs.PacketElements.{AreElementsOf}
 use Rattle.rtp_wire.specs.PutIntoPacket.{form_of_block, body_of_block, elements_with, compact_block, PutsElement, Compacts}
 use Rattle.rtp_wire.proofs.PacketLemmas.{one_packet}
-use Rattle.rtp_wire.proofs.PartsLemmas.{length-packet}
+use Rattle.rtp_wire.proofs.PartsLemmas.{length-packet, IsPacket-found}
 use Rattle.rtp_wire.proofs.ResizedLemmas.{sources_end-is}
-use Rattle.rtp_route.specs.Calls.{ArePut, IsRenumbered, IsRoutedByCalls}
+use Rattle.rtp_route.specs.Calls.{ArePut, IsRenumbered, IsRoutedByCalls, header_in}
 use Rattle.rtp_route.specs.Routing.{GivesIds, put_all, IsFormAfter, extension_after, row_in, routed_parts, word_bytes, KeepsWord, IsRouted}
 
 -- ---- one packet has one list of elements
@@ -355,6 +357,10 @@ routed-by_calls old new len fields ids news allowed gives no_zero calls =
 
 -- ---- the header alone and the whole packet
 
+block-there : (block : Option (ExtensionsForm × List ℕ)) (f : ExtensionsForm) → form_of_block block ≡ Some f → block ≡ Some (f, body_of_block block)
+block-there None f is = absurd cc
+block-there (Some block) f is = let here : block.0 ≡ f = cc in ap (λ (g : ExtensionsForm). Some (g, block.1)) here
+
 -- a header that is made of the packet's header is made of the packet
 pub routed-whole : (whole header : List ℕ) (parts : PacketParts) (new : List ℕ) (len : ℕ) (fields : Fields) (ids : ℕ → Option ℕ) (news : List Element) (allowed : Option ExtensionsForm)
     → IsPacket whole parts → IsPacket header (record parts { payload = [] }) → whole ≡ header ++ parts.payload → GivesIds ids → HasNone news 0 → IsRoutedByCalls header fields ids news allowed new len
@@ -388,6 +394,18 @@ routed-whole whole header parts new len fields ids news allowed is alone front g
             new_word_is = λ f is_form other. routed.word_is.new_word_is f is_form (λ was_form. other (sym form_was ∙ was_form));
           };
         }
-    block-there : (block : Option (ExtensionsForm × List ℕ)) (f : ExtensionsForm) → form_of_block block ≡ Some f → block ≡ Some (f, body_of_block block)
-    block-there None f is = absurd cc
-    block-there (Some block) f is = let here : block.0 ≡ f = cc in ap (λ (g : ExtensionsForm). Some (g, block.1)) here
+
+-- what is so of a value where two things are
+pub on-ok : {A E : Type 0} (result : Result A E) (P Q R : A → Type 0) → ((a : A) → P a → Q a → R a) → IfOk result P → IfOk result Q → IfOk result R
+on-ok (Ok a) P Q R gives p q = gives a p q
+on-ok (Err e) P Q R gives p q = p
+
+-- the header that is made of a packet's header
+pub routed-of : (packet : RtpPacket) (new : List ℕ) (len : ℕ) (fields : Fields) (ids : ℕ → Option ℕ) (news : List Element) (allowed : Option ExtensionsForm) → GivesIds ids → HasNone news 0
+    → IsRoutedByCalls (header_in packet) fields ids news allowed new len → IsRouted (datagram_of packet) fields ids news allowed (take len new)
+routed-of packet new len fields ids news allowed gives no_zero calls =
+    let split = header-split packet.datagram.now (parts_of packet) (IsPacket-found packet) in
+    let long : length split.0 ≡ header_len_of (parts_of packet) = omega (arith, length-packet split.0 (record (parts_of packet) { payload = [] }) split.2) in
+    let here : header_in packet ≡ split.0 = ap (take (header_len_of (parts_of packet))) split.1 ∙ take_at split.0 (parts_of packet).payload (header_len_of (parts_of packet)) long in
+    routed-whole packet.datagram.now split.0 (parts_of packet) new len fields ids news allowed (IsPacket-found packet) split.2 split.1 gives no_zero
+    (subst (λ (h : List ℕ). IsRoutedByCalls h fields ids news allowed new len) here calls)
