@@ -79,7 +79,7 @@ word_at_end s a b same = sym (drop-take s 2 a) ∙ ap (drop s) same ∙ drop-tak
 word_before : (s k : ℕ) (a b : List ℕ) → s + 2 ≤ k → take k a ≡ take k b → take 2 (drop s a) ≡ take 2 (drop s b)
 word_before s k a b within same = word_at_end s a b (sym (take-take (s + 2) k a within) ∙ ap (take (s + 2)) same ∙ take-take (s + 2) k b within)
 
-word_in_front : (s : ℕ) (a b : List ℕ) → s + 2 ≤ length a → take 2 (drop s (a ++ b)) ≡ take 2 (drop s a)
+pub word_in_front : (s : ℕ) (a b : List ℕ) → s + 2 ≤ length a → take 2 (drop s (a ++ b)) ≡ take 2 (drop s a)
 word_in_front s a b within =
     ap (take 2) (drop-append-le s a b (omega arith)) ∙ take-append-le 2 (drop s a) b (omega (arith, length-drop s a))
 
@@ -345,6 +345,9 @@ routed-by_calls old new len fields ids news allowed gives no_zero calls =
         were_elements = calls.were_elements;
         form_is = subst (λ (f : Option ExtensionsForm). IsFormAfter allowed f news put.form) has.same_form put.is_after;
         is_packet = split.2;
+        are_elements = subst (λ (b : Option (ExtensionsForm × List ℕ)). AreElementsOf b (put_all news es)) block_is
+        (subst (λ (xs : List Element). AreElementsOf (compact_block compacts.elements put.block) xs) es_is
+        (subst (λ (p : PacketParts). AreElementsOf (compact_block compacts.elements p.block) compacts.elements) p_is compacts.are_elements));
         word_is = record {
           word_is = λ f is same. last_word f is ∙ put.word_is.word_is f is (same_form ∙ same) ∙ first_word;
           new_word_is = λ f is other. last_word f is ∙ put.word_is.new_word_is f is (λ same. other (sym same_form ∙ same));
@@ -389,6 +392,7 @@ routed-whole whole header parts new len fields ids news allowed is alone front g
           were_elements = subst (λ (p : PacketParts). AreElementsOf p.block routed.elements) same routed.were_elements;
           form_is = subst (λ (p : PacketParts). IsFormAfter allowed (form_of_block p.block) news routed.form) same routed.form_is;
           is_packet = subst (λ (p : PacketParts). IsPacket made (record (routed_parts fields ids news routed.form routed.elements p) { payload = [] })) same routed.is_packet;
+          are_elements = routed.are_elements;
           word_is = record {
             word_is = λ f is_form was_form. routed.word_is.word_is f is_form (form_was ∙ was_form) ∙ word f was_form;
             new_word_is = λ f is_form other. routed.word_is.new_word_is f is_form (λ was_form. other (sym form_was ∙ was_form));

@@ -66,6 +66,7 @@ pub record IsRouted (old : List ℕ) (fields : Fields) (ids : ℕ → Option ℕ
   pub were_elements : AreElementsOf parts.block elements
   pub form_is : IsFormAfter allowed (form_of_block parts.block) news form
   pub is_packet : IsPacket new (record (routed_parts fields ids news form elements parts) { payload = [] })
+  pub are_elements : AreElementsOf (row_in form (routed_elements ids news elements)) (routed_elements ids news elements)
   pub word_is : KeepsWord (form_of_block parts.block) old form new
 
 -- each id that the table gives is one that an element can have

@@ -4,6 +4,7 @@
 mod by_calls;
 mod in_place;
 mod not_routed;
+mod slots;
 
 pub use by_calls::{Group, route_header, routes_as_the_calls_do};
 pub use not_routed::NotRouted;
