@@ -6,7 +6,7 @@ mod BlockLemmas
 pub mod PacketLemmas
 pub mod HeaderFound
 pub mod PartsLemmas
-mod BytesBetween
+pub mod BytesBetween
 mod PacketChanges
 mod PacketBufLemmas
 mod AddedPaddingLemmas
@@ -26,7 +26,7 @@ mod WrittenInFormLemmas
 mod WritingWithLemmas
 mod PaddingLemmas
 mod BlockLaidLemmas
-mod ResizedLemmas
+pub mod ResizedLemmas
 mod GrowthLemmas
 mod PutPlanLemmas
 mod SetInPlaceLemmas

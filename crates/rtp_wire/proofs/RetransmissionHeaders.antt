@@ -41,7 +41,7 @@ elements_announced true (Some block) None part all is =
     let body : AreBytes block.1 = subst AreBytes (sym is.body_is) (AreBytes-back (take 4 part) (drop 4 part) (subst AreBytes (sym (take-append-drop 4 part)) all)) in
     (elements_left block.0 block.1, AreElements-found block.0 block.1 body)
 
-elements_there : (bytes : List ℕ) (parts : PacketParts) → AreBytes bytes → IsPacket bytes parts → (elements : List Element) × AreElementsOf parts.block elements
+pub elements_there : (bytes : List ℕ) (parts : PacketParts) → AreBytes bytes → IsPacket bytes parts → (elements : List Element) × AreElementsOf parts.block elements
 elements_there bytes parts all is =
     let after_fixed : AreBytes (concat is.groups ++ (is.part ++ parts.payload)) = AreBytes-back is.fixed (concat is.groups ++ (is.part ++ parts.payload)) (subst AreBytes is.in_order all) in
     let part : AreBytes is.part = AreBytes-front is.part parts.payload (AreBytes-back (concat is.groups) (is.part ++ parts.payload) after_fixed) in

@@ -1,0 +1,28 @@
+-- The elements that are lent, one after another.
+use Rattle.std.proofs.Common.{◌≡◌, ◌≢◌, ℕ, suc, ◌+◌, ◌<◌, List, [], ◌∷◌, ◌++◌, length, take, drop, get_or, map, All, sym, ap, ◌∙◌, subst, arith}
+use Rattle.std.specs.Borrow.{Bor}
+use Rattle.std.proofs.Math.Seq.{take-suc}
+use Rattle.std.proofs.lemmas.List.{drop_more, drop-map, map-append}
+use Rattle.std.proofs.lemmas.List.Elements.{All-push}
+use Rattle.rtp_ext.specs.Elements.{Element}
+use Rattle.rtp_ext.specs.ElementsInARow.{elements_of}
+use Rattle.rtp_ext.specs.ElementsInPlace.{HasNone}
+
+-- an element as it is lent
+abbrev pub Lent : Type 0
+Lent = ℕ × Bor (List ℕ)
+
+abbrev pub element_of : Lent → Element
+element_of lent = (lent.0, lent.1.now)
+
+pub elements-at : (lents : List Lent) (place : ℕ) (lent : Lent) → place < length lents
+    → elements_of (drop place lents) ≡ element_of (get_or lents place lent) ∷ elements_of (drop (place + 1) lents)
+elements-at lents place lent within = ap (map element_of) (drop_more lents place lent within)
+
+pub none-more : (lents : List Lent) (place id : ℕ) (lent : Lent) → place < length lents → HasNone (elements_of (take place lents)) id → (get_or lents place lent).0 ≢ id
+    → HasNone (elements_of (take (place + 1) lents)) id
+none-more lents place id lent within none other =
+    let next : place + 1 ≡ suc place = omega arith in
+    let more : elements_of (take (place + 1) lents) ≡ elements_of (take place lents) ++ element_of (get_or lents place lent) ∷ [] =
+    ap (λ (k : ℕ). elements_of (take k lents)) next ∙ ap (map element_of) (take-suc lents place lent within) ∙ map-append element_of (take place lents) (get_or lents place lent ∷ []) in
+    subst (λ (es : List Element). HasNone es id) (sym more) (All-push (λ (e : Element). e.0 ≢ id) (elements_of (take place lents)) (element_of (get_or lents place lent)) none other)

@@ -1,0 +1,415 @@
+-- The calls one after another make the header that the route makes.
+use Rattle.std.proofs.Common.{◌≡◌, ◌≢◌, ℕ, ◌+◌, ◌-◌, ◌*◌, ◌≤◌, ◌⊎◌, inl, inr, Bool, true, false, cond, List, [], ◌∷◌, ◌++◌, length, take, drop, Option, Some, None, option_map, refl, sym, ap, subst, ◌∙◌, arith, append_assoc, append-nil, length-append, take_at, Result, Ok, Err, IfOk}
+use Rattle.std.specs.List.{concat, filter_map, list_any, cons_option}
+use Rattle.std.specs.Int.{w16, to_be_bytes}
+use Rattle.std.proofs.lemmas.List.{drop-drop, drop-take, take-take, take-append-drop, drop-append-le, take-append-le, length-drop}
+use Rattle.std.proofs.lemmas.List.Elements.{All-nil, All-cons, All-head, All-tail}
+use Rattle.rtp_ext.specs.declared.form.ExtensionsForm.{ExtensionsForm}
+use Rattle.rtp_ext.specs.declared.form.ExtensionsForm.TheVariants.{OneByte, TwoByte}
+use Rattle.rtp_ext.specs.Form.{form_word}
+use Rattle.rtp_ext.specs.Elements.{Element, AreElements, elements_bytes}
+use Rattle.rtp_ext.specs.ElementsInPlace.{HasNone, renumbered}
+use Rattle.rtp_ext.specs.PutElement.{has_id, put_element, carried_in, needed_form, allowed_form}
+use Rattle.rtp_ext.specs.WrittenBlock.{filled}
+use Rattle.rtp_ext.proofs.LastPlaceLemmas.{AreElements-same}
+use Rattle.rtp_ext.proofs.PutLemmas.{without-none}
+use Rattle.rtp_wire.specs.declared.packet.fields.Fields.{Fields}
+use Rattle.rtp_wire.specs.ChangedPacket.{ChangesOnly, ChangesOnlyBody}
+use Rattle.rtp_wire.specs.GivenFields.{with_header_fields}
+use Rattle.rtp_wire.specs.NotAHeader.{sources_end}
+use Rattle.rtp_wire.specs.Packet.{PacketParts, IsPacket, block_len, header_len_of}
+use Rattle.rtp_wire.specs.PartsOf.{parts_of, datagram_of}
+use Rattle.rtp_wire.specs.declared.packet.rtp_packet.RtpPacket.{RtpPacket}
+use Rattle.rtp_wire.specs.PacketElements.{AreElementsOf}
+use Rattle.rtp_wire.specs.PutIntoPacket.{form_of_block, body_of_block, elements_with, compact_block, PutsElement, Compacts}
+use Rattle.rtp_wire.proofs.PacketLemmas.{one_packet}
+use Rattle.rtp_wire.proofs.PartsLemmas.{length-packet, IsPacket-found}
+use Rattle.rtp_wire.proofs.ResizedLemmas.{sources_end-is}
+use Rattle.rtp_route.specs.Calls.{ArePut, IsRenumbered, IsRoutedByCalls, header_in}
+use Rattle.rtp_route.specs.Routing.{GivesIds, put_all, IsFormAfter, extension_after, row_in, routed_parts, word_bytes, KeepsWord, IsRouted}
+
+-- ---- one packet has one list of elements
+
+pub same_parts : (bytes : List ℕ) (p q : PacketParts) → IsPacket bytes p → IsPacket bytes q → p ≡ q
+same_parts bytes p q is_p is_q = sym (one_packet bytes p is_p) ∙ one_packet bytes q is_q
+
+pub same_elements : (block : Option (ExtensionsForm × List ℕ)) (xs ys : List Element) → AreElementsOf block xs → AreElementsOf block ys → xs ≡ ys
+same_elements None xs ys are_xs are_ys = are_xs ∙ sym are_ys
+same_elements (Some block) xs ys are_xs are_ys = AreElements-same block.0 block.1 xs ys are_xs are_ys
+
+-- ---- none of the id 0
+
+abbrev SomeId : Element → Type 0
+SomeId element = element.0 ≢ 0
+
+none_zero-with : (ids : ℕ → Option ℕ) (element : Element) (rest : List Element) → GivesIds ids → HasNone rest 0 → (id : Option ℕ) → ids element.0 ≡ id
+    → HasNone (cons_option (option_map (λ (k : ℕ). (k, element.1)) (ids element.0)) rest) 0
+none_zero-with ids element rest gives none None is =
+    subst (λ (o : Option ℕ). HasNone (cons_option (option_map (λ (k : ℕ). (k, element.1)) o) rest) 0) (sym is) none
+none_zero-with ids element rest gives none (Some id) is =
+    subst (λ (o : Option ℕ). HasNone (cons_option (option_map (λ (k : ℕ). (k, element.1)) o) rest) 0) (sym is)
+    (All-cons SomeId (id, element.1) rest (gives element.0 id is) none)
+
+none_zero-renumbered : (ids : ℕ → Option ℕ) (elements : List Element) → GivesIds ids → HasNone (filter_map (renumbered ids) elements) 0
+none_zero-renumbered ids [] gives = All-nil SomeId
+none_zero-renumbered ids (element ∷ elements) gives =
+    none_zero-with ids element (filter_map (renumbered ids) elements) gives (none_zero-renumbered ids elements gives) (ids element.0) refl
+
+none_zero-either : (new element : Element) (elements put : List Element) → new.0 ≢ 0 → HasNone (element ∷ elements) 0 → HasNone put 0 → (here later : Bool)
+    → HasNone (cond here (cond later put (new ∷ elements)) (element ∷ put)) 0
+none_zero-either new element elements put some none put_none true true = put_none
+none_zero-either new element elements put some none put_none true false = All-cons SomeId new elements some (All-tail SomeId element elements none)
+none_zero-either new element elements put some none put_none false later = All-cons SomeId element put (All-head SomeId element elements none) put_none
+
+none_zero-put : (new : Element) (elements : List Element) → new.0 ≢ 0 → HasNone elements 0 → HasNone (put_element new elements) 0
+none_zero-put new [] some none = All-cons SomeId new [] some (All-nil SomeId)
+none_zero-put new (element ∷ elements) some none =
+    none_zero-either new element elements (put_element new elements) some none (none_zero-put new elements some (All-tail SomeId element elements none)) (has_id new.0 element)
+    (list_any (has_id new.0) elements)
+
+carried-all : (form : ExtensionsForm) (elements : List Element) → HasNone elements 0 → carried_in form elements ≡ elements
+carried-all OneByte elements none = refl
+carried-all TwoByte elements none = without-none 0 elements none
+
+-- ---- the word of a block's form
+
+word_at_end : (s : ℕ) (a b : List ℕ) → take (s + 2) a ≡ take (s + 2) b → take 2 (drop s a) ≡ take 2 (drop s b)
+word_at_end s a b same = sym (drop-take s 2 a) ∙ ap (drop s) same ∙ drop-take s 2 b
+
+word_before : (s k : ℕ) (a b : List ℕ) → s + 2 ≤ k → take k a ≡ take k b → take 2 (drop s a) ≡ take 2 (drop s b)
+word_before s k a b within same = word_at_end s a b (sym (take-take (s + 2) k a within) ∙ ap (take (s + 2)) same ∙ take-take (s + 2) k b within)
+
+pub word_in_front : (s : ℕ) (a b : List ℕ) → s + 2 ≤ length a → take 2 (drop s (a ++ b)) ≡ take 2 (drop s a)
+word_in_front s a b within =
+    ap (take 2) (drop-append-le s a b (omega arith)) ∙ take-append-le 2 (drop s a) b (omega (arith, length-drop s a))
+
+word_in_take : (s len : ℕ) (buf : List ℕ) → s + 2 ≤ length (take len buf) → take 2 (drop s (take len buf)) ≡ take 2 (drop s buf)
+word_in_take s len buf within = sym (word_in_front s (take len buf) (drop len buf) within) ∙ ap (λ (xs : List ℕ). take 2 (drop s xs)) (take-append-drop len buf)
+
+-- a packet with a block has a word after its sources
+pub word_within : (bytes : List ℕ) (parts : PacketParts) (block : ExtensionsForm × List ℕ) → IsPacket bytes parts → parts.block ≡ Some block → 12 + 4 * length parts.sources + 2 ≤ length bytes
+word_within bytes parts block is some =
+    let long = length-packet bytes parts is in
+    let body : block_len parts.block ≡ 4 + length block.1 = ap block_len some in
+    omega (arith, long, body)
+
+-- the words of two packets with as many sources
+word_of : (bytes : List ℕ) (parts : PacketParts) → IsPacket bytes parts → word_bytes bytes ≡ take 2 (drop (12 + 4 * length parts.sources) bytes)
+word_of bytes parts is = ap (λ (s : ℕ). take 2 (drop s bytes)) (sources_end-is bytes parts is)
+
+-- a block that has the two-byte form keeps it
+two_byte_stays : (allowed : Option ExtensionsForm) (new : Element) (form : ExtensionsForm) → allowed_form allowed (needed_form (Some TwoByte) new) ≡ Some form → form ≡ TwoByte
+two_byte_stays None new form is = cc
+two_byte_stays (Some TwoByte) new form is = cc
+two_byte_stays (Some OneByte) new form is = cc
+
+two_byte_stays_on : (allowed : Option ExtensionsForm) (news : List Element) (after : Option ExtensionsForm) → IsFormAfter allowed (Some TwoByte) news after → after ≡ Some TwoByte
+two_byte_stays_on allowed [] after is = is
+two_byte_stays_on allowed (new ∷ news) after is =
+    two_byte_stays_on allowed news after (subst (λ (f : ExtensionsForm). IsFormAfter allowed (Some f) news after) (two_byte_stays allowed new is.0 is.1) is.2)
+
+-- a form that is left isn't come back to
+form_stays : (was form last : ExtensionsForm) (allowed : Option ExtensionsForm) (new : Element) (news : List Element) → was ≡ last → allowed_form allowed (needed_form (Some was) new) ≡ Some form
+    → IsFormAfter allowed (Some form) news (Some last) → form ≡ last
+form_stays TwoByte form last allowed new news same first rest = two_byte_stays allowed new form first ∙ same
+form_stays OneByte OneByte last allowed new news same first rest = same
+form_stays OneByte TwoByte last allowed new news same first rest =
+    let back : Some last ≡ Some TwoByte = two_byte_stays_on allowed news (Some last) rest in
+    absurd (one≢two (same ∙ cc))
+  where
+    one≢two : OneByte ≡ TwoByte → ⊥
+    one≢two is = cc
+
+either_form : (a b : ExtensionsForm) → (a ≡ b) ⊎ (a ≢ b)
+either_form OneByte OneByte = inl refl
+either_form OneByte TwoByte = inr (λ is. cc)
+either_form TwoByte OneByte = inr (λ is. cc)
+either_form TwoByte TwoByte = inl refl
+
+-- the word once one element is put, and then others
+KeepsWord-then : (was after : Option ExtensionsForm) (form : ExtensionsForm) (allowed : Option ExtensionsForm) (new : Element) (news : List Element) (old middle last : List ℕ)
+    → allowed_form allowed (needed_form was new) ≡ Some form → IsFormAfter allowed (Some form) news after → KeepsWord was old (Some form) middle → KeepsWord (Some form) middle after last
+    → KeepsWord was old after last
+KeepsWord-then was after form allowed new news old middle last first rest one two = record { word_is = stays; new_word_is = changes }
+  where
+    at : (f : ExtensionsForm) → after ≡ Some f → form ≢ f → was ≢ Some f
+    at f is other same =
+        other (form_stays f form f allowed new news refl (subst (λ (w : Option ExtensionsForm). allowed_form allowed (needed_form w new) ≡ Some form) same first)
+        (subst (IsFormAfter allowed (Some form) news) is rest))
+    stays : (f : ExtensionsForm) → after ≡ Some f → was ≡ Some f → word_bytes last ≡ word_bytes old
+    stays f is same = stays_by f is same (either_form form f)
+      where
+        stays_by : (f : ExtensionsForm) → after ≡ Some f → was ≡ Some f → (form ≡ f) ⊎ (form ≢ f) → word_bytes last ≡ word_bytes old
+        stays_by f is same (inl here) = two.word_is f is (ap Some here) ∙ one.word_is f (ap Some here) same
+        stays_by f is same (inr other) = absurd (at f is other same)
+    changes : (f : ExtensionsForm) → after ≡ Some f → was ≢ Some f → word_bytes last ≡ to_be_bytes w16 (form_word f)
+    changes f is other = changes_by (either_form form f)
+      where
+        changes_by : (form ≡ f) ⊎ (form ≢ f) → word_bytes last ≡ to_be_bytes w16 (form_word f)
+        changes_by (inl here) = two.word_is f is (ap Some here) ∙ one.new_word_is f (ap Some here) other
+        changes_by (inr left) = two.new_word_is f is (λ same. left (some_same form f same))
+          where
+            some_same : (a b : ExtensionsForm) → Some a ≡ Some b → a ≡ b
+            some_same a b same = cc
+
+-- the word once an element is put
+KeepsWord-put : (bytes buf : List ℕ) (len : ℕ) (new : Element) (allowed : Option ExtensionsForm) (parts : PacketParts) (block : ExtensionsForm × List ℕ) → IsPacket bytes parts
+    → IsPacket (take len buf) (record parts { has_extension = true; block = Some block }) → (puts : PutsElement bytes new allowed buf len) → puts.growth.parts ≡ parts
+    → KeepsWord (form_of_block parts.block) bytes (Some puts.growth.form) (take len buf)
+KeepsWord-put bytes buf len new allowed parts block was is puts same =
+    let s : ℕ = 12 + 4 * length parts.sources in
+    let end : sources_end bytes ≡ s = sources_end-is bytes parts was in
+    let here : word_bytes (take len buf) ≡ take 2 (drop s buf) =
+    word_of (take len buf) _ is ∙ word_in_take s len buf (word_within (take len buf) _ block is refl) in
+    record {
+      word_is = λ f form-is was-is. here
+      ∙ word_at_end s buf bytes
+      (ap (λ (k : ℕ). take (k + 2) buf) (sym end) ∙ puts.word_is (ap (λ (p : PacketParts). form_of_block p.block) same ∙ was-is ∙ sym form-is) ∙ ap (λ (k : ℕ). take (k + 2) bytes) end)
+      ∙ sym (word_of bytes parts was);
+      new_word_is = λ f form-is other. here ∙ ap (λ (k : ℕ). take 2 (drop k buf)) (sym end)
+      ∙ puts.new_word_is (λ kept. other (sym (ap (λ (p : PacketParts). form_of_block p.block) same) ∙ kept ∙ form-is))
+      ∙ ap (λ (g : ExtensionsForm). to_be_bytes w16 (form_word g)) (some_form puts.growth.form f form-is);
+    }
+  where
+    some_form : (a b : ExtensionsForm) → Some a ≡ Some b → a ≡ b
+    some_form a b is = cc
+
+-- ---- the elements that are put one after another
+
+-- what the packet of these parts and elements becomes
+pub record IsPutTo (was : List ℕ) (parts : PacketParts) (elements news : List Element) (allowed : Option ExtensionsForm) (bytes : List ℕ) : Type 0 where
+  pub form : Option ExtensionsForm
+  pub block : Option (ExtensionsForm × List ℕ)
+  pub form_is : form_of_block block ≡ form
+  pub is_after : IsFormAfter allowed (form_of_block parts.block) news form
+  pub is_packet : IsPacket bytes (record parts { has_extension = extension_after news parts.has_extension; block = block })
+  pub are_elements : AreElementsOf block (put_all news elements)
+  pub word_is : KeepsWord (form_of_block parts.block) was form bytes
+
+put-each : (news : List Element) (allowed : Option ExtensionsForm) (bytes final : List ℕ) (parts : PacketParts) (elements : List Element) → IsPacket bytes parts
+    → AreElementsOf parts.block elements → HasNone elements 0 → HasNone news 0 → ArePut bytes news allowed final → IsPutTo bytes parts elements news allowed final
+put-each [] allowed bytes final parts elements is are none ids put = record {
+  form = form_of_block parts.block;
+  block = parts.block;
+  form_is = refl;
+  is_after = refl;
+  is_packet = subst (λ (b : List ℕ). IsPacket b parts) (sym put) is;
+  are_elements = are;
+  word_is = record { word_is = λ f is same. ap word_bytes put; new_word_is = λ f is other. absurd (other is) };
+}
+put-each (new ∷ news) allowed bytes final parts elements is are none ids put =
+    let puts : PutsElement bytes new allowed put.0 put.1 = put.2 in
+    let growth = puts.growth in
+    let p_is : growth.parts ≡ parts = same_parts bytes growth.parts parts growth.is_packet is in
+    let es_is : growth.elements ≡ elements =
+    same_elements parts.block growth.elements elements (subst (λ (p : PacketParts). AreElementsOf p.block growth.elements) p_is growth.are_elements) are in
+    let with_all : elements_with growth.form new growth.elements ≡ put_element new elements =
+    ap (λ (es : List Element). put_element new (carried_in growth.form es)) es_is ∙ ap (put_element new) (carried-all growth.form elements none) in
+    let next : PacketParts = record parts { has_extension = true; block = Some (growth.form, puts.body) } in
+    let next_is : IsPacket (take put.1 put.0) next =
+    subst (λ (p : PacketParts). IsPacket (take put.1 put.0) (record p { has_extension = true; block = Some (growth.form, puts.body) })) p_is puts.is_packet in
+    let next_are : AreElementsOf next.block (put_element new elements) = subst (AreElements growth.form puts.body) with_all puts.are_elements in
+    let some : new.0 ≢ 0 = All-head (λ (e : Element). e.0 ≢ 0) new news ids in
+    let rest = put-each news allowed (take put.1 put.0) final next (put_element new elements) next_is next_are (none_zero-put new elements some none)
+    (All-tail (λ (e : Element). e.0 ≢ 0) new news ids) put.3 in
+    record {
+      form = rest.form;
+      block = rest.block;
+      form_is = rest.form_is;
+      is_after = (growth.form, subst (λ (p : PacketParts). allowed_form allowed (needed_form (form_of_block p.block) new) ≡ Some growth.form) p_is growth.form_is, rest.is_after);
+      is_packet = subst (λ (x : Bool). IsPacket final (record parts { has_extension = x; block = rest.block })) (still_set news) rest.is_packet;
+      are_elements = rest.are_elements;
+      word_is = KeepsWord-then (form_of_block parts.block) rest.form growth.form allowed new news bytes (take put.1 put.0) final
+      (subst (λ (p : PacketParts). allowed_form allowed (needed_form (form_of_block p.block) new) ≡ Some growth.form) p_is growth.form_is) rest.is_after
+      (KeepsWord-put bytes put.0 put.1 new allowed parts (growth.form, puts.body) is next_is puts p_is) rest.word_is;
+    }
+  where
+    still_set : (more : List Element) → extension_after more true ≡ true
+    still_set [] = refl
+    still_set (element ∷ more) = refl
+
+-- ---- the whole
+
+row-compact : (block : Option (ExtensionsForm × List ℕ)) (form : Option ExtensionsForm) (elements : List Element) → form_of_block block ≡ form → compact_block elements block ≡ row_in form elements
+row-compact None None elements is = refl
+row-compact None (Some form) elements is = absurd cc
+row-compact (Some block) None elements is = absurd cc
+row-compact (Some block) (Some form) elements is = let same : block.0 ≡ form = cc in ap (λ (f : ExtensionsForm). Some (f, filled (elements_bytes f elements))) same
+
+-- the packet under its new ids
+pub record HasNewIds (ids : ℕ → Option ℕ) (elements : List Element) (was new : PacketParts) : Type 0 where
+  pub block : Option (ExtensionsForm × List ℕ)
+  pub parts_are : new ≡ record was { block = block }
+  pub same_form : form_of_block block ≡ form_of_block was.block
+  pub are_elements : AreElementsOf block (filter_map (renumbered ids) elements)
+
+new_ids : (ids : ℕ → Option ℕ) (elements : List Element) (was new : PacketParts) (block : Option (ExtensionsForm × List ℕ)) → was.block ≡ block → AreElementsOf block elements
+    → IsRenumbered ids elements block was new → HasNewIds ids elements was new
+new_ids ids elements was new None none are same = record {
+  block = None;
+  parts_are = same ∙ ap (λ (b : Option (ExtensionsForm × List ℕ)). record was { block = b }) none;
+  same_form = ap form_of_block (sym none);
+  are_elements = ap (filter_map (renumbered ids)) are;
+}
+new_ids ids elements was new (Some block) some are changed =
+    let changes = changed.0 in
+    record {
+      block = Some (changes.form, changes.body);
+      parts_are = changes.parts_are;
+      same_form = ap form_of_block (sym changes.block_was);
+      are_elements = subst (λ (p : PacketParts). AreElementsOf p.block (filter_map (renumbered ids) elements)) changes.parts_are changed.1;
+    }
+
+-- a packet is its header and its payload
+pub header-split : (bytes : List ℕ) (parts : PacketParts) → IsPacket bytes parts → (header : List ℕ) × (bytes ≡ header ++ parts.payload) × IsPacket header (record parts { payload = [] })
+header-split bytes parts is =
+    let header : List ℕ = is.fixed ++ (concat is.groups ++ (is.part ++ [])) in
+    let split : bytes ≡ header ++ parts.payload = is.in_order ∙ sym (behind is.fixed (concat is.groups) is.part parts.payload) in (
+      header,
+      split,
+      record {
+        fixed = is.fixed;
+        groups = is.groups;
+        part = is.part;
+        in_order = refl;
+        fixed_is = record {
+          twelve = is.fixed_is.twelve;
+          first_is = is.fixed_is.first_is;
+          second_is = is.fixed_is.second_is;
+          number_is = is.fixed_is.number_is;
+          timestamp_is = is.fixed_is.timestamp_is;
+          ssrc_is = is.fixed_is.ssrc_is;
+        };
+        sources_are = is.sources_are;
+        part_is = is.part_is;
+      },
+    )
+  where
+    behind : (a b c d : List ℕ) → (a ++ (b ++ (c ++ []))) ++ d ≡ a ++ (b ++ (c ++ d))
+    behind a b c d =
+        append_assoc a (b ++ (c ++ [])) d ∙ ap (λ (xs : List ℕ). a ++ xs) (append_assoc b (c ++ []) d) ∙ ap (λ (xs : List ℕ). a ++ (b ++ (xs ++ d))) (append-nil c)
+
+pub routed-by_calls : (old new : List ℕ) (len : ℕ) (fields : Fields) (ids : ℕ → Option ℕ) (news : List Element) (allowed : Option ExtensionsForm) → GivesIds ids → HasNone news 0
+    → (calls : IsRoutedByCalls old fields ids news allowed new len)
+    → (header : List ℕ) × (take len new ≡ header ++ calls.parts.payload) × IsRouted old fields ids news allowed header
+routed-by_calls old new len fields ids news allowed gives no_zero calls =
+    let was : PacketParts = with_header_fields fields calls.parts in
+    let es : List Element = filter_map (renumbered ids) calls.elements in
+    let has : HasNewIds ids calls.elements was calls.renumbered.parts =
+    new_ids ids calls.elements was calls.renumbered.parts calls.parts.block refl calls.were_elements calls.renumbered.is_renumbered in
+    let here : PacketParts = record was { block = has.block } in
+    let is_here : IsPacket calls.renumbered_bytes here = subst (IsPacket calls.renumbered_bytes) has.parts_are calls.renumbered.is_packet in
+    let put : IsPutTo calls.renumbered_bytes here es news allowed calls.put_bytes =
+    put-each news allowed calls.renumbered_bytes calls.put_bytes here es is_here has.are_elements (none_zero-renumbered ids calls.elements gives) no_zero calls.are_put in
+    let there : PacketParts = record here { has_extension = extension_after news here.has_extension; block = put.block } in
+    let compacts : Compacts calls.put_bytes new len = calls.compacted in
+    let p_is : compacts.parts ≡ there = same_parts calls.put_bytes compacts.parts there compacts.was_packet put.is_packet in
+    let es_is : compacts.elements ≡ put_all news es =
+    same_elements put.block compacts.elements (put_all news es) (subst (λ (p : PacketParts). AreElementsOf p.block compacts.elements) p_is compacts.were_elements) put.are_elements in
+    let with_parts : IsPacket (take len new) (record there { block = compact_block compacts.elements put.block }) =
+    subst (λ (p : PacketParts). IsPacket (take len new) (record p { block = compact_block compacts.elements p.block })) p_is compacts.is_packet in
+    let block_is : compact_block compacts.elements put.block ≡ row_in put.form (put_all news es) =
+    ap (λ (xs : List Element). compact_block xs put.block) es_is ∙ row-compact put.block put.form (put_all news es) put.form_is in
+    let whole : IsPacket (take len new) (record there { block = row_in put.form (put_all news es) }) =
+    subst (λ (b : Option (ExtensionsForm × List ℕ)). IsPacket (take len new) (record there { block = b })) block_is with_parts in
+    let split = header-split (take len new) (record there { block = row_in put.form (put_all news es) }) whole in
+    let s : ℕ = 12 + 4 * length calls.parts.sources in
+    let set_word : take 2 (drop s calls.set_bytes) ≡ take 2 (drop s old) =
+    ap (take 2) (from_twelve s calls.set_bytes (omega arith) ∙ ap (drop (s - 12)) calls.set_only.after_is ∙ sym (from_twelve s old (omega arith))) in
+    let renumbered_word : take 2 (drop s calls.renumbered_bytes) ≡ take 2 (drop s calls.set_bytes) =
+    word_before s (sources_end calls.set_bytes + 4) calls.renumbered_bytes calls.set_bytes (omega (arith, sources_end-is calls.set_bytes was calls.set_packet)) calls.renumbered.only_body.before_is in
+    let first_word : word_bytes calls.renumbered_bytes ≡ word_bytes old =
+    word_of calls.renumbered_bytes here is_here ∙ renumbered_word ∙ set_word ∙ sym (word_of old calls.parts calls.was_packet) in
+    let same_form : form_of_block has.block ≡ form_of_block calls.parts.block = has.same_form in
+    let last_word : (f : ExtensionsForm) → put.form ≡ Some f → word_bytes split.0 ≡ word_bytes calls.put_bytes =
+    λ f is.
+    let row : List ℕ = filled (elements_bytes f (put_all news es)) in
+    let some : row_in put.form (put_all news es) ≡ Some (f, row) = ap (λ (g : Option ExtensionsForm). row_in g (put_all news es)) is in
+    let in_front : s + 2 ≤ length split.0 = word_within split.0 _ (f, row) split.2 some in
+    let whole_word : take 2 (drop s (take len new)) ≡ take 2 (drop s split.0) =
+    ap (λ (xs : List ℕ). take 2 (drop s xs)) split.1 ∙ word_in_front s split.0 calls.parts.payload in_front in
+    let end : sources_end calls.put_bytes ≡ s = sources_end-is calls.put_bytes there put.is_packet in
+    let kept : take (sources_end calls.put_bytes + 2) new ≡ take (sources_end calls.put_bytes + 2) calls.put_bytes =
+    compacts.word_is f (ap (λ (p : PacketParts). form_of_block p.block) p_is ∙ put.form_is ∙ is) in
+    word_of split.0 _ split.2 ∙ sym whole_word
+    ∙ word_in_take s len new (word_within (take len new) _ (f, row) whole some)
+    ∙ word_at_end s new calls.put_bytes (subst (λ (k : ℕ). take (k + 2) new ≡ take (k + 2) calls.put_bytes) end kept)
+    ∙ sym (word_of calls.put_bytes there put.is_packet) in (
+      split.0,
+      split.1,
+      record {
+        parts = calls.parts;
+        elements = calls.elements;
+        form = put.form;
+        was_packet = calls.was_packet;
+        were_elements = calls.were_elements;
+        form_is = subst (λ (f : Option ExtensionsForm). IsFormAfter allowed f news put.form) has.same_form put.is_after;
+        is_packet = split.2;
+        are_elements = subst (λ (b : Option (ExtensionsForm × List ℕ)). AreElementsOf b (put_all news es)) block_is
+        (subst (λ (xs : List Element). AreElementsOf (compact_block compacts.elements put.block) xs) es_is
+        (subst (λ (p : PacketParts). AreElementsOf (compact_block compacts.elements p.block) compacts.elements) p_is compacts.are_elements));
+        word_is = record {
+          word_is = λ f is same. last_word f is ∙ put.word_is.word_is f is (same_form ∙ same) ∙ first_word;
+          new_word_is = λ f is other. last_word f is ∙ put.word_is.new_word_is f is (λ same. other (sym same_form ∙ same));
+        };
+      },
+    )
+  where
+    from_twelve : (s : ℕ) (xs : List ℕ) → 12 ≤ s → drop s xs ≡ drop (s - 12) (drop 12 xs)
+    from_twelve s xs more = ap (λ (k : ℕ). drop k xs) (omega arith) ∙ sym (drop-drop (s - 12) 12 xs)
+
+-- ---- the header alone and the whole packet
+
+block-there : (block : Option (ExtensionsForm × List ℕ)) (f : ExtensionsForm) → form_of_block block ≡ Some f → block ≡ Some (f, body_of_block block)
+block-there None f is = absurd cc
+block-there (Some block) f is = let here : block.0 ≡ f = cc in ap (λ (g : ExtensionsForm). Some (g, block.1)) here
+
+-- a header that is made of the packet's header is made of the packet
+pub routed-whole : (whole header : List ℕ) (parts : PacketParts) (new : List ℕ) (len : ℕ) (fields : Fields) (ids : ℕ → Option ℕ) (news : List Element) (allowed : Option ExtensionsForm)
+    → IsPacket whole parts → IsPacket header (record parts { payload = [] }) → whole ≡ header ++ parts.payload → GivesIds ids → HasNone news 0 → IsRoutedByCalls header fields ids news allowed new len
+    → IsRouted whole fields ids news allowed (take len new)
+routed-whole whole header parts new len fields ids news allowed is alone front gives no_zero calls =
+    let made = routed-by_calls header new len fields ids news allowed gives no_zero calls in
+    let same : calls.parts ≡ record parts { payload = [] } = same_parts header calls.parts (record parts { payload = [] }) calls.was_packet alone in
+    let all : take len new ≡ made.0 = made.1 ∙ ap (λ (p : PacketParts). made.0 ++ p.payload) same ∙ append-nil made.0 in
+    subst (IsRouted whole fields ids news allowed) (sym all) (of_whole made.0 made.2)
+  where
+    of_whole : (made : List ℕ) → IsRouted header fields ids news allowed made → IsRouted whole fields ids news allowed made
+    of_whole made routed =
+        let same : routed.parts ≡ record parts { payload = [] } = same_parts header routed.parts (record parts { payload = [] }) routed.was_packet alone in
+        let s : ℕ = 12 + 4 * length parts.sources in
+        let form_was : form_of_block routed.parts.block ≡ form_of_block parts.block = ap (λ (p : PacketParts). form_of_block p.block) same in
+        let word : (f : ExtensionsForm) → form_of_block parts.block ≡ Some f → word_bytes header ≡ word_bytes whole =
+        λ f is_form. word_of header (record parts { payload = [] }) alone
+        ∙ sym (word_in_front s header parts.payload (word_within header (record parts { payload = [] }) (f, body_of_block parts.block) alone (block-there parts.block f is_form)))
+        ∙ ap (λ (xs : List ℕ). take 2 (drop s xs)) (sym front)
+        ∙ sym (word_of whole parts is) in
+        record {
+          parts = parts;
+          elements = routed.elements;
+          form = routed.form;
+          was_packet = is;
+          were_elements = subst (λ (p : PacketParts). AreElementsOf p.block routed.elements) same routed.were_elements;
+          form_is = subst (λ (p : PacketParts). IsFormAfter allowed (form_of_block p.block) news routed.form) same routed.form_is;
+          is_packet = subst (λ (p : PacketParts). IsPacket made (record (routed_parts fields ids news routed.form routed.elements p) { payload = [] })) same routed.is_packet;
+          are_elements = routed.are_elements;
+          word_is = record {
+            word_is = λ f is_form was_form. routed.word_is.word_is f is_form (form_was ∙ was_form) ∙ word f was_form;
+            new_word_is = λ f is_form other. routed.word_is.new_word_is f is_form (λ was_form. other (sym form_was ∙ was_form));
+          };
+        }
+
+-- what is so of a value where two things are
+pub on-ok : {A E : Type 0} (result : Result A E) (P Q R : A → Type 0) → ((a : A) → P a → Q a → R a) → IfOk result P → IfOk result Q → IfOk result R
+on-ok (Ok a) P Q R gives p q = gives a p q
+on-ok (Err e) P Q R gives p q = p
+
+-- the header that is made of a packet's header
+pub routed-of : (packet : RtpPacket) (new : List ℕ) (len : ℕ) (fields : Fields) (ids : ℕ → Option ℕ) (news : List Element) (allowed : Option ExtensionsForm) → GivesIds ids → HasNone news 0
+    → IsRoutedByCalls (header_in packet) fields ids news allowed new len → IsRouted (datagram_of packet) fields ids news allowed (take len new)
+routed-of packet new len fields ids news allowed gives no_zero calls =
+    let split = header-split packet.datagram.now (parts_of packet) (IsPacket-found packet) in
+    let long : length split.0 ≡ header_len_of (parts_of packet) = omega (arith, length-packet split.0 (record (parts_of packet) { payload = [] }) split.2) in
+    let here : header_in packet ≡ split.0 = ap (take (header_len_of (parts_of packet))) split.1 ∙ take_at split.0 (parts_of packet).payload (header_len_of (parts_of packet)) long in
+    routed-whole packet.datagram.now split.0 (parts_of packet) new len fields ids news allowed (IsPacket-found packet) split.2 split.1 gives no_zero
+    (subst (λ (h : List ℕ). IsRoutedByCalls h fields ids news allowed new len) here calls)

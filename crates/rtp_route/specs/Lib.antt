@@ -1,0 +1,4 @@
+-- What public contracts cite.
+pub mod Routing
+pub mod Calls
+pub mod Template

@@ -1,0 +1,103 @@
+//! The header of a group of receivers, made by the calls for one packet.
+
+ghost use Rattle.std.specs.Prelude.{◌≡◌, ◌≤◌, ℕ, List, Option, ◌++◌, length, take, IfOk, IfSome};
+ghost use Rattle.rtp_ext.specs.declared.form.ExtensionsForm.{ExtensionsForm};
+ghost use Rattle.rtp_ext.specs.Elements.{Element};
+ghost use Rattle.rtp_ext.specs.ElementsInARow.{elements_of};
+ghost use Rattle.rtp_ext.specs.ElementsInPlace.{HasNone};
+ghost use Rattle.rtp_ext.specs.NewIds.{new_id};
+ghost use Rattle.rtp_wire.specs.declared.packet.fields.Fields.{Fields};
+ghost use Rattle.rtp_wire.specs.PartsOf.{datagram_of};
+ghost use Rattle.rtp_route.specs.Calls.{ArePut, IsRoutedByCalls, header_in};
+ghost use Rattle.rtp_route.specs.Routing.{GivesIds, IsRouted};
+
+use super::NotRouted;
+use super::in_place::{renumber, set_fields};
+use rtp_base::put;
+use rtp_ext::{ExtensionsForm, NewIds};
+use rtp_wire::{Fields, NotPut, RtpPacket, compact, put_element};
+
+/// What receivers of a packet have in common.
+#[derive(Clone, Copy)]
+pub struct Group<'a> {
+    /// The ids that the elements get (RFC 8285, 5).
+    pub ids: &'a NewIds,
+    /// The elements that are then put into the header one after another, each with its id and data.
+    pub elements: &'a [(u8, &'a [u8])],
+    /// The one form that the block may have, where it isn't any (RFC 8285, 4.1.2).
+    pub allowed: Option<ExtensionsForm>,
+}
+
+// Puts the elements into the packet in the first bytes of the buffer one after another, and returns
+// how many bytes it then has.
+fn put_each(buf: &mut [u8], len: usize, group: &Group<'_>) -> Result<usize, NotPut>
+    requires { len ≤ length buf.old }
+    ensures put { IfOk result (λ new_len. ArePut (take len buf.old)
+        (elements_of group.now.elements.now) group.now.allowed (take new_len buf.new)) }
+    ensures ids { IfOk result (λ _. HasNone (elements_of group.now.elements.now) 0) }
+    ensures within { IfOk result (λ new_len. new_len ≤ length buf.old) }
+    ensures length { length buf.new ≡ length buf.old }
+{
+    let mut len = len;
+    for (id, data) in group.elements {
+        len = put_element(buf, len, *id, data, group.allowed)?;
+    }
+    Ok(len)
+}
+
+// Makes the header that the packet gets with these fields for the group in the first bytes of the
+// buffer, and returns how many bytes it has.
+fn make_header(
+    packet: &RtpPacket<'_>,
+    fields: &Fields,
+    group: &Group<'_>,
+    buf: &mut [u8],
+) -> Result<usize, NotRouted>
+    requires { IfSome fields.now.payload_type (λ pt. pt ≤ 127) }
+    ensures made { IfOk result (λ len. IsRoutedByCalls (header_in packet.now) fields.now
+        (new_id group.now.ids.now) (elements_of group.now.elements.now) group.now.allowed
+        buf.new len) }
+    ensures ids { IfOk result (λ _. HasNone (elements_of group.now.elements.now) 0) }
+    ensures within { IfOk result (λ len. len ≤ length buf.new) }
+{
+    let header = packet.header_bytes();
+    let needed = header.len();
+    if buf.len() < needed {
+        return Err(NotRouted::NotPut(NotPut::NoRoom { needed }));
+    }
+    put(buf, 0, header);
+    let (header_len, form) = (packet.header_len(), packet.form());
+    set_fields(&mut buf[..needed], header_len, form, fields);
+    if !renumber(&mut buf[..needed], header_len, form, group.ids) {
+        return Err(NotRouted::LongId);
+    }
+    let len = put_each(buf, needed, group)?;
+    match compact(&mut buf[..len]) {
+        Ok(len) => Ok(len),
+        Err(cause) => Err(NotRouted::NotPut(NotPut::NotAPacket(cause))),
+    }
+}
+
+/// Writes the header that the packet gets on its way to a receiver.
+pub fn route_header(
+    packet: &RtpPacket<'_>,
+    fields: &Fields,
+    group: &Group<'_>,
+    buf: &mut [u8],
+) -> Result<usize, NotRouted>
+    requires { IfSome fields.now.payload_type (λ pt. pt ≤ 127) }
+    ensures routed { GivesIds (new_id group.now.ids.now) → IfOk result (λ len.
+        IsRouted (datagram_of packet.now) fields.now (new_id group.now.ids.now)
+        (elements_of group.now.elements.now) group.now.allowed (take len buf.new)) }
+    ensures within { IfOk result (λ len. len ≤ length buf.new) }
+{
+    make_header(packet, fields, group, buf)
+}
+
+// The law: where the calls for one packet, one after another, don't refuse, they make the header
+// that the route makes, and leave the payload behind it.
+pub fn routes_as_the_calls_do()
+    ensures { (old new : List ℕ) (len : ℕ) (fields : Fields) (ids : ℕ → Option ℕ) (news : List Element) (allowed : Option ExtensionsForm) →
+        GivesIds ids → HasNone news 0 → (calls : IsRoutedByCalls old fields ids news allowed new len) →
+        (header : List ℕ) × (take len new ≡ header ++ calls.parts.payload) × IsRouted old fields ids news allowed header }
+{}
