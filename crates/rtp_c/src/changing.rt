@@ -15,7 +15,7 @@ ghost use Rattle.rtp_c.specs.ChangedElements.{BecomesPacket};
 ghost use Rattle.rtp_c.specs.SetFields.{fields_given, CanBeSet};
 
 use super::given::given;
-use super::status::{BAD_FIELD, NONE, OK, status_of};
+use super::status::{BAD_FIELD, NONE, OK, refusal_status};
 use rtp_base::{Pt, Ssrc};
 use rtp_wire::{ExtensionsForm, Fields, RtpPacket, RtpPacketMut};
 
@@ -66,7 +66,7 @@ pub fn layout_of(datagram: &[u8]) -> Result<(usize, Option<ExtensionsForm>), i32
 {
     match RtpPacket::parse(datagram) {
         Ok(packet) => Ok((packet.header_len(), packet.form())),
-        Err(cause) => Err(status_of(cause)),
+        Err(cause) => Err(refusal_status(cause)),
     }
 }
 

@@ -49,6 +49,16 @@ pub fn status_of(cause: NotAPacket) -> i32
     }
 }
 
+// The same, where a packet was to be changed. It stays out of line, since few such buffers hold
+// none, and a call on a packet then does nothing for it.
+#[cold]
+#[inline(never)]
+pub fn refusal_status(cause: NotAPacket) -> i32
+    ensures { result ≡ cause_status cause }
+{
+    status_of(cause)
+}
+
 // The status of this cause against a header.
 pub fn header_status_of(cause: NotAHeader) -> i32
     ensures { result ≡ header_status cause }
