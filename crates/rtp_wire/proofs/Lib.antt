@@ -8,7 +8,7 @@ pub mod HeaderFound
 pub mod PartsLemmas
 pub mod BytesBetween
 mod PacketChanges
-mod PacketBufLemmas
+pub mod PacketBufLemmas
 mod AddedPaddingLemmas
 mod PacketParts
 mod PaddingChanges
@@ -34,7 +34,7 @@ mod PutElementLemmas
 mod SplicedLemmas
 mod ReplacedLemmas
 mod RemadeLemmas
-mod RemadePacketLemmas
+pub mod RemadePacketLemmas
 pub mod CompactLemmas
 mod StandardFacts
 mod PacketIdLemmas

@@ -7,7 +7,7 @@ ghost use Rattle.rtp_wire.specs.declared.packet.not_in_buffer.NotInBuffer.{NotIn
 ghost use Rattle.rtp_wire.specs.declared.packet.not_retransmitted.NotRetransmitted.{NotRetransmitted};
 ghost use Rattle.rtp_wire.specs.declared.packet.retransmission.RetransmissionFields.{RetransmissionFields};
 ghost use Rattle.rtp_wire.specs.Packet.{PacketParts, IsPacket};
-ghost use Rattle.rtp_wire.specs.PartsAt.{form_in, header_end};
+ghost use Rattle.rtp_wire.specs.PartsAt.{form_in, header_end, HasLayout};
 ghost use Rattle.rtp_wire.specs.PutIntoPacket.{PutsElement, AppliesToPut, IsFirstNotPut, Compacts};
 ghost use Rattle.rtp_wire.specs.Retransmission.{IsRetransmissionOf, IsRestored, IsPacketWith, Sends, Restores, KeepsFromSending, KeepsFromRestoring, IsFirstOf};
 
@@ -42,6 +42,31 @@ impl<'a> RtpPacketBuf<'a> {
     ghost use Rattle.rtp_wire.specs.PartsOf.{parts_of, datagram_of};
     ghost use Rattle.rtp_wire.specs.PacketBuf.{whole_of, len_of, bytes_of, parts_within, IsNotFront, StaysWhole};
 
+    /// The packet in the first `len` bytes of the buffer, whose header was found by
+    /// [`RtpPacket::parse`]: it has this length and a block of this form, if of one of the two.
+    ///
+    /// It is for callers that have to prove that a buffer without a packet stays as it was, as
+    /// [`RtpPacketMut::new`](super::RtpPacketMut::new) is.
+    pub fn new(
+        buf: &'a mut [u8],
+        len: usize,
+        header_len: usize,
+        form: Option<ExtensionsForm>,
+    ) -> Self
+        requires room { len ≤ length buf.old }
+        requires layout { HasLayout (take len buf.old) header_len form }
+        ensures length { len_of result ≡ len }
+        ensures same_buffer { (whole_of result).ghost_name ≡ buf.entry.ghost_name }
+        ensures same_bytes { (whole_of result).now ≡ buf.old }
+    {
+        RtpPacketBuf {
+            buf,
+            len,
+            header_len,
+            form,
+        }
+    }
+
     /// The packet in the first `len` bytes of the buffer, or the first cause for which these are
     /// none (RFC 3550, 5.1 and 5.3.1).
     pub fn parse(buf: &'a mut [u8], len: usize) -> Result<Self, NotInBuffer>
@@ -59,12 +84,7 @@ impl<'a> RtpPacketBuf<'a> {
         let packet = RtpPacket::parse(&buf[..len])?;
         let header_len = packet.header_len;
         let form = packet.form;
-        Ok(RtpPacketBuf {
-            buf,
-            len,
-            header_len,
-            form,
-        })
+        Ok(RtpPacketBuf::new(buf, len, header_len, form))
     }
 
     /// The packet as it stands in the buffer.
