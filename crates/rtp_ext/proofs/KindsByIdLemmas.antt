@@ -1,5 +1,5 @@
 -- The known extensions by their ids: what a table of kinds shows, and what the known extensions of a map read.
-use Rattle.rtp_ext.proofs.Common.{◌≡◌, ℕ, ◌+◌, ◌-◌, suc, zero, List, [], ◌∷◌, length, map, replicate, set, get_or, Option, Some, None, All, arith, ap, refl, sym, ◌∙◌, subst, get_or-map, map-set, Extension, UnknownUri, KnownKind, ExtensionValues, IsKnown, IsWellFormed, one_kind, Element, Entry, Slots, IsEmpty, IsId, entry_at, extension_at, extension_of, entry_of_kind, slots_of, known_alone, known_entry, known_slots, IsMapped, extension_of_kind, Carries, AreFields, last, none, AreValues, ReadElements, HasAllocation, ReadUntilRefused, All-weaker}
+use Rattle.rtp_ext.proofs.Common.{◌≡◌, ℕ, ◌+◌, ◌-◌, suc, zero, List, [], ◌∷◌, length, map, replicate, set, get_or, Option, Some, None, All, arith, ap, refl, sym, ◌∙◌, subst, get_or-map, map-set, Extension, UnknownUri, KnownKind, ExtensionValues, IsKnown, IsWellFormed, one_kind, Element, Entry, Slots, IsEmpty, IsId, entry_at, extension_at, extension_of, entry_of_kind, slots_of, known_alone, known_entry, known_slots, IsMapped, Carries, AreFields, last, none, AreValues, ReadElements, HasAllocation, ReadUntilRefused, All-weaker}
 use Rattle.rtp_ext.proofs.MapLemmas.{entry_at-map}
 
 -- ---- the table
@@ -63,11 +63,6 @@ from_entry (Some kind) entry is = (kind, refl)
 pub kind_there : (kinds : List (Option KnownKind)) (id : ℕ) → IsMapped (slots_of kinds) id → (kind : KnownKind) × (get_or kinds id None ≡ Some kind)
 kind_there kinds zero mapped = let found = mapped.1 in cc
 kind_there kinds (suc k) mapped = from_entry (get_or kinds (suc k) None) mapped.0 (sym (entry_at-kinds kinds k) ∙ mapped.1)
-
-pub extension_there : (kinds : List (Option KnownKind)) (id : ℕ) (kind : KnownKind) → IsMapped (slots_of kinds) id → get_or kinds id None ≡ Some kind
-    → extension_at (slots_of kinds) id ≡ Some (extension_of_kind kind)
-extension_there kinds zero kind mapped is = let found = mapped.1 in cc
-extension_there kinds (suc k) kind mapped is = ap extension_of (entry_at-kinds kinds k ∙ ap entry_of_kind is)
 
 -- ---- the known extensions of a map
 

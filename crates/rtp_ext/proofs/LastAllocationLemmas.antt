@@ -30,9 +30,6 @@ kind-untested (Some _) test is false_is = absurd (false≢true (sym false_is ∙
 
 -- ---- which data count
 
-pub IsLastAllocation-none : (exts : Slots) (first : List ℕ) → IsLastAllocation exts [] first first
-IsLastAllocation-none exts first = none_is (All-nil (λ e. Carries exts VideoLayersAllocation e → ⊥)) refl
-
 IsLastAllocation-passed : (exts : Slots) (done : List Element) (element : Element) (first bytes : List ℕ)
     → (Carries exts VideoLayersAllocation element → ⊥) → IsLastAllocation exts done first bytes
     → IsLastAllocation exts (done ++ element ∷ []) first bytes
@@ -53,15 +50,6 @@ IsLastAllocation-taken exts done element first carries =
 -- the element after those that were passed is passed too
 one_less : (elements done left : List Element) (element : Element) → elements ≡ done ++ element ∷ left → elements ≡ (done ++ element ∷ []) ++ left
 one_less elements done left element is = is ∙ sym (append_assoc done (element ∷ []) left)
-
-pub EndsRow-start : (exts : Slots) (first : List ℕ) (elements : List Element) → EndsRow exts first elements elements first
-EndsRow-start exts first elements = record {
-  row = [];
-  elements_are = refl;
-  no_other = λ kind differs. All-nil (λ e. Carries exts kind e → ⊥);
-  last = IsLastAllocation-none exts first;
-  memory = λ long. long;
-}
 
 -- one more element carries nothing
 pub EndsRow-passed : (exts : Slots) (first : List ℕ) (elements left : List Element) (element : Element) (bytes : List ℕ)

@@ -44,6 +44,7 @@ pub mod NewIdLemmas
 mod NewBytesLemmas
 pub mod RenamedIdLemmas
 pub mod RenamesLemmas
+mod PaddedPieceLemmas
 mod RenumberingLemmas
 pub mod RenumberedValuesLemmas
 -- An element that is set where it lies, or put into a body that is made anew.
@@ -54,6 +55,7 @@ pub mod GatheredLemmas
 mod RowLemmas
 mod AroundLemmas
 mod BetweenLemmas
+mod MovedElementLemmas
 mod WidenLemmas
 pub mod NarrowLemmas
 mod RowLengthLemmas

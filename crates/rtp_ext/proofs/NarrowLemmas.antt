@@ -1,7 +1,7 @@
 -- Elements of the two-byte form in a row, put in the one-byte form one after another.
-use Rattle.std.proofs.Common.{◌≡◌, ℕ, ◌+◌, ◌-◌, ◌*◌, ◌≤◌, List, [], ◌∷◌, ◌++◌, length, take, drop, replicate, append_assoc, length-append, length-drop, length-take-le, arith, refl, sym, ap, ◌∙◌, subst}
+use Rattle.std.proofs.Common.{◌≡◌, ℕ, ◌+◌, ◌-◌, ◌*◌, ◌≤◌, List, [], ◌∷◌, ◌++◌, length, take, drop, replicate, append_assoc, length-append, arith, refl, sym, ap, ◌∙◌, subst}
 use Rattle.std.specs.List.{AllByRecursion}
-use Rattle.std.proofs.lemmas.List.{append-nil, take_at, drop_at, take-append-le, take-take, drop-drop}
+use Rattle.std.proofs.lemmas.List.{append-nil}
 use lib.Seq.{paste}
 use Rattle.rtp_base.specs.Overwriting.{overwritten}
 use Rattle.rtp_ext.specs.declared.form.ExtensionsForm.TheVariants.{OneByte, TwoByte}
@@ -15,6 +15,7 @@ use Rattle.rtp_ext.specs.BodySurvey.{IsNarrowRow, IsNarrowed, IsNarrowedTo}
 use Rattle.rtp_ext.proofs.PieceLemmas.{AllByRecursion-append, AreElements-none}
 use Rattle.rtp_ext.proofs.LastPlaceLemmas.{AreElements-same}
 use Rattle.rtp_ext.proofs.GatheredLemmas.{elements_bytes-append}
+use Rattle.rtp_ext.proofs.MovedElementLemmas.{moved}
 use Rattle.rtp_ext.proofs.WidenLemmas.{each_element, row-read, IsFirstOfRow, first_of_row}
 
 -- what the one-byte form can carry, the two-byte form can
@@ -67,54 +68,26 @@ module _ (old body : List ℕ) (at end : ℕ) (place : Place) (was : IsNarrowedT
   split : drop at body ≡ element_bytes TwoByte (place.id, next.bytes) ++ next.after
   split = next.left_is ∙ ap (λ (n : ℕ). replicate n 0 ++ (element_bytes TwoByte (place.id, next.bytes) ++ next.after)) first.no_padding
 
-  data_is : take (place.end - place.data_start) (drop place.data_start body) ≡ next.bytes
-  data_is =
-      ap (λ (k : ℕ). take (place.end - place.data_start) (drop k body)) data_at
-      ∙ (ap (take (place.end - place.data_start)) (sym (drop-drop 2 at body) ∙ ap (drop 2) split)
-      ∙ take_at next.bytes next.after (place.end - place.data_start) (omega (arith, next.end_is)))
-
-  after_is : drop place.end body ≡ elements_bytes TwoByte first.more
-  after_is =
-      let k : place.end ≡ at + (2 + length next.bytes) = omega (arith, next.end_is, data_at) in
-      ap (λ (n : ℕ). drop n body) k ∙ (sym (drop-drop (2 + length next.bytes) at body) ∙ (ap (drop (2 + length next.bytes)) split
-      ∙ (drop_at (element_bytes TwoByte (place.id, next.bytes)) next.after (2 + length next.bytes) (omega arith) ∙ first.after_is)))
-
   pub IsNarrowedTo-next : (copied new : List ℕ) → copied ≡ paste body (end + 1) (drop place.data_start body) (place.end - place.data_start)
       → new ≡ overwritten copied end (element_header OneByte place.id (place.end - place.data_start))
       → IsNarrowedTo old new place.end (end + (1 + (place.end - place.data_start)))
-  unfolding overwritten
   IsNarrowedTo-next copied new copied_is new_is =
       let n : ℕ = place.end - place.data_start in
       let count : n ≡ length next.bytes = omega (arith, next.end_is) in
+      let stop : place.end ≡ place.data_start + n = omega (arith, next.end_is) in
       let far = ahead in
       let within = in_body in
-      let rest : List ℕ = drop (end + 1 + n) body in
+      let is = moved body copied new at end place.data_start n (element_header TwoByte place.id (length next.bytes)) (element_header OneByte place.id n) next.bytes next.after split data_at count
+      (omega (arith, far, stop)) (omega (arith, within, stop)) copied_is new_is in
       let element : List ℕ = element_bytes OneByte (place.id, next.bytes) in
-      let parts : copied ≡ take (end + 1) body ++ (next.bytes ++ rest) =
-      copied_is ∙ (append_assoc (take (end + 1) body) (take n (drop place.data_start body)) rest ∙ ap (λ b. take (end + 1) body ++ (b ++ rest)) data_is) in
-      let head : take end copied ≡ take end body =
-      ap (take end) parts ∙ (take-append-le end (take (end + 1) body) (next.bytes ++ rest) (omega (arith, length-take-le (end + 1) body (omega arith)))
-      ∙ take-take end (end + 1) body (omega arith)) in
-      let tail : drop (end + 1) copied ≡ next.bytes ++ rest =
-      ap (drop (end + 1)) parts ∙ drop_at (take (end + 1) body) (next.bytes ++ rest) (end + 1) (length-take-le (end + 1) body (omega arith)) in
-      let whole : new ≡ (take end body ++ element) ++ rest =
-      new_is ∙ (ap (λ b. b ++ (element_header OneByte place.id n ++ drop (end + 1) copied)) head
-      ∙ (ap (λ b. take end body ++ (element_header OneByte place.id n ++ b)) tail
-      ∙ (ap (λ (k : ℕ). take end body ++ ((place.id * 16 + (k - 1)) ∷ (next.bytes ++ rest))) count ∙ sym (append_assoc (take end body) element rest)))) in
-      let front : length (take end body ++ element) ≡ end + (1 + n) = omega (arith, length-append (take end body) element, length-take-le end body (omega arith)) in
-      let e : end + 1 + n ≡ end + (1 + n) = omega arith in
-      let long : length new ≡ length body = omega (arith, ap length whole, length-append (take end body ++ element) rest, length-drop (end + 1 + n) body) in
-      let later : place.end ≡ end + (1 + n) + (place.end - (end + (1 + n))) = omega arith in
       record {
         passed = was.passed ++ (place.id, next.bytes) ∷ [];
         left = first.more;
         are_passed = AllByRecursion-append (IsWritable OneByte) was.passed ((place.id, next.bytes) ∷ []) was.are_passed (here, tt);
         are_left = (subst (AllByRecursion (IsWritable OneByte)) first.left_is was.are_left).1;
         row_was = was.row_was ∙ ap (elements_bytes TwoByte) (ap (λ es. was.passed ++ es) first.left_is ∙ sym (append_assoc was.passed ((place.id, next.bytes) ∷ []) first.more));
-        left_is = ap (λ (k : ℕ). drop k new) later ∙ (sym (drop-drop (place.end - (end + (1 + n))) (end + (1 + n)) new)
-            ∙ (ap (drop (place.end - (end + (1 + n)))) (ap (drop (end + (1 + n))) whole ∙ (drop_at (take end body ++ element) rest (end + (1 + n)) front ∙ ap (λ (k : ℕ). drop k body) e))
-            ∙ (drop-drop (place.end - (end + (1 + n))) (end + (1 + n)) body ∙ (ap (λ (k : ℕ). drop k body) (sym later) ∙ after_is))));
-        row_is = ap (take (end + (1 + n))) whole ∙ (take_at (take end body ++ element) rest (end + (1 + n)) front
+        left_is = ap (λ (k : ℕ). drop k new) stop ∙ (is.after_is ∙ first.after_is);
+        row_is = is.front_is ∙ (ap (λ (k : ℕ). take end body ++ ((place.id * 16 + (k - 1)) ∷ next.bytes)) count
             ∙ (ap (λ b. b ++ element) was.row_is ∙ sym (elements_bytes-append OneByte was.passed ((place.id, next.bytes) ∷ []) ∙ ap (λ b. elements_bytes OneByte was.passed ++ b) (append-nil element))));
         end_is = omega (
           arith,
@@ -124,7 +97,7 @@ module _ (old body : List ℕ) (at end : ℕ) (place : Place) (was : IsNarrowedT
           ap length (append-nil element),
           count,
         );
-        at_is = omega (arith, was.at_is, left_len, long, next.end_is, data_at);
+        at_is = omega (arith, was.at_is, left_len, is.as_long, next.end_is, data_at);
         behind = far;
       }
 

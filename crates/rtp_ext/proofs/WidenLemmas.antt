@@ -1,7 +1,7 @@
 -- Elements of the one-byte form in a row, put in the two-byte form one after another.
-use Rattle.std.proofs.Common.{◌≡◌, ℕ, zero, suc, ◌+◌, ◌-◌, ◌*◌, ◌≤◌, List, [], ◌∷◌, ◌++◌, length, take, drop, replicate, append_assoc, length-append, length-drop, length-take-le, arith, refl, sym, ap, ◌∙◌, subst}
+use Rattle.std.proofs.Common.{◌≡◌, ℕ, zero, suc, ◌+◌, ◌-◌, ◌*◌, ◌≤◌, List, [], ◌∷◌, ◌++◌, length, take, drop, replicate, append_assoc, length-append, length-drop, arith, refl, sym, ap, ◌∙◌, subst}
 use Rattle.std.specs.List.{AllByRecursion}
-use Rattle.std.proofs.lemmas.List.{append-nil, append_cancel_left, take_at, drop_at, take-append-le, take-take, drop-drop}
+use Rattle.std.proofs.lemmas.List.{append-nil, append_cancel_left}
 use lib.Seq.{paste}
 use Rattle.rtp_base.specs.Overwriting.{overwritten}
 use Rattle.rtp_ext.specs.declared.form.ExtensionsForm.{ExtensionsForm}
@@ -19,6 +19,7 @@ use Rattle.rtp_ext.proofs.LastPlaceLemmas.{AreElements-same}
 use Rattle.rtp_ext.proofs.WrittenElementsLemmas.{AreElements-in_a_row}
 use Rattle.rtp_ext.proofs.ServingFormLemmas.{length-two}
 use Rattle.rtp_ext.proofs.GatheredLemmas.{elements_bytes-append}
+use Rattle.rtp_ext.proofs.MovedElementLemmas.{moved}
 
 pub each_element : (form : ExtensionsForm) (elements : List Element) → AllByRecursion (IsWritable form) elements → AllByRecursion (IsElement form) elements
 each_element form [] all = tt
@@ -116,44 +117,18 @@ module _ (old room : List ℕ) (len at end : ℕ) (place : Place) (was : IsWiden
   split : drop at room ≡ element_bytes OneByte (place.id, next.bytes) ++ next.after
   split = next.left_is ∙ ap (λ (n : ℕ). replicate n 0 ++ (element_bytes OneByte (place.id, next.bytes) ++ next.after)) first.no_padding
 
-  data_is : take (place.end - place.data_start) (drop place.data_start room) ≡ next.bytes
-  data_is =
-      ap (λ (k : ℕ). take (place.end - place.data_start) (drop k room)) data_at
-      ∙ (ap (take (place.end - place.data_start)) (sym (drop-drop 1 at room) ∙ ap (drop 1) split)
-      ∙ take_at next.bytes next.after (place.end - place.data_start) (omega (arith, next.end_is)))
-
-  after_is : drop place.end room ≡ elements_bytes OneByte first.more
-  after_is =
-      let k : place.end ≡ at + (1 + length next.bytes) = omega (arith, next.end_is, data_at) in
-      ap (λ (n : ℕ). drop n room) k ∙ (sym (drop-drop (1 + length next.bytes) at room) ∙ (ap (drop (1 + length next.bytes)) split
-      ∙ (drop_at (element_bytes OneByte (place.id, next.bytes)) next.after (1 + length next.bytes) (omega arith) ∙ first.after_is)))
-
   pub IsWidenedTo-next : (copied new : List ℕ) → copied ≡ paste room (end + 2) (drop place.data_start room) (place.end - place.data_start)
       → new ≡ overwritten copied end (element_header TwoByte place.id (place.end - place.data_start))
       → IsWidenedTo old new len place.end (end + (2 + (place.end - place.data_start)))
-  unfolding overwritten
   IsWidenedTo-next copied new copied_is new_is =
       let n : ℕ = place.end - place.data_start in
       let count : n ≡ length next.bytes = omega (arith, next.end_is) in
+      let stop : place.end ≡ place.data_start + n = omega (arith, next.end_is) in
       let far = ahead in
       let within = in_room in
-      let rest : List ℕ = drop (end + 2 + n) room in
+      let is = moved room copied new at end place.data_start n (element_header OneByte place.id (length next.bytes)) (element_header TwoByte place.id n) next.bytes next.after split data_at count
+      (omega (arith, far, stop)) (omega (arith, within, stop)) copied_is new_is in
       let element : List ℕ = element_bytes TwoByte (place.id, next.bytes) in
-      let parts : copied ≡ take (end + 2) room ++ (next.bytes ++ rest) =
-      copied_is ∙ (append_assoc (take (end + 2) room) (take n (drop place.data_start room)) rest ∙ ap (λ b. take (end + 2) room ++ (b ++ rest)) data_is) in
-      let head : take end copied ≡ take end room =
-      ap (take end) parts ∙ (take-append-le end (take (end + 2) room) (next.bytes ++ rest) (omega (arith, length-take-le (end + 2) room (omega arith)))
-      ∙ take-take end (end + 2) room (omega arith)) in
-      let tail : drop (end + 2) copied ≡ next.bytes ++ rest =
-      ap (drop (end + 2)) parts ∙ drop_at (take (end + 2) room) (next.bytes ++ rest) (end + 2) (length-take-le (end + 2) room (omega arith)) in
-      let whole : new ≡ (take end room ++ element) ++ rest =
-      new_is ∙ (ap (λ b. b ++ (element_header TwoByte place.id n ++ drop (end + 2) copied)) head
-      ∙ (ap (λ b. take end room ++ (element_header TwoByte place.id n ++ b)) tail
-      ∙ (ap (λ (k : ℕ). take end room ++ (place.id ∷ k ∷ (next.bytes ++ rest))) count ∙ sym (append_assoc (take end room) element rest)))) in
-      let front : length (take end room ++ element) ≡ end + (2 + n) = omega (arith, length-append (take end room) element, length-take-le end room (omega arith)) in
-      let e : end + 2 + n ≡ end + (2 + n) = omega arith in
-      let long : length new ≡ length room = omega (arith, ap length whole, length-append (take end room ++ element) rest, length-drop (end + 2 + n) room) in
-      let later : place.end ≡ end + (2 + n) + (place.end - (end + (2 + n))) = omega arith in
       record {
         passed = was.passed ++ (place.id, next.bytes) ∷ [];
         left = first.more;
@@ -161,10 +136,8 @@ module _ (old room : List ℕ) (len at end : ℕ) (place : Place) (was : IsWiden
             ((subst (AllByRecursion (IsWritable OneByte)) first.left_is was.are_left).0, tt);
         are_left = (subst (AllByRecursion (IsWritable OneByte)) first.left_is was.are_left).1;
         row_was = was.row_was ∙ ap (elements_bytes OneByte) (ap (λ es. was.passed ++ es) first.left_is ∙ sym (append_assoc was.passed ((place.id, next.bytes) ∷ []) first.more));
-        left_is = ap (λ (k : ℕ). drop k new) later ∙ (sym (drop-drop (place.end - (end + (2 + n))) (end + (2 + n)) new)
-            ∙ (ap (drop (place.end - (end + (2 + n)))) (ap (drop (end + (2 + n))) whole ∙ (drop_at (take end room ++ element) rest (end + (2 + n)) front ∙ ap (λ (k : ℕ). drop k room) e))
-            ∙ (drop-drop (place.end - (end + (2 + n))) (end + (2 + n)) room ∙ (ap (λ (k : ℕ). drop k room) (sym later) ∙ after_is))));
-        row_is = ap (take (end + (2 + n))) whole ∙ (take_at (take end room ++ element) rest (end + (2 + n)) front
+        left_is = ap (λ (k : ℕ). drop k new) stop ∙ (is.after_is ∙ first.after_is);
+        row_is = is.front_is ∙ (ap (λ (k : ℕ). take end room ++ (place.id ∷ k ∷ next.bytes)) count
             ∙ (ap (λ b. b ++ element) was.row_is ∙ sym (elements_bytes-append TwoByte was.passed ((place.id, next.bytes) ∷ []) ∙ ap (λ b. elements_bytes TwoByte was.passed ++ b) (append-nil element))));
         end_is = omega (
           arith,
@@ -174,8 +147,8 @@ module _ (old room : List ℕ) (len at end : ℕ) (place : Place) (was : IsWiden
           ap length (append-nil element),
           count,
         );
-        at_is = omega (arith, was.at_is, left_len, long, next.end_is, data_at);
-        fits = omega (arith, was.fits, wide_len, long, count);
+        at_is = omega (arith, was.at_is, left_len, is.as_long, next.end_is, data_at);
+        fits = omega (arith, was.fits, wide_len, is.as_long, count);
       }
 
 -- where reading ends
