@@ -21,8 +21,8 @@ use super::known_ids::{KnownIds, KnownItems};
 use super::{ExtensionMap, ExtensionsForm};
 use rtp_values::{ElementValues, ExtensionValues, KnownKind};
 
-// The most bytes of data that an element can have (RFC 8285, 4.3).
-const MAX_DATA: usize = 255;
+// Most buffers have room for so many bytes.
+const MOST_BUFFERS: usize = 1_024;
 
 // How many bytes the element of a kind takes, 0 where a value that it needs is absent.
 fn element_len<V: ElementValues>(kind: KnownKind, ev: &V, form: ExtensionsForm) -> usize
@@ -172,11 +172,14 @@ pub fn values_len_at_most<K: Kinds, V: ElementValues>(
     match form {
         ExtensionsForm::OneByte => 17 * ids.at_most(),
         ExtensionsForm::TwoByte => {
-            let longest = ev.layers_at_most().max(16);
-            if longest == MAX_DATA {
-                most_in_two_byte_form(ids.iter())
+            let layers = ev.layers_at_most();
+            let longest = layers.max(16);
+            let most = (2 + longest) * ids.at_most();
+            let is_told = layers == 0 || most <= MOST_BUFFERS;
+            if is_told {
+                most
             } else {
-                (2 + longest) * ids.at_most()
+                most_in_two_byte_form(ids.iter())
             }
         }
     }

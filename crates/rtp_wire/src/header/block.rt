@@ -72,15 +72,12 @@ pub(super) fn block_len<K: Kinds, V: ElementValues>(
     BLOCK_HEADER_LEN + in_words(values_len(ids, ev, form))
 }
 
-// The most bytes of data that an element can have (RFC 8285, 4.3).
-const MAX_DATA: usize = 255;
-
 // How many bytes a block of the longest layer allocation alone has at least.
-const LAYERS_LEN: usize = BLOCK_HEADER_LEN + 2 + MAX_DATA;
+const LAYERS_LEN: usize = BLOCK_HEADER_LEN + 257;
 
 // Whether the block that `write_block` writes has room. Most buffers have it whatever the values
-// are, so that no length is asked for. Where layers of any length may be written, those that are too
-// short for the longest ones aren't such.
+// are, so that no length is asked for. Where layers may be written, those that are too short for the
+// longest ones aren't such.
 #[inline(always)]
 pub(super) fn block_fits<K: Kinds, V: ElementValues>(
     ids: &KnownIds<'_, K>,
@@ -93,7 +90,7 @@ pub(super) fn block_fits<K: Kinds, V: ElementValues>(
     ensures { IsTrue result
         ↔ (length (block_bytes_in form ids.now (V.values ev.now)) ≤ room) }
 {
-    let may_be_long = form == ExtensionsForm::TwoByte && ev.layers_at_most() == MAX_DATA;
+    let may_be_long = form == ExtensionsForm::TwoByte && ev.layers_at_most() > 0;
     // At most three zeros fill the last word.
     if !(may_be_long && room < LAYERS_LEN)
         && BLOCK_HEADER_LEN + values_len_at_most(ids, ev, form) + 3 <= room

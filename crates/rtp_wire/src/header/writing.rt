@@ -1,6 +1,6 @@
 //! From a header to bytes.
 
-ghost use Rattle.std.specs.Prelude.{◌≡◌, ℕ, ◌+◌, ◌*◌, ◌%◌, ◌^◌, ◌<◌, ◌≤◌, ◌↔◌, ◌++◌, List, length, drop, slice_index, Some, IsTrue, IsNone, IfSome, IfNone};
+ghost use Rattle.std.specs.Prelude.{◌≡◌, ℕ, ◌+◌, ◌*◌, ◌%◌, ◌^◌, ◌<◌, ◌≤◌, ◌↔◌, ◌++◌, List, length, drop, take, slice_index, Some, IsTrue, IsNone, IfSome, IfNone};
 ghost use Rattle.std.specs.List.{flat_map};
 ghost use Rattle.std.specs.Int.{w32, to_be_bytes};
 ghost use Rattle.rtp_base.specs.Overwriting.{overwritten};
@@ -10,7 +10,7 @@ ghost use Rattle.rtp_ext.specs.ExtensionMap.{mapped_count, HasNoIdAbove};
 ghost use Rattle.rtp_ext.specs.WrittenBlock.{whole_words};
 ghost use Rattle.rtp_wire.specs.Header.{IsWire};
 ghost use Rattle.rtp_wire.specs.Packet.{IsFirstByte, IsPacket};
-ghost use Rattle.rtp_wire.specs.Written.{fixed_bytes, wire_bytes, image_of, CannotBeWritten};
+ghost use Rattle.rtp_wire.specs.Written.{fixed_bytes, source_bytes, wire_bytes, image_of, CannotBeWritten};
 ghost use Rattle.rtp_wire.specs.WrittenWith.{body_with, wire_bytes_with, parts_with, CannotBeWrittenWith};
 
 use super::RtpHeader;
@@ -145,8 +145,25 @@ impl RtpHeader {
         let start = 12 + 4 * self.csrc_count;
         let form = block_form(buf.len().saturating_sub(start), elements, allowed)?;
         let end = put(buf, 0, &self.fixed_bytes(true));
-        let end = put_sources(buf, end, &self.csrc[..self.csrc_count]);
+        let end = self.put_csrc(buf, end);
         Some(end + write_block_of(&mut buf[end..], form, elements))
+    }
+
+    // Puts four bytes for each source that counts, and returns the offset after them. The sources are
+    // copied, so that LLVM has a header that was made to be written in registers.
+    #[inline(always)]
+    pub(super) fn put_csrc(&self, buf: &mut [u8], at: usize) -> usize
+        requires sources { self.now.csrc_count ≤ 15 }
+        requires room { at + 4 * self.now.csrc_count ≤ length buf.old }
+        ensures written { buf.new ≡ overwritten buf.old at (source_bytes self.now) }
+        ensures end { result ≡ at + 4 * length (take self.now.csrc_count self.now.csrc) }
+        ensures in_range { (i : ℕ) → slice_index (take self.now.csrc_count self.now.csrc) i < 2 ^ 32 }
+    {
+        if self.csrc_count == 0 {
+            return at;
+        }
+        let csrc = self.csrc;
+        put_sources(buf, at, &csrc[..self.csrc_count])
     }
 
     // The twelve bytes that every header begins with, with this X. The ranges are those of the
@@ -176,7 +193,7 @@ impl RtpHeader {
 }
 
 // Puts four bytes for each source, and returns the offset after them.
-pub(super) fn put_sources(buf: &mut [u8], at: usize, sources: &[u32]) -> usize
+fn put_sources(buf: &mut [u8], at: usize, sources: &[u32]) -> usize
     requires { at + 4 * length sources.now ≤ length buf.old }
     ensures written { buf.new ≡ overwritten buf.old at (flat_map (to_be_bytes w32) sources.now) }
     ensures end { result ≡ at + 4 * length sources.now }

@@ -12,7 +12,6 @@ ghost use Rattle.rtp_wire.specs.WrittenInForm.{announced_form, IsWithinMap};
 
 use super::RtpHeader;
 use super::block::{BLOCK_HEADER_LEN, block_fits, block_len, write_block};
-use super::writing::put_sources;
 use rtp_base::put;
 use rtp_ext::{ElementValues, ExtensionsForm, Kinds, KnownIds, values_form};
 
@@ -169,9 +168,8 @@ impl RtpHeader {
             (wire_bytes ids.now (with_values self.now (V.values values.now)) ++ rest)
             (image_of ids.now (with_values self.now (V.values values.now))) }
     {
-        let sources = &self.csrc[..self.csrc_count];
         let end = put(buf, 0, &self.fixed_bytes(self.has_extension));
-        let end = put_sources(buf, end, sources);
+        let end = self.put_csrc(buf, end);
         let Some(form) = form else {
             return end;
         };

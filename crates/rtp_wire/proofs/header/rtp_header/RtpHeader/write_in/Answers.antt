@@ -7,8 +7,8 @@ pub put-end-requires : goal.put-end-requires
 put-end-requires g c =
     omega (arith, c.requires.room, length-wire_bytes c.args.ids.now (with_values c.args.self.now (g.V.ElementValues.values c.args.values.now)) (omega arith), ap length c.fixed_bytes.ensures.bytes)
 
-pub put_sources-end-requires : goal.put_sources-end-requires
-put_sources-end-requires g c =
+pub put_csrc-end-requires : goal.put_csrc-end-requires
+put_csrc-end-requires g c =
     omega (
       arith,
       c.requires.room,
@@ -22,13 +22,13 @@ put_sources-end-requires g c =
 none : (g : _) (c : goal.In_default g) → extension_bytes c.args.ids.now c.args.self.now.has_extension (g.V.ElementValues.values c.args.values.now) ≡ []
 none g c = no_part c.args.ids.now c.args.self.now.has_extension (g.V.ElementValues.values c.args.values.now) (sym c.in_default.is ∙ c.requires.form)
 
-none_put : (g : _) (c : goal.In_default g) → (c.put_sources-end.result ≡ length (wire_bytes c.args.ids.now (with_values c.args.self.now (g.V.ElementValues.values c.args.values.now))))
-    × (c.put_sources-end.new.buf ≡ wire_bytes c.args.ids.now (with_values c.args.self.now (g.V.ElementValues.values c.args.values.now)) ++ drop c.put_sources-end.result c.args.buf.now)
+none_put : (g : _) (c : goal.In_default g) → (c.put_csrc-end.result ≡ length (wire_bytes c.args.ids.now (with_values c.args.self.now (g.V.ElementValues.values c.args.values.now))))
+    × (c.put_csrc-end.new.buf ≡ wire_bytes c.args.ids.now (with_values c.args.self.now (g.V.ElementValues.values c.args.values.now)) ++ drop c.put_csrc-end.result c.args.buf.now)
 none_put g c =
-    wire_bytes-from_pieces (with_values c.args.self.now (g.V.ElementValues.values c.args.values.now)) c.args.ids.now c.args.buf.now c.put-end.new.buf c.put_sources-end.new.buf c.put_sources-end.new.buf
-    c.fixed_bytes.result c.put-end.result c.put_sources-end.result c.put_sources-end.result (omega arith) c.requires.room c.fixed_bytes.ensures.bytes
-    c.put-end.ensures.written c.put-end.ensures.end c.put_sources-end.ensures.written c.put_sources-end.ensures.end
-    (rw (none g c) (sym (overwritten-nil c.put_sources-end.new.buf c.put_sources-end.result))) (omega (arith, ap length (none g c)))
+    wire_bytes-from_pieces (with_values c.args.self.now (g.V.ElementValues.values c.args.values.now)) c.args.ids.now c.args.buf.now c.put-end.new.buf c.put_csrc-end.new.buf c.put_csrc-end.new.buf
+    c.fixed_bytes.result c.put-end.result c.put_csrc-end.result c.put_csrc-end.result (omega arith) c.requires.room c.fixed_bytes.ensures.bytes
+    c.put-end.ensures.written c.put-end.ensures.end c.put_csrc-end.ensures.written c.put_csrc-end.ensures.end
+    (rw (none g c) (sym (overwritten-nil c.put_csrc-end.new.buf c.put_csrc-end.result))) (omega (arith, ap length (none g c)))
 
 pub returns-in_default-clause-written : goal.returns-in_default-clause-written
 returns-in_default-clause-written g c = (none_put g c).1
@@ -47,7 +47,7 @@ returns-in_default-clause-read_back g c rest = IsWire-written (with_values c.arg
   number = c.fixed_bytes.ensures.number;
   timestamp = c.fixed_bytes.ensures.timestamp;
   ssrc = c.fixed_bytes.ensures.ssrc;
-  sources = AllByRecursion-from_each (take c.args.self.now.csrc_count c.args.self.now.csrc) c.put_sources-end.ensures.in_range;
+  sources = AllByRecursion-from_each (take c.args.self.now.csrc_count c.args.self.now.csrc) c.put_csrc-end.ensures.in_range;
 }) (IsExtensionPart-none c.args.ids.now c.args.self.now.has_extension (g.V.ElementValues.values c.args.values.now) (sym c.in_default.is ∙ c.requires.form))
 
 -- with one the block in it is put, and there is room for it
@@ -68,38 +68,38 @@ room exts h form fixed first second len within is fits fixed-is first-is second-
 
 pub slice_bounds-write_block-count : goal.slice_bounds-write_block-count
 slice_bounds-write_block-count g c =
-    let there = room c.args.ids.now (with_values c.args.self.now (g.V.ElementValues.values c.args.values.now)) c.in-Some.form c.fixed_bytes.result c.put-end.result c.put_sources-end.result (length c.args.buf.now) (omega arith)
-    (sym c.in-Some.is ∙ c.requires.form) c.requires.room c.fixed_bytes.ensures.bytes c.put-end.ensures.end c.put_sources-end.ensures.end in omega (arith, there)
+    let there = room c.args.ids.now (with_values c.args.self.now (g.V.ElementValues.values c.args.values.now)) c.in-Some.form c.fixed_bytes.result c.put-end.result c.put_csrc-end.result (length c.args.buf.now) (omega arith)
+    (sym c.in-Some.is ∙ c.requires.form) c.requires.room c.fixed_bytes.ensures.bytes c.put-end.ensures.end c.put_csrc-end.ensures.end in omega (arith, there)
 
 pub slice_bounds-write_block-start : goal.slice_bounds-write_block-start
 slice_bounds-write_block-start g c =
-    let there = room c.args.ids.now (with_values c.args.self.now (g.V.ElementValues.values c.args.values.now)) c.in-Some.form c.fixed_bytes.result c.put-end.result c.put_sources-end.result (length c.args.buf.now) (omega arith)
-    (sym c.in-Some.is ∙ c.requires.form) c.requires.room c.fixed_bytes.ensures.bytes c.put-end.ensures.end c.put_sources-end.ensures.end in omega (arith, there)
+    let there = room c.args.ids.now (with_values c.args.self.now (g.V.ElementValues.values c.args.values.now)) c.in-Some.form c.fixed_bytes.result c.put-end.result c.put_csrc-end.result (length c.args.buf.now) (omega arith)
+    (sym c.in-Some.is ∙ c.requires.form) c.requires.room c.fixed_bytes.ensures.bytes c.put-end.ensures.end c.put_csrc-end.ensures.end in omega (arith, there)
 
 pub write_block-requires-clause-room : goal.write_block-requires-clause-room
 write_block-requires-clause-room g c =
-    let there = room c.args.ids.now (with_values c.args.self.now (g.V.ElementValues.values c.args.values.now)) c.in-Some.form c.fixed_bytes.result c.put-end.result c.put_sources-end.result (length c.args.buf.now) (omega arith)
-    (sym c.in-Some.is ∙ c.requires.form) c.requires.room c.fixed_bytes.ensures.bytes c.put-end.ensures.end c.put_sources-end.ensures.end in omega (arith, there)
+    let there = room c.args.ids.now (with_values c.args.self.now (g.V.ElementValues.values c.args.values.now)) c.in-Some.form c.fixed_bytes.result c.put-end.result c.put_csrc-end.result (length c.args.buf.now) (omega arith)
+    (sym c.in-Some.is ∙ c.requires.form) c.requires.room c.fixed_bytes.ensures.bytes c.put-end.ensures.end c.put_csrc-end.ensures.end in omega (arith, there)
 
 -- what was put, and where it ends
 all_put : (g : _) (c : goal.After-slice_known-4-1 g) (put : List ℕ)
-    → put ≡ overwritten c.put_sources-end.new.buf c.put_sources-end.result (block_bytes_in c.in-Some.form c.args.ids.now (g.V.ElementValues.values c.args.values.now))
-    → (c.put_sources-end.result + c.write_block.result ≡ length (wire_bytes c.args.ids.now (with_values c.args.self.now (g.V.ElementValues.values c.args.values.now))))
-    × (put ≡ wire_bytes c.args.ids.now (with_values c.args.self.now (g.V.ElementValues.values c.args.values.now)) ++ drop (c.put_sources-end.result + c.write_block.result) c.args.buf.now)
+    → put ≡ overwritten c.put_csrc-end.new.buf c.put_csrc-end.result (block_bytes_in c.in-Some.form c.args.ids.now (g.V.ElementValues.values c.args.values.now))
+    → (c.put_csrc-end.result + c.write_block.result ≡ length (wire_bytes c.args.ids.now (with_values c.args.self.now (g.V.ElementValues.values c.args.values.now))))
+    × (put ≡ wire_bytes c.args.ids.now (with_values c.args.self.now (g.V.ElementValues.values c.args.values.now)) ++ drop (c.put_csrc-end.result + c.write_block.result) c.args.buf.now)
 all_put g c put is =
-    wire_bytes-from_pieces (with_values c.args.self.now (g.V.ElementValues.values c.args.values.now)) c.args.ids.now c.args.buf.now c.put-end.new.buf c.put_sources-end.new.buf put
-    c.fixed_bytes.result c.put-end.result c.put_sources-end.result (c.put_sources-end.result + c.write_block.result) (omega arith) c.requires.room c.fixed_bytes.ensures.bytes
-    c.put-end.ensures.written c.put-end.ensures.end c.put_sources-end.ensures.written c.put_sources-end.ensures.end
-    (is ∙ ap (overwritten c.put_sources-end.new.buf c.put_sources-end.result) (sym (a_part c.args.ids.now c.args.self.now.has_extension (g.V.ElementValues.values c.args.values.now) c.in-Some.form (sym c.in-Some.is ∙ c.requires.form))))
+    wire_bytes-from_pieces (with_values c.args.self.now (g.V.ElementValues.values c.args.values.now)) c.args.ids.now c.args.buf.now c.put-end.new.buf c.put_csrc-end.new.buf put
+    c.fixed_bytes.result c.put-end.result c.put_csrc-end.result (c.put_csrc-end.result + c.write_block.result) (omega arith) c.requires.room c.fixed_bytes.ensures.bytes
+    c.put-end.ensures.written c.put-end.ensures.end c.put_csrc-end.ensures.written c.put_csrc-end.ensures.end
+    (is ∙ ap (overwritten c.put_csrc-end.new.buf c.put_csrc-end.result) (sym (a_part c.args.ids.now c.args.self.now.has_extension (g.V.ElementValues.values c.args.values.now) c.in-Some.form (sym c.in-Some.is ∙ c.requires.form))))
     (omega (arith, c.write_block.ensures.length, ap length (a_part c.args.ids.now c.args.self.now.has_extension (g.V.ElementValues.values c.args.values.now) c.in-Some.form (sym c.in-Some.is ∙ c.requires.form))))
 
 pub returns-clause-written : goal.returns-clause-written
 returns-clause-written g c =
-    let buf = c.put_sources-end.new.buf in
-    let at = c.put_sources-end.result in
+    let buf = c.put_csrc-end.new.buf in
+    let at = c.put_csrc-end.result in
     let bytes = block_bytes_in c.in-Some.form c.args.ids.now (g.V.ElementValues.values c.args.values.now) in
-    let fits = room c.args.ids.now (with_values c.args.self.now (g.V.ElementValues.values c.args.values.now)) c.in-Some.form c.fixed_bytes.result c.put-end.result c.put_sources-end.result (length c.args.buf.now) (omega arith)
-    (sym c.in-Some.is ∙ c.requires.form) c.requires.room c.fixed_bytes.ensures.bytes c.put-end.ensures.end c.put_sources-end.ensures.end in
+    let fits = room c.args.ids.now (with_values c.args.self.now (g.V.ElementValues.values c.args.values.now)) c.in-Some.form c.fixed_bytes.result c.put-end.result c.put_csrc-end.result (length c.args.buf.now) (omega arith)
+    (sym c.in-Some.is ∙ c.requires.form) c.requires.room c.fixed_bytes.ensures.bytes c.put-end.ensures.end c.put_csrc-end.ensures.end in
     let there : at + length bytes ≤ length buf = omega (arith, fits) in
     (all_put g c _ (overwritten-rest buf c.write_block.new.buf bytes at there
     (c.write_block.ensures.written ∙ ap (λ (k : ℕ). bytes ++ drop k (take (length buf - at) (drop at buf))) c.write_block.ensures.length))).1
@@ -118,6 +118,6 @@ returns-clause-read_back g c rest = IsWire-written (with_values c.args.self.now 
   number = c.fixed_bytes.ensures.number;
   timestamp = c.fixed_bytes.ensures.timestamp;
   ssrc = c.fixed_bytes.ensures.ssrc;
-  sources = AllByRecursion-from_each (take c.args.self.now.csrc_count c.args.self.now.csrc) c.put_sources-end.ensures.in_range;
+  sources = AllByRecursion-from_each (take c.args.self.now.csrc_count c.args.self.now.csrc) c.put_csrc-end.ensures.in_range;
 }) (IsExtensionPart-some c.args.ids.now c.args.self.now.has_extension (g.V.ElementValues.values c.args.values.now) c.in-Some.form (sym c.in-Some.is ∙ c.requires.form)
     c.write_block.ensures.read_back)

@@ -22,14 +22,14 @@ can g c = record {
   block_fits = c.in_ok-form.ensures.room;
 }
 
-are : (g : _) (c : goal.After-slice_known-4-1 g) → ArePut c.args.self.now (g.L.ElementList.elements c.args.elements) c.in_ok-form.form c.args.buf.now c.put-end.new.buf c.put_sources-end.new.buf c.write_block_of.new.buf
-    c.fixed_bytes.result c.put-end.result c.put_sources-end.result c.write_block_of.result
+are : (g : _) (c : goal.After-slice_known-4-1 g) → ArePut c.args.self.now (g.L.ElementList.elements c.args.elements) c.in_ok-form.form c.args.buf.now c.put-end.new.buf c.put_csrc-end.new.buf c.write_block_of.new.buf
+    c.fixed_bytes.result c.put-end.result c.put_csrc-end.result c.write_block_of.result
 are g c = record {
   fixed_is = c.fixed_bytes.ensures.bytes;
   one_is = c.put-end.ensures.written;
   first_is = c.put-end.ensures.end;
-  two_is = c.put_sources-end.ensures.written;
-  second_is = c.put_sources-end.ensures.end;
+  two_is = c.put_csrc-end.ensures.written;
+  second_is = c.put_csrc-end.ensures.end;
   new_is = c.write_block_of.ensures.written;
   n_is = c.write_block_of.ensures.length;
 }
@@ -55,5 +55,5 @@ returns-clause-read_back g c rest =
       number = c.fixed_bytes.ensures.number;
       timestamp = c.fixed_bytes.ensures.timestamp;
       ssrc = c.fixed_bytes.ensures.ssrc;
-      sources = AllByRecursion-from_each (take c.args.self.now.csrc_count c.args.self.now.csrc) c.put_sources-end.ensures.in_range;
+      sources = AllByRecursion-from_each (take c.args.self.now.csrc_count c.args.self.now.csrc) c.put_csrc-end.ensures.in_range;
     }) c.in_ok-form.ensures.form c.in_ok-form.ensures.fit
