@@ -1,10 +1,10 @@
 -- A body that is made anew with an element in it.
-use Rattle.rtp_ext.proofs.Common.{◌≡◌, ◌≢◌, ℕ, ◌+◌, ◌-◌, ◌≤◌, Bool, true, false, not, cond, List, [], ◌∷◌, ◌++◌, length, take, drop, replicate, Option, Some, None, length-take-le, arith, refl, sym, ap, ◌∙◌, subst, inl, inr, ◌⊎◌, slice_range, AllByRecursion, filter_map, ne_eqb, append-nil, take-take, drop-take, length-replicate, drop_all, filter-append, All-nil, All-cons, All-from_recursion, recursion_from_All, ExtensionsForm, OneByte, TwoByte, Element, IsElement, IsPiece, element_bytes, elements_bytes, AreElements, IsWritable, HasNone, HasRows, HasNarrowRows, has_id, without, put_element, carried_in, row_to}
+use Rattle.rtp_ext.proofs.Common.{◌≡◌, ◌≢◌, ℕ, ◌+◌, ◌-◌, ◌≤◌, Bool, true, false, not, cond, List, [], ◌∷◌, ◌++◌, length, take, drop, replicate, Option, Some, None, length-take-le, arith, refl, sym, ap, ◌∙◌, subst, inl, inr, ◌⊎◌, slice_range, AllByRecursion, filter_map, ne_eqb, append-nil, take-take, drop-take, length-replicate, drop_all, filter-append, All-from_recursion, recursion_from_All, ExtensionsForm, OneByte, TwoByte, Element, IsElement, IsPiece, element_bytes, elements_bytes, AreElements, IsWritable, HasNone, HasRows, HasNarrowRows, has_id, without, others, put_element, row_to, IsSole}
 use Rattle.rtp_base.specs.Overwriting.{overwritten}
 use Rattle.rtp_ext.proofs.LastPlaceLemmas.{AreElements-same}
 use Rattle.rtp_ext.proofs.PutLemmas.{put_element-last, put_element-none, without-none}
-use Rattle.rtp_ext.proofs.GatheredLemmas.{elements_bytes-append, without-weaker}
-use Rattle.rtp_ext.proofs.WidenAroundLemmas.{length-around}
+use Rattle.rtp_ext.proofs.GatheredLemmas.{elements_bytes-append, without-weaker, others-twice}
+use Rattle.rtp_ext.proofs.WidenAroundLemmas.{length-around, without-writable}
 use Rattle.rtp_ext.proofs.AroundLemmas.{IsSplit}
 
 -- ---- elements that were read
@@ -19,17 +19,6 @@ AreElements-each form body elements are = subst (AllByRecursion (IsElement form)
 
 pub without-each : (P : Element → Type 0) (id : ℕ) (elements : List Element) → AllByRecursion P elements → AllByRecursion P (without id elements)
 without-each P id elements all = without-weaker P P id elements (λ element other is. is) all
-
-none_of_0 : (elements : List Element) → AllByRecursion (IsElement TwoByte) elements → HasNone elements 0
-none_of_0 [] all = All-nil (λ (e : Element). e.0 ≢ 0)
-none_of_0 (element ∷ elements) all =
-    let above = all.0.0 in
-    All-cons (λ (e : Element). e.0 ≢ 0) element elements (λ same. omega arith) (none_of_0 elements all.1)
-
--- all of them are carried where the form stays
-pub carried_all : (form : ExtensionsForm) (elements : List Element) → AllByRecursion (IsElement form) elements → carried_in form elements ≡ elements
-carried_all OneByte elements all = refl
-carried_all TwoByte elements all = without-none 0 elements (none_of_0 elements all)
 
 -- ---- elements of two ids left out
 
@@ -67,7 +56,7 @@ without-around id before after was above =
     filter-append (λ (e : Element). not (has_id 0 e)) before ((id, was) ∷ after)
     ∙ ap (λ (b : Bool). without 0 before ++ cond (not b) ((id, was) ∷ without 0 after) (without 0 after)) (ne_eqb id 0 other)
 
--- the element put among those that the two-byte form can carry
+-- the element put among those that aren't of the id 0
 pub put_element-carried : (form : ExtensionsForm) (id start end : ℕ) (body bytes : List ℕ) (elements : List Element) → (split : IsSplit form id body start end) → 1 ≤ id → AreElements form body elements
     → put_element (id, bytes) (without 0 elements) ≡ without 0 (without id split.before) ++ (id, bytes) ∷ without 0 split.after
 put_element-carried form id start end body bytes elements split above are = by_case (split.around elements are)
@@ -83,6 +72,14 @@ put_element-carried form id start end body bytes elements split above are = by_c
         put_element-none (id, bytes) (without 0 elements) (without-still_none id elements none)
         ∙ (ap (λ es. without 0 es ++ (id, bytes) ∷ []) (sym (ap (without id) is ∙ without-none id elements none))
         ∙ ap (λ es. without 0 (without id split.before) ++ (id, bytes) ∷ without 0 es) (sym nothing))
+
+-- where it can be put in place, no other element has the id 0
+pub sole-no_zero : (id : ℕ) (bytes : List ℕ) (elements : List Element) → 1 ≤ id → IsSole elements (id, bytes) → without 0 elements ≡ elements
+sole-no_zero id bytes elements above sole =
+    ap (without 0) sole.in_order
+    ∙ (without-around id sole.before sole.after sole.was above
+    ∙ (ap (λ es. es ++ (id, sole.was) ∷ without 0 sole.after) (without-none 0 sole.before sole.no_zero_before)
+    ∙ (ap (λ es. sole.before ++ (id, sole.was) ∷ es) (without-none 0 sole.after sole.no_zero_after) ∙ sym sole.in_order)))
 
 -- ---- the rows
 
@@ -109,16 +106,16 @@ module _ (form new_form : ExtensionsForm) (body body1 : List ℕ) (body_len id s
   no_more = without-none id g.after (subst (λ es. HasNone es id) (sym after_is) split.none_after)
 
   module _ (elements : List Element) (are : AreElements form (take body_len body) elements)
-      (room : length (elements_bytes new_form (put_element (id, bytes) (carried_in new_form elements))) ≤ length body) where
-    -- where the form stays
-    pub put_is_same : new_form ≡ form → put_element (id, bytes) (carried_in new_form elements) ≡ without id g.before ++ (id, bytes) ∷ without id g.after
-    put_is_same same =
-        ap (λ (f : ExtensionsForm). put_element (id, bytes) (carried_in f elements)) same
-        ∙ (ap (put_element (id, bytes)) (carried_all form elements (AreElements-each form (take body_len body) elements are))
-        ∙ (split.put_is elements bytes are
-        ∙ (ap (λ es. without id es ++ (id, bytes) ∷ split.after) (sym before_is)
-        ∙ ap (λ es. without id g.before ++ (id, bytes) ∷ es) (sym after_is ∙ sym no_more))))
+      (room : length (elements_bytes new_form (put_element (id, bytes) (without 0 elements))) ≤ length body) where
+    pub put_is : put_element (id, bytes) (without 0 elements) ≡ others id g.before ++ (id, bytes) ∷ others id g.after
+    put_is =
+        put_element-carried form id start end (take body_len body) bytes elements split writable.0 are
+        ∙ (ap (λ es. without 0 (without id es) ++ (id, bytes) ∷ without 0 split.after) (sym before_is)
+        ∙ (ap (λ es. without 0 (without id g.before) ++ (id, bytes) ∷ without 0 es) (sym after_is ∙ sym no_more)
+        ∙ (ap (λ es. es ++ (id, bytes) ∷ without 0 (without id g.after)) (sym (others-twice id g.before))
+        ∙ ap (λ es. others id g.before ++ (id, bytes) ∷ es) (sym (others-twice id g.after)))))
 
+    -- where the form stays
     pub room_between : new_form ≡ form → front + length (element_bytes form (id, bytes)) + count ≤ length body1
     room_between same =
         omega (
@@ -126,72 +123,59 @@ module _ (form new_form : ExtensionsForm) (body body1 : List ℕ) (body_len id s
           g.length_is,
           g.front_len,
           g.count_is,
-          ap (λ es. length (elements_bytes new_form es)) (put_is_same same),
-          ap (λ (f : ExtensionsForm). length (elements_bytes f (without id g.before ++ (id, bytes) ∷ without id g.after))) same,
-          length-around form (without id g.before) (without id g.after) (id, bytes),
+          ap (λ es. length (elements_bytes new_form es)) put_is,
+          ap (λ (f : ExtensionsForm). length (elements_bytes f (others id g.before ++ (id, bytes) ∷ others id g.after))) same,
+          length-around form (others id g.before) (others id g.after) (id, bytes),
         )
 
     pub row_between : new_form ≡ form → take front body1 ++ (element_bytes form (id, bytes) ++ slice_range body1 end (end + count))
-        ≡ elements_bytes new_form (put_element (id, bytes) (carried_in new_form elements))
+        ≡ elements_bytes new_form (put_element (id, bytes) (without 0 elements))
     row_between same =
         ap (λ b. b ++ (element_bytes form (id, bytes) ++ slice_range body1 end (end + count))) g.front_is
-        ∙ (ap (λ b. elements_bytes form (without id g.before) ++ (element_bytes form (id, bytes) ++ b)) g.after_is
-        ∙ (sym (elements_bytes-append form (without id g.before) ((id, bytes) ∷ without id g.after))
-        ∙ (ap (λ (f : ExtensionsForm). elements_bytes f (without id g.before ++ (id, bytes) ∷ without id g.after)) (sym same)
-        ∙ ap (elements_bytes new_form) (sym (put_is_same same)))))
+        ∙ (ap (λ b. elements_bytes form (others id g.before) ++ (element_bytes form (id, bytes) ++ b)) g.after_is
+        ∙ (sym (elements_bytes-append form (others id g.before) ((id, bytes) ∷ others id g.after))
+        ∙ (ap (λ (f : ExtensionsForm). elements_bytes f (others id g.before ++ (id, bytes) ∷ others id g.after)) (sym same)
+        ∙ ap (elements_bytes new_form) (sym put_is))))
 
-    pub len_between : new_form ≡ form → front + length (element_bytes form (id, bytes)) + count ≡ length (elements_bytes new_form (put_element (id, bytes) (carried_in new_form elements)))
+    pub len_between : new_form ≡ form → front + length (element_bytes form (id, bytes)) + count ≡ length (elements_bytes new_form (put_element (id, bytes) (without 0 elements)))
     len_between same =
         omega (
           arith,
           g.front_len,
           g.count_is,
-          ap (λ es. length (elements_bytes new_form es)) (put_is_same same),
-          ap (λ (f : ExtensionsForm). length (elements_bytes f (without id g.before ++ (id, bytes) ∷ without id g.after))) same,
-          length-around form (without id g.before) (without id g.after) (id, bytes),
+          ap (λ es. length (elements_bytes new_form es)) put_is,
+          ap (λ (f : ExtensionsForm). length (elements_bytes f (others id g.before ++ (id, bytes) ∷ others id g.after))) same,
+          length-around form (others id g.before) (others id g.after) (id, bytes),
         )
 
     -- where it becomes the two-byte form
     module _ (one : form ≡ OneByte) (two : new_form ≡ TwoByte) where
-      above : 1 ≤ id
-      above = writable.0
+      others-writable : (few : List Element) → AllByRecursion (IsElement form) few → AllByRecursion (IsWritable OneByte) (others id few)
+      others-writable few all =
+          subst (AllByRecursion (IsWritable OneByte)) (sym (others-twice id few))
+          (without-writable (without id few)
+          (without-each (IsElement OneByte) id few (subst (λ (f : ExtensionsForm). AllByRecursion (IsElement f) few) one all)))
 
-      each_before : AllByRecursion (IsElement OneByte) (without id g.before)
-      each_before = without-each (IsElement OneByte) id g.before
-          (subst (λ (f : ExtensionsForm). AllByRecursion (IsElement f) g.before) one (AreElements-each form (take start body) g.before g.are_before))
-
-      each_after : AllByRecursion (IsElement OneByte) (without id g.after)
-      each_after = without-each (IsElement OneByte) id g.after
-          (subst (λ (f : ExtensionsForm). AllByRecursion (IsElement f) g.after) one (AreElements-each form (slice_range body end body_len) g.after g.are_after))
-
-      put_is_wide : put_element (id, bytes) (carried_in new_form elements) ≡ without 0 (without id g.before) ++ (id, bytes) ∷ without 0 (without id g.after)
-      put_is_wide =
-          ap (λ (f : ExtensionsForm). put_element (id, bytes) (carried_in f elements)) two
-          ∙ (put_element-carried form id start end (take body_len body) bytes elements split above are
-          ∙ (ap (λ es. without 0 (without id es) ++ (id, bytes) ∷ without 0 split.after) (sym before_is)
-          ∙ ap (λ es. without 0 (without id g.before) ++ (id, bytes) ∷ without 0 es) (sym after_is ∙ sym no_more)))
-
-      pub wide_is : elements_bytes TwoByte (without 0 (without id g.before) ++ (id, bytes) ∷ without 0 (without id g.after))
-          ≡ elements_bytes new_form (put_element (id, bytes) (carried_in new_form elements))
-      wide_is = ap (λ (f : ExtensionsForm). elements_bytes f (without 0 (without id g.before) ++ (id, bytes) ∷ without 0 (without id g.after))) (sym two)
-          ∙ ap (elements_bytes new_form) (sym put_is_wide)
+      pub wide_is : elements_bytes TwoByte (others id g.before ++ (id, bytes) ∷ others id g.after) ≡ elements_bytes new_form (put_element (id, bytes) (without 0 elements))
+      wide_is = ap (λ (f : ExtensionsForm). elements_bytes f (others id g.before ++ (id, bytes) ∷ others id g.after)) (sym two)
+          ∙ ap (elements_bytes new_form) (sym put_is)
 
       pub narrow_rows : HasNarrowRows body1 front end count (id, bytes)
       narrow_rows = record {
-        before = without id g.before;
-        after = without id g.after;
-        are_before = each_before;
-        are_after = each_after;
-        front_is = g.front_is ∙ ap (λ (f : ExtensionsForm). elements_bytes f (without id g.before)) one;
-        after_is = g.after_is ∙ ap (λ (f : ExtensionsForm). elements_bytes f (without id g.after)) one;
-        front_len = g.front_len ∙ ap (λ (f : ExtensionsForm). length (elements_bytes f (without id g.before))) one;
-        count_is = g.count_is ∙ ap (λ (f : ExtensionsForm). length (elements_bytes f (without id g.after))) one;
+        before = others id g.before;
+        after = others id g.after;
+        are_before = others-writable g.before (AreElements-each form (take start body) g.before g.are_before);
+        are_after = others-writable g.after (AreElements-each form (slice_range body end body_len) g.after g.are_after);
+        front_is = g.front_is ∙ ap (λ (f : ExtensionsForm). elements_bytes f (others id g.before)) one;
+        after_is = g.after_is ∙ ap (λ (f : ExtensionsForm). elements_bytes f (others id g.after)) one;
+        front_len = g.front_len ∙ ap (λ (f : ExtensionsForm). length (elements_bytes f (others id g.before))) one;
+        count_is = g.count_is ∙ ap (λ (f : ExtensionsForm). length (elements_bytes f (others id g.after))) one;
         order = let a = split.order in let b = g.front_within in omega arith;
         within = let a = g.after_within in omega (arith, g.length_is);
         fits = omega (arith, g.length_is, ap length wide_is);
       }
 
-      pub wide_rows : elements_bytes TwoByte (without 0 narrow_rows.before ++ (id, bytes) ∷ without 0 narrow_rows.after) ≡ elements_bytes new_form (put_element (id, bytes) (carried_in new_form elements))
+      pub wide_rows : elements_bytes TwoByte (narrow_rows.before ++ (id, bytes) ∷ narrow_rows.after) ≡ elements_bytes new_form (put_element (id, bytes) (without 0 elements))
       unfolding narrow_rows
       wide_rows = wide_is
 

@@ -1,10 +1,9 @@
 -- The elements before the last one of an id, and after it, each in a row.
-use Rattle.rtp_ext.proofs.Common.{◌≡◌, ℕ, ◌+◌, ◌-◌, ◌≤◌, List, [], ◌∷◌, ◌++◌, length, take, drop, Option, Some, None, IfSome, IfNone, append_assoc, length-append, length-drop, length-take-le, arith, refl, sym, ap, ◌∙◌, subst, inl, inr, ◌⊎◌, slice_range, take_at, drop_at, take-append-le, take-take, append-nil, put_mid, ExtensionsForm, Place, Survey, Element, AreElements, element_bytes, ended, HasNone, LiesLast, AreWhole, IsSurvey, IsGathered, HasRows, without, put_element}
+use Rattle.rtp_ext.proofs.Common.{◌≡◌, ℕ, ◌+◌, ◌-◌, ◌≤◌, List, [], ◌∷◌, ◌++◌, length, take, drop, Option, Some, None, IfSome, IfNone, append_assoc, length-append, length-drop, length-take-le, arith, refl, sym, ap, ◌∙◌, subst, inl, inr, ◌⊎◌, slice_range, take_at, drop_at, take-append-le, take-take, append-nil, put_mid, ExtensionsForm, Place, Survey, Element, AreElements, element_bytes, ended, HasNone, LiesLast, AreWhole, IsSurvey, IsGathered, HasRows}
 use Rattle.std.proofs.lemmas.Slice.{drop-append-drop, take-put_mid_below, between-put_mid}
 use Rattle.rtp_ext.proofs.PlaceLemmas.{length-lies}
 use Rattle.rtp_ext.proofs.PieceLemmas.{AreElements-after, AreWhole-element, AreWhole-append}
 use Rattle.rtp_ext.proofs.LastPlaceLemmas.{AreElements-same}
-use Rattle.rtp_ext.proofs.PutLemmas.{put_element-last, put_element-none, without-none}
 
 pub HasRows-gathered : (form : ExtensionsForm) (id : ℕ) (body g1 g2 : List ℕ) (start end body_len front count : ℕ) → start ≤ end → end ≤ body_len → body_len ≤ length body
     → IsGathered form id (take start body) g1 front → IsGathered form id (slice_range (g1 ++ drop start body) end body_len) g2 count
@@ -43,7 +42,7 @@ HasRows-gathered form id body g1 g2 start end body_len front count order after w
       after_within = omega arith;
     }
 
--- the elements of a body before these offsets and after them, and what they are with one of the id between them
+-- the elements of a body before these offsets and after them, and the last one of the id between them
 pub record IsSplit (form : ExtensionsForm) (id : ℕ) (body : List ℕ) (start end : ℕ) : Type 0 where
   pub before : List Element
   pub after : List Element
@@ -52,7 +51,6 @@ pub record IsSplit (form : ExtensionsForm) (id : ℕ) (body : List ℕ) (start e
   pub none_after : HasNone after id
   pub order : start ≤ end
   pub within : end ≤ length body
-  pub put_is : (elements : List Element) (bytes : List ℕ) → AreElements form body elements → put_element (id, bytes) elements ≡ without id before ++ (id, bytes) ∷ after
   pub around : (elements : List Element) → AreElements form body elements → ((was : List ℕ) × (elements ≡ before ++ (id, was) ∷ after)) ⊎ (HasNone elements id × (before ≡ elements) × (after ≡ []))
 
 AreElements-nothing : (form : ExtensionsForm) → AreElements form [] []
@@ -84,10 +82,6 @@ split_at form body id place is id_is =
       none_after = is.last;
       order = let s = is.lies.start_is in omega arith;
       within = omega (arith, ap length whole, length-append (is.lies.front ++ here) is.lies.after);
-      put_is = λ elements bytes are.
-          ap (put_element (id, bytes)) (AreElements-same form body elements ((is.before ++ (place.id, is.lies.bytes) ∷ []) ++ is.after) are all
-          ∙ (append_assoc is.before ((place.id, is.lies.bytes) ∷ []) is.after ∙ ap (λ (i : ℕ). is.before ++ (i, is.lies.bytes) ∷ is.after) id_is))
-          ∙ put_element-last id bytes is.lies.bytes is.before is.after is.last;
       around = λ elements are. inl (
         is.lies.bytes,
         AreElements-same form body elements ((is.before ++ (place.id, is.lies.bytes) ∷ []) ++ is.after) are all
@@ -106,9 +100,6 @@ split_none form body id end elements are front rest within none = record {
   none_after = λ k d here. absurd (omega arith);
   order = omega arith;
   within = within;
-  put_is = λ others bytes are_others.
-      let same : others ≡ elements = AreElements-same form body others elements are_others are in
-      ap (put_element (id, bytes)) same ∙ (put_element-none (id, bytes) elements none ∙ ap (λ es. es ++ (id, bytes) ∷ []) (sym (without-none id elements none)));
   around = λ others are_others.
       let same : others ≡ elements = AreElements-same form body others elements are_others are in
       inr (subst (λ es. HasNone es id) (sym same) none, sym same, refl);

@@ -1,5 +1,5 @@
--- The elements of a body without those of an id, in a row.
-use Rattle.rtp_ext.proofs.Common.{◌≡◌, ◌≢◌, ℕ, ◌+◌, ◌-◌, ◌≤◌, Bool, not, cond, List, [], ◌∷◌, ◌++◌, length, take, drop, replicate, append_assoc, length-append, length-drop, take-append-drop, arith, refl, sym, ap, ◌∙◌, subst, eq-eqb, ne_eqb, append-nil, drop_at, take_at, length-replicate, drop-drop, drop-append-le, flat_map-append, filter-append, paste, ExtensionsForm, Place, Element, element_bytes, elements_bytes, AreElements, BeginsWithNoElement, IsNextPlace, AreWhole, IsGathered, IsGatheredTo, has_id, without, true, false, false≢true, AllByRecursion}
+-- The elements of a body without those of an id, and of the id 0, in a row.
+use Rattle.rtp_ext.proofs.Common.{◌≡◌, ◌≢◌, ℕ, ◌+◌, ◌-◌, ◌≤◌, Bool, not, ◌||◌, cond, List, [], ◌∷◌, ◌++◌, length, take, drop, replicate, append_assoc, length-append, length-drop, take-append-drop, arith, refl, sym, ap, ◌∙◌, subst, eq-eqb, ne_eqb, append-nil, drop_at, take_at, length-replicate, drop-drop, drop-append-le, flat_map-append, filter-append, paste, ExtensionsForm, Place, Element, element_bytes, elements_bytes, AreElements, BeginsWithNoElement, IsNextPlace, AreWhole, IsGathered, IsGatheredTo, has_id, without, goes, others, true, false, false≢true, AllByRecursion}
 use Rattle.rtp_ext.proofs.PlaceLemmas.{left_next, length-element}
 use Rattle.rtp_ext.proofs.PieceLemmas.{AreWhole-nil, AreWhole-append, AreWhole-next, AreElements-after, AreElements-none}
 
@@ -26,15 +26,69 @@ without-other id elements element other =
     filter-append (λ (e : Element). not (has_id id e)) elements (element ∷ [])
     ∙ ap (λ (b : Bool). without id elements ++ cond (not b) (element ∷ []) []) (ne_eqb element.0 id other)
 
+-- ---- elements of an id and of the id 0
+
+pub or_true : (b : Bool) → (b || true) ≡ true
+or_true true = refl
+or_true false = refl
+
+pub goes-this : (id : ℕ) (element : Element) → element.0 ≡ id → goes id element ≡ true
+goes-this id element this = ap (λ (b : Bool). b || has_id 0 element) (eq-eqb element.0 id this)
+
+pub goes-zero : (id : ℕ) (element : Element) → element.0 ≡ 0 → goes id element ≡ true
+goes-zero id element zero_id = ap (λ (b : Bool). has_id id element || b) (eq-eqb element.0 0 zero_id) ∙ or_true (has_id id element)
+
+pub stays-other : (id : ℕ) (element : Element) → element.0 ≢ id → element.0 ≢ 0 → goes id element ≡ false
+stays-other id element other above =
+    ap (λ (b : Bool). b || has_id 0 element) (ne_eqb element.0 id other) ∙ ne_eqb element.0 0 above
+
+-- one more element, that goes or stays
+pub others-gone : (id : ℕ) (elements : List Element) (element : Element) → goes id element ≡ true → others id (elements ++ element ∷ []) ≡ others id elements
+others-gone id elements element gone =
+    filter-append (λ (e : Element). not (goes id e)) elements (element ∷ [])
+    ∙ ap (λ (b : Bool). others id elements ++ cond (not b) (element ∷ []) []) gone
+    ∙ append-nil (others id elements)
+
+pub others-other : (id : ℕ) (elements : List Element) (element : Element) → element.0 ≢ id → element.0 ≢ 0
+    → others id (elements ++ element ∷ []) ≡ others id elements ++ element ∷ []
+others-other id elements element other above =
+    filter-append (λ (e : Element). not (goes id e)) elements (element ∷ [])
+    ∙ ap (λ (b : Bool). others id elements ++ cond (not b) (element ∷ []) []) (stays-other id element other above)
+
+or_same : (b : Bool) → (b || b) ≡ b
+or_same true = refl
+or_same false = refl
+
+pub others-0 : (elements : List Element) → others 0 elements ≡ without 0 elements
+others-0 [] = refl
+others-0 (element ∷ elements) =
+    ap (λ (b : Bool). cond (not b) (element ∷ others 0 elements) (others 0 elements)) (or_same (has_id 0 element))
+    ∙ ap (λ es. cond (not (has_id 0 element)) (element ∷ es) es) (others-0 elements)
+
+pub others-twice : (id : ℕ) (elements : List Element) → others id elements ≡ without 0 (without id elements)
+others-twice id [] = refl
+others-twice id (element ∷ elements) = by_test (has_id id element) refl (others-twice id elements)
+  where
+    by_test : (b : Bool) → has_id id element ≡ b → others id elements ≡ without 0 (without id elements)
+        → cond (not (has_id id element || has_id 0 element)) (element ∷ others id elements) (others id elements)
+        ≡ without 0 (cond (not (has_id id element)) (element ∷ without id elements) (without id elements))
+    by_test true is rest =
+        ap (λ (t : Bool). cond (not (t || has_id 0 element)) (element ∷ others id elements) (others id elements)) is
+        ∙ (rest ∙ ap (λ (t : Bool). without 0 (cond (not t) (element ∷ without id elements) (without id elements))) (sym is))
+    by_test false is rest =
+        ap (λ (t : Bool). cond (not (t || has_id 0 element)) (element ∷ others id elements) (others id elements)) is
+        ∙ (ap (λ es. cond (not (has_id 0 element)) (element ∷ es) es) rest
+        ∙ ap (λ (t : Bool). without 0 (cond (not t) (element ∷ without id elements) (without id elements))) (sym is))
+
 pub elements_bytes-append : (form : ExtensionsForm) (xs ys : List Element) → elements_bytes form (xs ++ ys) ≡ elements_bytes form xs ++ elements_bytes form ys
 elements_bytes-append form xs ys = flat_map-append (element_bytes form) xs ys
 
-pub row-other : (form : ExtensionsForm) (id : ℕ) (elements : List Element) (element : Element) → element.0 ≢ id
-    → elements_bytes form (without id (elements ++ element ∷ [])) ≡ elements_bytes form (without id elements) ++ element_bytes form element
-row-other form id elements element other =
-    ap (elements_bytes form) (without-other id elements element other)
-    ∙ (elements_bytes-append form (without id elements) (element ∷ [])
-    ∙ ap (λ b. elements_bytes form (without id elements) ++ b) (append-nil (element_bytes form element)))
+pub row-other : (form : ExtensionsForm) (id : ℕ) (elements : List Element) (element : Element) → element.0 ≢ id → element.0 ≢ 0
+    → elements_bytes form (others id (elements ++ element ∷ [])) ≡ elements_bytes form (others id elements) ++ element_bytes form element
+row-other form id elements element other above =
+    ap (elements_bytes form) (others-other id elements element other above)
+    ∙ (elements_bytes-append form (others id elements) (element ∷ [])
+    ∙ ap (λ b. elements_bytes form (others id elements) ++ b) (append-nil (element_bytes form element)))
 
 -- bytes that are copied onto themselves
 pub paste-same : (body : List ℕ) (at n : ℕ) → paste body at (drop at body) n ≡ body
@@ -62,7 +116,7 @@ module _ (form : ExtensionsForm) (id : ℕ) (old body : List ℕ) (at len : ℕ)
   element = (place.id, next.bytes)
 
   row : List ℕ
-  row = elements_bytes form (without id was.elements)
+  row = elements_bytes form (others id was.elements)
 
   here : List ℕ
   here = replicate next.padding 0 ++ element_bytes form (place.id, next.bytes)
@@ -108,10 +162,10 @@ module _ (form : ExtensionsForm) (id : ℕ) (old body : List ℕ) (at len : ℕ)
       AreWhole-append form was.passed (replicate next.padding 0 ++ element_bytes form (place.id, next.bytes)) was.elements ((place.id, next.bytes) ∷ [])
       was.are_whole (AreWhole-next form next.padding (place.id, next.bytes) next.is_element)
 
-  -- one of the id stays behind
-  pub IsGatheredTo-this : place.id ≡ id → IsGatheredTo form id old body place.end len
+  -- one that goes stays behind
+  pub IsGatheredTo-gone : goes id (place.id, next.bytes) ≡ true → IsGatheredTo form id old body place.end len
   unfolding row
-  IsGatheredTo-this this = record {
+  IsGatheredTo-gone gone = record {
     passed = was.passed ++ here;
     gap = was.gap ++ here;
     left = next.after;
@@ -119,9 +173,9 @@ module _ (form : ExtensionsForm) (id : ℕ) (old body : List ℕ) (at len : ℕ)
     are_whole = whole_next;
     old_is = old_next;
     new_is = was.new_is ∙ (ap (λ b. row ++ (was.gap ++ b)) left_is ∙ (ap (λ b. row ++ b) (sym (append_assoc was.gap here next.after))
-        ∙ ap (λ es. elements_bytes form es ++ ((was.gap ++ here) ++ next.after)) (sym (without-this id was.elements (place.id, next.bytes) this))));
+        ∙ ap (λ es. elements_bytes form es ++ ((was.gap ++ here) ++ next.after)) (sym (others-gone id was.elements (place.id, next.bytes) gone))));
     at_is = at_next;
-    len_is = was.len_is ∙ ap (λ es. length (elements_bytes form es)) (sym (without-this id was.elements (place.id, next.bytes) this));
+    len_is = was.len_is ∙ ap (λ es. length (elements_bytes form es)) (sym (others-gone id was.elements (place.id, next.bytes) gone));
     gap_is = omega (arith, was.gap_is, length-append was.gap here, here_len, next.start_is, next.data_is, next.end_is);
   }
 
@@ -148,14 +202,14 @@ module _ (form : ExtensionsForm) (id : ℕ) (old body : List ℕ) (at len : ℕ)
       ∙ take_at (element_bytes form (place.id, next.bytes)) next.after (place.end - place.start) element_len
 
   -- another one is moved to the end of the row
-  pub IsGatheredTo-other : (new : List ℕ) → place.id ≢ id → new ≡ paste body len (drop place.start body) (place.end - place.start)
+  pub IsGatheredTo-other : (new : List ℕ) → place.id ≢ id → place.id ≢ 0 → new ≡ paste body len (drop place.start body) (place.end - place.start)
       → IsGatheredTo form id old new place.end (len + (place.end - place.start))
   unfolding row moved
-  IsGatheredTo-other new other new_is =
+  IsGatheredTo-other new other above new_is =
       let n : ℕ = place.end - place.start in
       let bytes : List ℕ = element_bytes form (place.id, next.bytes) in
-      let grown : elements_bytes form (without id (was.elements ++ (place.id, next.bytes) ∷ [])) ≡ row ++ bytes =
-      row-other form id was.elements (place.id, next.bytes) other in
+      let grown : elements_bytes form (others id (was.elements ++ (place.id, next.bytes) ∷ [])) ≡ row ++ bytes =
+      row-other form id was.elements (place.id, next.bytes) other above in
       let front : take len body ≡ row = ap (take len) was.new_is ∙ take_at row (was.gap ++ was.left) len (sym was.len_is) in
       let rest : drop (len + n) body ≡ moved ++ next.after =
       sym (drop-drop n len body) ∙ (ap (drop n) rest_is ∙ drop-append-le n (was.gap ++ here) next.after (omega (arith, length-append was.gap here, here_len))) in
@@ -185,7 +239,7 @@ start-same form id old body at len place was next early =
 pub IsGathered-end : (form : ExtensionsForm) (id : ℕ) (old body : List ℕ) (at len : ℕ) → IsGatheredTo form id old body at len → BeginsWithNoElement form (drop at body)
     → IsGathered form id old body len
 IsGathered-end form id old body at len was none =
-    let row : List ℕ = elements_bytes form (without id was.elements) in
+    let row : List ℕ = elements_bytes form (others id was.elements) in
     let front_len : at ≡ length (row ++ was.gap) = omega (arith, was.gap_is, was.len_is, length-append row was.gap) in
     let left : drop at body ≡ was.left =
     ap (drop at) (was.new_is ∙ sym (append_assoc row was.gap was.left)) ∙ drop_at (row ++ was.gap) was.left at (sym front_len) in

@@ -18,7 +18,7 @@ use Rattle.rtp_ext.proofs.AnewLemmas.{AreElements-each}
 use Rattle.rtp_ext.proofs.LastPlaceLemmas.{AreElements-same}
 use Rattle.rtp_ext.proofs.WidenLemmas.{each_element, row-same}
 use Rattle.rtp_ext.proofs.NarrowLemmas.{wide_each}
-use Rattle.rtp_ext.proofs.GatheredLemmas.{elements_bytes-append}
+use Rattle.rtp_ext.proofs.GatheredLemmas.{elements_bytes-append, others-0}
 use Rattle.rtp_ext.proofs.PieceLemmas.{AllByRecursion-append}
 use Rattle.rtp_ext.proofs.PlaceLemmas.{length-element}
 use Rattle.rtp_ext.proofs.WrittenElementsLemmas.{AreElements-in_a_row}
@@ -52,7 +52,7 @@ module _ (form : ExtensionsForm) (body gathered : List ℕ) (body_len len : ℕ)
   len-within = omega (arith, g.within, length-take-le body_len body within)
 
   front : take len whole ≡ elements_bytes form row
-  front = take-append-le len gathered (drop body_len body) (omega (arith, long, len-within)) ∙ g.row_is
+  front = take-append-le len gathered (drop body_len body) (omega (arith, long, len-within)) ∙ g.row_is ∙ ap (elements_bytes form) (others-0 g.elements)
 
   are-writable : AllByRecursion (IsWritable form) row
   are-writable = writable_without form g.elements (AreElements-each form (take body_len body) g.elements g.are_elements)
@@ -66,7 +66,7 @@ module _ (form : ExtensionsForm) (body gathered : List ℕ) (body_len len : ℕ)
   stays new_form kept elements are =
       let bytes : elements_bytes form row ≡ elements_bytes new_form (without 0 elements) =
       ap (elements_bytes form) (same elements are) ∙ ap (λ (f : ExtensionsForm). elements_bytes f (without 0 elements)) (sym kept) in
-      (front ∙ bytes, g.len_is ∙ ap length bytes)
+      (front ∙ bytes, g.len_is ∙ ap length (ap (elements_bytes form) (others-0 g.elements) ∙ bytes))
 
   -- where it becomes the two-byte form
   module _ (copied : List ℕ) (at : ℕ) (one : form ≡ OneByte) (at-is : at ≡ length whole - len) (copied-is : copied ≡ paste whole at (drop 0 whole) (len - 0)) where

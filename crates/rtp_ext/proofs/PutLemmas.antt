@@ -1,16 +1,17 @@
 -- An element in place of the last of its id.
-use Rattle.rtp_ext.proofs.Common.{◌≡◌, ◌≢◌, ℕ, ◌+◌, ◌-◌, ◌≤◌, Bool, true, false, not, ◌||◌, cond, List, [], ◌∷◌, ◌++◌, length, Option, Some, None, IfSome, IfNone, get_or, length-append, arith, refl, sym, ap, ◌∙◌, subst, filter, list_any, eq-eqb, ne_eqb, false≢true, filter-append, All-nil, All-cons, All-head, All-tail, overwritten, ExtensionsForm, Place, Survey, Element, AreElements, HasNone, SetsLast, IsLastPlace, LiesLast, IsSurvey, has_id, without, put_element, IsSole}
+use Rattle.rtp_ext.proofs.Common.{◌≡◌, ◌≢◌, ℕ, ◌+◌, ◌-◌, ◌≤◌, Bool, true, false, not, ◌||◌, cond, List, [], ◌∷◌, ◌++◌, length, Option, Some, None, IfSome, IfNone, get_or, length-append, arith, refl, sym, ap, ◌∙◌, subst, filter, list_any, eq-eqb, ne_eqb, false≢true, filter-append, All-nil, All-cons, All-head, All-tail, overwritten, ExtensionsForm, Place, Survey, Element, AreElements, HasNone, SetsLast, IsLastPlace, LiesLast, IsSurvey, has_id, without, goes, put_element, IsSole}
 use Rattle.std.proofs.lemmas.List.Folds.{list_any_none}
+use Rattle.rtp_ext.proofs.GatheredLemmas.{or_true, goes-this, goes-zero, stays-other}
 use Rattle.rtp_ext.proofs.LastPlaceLemmas.{AreElements-same, HasLast-place, HasLast-only, SetsLast-at, IsLastPlace-lies}
 
 -- ---- elements of an id, and without it
 
-pub filter-none : (id : ℕ) (elements : List Element) → HasNone elements id → filter (has_id id) elements ≡ []
-filter-none id [] none = refl
-filter-none id (element ∷ elements) none =
-    ap (λ (b : Bool). cond b (element ∷ filter (has_id id) elements) (filter (has_id id) elements))
-    (ne_eqb element.0 id (All-head (λ (e : Element). e.0 ≢ id) element elements none))
-    ∙ filter-none id elements (All-tail (λ (e : Element). e.0 ≢ id) element elements none)
+pub filter-none : (id : ℕ) (elements : List Element) → HasNone elements id → HasNone elements 0 → filter (goes id) elements ≡ []
+filter-none id [] none no_zero = refl
+filter-none id (element ∷ elements) none no_zero =
+    ap (λ (b : Bool). cond b (element ∷ filter (goes id) elements) (filter (goes id) elements))
+    (stays-other id element (All-head (λ (e : Element). e.0 ≢ id) element elements none) (All-head (λ (e : Element). e.0 ≢ 0) element elements no_zero))
+    ∙ filter-none id elements (All-tail (λ (e : Element). e.0 ≢ id) element elements none) (All-tail (λ (e : Element). e.0 ≢ 0) element elements no_zero)
 
 pub without-none : (id : ℕ) (elements : List Element) → HasNone elements id → without id elements ≡ elements
 without-none id [] none = refl
@@ -19,30 +20,30 @@ without-none id (element ∷ elements) none =
     (ne_eqb element.0 id (All-head (λ (e : Element). e.0 ≢ id) element elements none))
     ∙ ap (λ es. element ∷ es) (without-none id elements (All-tail (λ (e : Element). e.0 ≢ id) element elements none))
 
--- where none was counted, none has the id
-pub none-counted : (id : ℕ) (elements : List Element) → length (filter (has_id id) elements) ≡ 0 → HasNone elements id
-none-counted id [] none = All-nil (λ (e : Element). e.0 ≢ id)
-none-counted id (element ∷ elements) none = by_test (λ rest. none-counted id elements rest) (has_id id element) refl
+-- where none was counted, none has an id that goes
+pub none-counted : (id k : ℕ) (elements : List Element) → ((element : Element) → element.0 ≡ k → goes id element ≡ true) → length (filter (goes id) elements) ≡ 0 → HasNone elements k
+none-counted id k [] gone none = All-nil (λ (e : Element). e.0 ≢ k)
+none-counted id k (element ∷ elements) gone none = by_test (λ rest. none-counted id k elements gone rest) (goes id element) refl
   where
-    by_test : (length (filter (has_id id) elements) ≡ 0 → HasNone elements id) → (same : Bool) → has_id id element ≡ same → HasNone (element ∷ elements) id
+    by_test : (length (filter (goes id) elements) ≡ 0 → HasNone elements k) → (same : Bool) → goes id element ≡ same → HasNone (element ∷ elements) k
     by_test others true is =
-        let some : length (cond true (element ∷ filter (has_id id) elements) (filter (has_id id) elements)) ≡ 0 =
-        ap (λ (b : Bool). length (cond b (element ∷ filter (has_id id) elements) (filter (has_id id) elements))) (sym is) ∙ none in
+        let some : length (cond true (element ∷ filter (goes id) elements) (filter (goes id) elements)) ≡ 0 =
+        ap (λ (b : Bool). length (cond b (element ∷ filter (goes id) elements) (filter (goes id) elements))) (sym is) ∙ none in
         absurd (omega arith)
     by_test others false is =
-        let rest : length (filter (has_id id) elements) ≡ 0 =
-        ap (λ (b : Bool). length (cond b (element ∷ filter (has_id id) elements) (filter (has_id id) elements))) (sym is) ∙ none in
-        All-cons (λ (e : Element). e.0 ≢ id) element elements (λ same. false≢true (sym is ∙ eq-eqb element.0 id same)) (others rest)
+        let rest : length (filter (goes id) elements) ≡ 0 =
+        ap (λ (b : Bool). length (cond b (element ∷ filter (goes id) elements) (filter (goes id) elements))) (sym is) ∙ none in
+        All-cons (λ (e : Element). e.0 ≢ k) element elements (λ same. false≢true (sym is ∙ gone element same)) (others rest)
 
 count-around : (id : ℕ) (before after : List Element) (bytes : List ℕ)
-    → length (filter (has_id id) (before ++ (id, bytes) ∷ after)) ≡ length (filter (has_id id) before) + (length (filter (has_id id) after) + 1)
+    → length (filter (goes id) (before ++ (id, bytes) ∷ after)) ≡ length (filter (goes id) before) + (length (filter (goes id) after) + 1)
 count-around id before after bytes =
-    let here : filter (has_id id) ((id, bytes) ∷ after) ≡ (id, bytes) ∷ filter (has_id id) after =
-    ap (λ (b : Bool). cond b ((id, bytes) ∷ filter (has_id id) after) (filter (has_id id) after)) (eq-eqb id id refl) in
+    let here : filter (goes id) ((id, bytes) ∷ after) ≡ (id, bytes) ∷ filter (goes id) after =
+    ap (λ (b : Bool). cond b ((id, bytes) ∷ filter (goes id) after) (filter (goes id) after)) (goes-this id (id, bytes) refl) in
     omega (
       arith,
-      ap length (filter-append (has_id id) before ((id, bytes) ∷ after)),
-      length-append (filter (has_id id) before) (filter (has_id id) ((id, bytes) ∷ after)),
+      ap length (filter-append (goes id) before ((id, bytes) ∷ after)),
+      length-append (filter (goes id) before) (filter (goes id) ((id, bytes) ∷ after)),
       ap length here,
     )
 
@@ -50,10 +51,6 @@ count-around id before after bytes =
 
 any-none : (id : ℕ) (elements : List Element) → HasNone elements id → list_any (has_id id) elements ≡ false
 any-none id elements none = list_any_none (has_id id) elements (λ k d here. ne_eqb (get_or elements k d).0 id (none k d here))
-
-or_true : (b : Bool) → (b || true) ≡ true
-or_true true = refl
-or_true false = refl
 
 any-around : (id : ℕ) (before after : List Element) (bytes : List ℕ) → list_any (has_id id) (before ++ (id, bytes) ∷ after) ≡ true
 any-around id [] after bytes = ap (λ (b : Bool). b || list_any (has_id id) after) (eq-eqb id id refl)
@@ -89,14 +86,14 @@ put_element-last id bytes was (element ∷ before) after none = by_test (put_ele
 
 -- ---- a body whose one element of the id has as many bytes
 
-sole-counted : (elements : List Element) (id : ℕ) (bytes : List ℕ) → IsSole elements (id, bytes) → length (filter (has_id id) elements) ≡ 1
+sole-counted : (elements : List Element) (id : ℕ) (bytes : List ℕ) → IsSole elements (id, bytes) → length (filter (goes id) elements) ≡ 1
 sole-counted elements id bytes sole =
     omega (
       arith,
-      ap (λ es. length (filter (has_id id) es)) sole.in_order,
+      ap (λ es. length (filter (goes id) es)) sole.in_order,
       count-around id sole.before sole.after sole.was,
-      ap length (filter-none id sole.before sole.none_before),
-      ap length (filter-none id sole.after sole.none_after),
+      ap length (filter-none id sole.before sole.none_before sole.no_zero_before),
+      ap length (filter-none id sole.after sole.none_after sole.no_zero_after),
     )
 
 -- the elements around the last one of the id
@@ -112,7 +109,7 @@ pub sole-absent : (form : ExtensionsForm) (body : List ℕ) (id : ℕ) (survey :
 sole-absent form body id survey elements bytes is are none sole =
     let has_none : HasNone is.elements id = subst (λ (last : Option Place). IfNone last (HasNone is.elements id)) none is.none_is in
     let same : is.elements ≡ elements = AreElements-same form body is.elements elements is.are_elements are in
-    omega (arith, sole-counted elements id bytes sole, ap (λ es. length (filter (has_id id) es)) same, ap length (filter-none id is.elements has_none))
+    false≢true (sym (any-none id is.elements has_none) ∙ (ap (list_any (has_id id)) (same ∙ sole.in_order) ∙ any-around id sole.before sole.after sole.was))
 
 module _ (form : ExtensionsForm) (body : List ℕ) (id : ℕ) (survey : Survey) (place : Place) (is : IsSurvey form body id survey) (found : survey.last ≡ Some place) where
   pub last_known : IsLastPlace (AreElements form) id body place
@@ -136,7 +133,7 @@ module _ (form : ExtensionsForm) (body : List ℕ) (id : ℕ) (survey : Survey) 
       let one : sole.was ≡ l.was =
       HasLast-only elements id sole.was l.was (record { before = sole.before; after = sole.after; in_order = sole.in_order; last = sole.none_after })
       (HasLast-place form id body place elements l are) in (
-        is.count_is ∙ (ap (λ es. length (filter (has_id id) es)) same ∙ sole-counted elements id bytes sole),
+        is.count_is ∙ (ap (λ es. length (filter (goes id) es)) same ∙ sole-counted elements id bytes sole),
         omega (arith, l.end_is, ap length one, sole.as_many),
       )
 
@@ -144,11 +141,10 @@ module _ (form : ExtensionsForm) (body : List ℕ) (id : ℕ) (survey : Survey) 
     around : elements ≡ last_known.before ++ (id, last_known.was) ∷ last_known.after
     around = in_order form id body place elements last_known are
 
-    none_before : HasNone last_known.before id
-    none_before =
+    around-counted : length (filter (goes id) last_known.before) + length (filter (goes id) last_known.after) ≡ 0
+    around-counted =
         let same : is.elements ≡ elements = AreElements-same form body is.elements elements is.are_elements are in
-        none-counted id last_known.before
-        (omega (arith, is.count_is, once, ap (λ es. length (filter (has_id id) es)) (same ∙ around), count-around id last_known.before last_known.after last_known.was))
+        omega (arith, is.count_is, once, ap (λ es. length (filter (goes id) es)) (same ∙ around), count-around id last_known.before last_known.after last_known.was)
 
     pub sole_found : IsSole elements (id, bytes)
     sole_found = record {
@@ -156,8 +152,10 @@ module _ (form : ExtensionsForm) (body : List ℕ) (id : ℕ) (survey : Survey) 
       after = last_known.after;
       was = last_known.was;
       in_order = around;
-      none_before = none_before;
+      none_before = none-counted id id last_known.before (goes-this id) (omega (arith, around-counted));
       none_after = last_known.last;
+      no_zero_before = none-counted id 0 last_known.before (goes-zero id) (omega (arith, around-counted));
+      no_zero_after = none-counted id 0 last_known.after (goes-zero id) (omega (arith, around-counted));
       as_many = let e = last_known.end_is in omega arith;
     }
 
@@ -168,7 +166,7 @@ module _ (form : ExtensionsForm) (body : List ℕ) (id : ℕ) (survey : Survey) 
         let listed : elements ≡ set.before ++ (id, set.was) ∷ set.after = AreElements-same form body elements (set.before ++ (id, set.was) ∷ set.after) are set.old_elements in
         let same : is.elements ≡ elements = AreElements-same form body is.elements elements is.are_elements are in
         let front : HasNone set.before id =
-        none-counted id set.before (omega (arith, is.count_is, once, ap (λ es. length (filter (has_id id) es)) (same ∙ listed), count-around id set.before set.after set.was)) in
+        none-counted id id set.before (goes-this id) (omega (arith, is.count_is, once, ap (λ es. length (filter (goes id) es)) (same ∙ listed), count-around id set.before set.after set.was)) in
         subst (AreElements form new)
         (sym (ap (put_element (id, bytes)) listed ∙ (put_element-last id bytes set.was set.before set.after set.last
         ∙ ap (λ es. es ++ (id, bytes) ∷ set.after) (without-none id set.before front))))

@@ -1,5 +1,5 @@
 -- How long a body's elements are with one put among them, and that they are read.
-use Rattle.rtp_ext.proofs.Common.{◌≡◌, ◌≢◌, ℕ, ◌+◌, ◌-◌, ◌*◌, ◌≤◌, Bool, true, false, not, cond, List, [], ◌∷◌, ◌++◌, length, drop, replicate, length-append, arith, refl, sym, ap, ◌∙◌, subst, inl, inr, ◌⊎◌, AllByRecursion, list_any, eq-eqb, append-nil, drop_at, filter-append, ExtensionsForm, OneByte, TwoByte, Place, Element, IsElement, element_bytes, elements_bytes, AreElements, BeginsWithNoElement, IsWritable, HasNone, IsNextPlace, IsWidthTo, has_id, without, put_element, carried_in, row_to}
+use Rattle.rtp_ext.proofs.Common.{◌≡◌, ◌≢◌, ℕ, ◌+◌, ◌-◌, ◌*◌, ◌≤◌, Bool, true, false, not, cond, List, [], ◌∷◌, ◌++◌, length, drop, replicate, length-append, arith, refl, sym, ap, ◌∙◌, subst, inl, inr, ◌⊎◌, AllByRecursion, list_any, eq-eqb, append-nil, drop_at, filter-append, ExtensionsForm, OneByte, TwoByte, Place, Element, IsElement, element_bytes, elements_bytes, AreElements, BeginsWithNoElement, IsWritable, HasNone, IsNextPlace, IsWidthTo, has_id, without, put_element, row_to}
 use Rattle.rtp_ext.proofs.PlaceLemmas.{passed_next, end_next}
 use Rattle.rtp_ext.proofs.PieceLemmas.{AreWhole-nil, AreWhole-append, AreWhole-next, AreElements-after, AreElements-none}
 use Rattle.rtp_ext.proofs.LastPlaceLemmas.{AreElements-same}
@@ -8,7 +8,7 @@ use Rattle.rtp_ext.proofs.GatheredLemmas.{elements_bytes-append, without-this, w
 use Rattle.rtp_ext.proofs.WrittenElementsLemmas.{AreElements-in_a_row}
 use Rattle.rtp_ext.proofs.WidenAroundLemmas.{length-around}
 use Rattle.rtp_ext.proofs.AroundLemmas.{IsSplit}
-use Rattle.rtp_ext.proofs.AnewLemmas.{AreElements-each, without-each, carried_all, put_element-carried}
+use Rattle.rtp_ext.proofs.AnewLemmas.{AreElements-each, without-each, put_element-carried}
 
 -- ---- the elements without those of the id, around it
 
@@ -29,37 +29,17 @@ length-split : (form : ExtensionsForm) (xs ys : List Element) → length (elemen
 length-split form xs ys = ap length (elements_bytes-append form xs ys) ∙ length-append (elements_bytes form xs) (elements_bytes form ys)
 
 module _ (form : ExtensionsForm) (id start end : ℕ) (body bytes : List ℕ) (elements : List Element) (split : IsSplit form id body start end) (are : AreElements form body elements) where
-  pub length-put_same : (new_form : ExtensionsForm) → new_form ≡ form
-      → length (elements_bytes new_form (put_element (id, bytes) (carried_in new_form elements))) ≡ length (elements_bytes form (without id elements)) + length (element_bytes new_form (id, bytes))
-  length-put_same new_form same =
-      let put : put_element (id, bytes) (carried_in new_form elements) ≡ without id split.before ++ (id, bytes) ∷ split.after =
-      ap (λ (f : ExtensionsForm). put_element (id, bytes) (carried_in f elements)) same
-      ∙ (ap (put_element (id, bytes)) (carried_all form elements (AreElements-each form body elements are)) ∙ split.put_is elements bytes are) in
+  pub length-put : (new_form : ExtensionsForm) → 1 ≤ id
+      → length (elements_bytes new_form (put_element (id, bytes) (without 0 elements)))
+      ≡ length (elements_bytes new_form (without 0 (without id elements))) + length (element_bytes new_form (id, bytes))
+  length-put new_form above =
       omega (
         arith,
-        ap (λ es. length (elements_bytes new_form es)) put,
-        ap (λ (f : ExtensionsForm). length (elements_bytes f (without id split.before ++ (id, bytes) ∷ split.after))) same,
-        ap (λ (f : ExtensionsForm). length (element_bytes f (id, bytes))) same,
-        length-around form (without id split.before) split.after (id, bytes),
-        ap (λ es. length (elements_bytes form es)) (without-split form id start end body elements split are),
-        length-split form (without id split.before) split.after,
-      )
-
-  pub length-put_wide : (new_form : ExtensionsForm) → new_form ≡ TwoByte → 1 ≤ id
-      → length (elements_bytes new_form (put_element (id, bytes) (carried_in new_form elements)))
-      ≡ length (elements_bytes TwoByte (without 0 (without id elements))) + length (element_bytes new_form (id, bytes))
-  length-put_wide new_form two above =
-      let put : put_element (id, bytes) (carried_in new_form elements) ≡ without 0 (without id split.before) ++ (id, bytes) ∷ without 0 split.after =
-      ap (λ (f : ExtensionsForm). put_element (id, bytes) (carried_in f elements)) two ∙ put_element-carried form id start end body bytes elements split above are in
-      omega (
-        arith,
-        ap (λ es. length (elements_bytes new_form es)) put,
-        ap (λ (f : ExtensionsForm). length (elements_bytes f (without 0 (without id split.before) ++ (id, bytes) ∷ without 0 split.after))) two,
-        ap (λ (f : ExtensionsForm). length (element_bytes f (id, bytes))) two,
-        length-around TwoByte (without 0 (without id split.before)) (without 0 split.after) (id, bytes),
-        ap (λ es. length (elements_bytes TwoByte (without 0 es))) (without-split form id start end body elements split are),
-        ap (λ es. length (elements_bytes TwoByte es)) (filter-append (λ (e : Element). not (has_id 0 e)) (without id split.before) split.after),
-        length-split TwoByte (without 0 (without id split.before)) (without 0 split.after),
+        ap (λ es. length (elements_bytes new_form es)) (put_element-carried form id start end body bytes elements split above are),
+        length-around new_form (without 0 (without id split.before)) (without 0 split.after) (id, bytes),
+        ap (λ es. length (elements_bytes new_form (without 0 es))) (without-split form id start end body elements split are),
+        ap (λ es. length (elements_bytes new_form es)) (filter-append (λ (e : Element). not (has_id 0 e)) (without id split.before) split.after),
+        length-split new_form (without 0 (without id split.before)) (without 0 split.after),
       )
 
 -- ---- that they are read
@@ -78,18 +58,18 @@ carried_wide : (elements : List Element) → AllByRecursion (IsElement OneByte) 
 carried_wide elements all = without-weaker (IsElement OneByte) (IsElement TwoByte) 0 elements (λ element other is. (omega arith, omega arith, omega arith)) all
 
 carried-each : (form new_form : ExtensionsForm) (elements : List Element) → (new_form ≡ form) ⊎ (new_form ≡ TwoByte) → AllByRecursion (IsElement form) elements
-    → AllByRecursion (IsElement new_form) (carried_in new_form elements)
-carried-each OneByte OneByte elements may all = all
+    → AllByRecursion (IsElement new_form) (without 0 elements)
+carried-each OneByte OneByte elements may all = without-each (IsElement OneByte) 0 elements all
 carried-each OneByte TwoByte elements may all = carried_wide elements all
 carried-each TwoByte TwoByte elements may all = without-each (IsElement TwoByte) 0 elements all
 carried-each TwoByte OneByte elements (inl same) all = cc
 carried-each TwoByte OneByte elements (inr two) all = cc
 
 pub row_to-read : (form new_form : ExtensionsForm) (body : List ℕ) (elements : List Element) (new : Element) (n : ℕ) → (new_form ≡ form) ⊎ (new_form ≡ TwoByte) → AreElements form body elements
-    → IsWritable new_form new → AreElements new_form (row_to new_form (put_element new (carried_in new_form elements)) n) (put_element new (carried_in new_form elements))
+    → IsWritable new_form new → AreElements new_form (row_to new_form (put_element new (without 0 elements)) n) (put_element new (without 0 elements))
 row_to-read form new_form body elements new n may are writable =
-    AreElements-in_a_row new_form (put_element new (carried_in new_form elements)) (n - length (elements_bytes new_form (put_element new (carried_in new_form elements))))
-    (put_element-each (IsElement new_form) new (carried_in new_form elements) (carried-each form new_form elements may (AreElements-each form body elements are)) writable.1)
+    AreElements-in_a_row new_form (put_element new (without 0 elements)) (n - length (elements_bytes new_form (put_element new (without 0 elements))))
+    (put_element-each (IsElement new_form) new (without 0 elements) (carried-each form new_form elements may (AreElements-each form body elements are)) writable.1)
 
 -- ---- the length in the two-byte form, element by element
 

@@ -1,9 +1,9 @@
 -- Elements that stand in a row already, before the last one of an id and after it.
-use Rattle.rtp_ext.proofs.Common.{◌≡◌, ℕ, ◌+◌, ◌-◌, ◌≤◌, Bool, true, false, not, cond, List, [], ◌∷◌, ◌++◌, length, take, drop, Option, Some, None, IfSome, IfNone, append_assoc, length-append, length-drop, length-take-le, arith, refl, sym, ap, ◌∙◌, subst, slice_range, flat_map, filter_map, take_at, drop_at, take-append-le, drop-append-le, take-take, drop-take, take_all, drop_all, append-nil, filter-append, ExtensionsForm, Place, Survey, Element, AreElements, element_bytes, elements_bytes, piece_bytes, LiesLast, AreWhole, IsLastOrNone, IsSurvey, HasRows, has_id, without}
+use Rattle.rtp_ext.proofs.Common.{◌≡◌, ℕ, ◌+◌, ◌-◌, ◌≤◌, Bool, true, false, not, cond, List, [], ◌∷◌, ◌++◌, length, take, drop, Option, Some, None, IfSome, IfNone, append_assoc, length-append, length-drop, length-take-le, arith, refl, sym, ap, ◌∙◌, subst, slice_range, flat_map, filter_map, take_at, drop_at, take-append-le, drop-append-le, take-take, drop-take, take_all, drop_all, append-nil, filter-append, ExtensionsForm, Place, Survey, Element, AreElements, element_bytes, elements_bytes, piece_bytes, LiesLast, AreWhole, IsLastOrNone, IsSurvey, HasRows, goes, others}
 use Rattle.rtp_ext.proofs.PlaceLemmas.{length-element, length-header-some, length-lies}
 use Rattle.rtp_ext.proofs.PieceLemmas.{AreWhole-nil, AreWhole-append, AreWhole-element, AreElements-after}
 use Rattle.rtp_ext.proofs.LastPlaceLemmas.{AreElements-same}
-use Rattle.rtp_ext.proofs.GatheredLemmas.{elements_bytes-append, without-this}
+use Rattle.rtp_ext.proofs.GatheredLemmas.{elements_bytes-append, goes-this, others-gone}
 use Rattle.rtp_ext.proofs.AroundLemmas.{AreElements-whole, read_front, read_whole, read_within}
 
 -- ---- pieces that are as long as their elements of other ids
@@ -11,25 +11,25 @@ use Rattle.rtp_ext.proofs.AroundLemmas.{AreElements-whole, read_front, read_whol
 some_bytes : (form : ExtensionsForm) (element : Element) → 1 ≤ length (element_bytes form element)
 some_bytes form element = let h = length-header-some form element.0 (length element.1) in omega (arith, length-element form element.0 element.1)
 
--- the elements of other ids of these pieces, in a row
+-- the elements of other ids of these pieces, but those of the id 0, in a row
 row_of : ExtensionsForm → ℕ → List (Option Element) → List ℕ
-row_of form id pieces = elements_bytes form (without id (filter_map (λ piece. piece) pieces))
+row_of form id pieces = elements_bytes form (others id (filter_map (λ piece. piece) pieces))
 
 row_within : (form : ExtensionsForm) (id : ℕ) (pieces : List (Option Element)) → length (row_of form id pieces) ≤ length (flat_map (piece_bytes form) pieces)
 unfolding row_of
 row_within form id [] = omega arith
 row_within form id (None ∷ pieces) = let w = row_within form id pieces in omega arith
-row_within form id (Some element ∷ pieces) = by_test (has_id id element) (row_within form id pieces)
+row_within form id (Some element ∷ pieces) = by_test (goes id element) (row_within form id pieces)
   where
     by_test : (b : Bool) → length (row_of form id pieces) ≤ length (flat_map (piece_bytes form) pieces)
-        → length (elements_bytes form (cond (not b) (element ∷ without id (filter_map (λ piece. piece) pieces)) (without id (filter_map (λ piece. piece) pieces))))
+        → length (elements_bytes form (cond (not b) (element ∷ others id (filter_map (λ piece. piece) pieces)) (others id (filter_map (λ piece. piece) pieces))))
         ≤ length (element_bytes form element ++ flat_map (piece_bytes form) pieces)
     by_test true rest = omega (arith, length-append (element_bytes form element) (flat_map (piece_bytes form) pieces))
     by_test false rest =
         omega (
           arith,
           length-append (element_bytes form element) (flat_map (piece_bytes form) pieces),
-          length-append (element_bytes form element) (elements_bytes form (without id (filter_map (λ piece. piece) pieces))),
+          length-append (element_bytes form element) (elements_bytes form (others id (filter_map (λ piece. piece) pieces))),
         )
 
 row_is : (form : ExtensionsForm) (id : ℕ) (pieces : List (Option Element)) → length (flat_map (piece_bytes form) pieces) ≤ length (row_of form id pieces)
@@ -37,37 +37,37 @@ row_is : (form : ExtensionsForm) (id : ℕ) (pieces : List (Option Element)) →
 unfolding row_of
 row_is form id [] long = refl
 row_is form id (None ∷ pieces) long = let w = row_within form id pieces in absurd (omega arith)
-row_is form id (Some element ∷ pieces) long = by_test (has_id id element) long (λ enough. row_is form id pieces enough) (row_within form id pieces)
+row_is form id (Some element ∷ pieces) long = by_test (goes id element) long (λ enough. row_is form id pieces enough) (row_within form id pieces)
   where
     by_test : (b : Bool) → length (element_bytes form element ++ flat_map (piece_bytes form) pieces)
-        ≤ length (elements_bytes form (cond (not b) (element ∷ without id (filter_map (λ piece. piece) pieces)) (without id (filter_map (λ piece. piece) pieces))))
+        ≤ length (elements_bytes form (cond (not b) (element ∷ others id (filter_map (λ piece. piece) pieces)) (others id (filter_map (λ piece. piece) pieces))))
         → (length (flat_map (piece_bytes form) pieces) ≤ length (row_of form id pieces) → flat_map (piece_bytes form) pieces ≡ row_of form id pieces)
         → length (row_of form id pieces) ≤ length (flat_map (piece_bytes form) pieces)
         → element_bytes form element ++ flat_map (piece_bytes form) pieces
-        ≡ elements_bytes form (cond (not b) (element ∷ without id (filter_map (λ piece. piece) pieces)) (without id (filter_map (λ piece. piece) pieces)))
-    by_test true long others within =
+        ≡ elements_bytes form (cond (not b) (element ∷ others id (filter_map (λ piece. piece) pieces)) (others id (filter_map (λ piece. piece) pieces)))
+    by_test true long rest within =
         let some = some_bytes form element in
         absurd (omega (arith, length-append (element_bytes form element) (flat_map (piece_bytes form) pieces)))
-    by_test false long others within =
-        ap (λ b. element_bytes form element ++ b) (others (omega (
+    by_test false long rest within =
+        ap (λ b. element_bytes form element ++ b) (rest (omega (
           arith,
           length-append (element_bytes form element) (flat_map (piece_bytes form) pieces),
-          length-append (element_bytes form element) (elements_bytes form (without id (filter_map (λ piece. piece) pieces))),
+          length-append (element_bytes form element) (elements_bytes form (others id (filter_map (λ piece. piece) pieces))),
         )))
 
 module _ (form : ExtensionsForm) (id : ℕ) (bytes : List ℕ) (elements : List Element) (whole : AreWhole form bytes elements) where
-  whole_within : length (elements_bytes form (without id elements)) ≤ length bytes
+  whole_within : length (elements_bytes form (others id elements)) ≤ length bytes
   unfolding row_of
   whole_within =
       let w = row_within form id whole.pieces in
-      omega (arith, ap length whole.bytes_are, ap (λ es. length (elements_bytes form (without id es))) whole.elements_are)
+      omega (arith, ap length whole.bytes_are, ap (λ es. length (elements_bytes form (others id es))) whole.elements_are)
 
-  whole_is : length bytes ≤ length (elements_bytes form (without id elements)) → bytes ≡ elements_bytes form (without id elements)
+  whole_is : length bytes ≤ length (elements_bytes form (others id elements)) → bytes ≡ elements_bytes form (others id elements)
   unfolding row_of
   whole_is long =
       whole.bytes_are
-      ∙ (row_is form id whole.pieces (omega (arith, ap length whole.bytes_are, ap (λ es. length (elements_bytes form (without id es))) whole.elements_are))
-      ∙ ap (λ es. elements_bytes form (without id es)) (sym whole.elements_are))
+      ∙ (row_is form id whole.pieces (omega (arith, ap length whole.bytes_are, ap (λ es. length (elements_bytes form (others id es))) whole.elements_are))
+      ∙ ap (λ es. elements_bytes form (others id es)) (sym whole.elements_are))
 
 -- ---- the bytes that were read
 
@@ -76,13 +76,13 @@ record AreRows (form : ExtensionsForm) (id : ℕ) (bytes : List ℕ) (start end 
   pub after : List Element
   pub front_whole : AreWhole form (take start bytes) before
   pub rest_whole : AreWhole form (drop end bytes) after
-  pub front_is : take start bytes ≡ elements_bytes form (without id before)
-  pub rest_is : drop end bytes ≡ elements_bytes form (without id after)
+  pub front_is : take start bytes ≡ elements_bytes form (others id before)
+  pub rest_is : drop end bytes ≡ elements_bytes form (others id after)
   pub order : start ≤ end
   pub within : end ≤ length bytes
 
 rows_of_none : (form : ExtensionsForm) (id : ℕ) (bytes : List ℕ) (elements : List Element) → AreWhole form bytes elements
-    → length (elements_bytes form (without id elements)) ≡ length bytes → AreRows form id bytes (length bytes) (length bytes)
+    → length (elements_bytes form (others id elements)) ≡ length bytes → AreRows form id bytes (length bytes) (length bytes)
 rows_of_none form id bytes elements whole row =
     let all : take (length bytes) bytes ≡ bytes = take_all (length bytes) bytes (omega arith) in
     let nothing : drop (length bytes) bytes ≡ [] = drop_all (length bytes) bytes (omega arith) in
@@ -98,7 +98,7 @@ rows_of_none form id bytes elements whole row =
     }
 
 rows_of_last : (form : ExtensionsForm) (id : ℕ) (bytes : List ℕ) (elements : List Element) (place : Place) → AreWhole form bytes elements → place.id ≡ id
-    → LiesLast form (AreWhole form) id bytes place → length (elements_bytes form (without id elements)) + (place.end - place.start) ≡ length bytes
+    → LiesLast form (AreWhole form) id bytes place → length (elements_bytes form (others id elements)) + (place.end - place.start) ≡ length bytes
     → AreRows form id bytes place.start place.end
 rows_of_last form id bytes elements place whole id_is is row =
     let element : Element = (place.id, is.lies.bytes) in
@@ -115,12 +115,12 @@ rows_of_last form id bytes elements place whole id_is is row =
     let same : elements ≡ (is.before ++ (place.id, is.lies.bytes) ∷ []) ++ is.after =
     AreElements-same form bytes elements ((is.before ++ (place.id, is.lies.bytes) ∷ []) ++ is.after)
     (AreElements-whole form bytes elements whole) (AreElements-whole form bytes ((is.before ++ (place.id, is.lies.bytes) ∷ []) ++ is.after) parts) in
-    let others : without id elements ≡ without id is.before ++ without id is.after =
-    ap (without id) same ∙ (filter-append (λ (e : Element). not (has_id id e)) (is.before ++ (place.id, is.lies.bytes) ∷ []) is.after
-    ∙ ap (λ es. es ++ without id is.after) (without-this id is.before (place.id, is.lies.bytes) id_is)) in
-    let long : length (elements_bytes form (without id elements)) ≡ length (elements_bytes form (without id is.before)) + length (elements_bytes form (without id is.after)) =
-    ap (λ es. length (elements_bytes form es)) others ∙ (ap length (elements_bytes-append form (without id is.before) (without id is.after))
-    ∙ length-append (elements_bytes form (without id is.before)) (elements_bytes form (without id is.after))) in
+    let kept : others id elements ≡ others id is.before ++ others id is.after =
+    ap (others id) same ∙ (filter-append (λ (e : Element). not (goes id e)) (is.before ++ (place.id, is.lies.bytes) ∷ []) is.after
+    ∙ ap (λ es. es ++ others id is.after) (others-gone id is.before (place.id, is.lies.bytes) (goes-this id (place.id, is.lies.bytes) id_is))) in
+    let long : length (elements_bytes form (others id elements)) ≡ length (elements_bytes form (others id is.before)) + length (elements_bytes form (others id is.after)) =
+    ap (λ es. length (elements_bytes form es)) kept ∙ (ap length (elements_bytes-append form (others id is.before) (others id is.after))
+    ∙ length-append (elements_bytes form (others id is.before)) (elements_bytes form (others id is.after))) in
     let total = length-append (is.lies.front ++ here) is.lies.after in
     let few_before = whole_within form id is.lies.front is.before is.whole in
     let few_after = whole_within form id is.lies.after is.after is.left in
@@ -138,10 +138,10 @@ rows_of_last form id bytes elements place whole id_is is row =
 
 rows_read : (form : ExtensionsForm) (id : ℕ) (bytes : List ℕ) (elements : List Element) (last : Option Place) (start end : ℕ) → AreWhole form bytes elements
     → IsLastOrNone form id bytes elements last → IfSome last (λ place. (start ≡ place.start) × (end ≡ place.end))
-    → IfNone last ((start ≡ length bytes) × (end ≡ length bytes)) → length (elements_bytes form (without id elements)) + (end - start) ≡ length bytes
+    → IfNone last ((start ≡ length bytes) × (end ≡ length bytes)) → length (elements_bytes form (others id elements)) + (end - start) ≡ length bytes
     → AreRows form id bytes start end
 rows_read form id bytes elements None start end whole is some none row =
-    let none_has : length (elements_bytes form (without id elements)) ≡ length bytes = let a = none.0 in let b = none.1 in omega arith in
+    let none_has : length (elements_bytes form (others id elements)) ≡ length bytes = let a = none.0 in let b = none.1 in omega arith in
     subst (λ (s : ℕ). AreRows form id bytes s end) (sym none.0) (subst (λ (e : ℕ). AreRows form id bytes (length bytes) e) (sym none.1)
     (rows_of_none form id bytes elements whole none_has))
 rows_read form id bytes elements (Some place) start end whole is some none row =

@@ -16,7 +16,7 @@ use Rattle.rtp_ext.specs.PutElement.{has_id, without}
 use Rattle.rtp_ext.proofs.ElementLemmasOfBodies.{AreElements-only}
 use Rattle.rtp_ext.proofs.PieceLemmas.{AllByRecursion-append, AreElements-none}
 use Rattle.rtp_ext.proofs.PlaceLemmas.{length-element, element_bytes-split}
-use Rattle.rtp_ext.proofs.GatheredLemmas.{without-this, without-other, row-other}
+use Rattle.rtp_ext.proofs.GatheredLemmas.{without-this, without-other, elements_bytes-append}
 use Rattle.rtp_ext.proofs.RenumberingLemmas.{elements_left-next}
 
 -- one of those that are kept is kept
@@ -122,8 +122,10 @@ module _ (form new_form : ExtensionsForm) (body : List ℕ) (at len : ℕ) (plac
       length-element new_form place.id content,
       was.len_is,
       ap (λ (xs : List ℕ). length (element_bytes new_form (place.id, xs))) content-is,
-      ap length (row-other new_form 0 was.passed (place.id, next.bytes) above),
-      length-append (elements_bytes new_form (without 0 was.passed)) (element_bytes new_form (place.id, next.bytes)),
+      ap length (ap (elements_bytes new_form) (without-other 0 was.passed (place.id, next.bytes) above)
+          ∙ elements_bytes-append new_form (without 0 was.passed) ((place.id, next.bytes) ∷ [])),
+      ap length (append-nil (element_bytes new_form (place.id, next.bytes))),
+      length-append (elements_bytes new_form (without 0 was.passed)) (elements_bytes new_form ((place.id, next.bytes) ∷ [])),
     );
     are_carried = subst (AllByRecursion (IsWritable new_form)) (sym (without-other 0 was.passed (place.id, next.bytes) above))
         (AllByRecursion-append (IsWritable new_form) (without 0 was.passed) ((place.id, next.bytes) ∷ []) was.are_carried

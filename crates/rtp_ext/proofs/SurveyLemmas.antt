@@ -1,15 +1,15 @@
 -- What is known of a body's elements from the front up to an offset.
-use Rattle.rtp_ext.proofs.Common.{◌≡◌, ◌≢◌, ℕ, ◌+◌, ◌-◌, Bool, true, false, cond, List, [], ◌∷◌, ◌++◌, length, drop, Option, Some, None, IfSome, IfNone, length-append, arith, refl, sym, ap, ◌∙◌, subst, filter, eq-eqb, ne_eqb, append-nil, drop_at, filter-append, ExtensionsForm, Place, Element, element_bytes, elements_bytes, AreElements, BeginsWithNoElement, HasNone, IsNextPlace, IsLastOrNone, IsSurvey, IsSurveyedTo, has_id, without}
+use Rattle.rtp_ext.proofs.Common.{◌≡◌, ◌≢◌, ℕ, ◌+◌, ◌-◌, Bool, true, false, cond, List, [], ◌∷◌, ◌++◌, length, drop, Option, Some, None, IfNone, length-append, arith, refl, sym, ap, ◌∙◌, subst, filter, append-nil, drop_at, filter-append, ExtensionsForm, Place, Element, element_bytes, elements_bytes, AreElements, BeginsWithNoElement, HasNone, IsNextPlace, IsLastOrNone, IsSurvey, IsSurveyedTo, goes, others}
 use Rattle.rtp_ext.proofs.PlaceLemmas.{length-element, length-header-some}
 use Rattle.rtp_ext.proofs.PieceLemmas.{AreElements-after, AreElements-none}
 use Rattle.rtp_ext.proofs.LastPlaceLemmas.{IsPassed-start, IsPassed-this, IsPassed-other, IsPassed-lies, elements-start, elements-other, elements-this}
-use Rattle.rtp_ext.proofs.GatheredLemmas.{without-this, row-other}
+use Rattle.rtp_ext.proofs.GatheredLemmas.{goes-this, goes-zero, stays-other, others-gone, row-other}
 
 pub IsSurveyedTo-start : (form : ExtensionsForm) (body : List ℕ) (id : ℕ) → IsSurveyedTo form body 0 id None 0 0
 IsSurveyedTo-start form body id = record {
   passed = IsPassed-start form body id;
-  count_is = sym (ap (λ es. length (filter (has_id id) es)) (elements-start form body id));
-  others_are = sym (ap (λ es. length (elements_bytes form (without id es))) (elements-start form body id));
+  count_is = sym (ap (λ es. length (filter (goes id) es)) (elements-start form body id));
+  others_are = sym (ap (λ es. length (elements_bytes form (others id es))) (elements-start form body id));
   count_small = omega arith;
   others_small = omega arith;
 }
@@ -18,11 +18,11 @@ element_len : (form : ExtensionsForm) (body : List ℕ) (at : ℕ) (place : Plac
     → length (element_bytes form (place.id, next.bytes)) ≡ place.end - place.start
 element_len form body at place next = omega (arith, next.data_is, next.end_is, length-element form place.id next.bytes)
 
-counted : (id : ℕ) (elements : List Element) (element : Element) (same : Bool) → has_id id element ≡ same
-    → length (filter (has_id id) (elements ++ element ∷ [])) ≡ length (filter (has_id id) elements) + cond same 1 0
+counted : (id : ℕ) (elements : List Element) (element : Element) (same : Bool) → goes id element ≡ same
+    → length (filter (goes id) (elements ++ element ∷ [])) ≡ length (filter (goes id) elements) + cond same 1 0
 counted id elements element same is =
-    ap length (filter-append (has_id id) elements (element ∷ []) ∙ ap (λ (b : Bool). filter (has_id id) elements ++ cond b (element ∷ []) []) is)
-    ∙ (length-append (filter (has_id id) elements) (cond same (element ∷ []) []) ∙ ap (λ n. length (filter (has_id id) elements) + n) (one same))
+    ap length (filter-append (goes id) elements (element ∷ []) ∙ ap (λ (b : Bool). filter (goes id) elements ++ cond b (element ∷ []) []) is)
+    ∙ (length-append (filter (goes id) elements) (cond same (element ∷ []) []) ∙ ap (λ n. length (filter (goes id) elements) + n) (one same))
   where
     one : (b : Bool) → length (cond b (element ∷ []) []) ≡ cond b 1 0
     one true = refl
@@ -34,27 +34,42 @@ IsSurveyedTo-this form body at id last count others_len place was next this =
     let all = elements-this form body at id last place was.passed next this in
     record {
       passed = IsPassed-this form body at id last place was.passed next this;
-      count_is = omega (arith, was.count_is, ap (λ es. length (filter (has_id id) es)) all, counted id was.passed.elements (place.id, next.bytes) true (eq-eqb place.id id this));
-      others_are = was.others_are ∙ sym (ap (λ es. length (elements_bytes form (without id es))) all
-          ∙ ap (λ es. length (elements_bytes form es)) (without-this id was.passed.elements (place.id, next.bytes) this));
+      count_is = omega (arith, was.count_is, ap (λ es. length (filter (goes id) es)) all, counted id was.passed.elements (place.id, next.bytes) true (goes-this id (place.id, next.bytes) this));
+      others_are = was.others_are ∙ sym (ap (λ es. length (elements_bytes form (others id es))) all
+          ∙ ap (λ es. length (elements_bytes form es)) (others-gone id was.passed.elements (place.id, next.bytes) (goes-this id (place.id, next.bytes) this)));
+      count_small = omega (arith, was.count_small, next.start_is, next.data_is, next.end_is, length-header-some form place.id (length next.bytes));
+      others_small = omega (arith, was.others_small, next.start_is, next.data_is, next.end_is);
+    }
+
+pub IsSurveyedTo-zero : (form : ExtensionsForm) (body : List ℕ) (at id : ℕ) (last : Option Place) (count others_len : ℕ) (place : Place)
+    → IsSurveyedTo form body at id last count others_len → IsNextPlace form body at place → place.id ≢ id → place.id ≡ 0
+    → IsSurveyedTo form body place.end id last (count + 1) others_len
+IsSurveyedTo-zero form body at id last count others_len place was next other zero_id =
+    let all = elements-other form body at id last place was.passed next other in
+    let gone = goes-zero id (place.id, next.bytes) zero_id in
+    record {
+      passed = IsPassed-other form body at id last place was.passed next other;
+      count_is = omega (arith, was.count_is, ap (λ es. length (filter (goes id) es)) all, counted id was.passed.elements (place.id, next.bytes) true gone);
+      others_are = was.others_are ∙ sym (ap (λ es. length (elements_bytes form (others id es))) all
+          ∙ ap (λ es. length (elements_bytes form es)) (others-gone id was.passed.elements (place.id, next.bytes) gone));
       count_small = omega (arith, was.count_small, next.start_is, next.data_is, next.end_is, length-header-some form place.id (length next.bytes));
       others_small = omega (arith, was.others_small, next.start_is, next.data_is, next.end_is);
     }
 
 pub IsSurveyedTo-other : (form : ExtensionsForm) (body : List ℕ) (at id : ℕ) (last : Option Place) (count others_len : ℕ) (place : Place)
-    → IsSurveyedTo form body at id last count others_len → IsNextPlace form body at place → place.id ≢ id
+    → IsSurveyedTo form body at id last count others_len → IsNextPlace form body at place → place.id ≢ id → place.id ≢ 0
     → IsSurveyedTo form body place.end id last count (others_len + (place.end - place.start))
-IsSurveyedTo-other form body at id last count others_len place was next other =
+IsSurveyedTo-other form body at id last count others_len place was next other above =
     let all = elements-other form body at id last place was.passed next other in
-    let row : List ℕ = elements_bytes form (without id was.passed.elements) in
+    let row : List ℕ = elements_bytes form (others id was.passed.elements) in
     record {
       passed = IsPassed-other form body at id last place was.passed next other;
-      count_is = omega (arith, was.count_is, ap (λ es. length (filter (has_id id) es)) all, counted id was.passed.elements (place.id, next.bytes) false (ne_eqb place.id id other));
+      count_is = omega (arith, was.count_is, ap (λ es. length (filter (goes id) es)) all, counted id was.passed.elements (place.id, next.bytes) false (stays-other id (place.id, next.bytes) other above));
       others_are = omega (
         arith,
         was.others_are,
-        ap (λ es. length (elements_bytes form (without id es))) all,
-        ap length (row-other form id was.passed.elements (place.id, next.bytes) other),
+        ap (λ es. length (elements_bytes form (others id es))) all,
+        ap length (row-other form id was.passed.elements (place.id, next.bytes) other above),
         length-append row (element_bytes form (place.id, next.bytes)),
         element_len form body at place next,
       );

@@ -1,10 +1,9 @@
 -- Two rows of elements, put in the two-byte form around an element.
-use Rattle.rtp_ext.proofs.Common.{◌≡◌, ℕ, ◌+◌, ◌-◌, ◌≤◌, List, [], ◌∷◌, ◌++◌, length, take, drop, append_assoc, length-append, length-drop, length-take-le, arith, refl, sym, ap, ◌∙◌, subst, slice_range, AllByRecursion, append-nil, take_at, drop_at, take-append-le, take-take, drop-append-le, drop_all, take_rest, take-append-drop, paste, put_mid, ExtensionsForm, OneByte, TwoByte, Element, IsElement, element_bytes, elements_bytes, AreElements, IsWritable, HasRows, HasNarrowRows, IsWideRow, IsWidened, without}
+use Rattle.rtp_ext.proofs.Common.{◌≡◌, ℕ, ◌+◌, ◌-◌, ◌≤◌, List, [], ◌∷◌, ◌++◌, length, take, drop, append_assoc, length-append, length-drop, length-take-le, arith, refl, sym, ap, ◌∙◌, slice_range, AllByRecursion, append-nil, take_at, drop_at, take-append-le, take-take, drop-append-le, drop_all, take_rest, take-append-drop, paste, put_mid, ExtensionsForm, OneByte, TwoByte, Element, IsElement, element_bytes, elements_bytes, IsWritable, HasNarrowRows, IsWideRow, IsWidened, without}
 use Rattle.rtp_base.specs.Overwriting.{overwritten}
-use Rattle.rtp_ext.proofs.LastPlaceLemmas.{AreElements-same}
 use Rattle.rtp_ext.proofs.ServingFormLemmas.{length-two}
 use Rattle.rtp_ext.proofs.GatheredLemmas.{elements_bytes-append, without-weaker}
-use Rattle.rtp_ext.proofs.WidenLemmas.{row-read, row-same, are_elements}
+use Rattle.rtp_ext.proofs.WidenLemmas.{row-same, are_elements}
 
 -- elements of another id than 0 may be written
 pub without-writable : (elements : List Element) → AllByRecursion (IsElement OneByte) elements → AllByRecursion (IsWritable OneByte) (without 0 elements)
@@ -23,41 +22,33 @@ length-around form xs ys element =
       length-append (element_bytes form element) (elements_bytes form ys),
     )
 
-module _ (body body1 body2 body3 : List ℕ) (front at count id r0 r1 : ℕ) (data_bytes : List ℕ) (rows : HasNarrowRows body front at count (id, data_bytes))
-    (g : HasRows OneByte 0 body body1 front at (at + count) r0 r1)
+module _ (body1 body2 body3 : List ℕ) (r0 at r1 id : ℕ) (data_bytes : List ℕ) (rows : HasNarrowRows body1 r0 at r1 (id, data_bytes))
     (copied : body2 ≡ paste body1 (length body1 - r1) (drop at body1) (at + r1 - at)) (again : body3 ≡ paste body2 (length body1 - r1 - r0) (drop 0 body2) (r0 - 0)) where
   xs : List Element
-  xs = without 0 rows.before
+  xs = rows.before
 
   ys : List Element
-  ys = without 0 rows.after
-
-  before_is : g.before ≡ rows.before
-  before_is = AreElements-same OneByte (take front body) g.before rows.before g.are_before (subst (λ b. AreElements OneByte b rows.before) (sym rows.front_is) (row-read OneByte rows.before rows.are_before))
-
-  after_is : g.after ≡ rows.after
-  after_is = AreElements-same OneByte (slice_range body at (at + count)) g.after rows.after g.are_after
-      (subst (λ b. AreElements OneByte b rows.after) (sym rows.after_is) (row-read OneByte rows.after rows.are_after))
+  ys = rows.after
 
   x_row : take r0 body1 ≡ elements_bytes OneByte xs
   unfolding xs
-  x_row = g.front_is ∙ ap (λ es. elements_bytes OneByte (without 0 es)) before_is
+  x_row = rows.front_is
 
   y_row : slice_range body1 at (at + r1) ≡ elements_bytes OneByte ys
   unfolding ys
-  y_row = g.after_is ∙ ap (λ es. elements_bytes OneByte (without 0 es)) after_is
+  y_row = rows.after_is
 
   x_len : r0 ≡ length (elements_bytes OneByte xs)
   unfolding xs
-  x_len = g.front_len ∙ ap (λ es. length (elements_bytes OneByte (without 0 es))) before_is
+  x_len = rows.front_len
 
   y_len : r1 ≡ length (elements_bytes OneByte ys)
   unfolding ys
-  y_len = g.count_is ∙ ap (λ es. length (elements_bytes OneByte (without 0 es))) after_is
+  y_len = rows.count_is
 
   all_fit : length (elements_bytes TwoByte xs) + (2 + length data_bytes + length (elements_bytes TwoByte ys)) ≤ length body1
   unfolding xs ys
-  all_fit = let f = rows.fits in omega (arith, g.length_is, length-around TwoByte (without 0 rows.before) (without 0 rows.after) (id, data_bytes))
+  all_fit = let f = rows.fits in omega (arith, length-around TwoByte rows.before rows.after (id, data_bytes))
 
   order : r0 + r1 ≤ length body1
   order = omega (arith, all_fit, x_len, y_len, narrow-le xs, narrow-le ys)
@@ -125,7 +116,7 @@ module _ (body body1 body2 body3 : List ℕ) (front at count id r0 r1 : ℕ) (da
   unfolding rest last
   last_is = ap (drop (length body1 - r1)) body3_is ∙ drop_at (take (length body1 - r1 - r0) body2 ++ take r0 body1) (slice_range body1 at (at + r1)) (length body1 - r1) room_len
 
-  first_row : drop (length (take (length body1 - r1) body3) - r0) (take (length body1 - r1) body3) ≡ elements_bytes OneByte (without 0 rows.before)
+  first_row : drop (length (take (length body1 - r1) body3) - r0) (take (length body1 - r1) body3) ≡ elements_bytes OneByte rows.before
   unfolding rest xs
   first_row =
       ap (λ b. drop (length b - r0) b) room_is
@@ -139,8 +130,8 @@ module _ (body body1 body2 body3 : List ℕ) (front at count id r0 r1 : ℕ) (da
       let o = order in
       let long : length (take (length body1 - r1) body3) ≡ length body1 - r1 = ap length room_is ∙ room_len in
       record {
-        elements = without 0 rows.before;
-        are_writable = without-writable rows.before rows.are_before;
+        elements = rows.before;
+        are_writable = rows.are_before;
         row_is = first_row;
         within = omega (arith, long);
         fits = omega (arith, long, all_fit, y_len, narrow-le ys);
@@ -149,8 +140,8 @@ module _ (body body1 body2 body3 : List ℕ) (front at count id r0 r1 : ℕ) (da
   module _ (room1 : List ℕ) (f : ℕ) (wide : IsWidened (take (length body1 - r1) body3) room1 r0 f) (same : length room1 ≡ length (take (length body1 - r1) body3)) where
     wide_is : wide.elements ≡ xs
     unfolding xs
-    wide_is = row-same OneByte wide.elements (without 0 rows.before) (are_elements wide.elements wide.are_writable)
-        (are_elements (without 0 rows.before) (without-writable rows.before rows.are_before)) (sym wide.row_was ∙ first_row)
+    wide_is = row-same OneByte wide.elements rows.before (are_elements wide.elements wide.are_writable)
+        (are_elements rows.before rows.are_before) (sym wide.row_was ∙ first_row)
 
     room1_len : length room1 ≡ length body1 - r1
     unfolding rest
@@ -208,7 +199,7 @@ module _ (body body1 body2 body3 : List ℕ) (front at count id r0 r1 : ℕ) (da
       pub next_within : next ≤ length body5
       next_within = let n = next_early in omega (arith, body5_len)
 
-      second_row : drop (length (take (length body5 - next) (drop next body5)) - r1) (take (length body5 - next) (drop next body5)) ≡ elements_bytes OneByte (without 0 rows.after)
+      second_row : drop (length (take (length body5 - next) (drop next body5)) - r1) (take (length body5 - next) (drop next body5)) ≡ elements_bytes OneByte rows.after
       unfolding ys
       second_row =
           let n = next_early in
@@ -227,8 +218,8 @@ module _ (body body1 body2 body3 : List ℕ) (front at count id r0 r1 : ℕ) (da
           let o = order in
           let long : length (take (length body5 - next) (drop next body5)) ≡ length body1 - next = omega (arith, ap length (take_rest body5 next), length-drop next body5, body5_len) in
           record {
-            elements = without 0 rows.after;
-            are_writable = without-writable rows.after rows.are_after;
+            elements = rows.after;
+            are_writable = rows.are_after;
             row_is = second_row;
             within = omega (arith, long);
             fits = omega (arith, long, f_is, all_fit);
@@ -237,37 +228,37 @@ module _ (body body1 body2 body3 : List ℕ) (front at count id r0 r1 : ℕ) (da
       module _ (room2 : List ℕ) (e : ℕ) (wide2 : IsWidened (take (length body5 - next) (drop next body5)) room2 r1 e) where
         wide2_is : wide2.elements ≡ ys
         unfolding ys
-        wide2_is = row-same OneByte wide2.elements (without 0 rows.after) (are_elements wide2.elements wide2.are_writable)
-            (are_elements (without 0 rows.after) (without-writable rows.after rows.are_after)) (sym wide2.row_was ∙ second_row)
+        wide2_is = row-same OneByte wide2.elements rows.after (are_elements wide2.elements wide2.are_writable)
+            (are_elements rows.after rows.are_after) (sym wide2.row_was ∙ second_row)
 
         e_is : e ≡ length (elements_bytes TwoByte ys)
         e_is = wide2.end_is ∙ ap (λ es. length (elements_bytes TwoByte es)) wide2_is
 
-        all_len : next + e ≡ length (elements_bytes TwoByte (without 0 rows.before ++ (id, data_bytes) ∷ without 0 rows.after))
+        all_len : next + e ≡ length (elements_bytes TwoByte (rows.before ++ (id, data_bytes) ∷ rows.after))
         unfolding xs ys
-        all_len = omega (arith, e_is, f_is, length-around TwoByte (without 0 rows.before) (without 0 rows.after) (id, data_bytes))
+        all_len = omega (arith, e_is, f_is, length-around TwoByte rows.before rows.after (id, data_bytes))
 
-        all_row : take (next + e) (put_mid next (length body5 - next) body5 room2) ≡ elements_bytes TwoByte (without 0 rows.before ++ (id, data_bytes) ∷ without 0 rows.after)
+        all_row : take (next + e) (put_mid next (length body5 - next) body5 room2) ≡ elements_bytes TwoByte (rows.before ++ (id, data_bytes) ∷ rows.after)
         unfolding xs ys
         all_row =
             let n = next_early in
-            let head : take next body5 ≡ elements_bytes TwoByte (without 0 rows.before) ++ element_bytes TwoByte (id, data_bytes) =
+            let head : take next body5 ≡ elements_bytes TwoByte rows.before ++ element_bytes TwoByte (id, data_bytes) =
             ap (take next) body5_is ∙ (take_at (take f room1 ++ element_bytes TwoByte (id, data_bytes)) (drop next (room1 ++ drop (length body1 - r1) body3)) next head_len
             ∙ ap (λ b. b ++ element_bytes TwoByte (id, data_bytes)) x_wide) in
             let start : length (take next body5) ≡ next = length-take-le next body5 next_within in
             let tail : List ℕ = drop (length body5 - next) (drop next body5) in
             let split : room2 ≡ take e room2 ++ drop e room2 = sym (take-append-drop e room2) in
-            let row2 : take e room2 ≡ elements_bytes TwoByte (without 0 rows.after) = wide2.row_is ∙ ap (elements_bytes TwoByte) wide2_is in
+            let row2 : take e room2 ≡ elements_bytes TwoByte rows.after = wide2.row_is ∙ ap (elements_bytes TwoByte) wide2_is in
             let whole : put_mid next (length body5 - next) body5 room2 ≡ (take next body5 ++ take e room2) ++ (drop e room2 ++ tail) =
             ap (λ b. take next body5 ++ (b ++ tail)) split
             ∙ (ap (λ b. take next body5 ++ b) (append_assoc (take e room2) (drop e room2) tail) ∙ sym (append_assoc (take next body5) (take e room2) (drop e room2 ++ tail))) in
             ap (take (next + e)) whole
             ∙ (take_at (take next body5 ++ take e room2) (drop e room2 ++ tail) (next + e) (omega (arith, length-append (take next body5) (take e room2), start, ap length row2, e_is))
-            ∙ (ap (λ b. take next body5 ++ b) row2 ∙ (ap (λ b. b ++ elements_bytes TwoByte (without 0 rows.after)) head
-            ∙ (append_assoc (elements_bytes TwoByte (without 0 rows.before)) (element_bytes TwoByte (id, data_bytes)) (elements_bytes TwoByte (without 0 rows.after))
-            ∙ sym (elements_bytes-append TwoByte (without 0 rows.before) ((id, data_bytes) ∷ without 0 rows.after))))))
+            ∙ (ap (λ b. take next body5 ++ b) row2 ∙ (ap (λ b. b ++ elements_bytes TwoByte rows.after) head
+            ∙ (append_assoc (elements_bytes TwoByte rows.before) (element_bytes TwoByte (id, data_bytes)) (elements_bytes TwoByte rows.after)
+            ∙ sym (elements_bytes-append TwoByte rows.before ((id, data_bytes) ∷ rows.after))))))
 
         -- all of it
-        pub all_wide : (take (next + e) (put_mid next (length body5 - next) body5 room2) ≡ elements_bytes TwoByte (without 0 rows.before ++ (id, data_bytes) ∷ without 0 rows.after))
-            × (next + e ≡ length (elements_bytes TwoByte (without 0 rows.before ++ (id, data_bytes) ∷ without 0 rows.after)))
+        pub all_wide : (take (next + e) (put_mid next (length body5 - next) body5 room2) ≡ elements_bytes TwoByte (rows.before ++ (id, data_bytes) ∷ rows.after))
+            × (next + e ≡ length (elements_bytes TwoByte (rows.before ++ (id, data_bytes) ∷ rows.after)))
         all_wide = (all_row, all_len)

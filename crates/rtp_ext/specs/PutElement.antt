@@ -1,6 +1,6 @@
 -- An element that is put into a block, or taken out of it, and the block that is made anew for it (RFC 8285, 4.1.2, 4.2 and 4.3).
 --
--- The element takes the place of the last one of its id, and those of the id before that go; where there is none of the id it comes last. All others stay, in order: only the two-byte form can't carry those of the id 0, which is padding's and no extension's. The form stays where it serves; a body that is made anew is its elements in a row, and zeros. What stands where reading ends, an element that is cut short or what follows the id 15, is no element, and goes where the body is made anew.
+-- The element takes the place of the last one of its id, and those of the id before that go; where there is none of the id it comes last. All others stay, in order, but those of the id 0, which is padding's and no extension's: where such an element of the one-byte form has length bits, a receiver that reads as 4.2 says ends there. The form stays where it serves; a body that is made anew is its elements in a row, and zeros. What stands where reading ends, an element that is cut short or what follows the id 15, is no element, and goes where the body is made anew.
 use Rattle.std.specs.Prelude.{◌≡◌, ℕ, ◌-◌, ◌==◌, if◌then◌else◌, List, [], ◌∷◌, ◌++◌, length, replicate, Bool, not, Option, Some, None}
 use Rattle.std.specs.List.{filter, list_any}
 use Rattle.rtp_ext.specs.declared.form.ExtensionsForm.{ExtensionsForm}
@@ -25,11 +25,6 @@ put_element new (element ∷ elements) =
     then (if list_any (has_id new.0) elements then put_element new elements else new ∷ elements)
     else element ∷ put_element new elements
 
--- the elements that the form can carry of those of any block: in the two-byte form none of the id 0
-abbrev pub carried_in : ExtensionsForm → List Element → List Element
-carried_in OneByte elements = elements
-carried_in TwoByte elements = without 0 elements
-
 -- the form that a block of this form, or none, needs for the element: the two-byte form where it has that, or the one-byte form can't carry the element
 abbrev pub needed_form : Option ExtensionsForm → Element → ExtensionsForm
 needed_form None element = if serves_one_byte element then OneByte else TwoByte
@@ -47,7 +42,7 @@ allowed_form (Some OneByte) TwoByte = None
 abbrev pub row_to : ExtensionsForm → List Element → ℕ → List ℕ
 row_to form elements len = elements_bytes form elements ++ replicate (len - length (elements_bytes form elements)) 0
 
--- the element is the only one of its id in these, and has as many bytes of data as its old one
+-- the element is the only one of its id in these, which have no other one of the id 0, and has as many bytes of data as its old one
 pub record IsSole (elements : List Element) (element : Element) : Type 0 where
   pub before : List Element
   pub after : List Element
@@ -55,4 +50,6 @@ pub record IsSole (elements : List Element) (element : Element) : Type 0 where
   pub in_order : elements ≡ before ++ (element.0, was) ∷ after
   pub none_before : HasNone before element.0
   pub none_after : HasNone after element.0
+  pub no_zero_before : HasNone before 0
+  pub no_zero_after : HasNone after 0
   pub as_many : length was ≡ length element.1

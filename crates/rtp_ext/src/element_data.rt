@@ -67,8 +67,9 @@ pub fn set_element(form: ExtensionsForm, body: &mut [u8], id: u8, data: &[u8]) -
     true
 }
 
-/// Gives the element of the id these data where it lies, where it is the only one and has as many
-/// bytes, and returns whether it is; all other bytes stay. Else nothing changes.
+/// Gives the element of the id these data where it lies, where it is the only one, no other has the
+/// id 0, and it has as many bytes; returns whether that is so. All other bytes stay. Else nothing
+/// changes.
 pub fn set_sole(body: &mut [u8], survey: &Survey, id: u8, data: &[u8]) -> bool
     requires { (form : ExtensionsForm) × IsSurvey form body.old id survey.now }
     ensures set { (form : ExtensionsForm) → IsSurvey form body.old id survey.now →

@@ -86,6 +86,18 @@ pub(super) fn element_header_len(form: ExtensionsForm) -> usize
     }
 }
 
+// Whether this id of an element is 0, which is padding's: only the one-byte form has such elements.
+#[inline(always)]
+pub(super) fn is_paddings(form: ExtensionsForm, id: u8) -> bool
+    requires { form ≡ TwoByte → 1 ≤ id }
+    ensures { IsTrue result ↔ (id ≡ 0) }
+{
+    match form {
+        ExtensionsForm::OneByte => id == 0,
+        ExtensionsForm::TwoByte => false,
+    }
+}
+
 // Writes the header of an element at the offset, by its id and the length of its data.
 pub(super) fn write_header(buf: &mut [u8], at: usize, form: ExtensionsForm, id: u8, len: u8)
     requires room { at + length (element_header form id len) ≤ length buf.old }

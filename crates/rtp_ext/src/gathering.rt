@@ -1,15 +1,16 @@
-//! The elements of a body without those of an id, in a row at its front.
+//! The elements of a body without those of an id, and of the id 0, in a row at its front.
 
 ghost use Rattle.std.specs.Prelude.{◌≤◌, length};
-ghost use Rattle.rtp_ext.specs.BodySurvey.{IsGathered, HasRows, IsTakenOut};
+ghost use Rattle.rtp_ext.specs.BodySurvey.{IsGathered, HasRows, IsCompacted};
 
 use super::ExtensionsForm;
+use super::form::is_paddings;
 use super::place::next_place;
 use super::raw_writing::clear_after;
 
-// Puts the elements of other ids in a row at the front, in order, and returns how many bytes they
-// take.
-pub(super) fn gather(form: ExtensionsForm, body: &mut [u8], id: u8) -> usize
+// Puts the elements of other ids, but those of the id 0, in a row at the front, in order, and
+// returns how many bytes they take.
+fn gather(form: ExtensionsForm, body: &mut [u8], id: u8) -> usize
     ensures { IsGathered form id body.old body.new result }
 {
     match form {
@@ -18,7 +19,18 @@ pub(super) fn gather(form: ExtensionsForm, body: &mut [u8], id: u8) -> usize
     }
 }
 
-// The same. It is inlined, so that each form has a loop of its own.
+// The same of all elements but those of the id 0.
+pub(super) fn gather_all(form: ExtensionsForm, body: &mut [u8]) -> usize
+    ensures { IsGathered form 0 body.old body.new result }
+{
+    match form {
+        ExtensionsForm::OneByte => gather_in(ExtensionsForm::OneByte, body, 0),
+        ExtensionsForm::TwoByte => gather_in(ExtensionsForm::TwoByte, body, 0),
+    }
+}
+
+// Puts the elements of other ids, but those of the id 0, in a row in one form. It is inlined, so that
+// each form has a loop of its own.
 #[inline(always)]
 fn gather_in(form: ExtensionsForm, body: &mut [u8], id: u8) -> usize
     ensures { IsGathered form id body.old body.new result }
@@ -27,7 +39,7 @@ fn gather_in(form: ExtensionsForm, body: &mut [u8], id: u8) -> usize
     let mut at = 0;
     while let Some(place) = next_place(form, body, at) {
         at = place.end;
-        if place.id == id {
+        if place.id == id || is_paddings(form, place.id) {
             continue;
         }
         if len < place.start {
@@ -38,9 +50,9 @@ fn gather_in(form: ExtensionsForm, body: &mut [u8], id: u8) -> usize
     len
 }
 
-// Puts the elements of other ids before an offset in a row at the front, and those between two
-// further offsets in a row from the first of these on. Returns how many bytes they take, there and
-// there. It stays out of line, since the elements of most blocks stand in a row.
+// Puts the elements of other ids, but those of the id 0, before an offset in a row at the front, and
+// those between two further offsets in a row from the first of these on. Returns how many bytes they
+// take, there and there. It stays out of line, since the elements of most blocks stand in a row.
 #[inline(never)]
 pub(super) fn gather_around(
     form: ExtensionsForm,
@@ -60,12 +72,12 @@ pub(super) fn gather_around(
     (front, count)
 }
 
-/// Makes a body anew without the elements of the id (RFC 8285, 4.2 and 4.3): the others in a row,
-/// and zeros to its end. Returns how many bytes the row takes.
-pub fn take_out(form: ExtensionsForm, body: &mut [u8], id: u8) -> usize
-    ensures { IsTakenOut form id body.old body.new result }
+/// Makes a body anew without the elements of the id 0, which is padding's (RFC 8285, 4.2 and 4.3):
+/// the others in a row, and zeros to its end. Returns how many bytes the row takes.
+pub fn compact_body(form: ExtensionsForm, body: &mut [u8]) -> usize
+    ensures { IsCompacted form body.old body.new result }
 {
-    let len = gather(form, body, id);
+    let len = gather_all(form, body);
     clear_after(body, len);
     len
 }

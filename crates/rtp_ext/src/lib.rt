@@ -32,7 +32,7 @@ pub use element_data::{element_of, set_element, set_sole};
 pub use element_list::ElementList;
 pub use elements::Elements;
 pub use form::{ExtensionsForm, MAX_ID_ONE_BYTE_FORM, form_to_put};
-pub use gathering::take_out;
+pub use gathering::compact_body;
 pub use iter::{Iter, IterByMediaType};
 pub use kinds::Kinds;
 pub use known_ids::{KnownIds, KnownItems};

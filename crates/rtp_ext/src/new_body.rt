@@ -5,7 +5,7 @@ ghost use Rattle.rtp_ext.specs.declared.form.ExtensionsForm.TheVariants.{TwoByte
 ghost use Rattle.rtp_ext.specs.Elements.{Element, AreElements, element_bytes, elements_bytes};
 ghost use Rattle.rtp_ext.specs.ElementsInARow.{IsWritable};
 ghost use Rattle.rtp_ext.specs.BodySurvey.{IsSurvey, HasRows};
-ghost use Rattle.rtp_ext.specs.PutElement.{put_element, carried_in, row_to};
+ghost use Rattle.rtp_ext.specs.PutElement.{put_element, without, row_to};
 
 use super::ExtensionsForm;
 use super::form::element_header_len;
@@ -64,7 +64,8 @@ fn put_in_rows(
 }
 
 /// Makes a body anew with the element in it, in this form or the two-byte form (RFC 8285, 4.2 and
-/// 4.3): the elements in a row, and zeros to the end of the slice, at whose front the body lies.
+/// 4.3): the elements in a row, without those of the id 0, which is padding's, and zeros to the end
+/// of the slice, at whose front the body lies.
 pub fn put_anew(
     form: ExtensionsForm,
     new_form: ExtensionsForm,
@@ -80,15 +81,15 @@ pub fn put_anew(
     requires forms { (new_form ≡ form) ⊎ (new_form ≡ TwoByte) }
     requires room { (elements : List Element) → AreElements form (take body_len body.old) elements →
         length (elements_bytes new_form
-        (put_element (id, «data».now) (carried_in new_form elements)))
+        (put_element (id, «data».now) (without 0 elements)))
         ≤ length body.old }
     ensures row { (elements : List Element) → AreElements form (take body_len body.old) elements →
-        body.new ≡ row_to new_form (put_element (id, «data».now) (carried_in new_form elements))
+        body.new ≡ row_to new_form (put_element (id, «data».now) (without 0 elements))
         (length body.old) }
     ensures elements { (elements : List Element) →
         AreElements form (take body_len body.old) elements →
         AreElements new_form body.new
-        (put_element (id, «data».now) (carried_in new_form elements)) }
+        (put_element (id, «data».now) (without 0 elements)) }
 {
     let (start, end) = survey.around();
     let (front, count) = put_in_rows(form, body, body_len, survey, id, start, end);
@@ -101,7 +102,7 @@ pub fn put_anew(
 }
 
 /// How many bytes the elements of a body take with this one put among them, in this form or the
-/// two-byte form.
+/// two-byte form, without those of the id 0.
 pub fn put_len(
     form: ExtensionsForm,
     new_form: ExtensionsForm,
@@ -116,7 +117,7 @@ pub fn put_len(
     requires forms { (new_form ≡ form) ⊎ (new_form ≡ TwoByte) }
     ensures length { (elements : List Element) → AreElements form body.now elements →
         result ≡ length (elements_bytes new_form
-        (put_element (id, «data».now) (carried_in new_form elements))) }
+        (put_element (id, «data».now) (without 0 elements))) }
     ensures few { result ≤ 2 * length body.now + 257 }
 {
     let others_len = if new_form == form {

@@ -9,7 +9,7 @@ ghost use Rattle.rtp_ext.specs.PutElement.{without, row_to};
 
 use super::ExtensionsForm;
 use super::form::{element_header_len, write_header};
-use super::gathering::gather;
+use super::gathering::gather_all;
 use super::place::next_place;
 use super::raw_writing::{clear_after, put_element};
 use super::two_byte_rows::widen;
@@ -82,7 +82,7 @@ fn put_in_row(
     ensures read { (elements : List Element)
         × AreElements form (take body_len body.old) elements }
 {
-    let len = gather(form, &mut body[..body_len], 0);
+    let len = gather_all(form, &mut body[..body_len]);
     match (form, new_form) {
         (ExtensionsForm::OneByte, ExtensionsForm::TwoByte) => {
             let start = body.len() - len;

@@ -7,7 +7,7 @@ ghost use Rattle.rtp_ext.specs.BodySurvey.{IsSurvey, IsSurveyedTo};
 
 use super::ExtensionsForm;
 use super::elements::first_element;
-use super::form::element_header_len;
+use super::form::{element_header_len, is_paddings};
 use super::place::{Place, place_before};
 
 /// What a body has of an id, and how much besides.
@@ -15,9 +15,9 @@ use super::place::{Place, place_before};
 pub struct Survey {
     /// The place of its last element, and `None` where no element has the id.
     pub last: Option<Place>,
-    /// How many elements have the id.
+    /// How many elements have the id, or the id 0, which is padding's.
     pub count: usize,
-    /// How many bytes the elements of other ids take.
+    /// How many bytes the elements of other ids take, without those of the id 0.
     pub others_len: usize,
     /// Where the last element of any id ends, and 0 where there is none.
     pub end: usize,
@@ -55,7 +55,9 @@ pub fn survey_of(form: ExtensionsForm, body: &[u8], id: u8) -> Survey
 struct Walk<'a> {
     // The bytes that are left of the body.
     left: &'a [u8],
-    // How many bytes the elements of other ids before them take.
+    // How many elements before them have the id, or the id 0.
+    count: usize,
+    // How many bytes the other elements before them take.
     others_len: usize,
 }
 
@@ -67,18 +69,23 @@ impl Walk<'_> {
     fn next_of(&mut self, form: ExtensionsForm, body: &[u8], id: u8) -> Option<Place>
         requires left { IsLeft body.now self.old.left.now }
         requires few { self.old.others_len ≤ length body.now - length self.old.left.now }
+        requires counted { self.old.count ≤ length body.now - length self.old.left.now }
         ensures left { IsLeft body.now self.new.left.now }
         ensures few { self.new.others_len ≤ length body.now - length self.new.left.now }
+        ensures counted { self.new.count ≤ length body.now - length self.new.left.now }
         ensures fewer { IfSome result (λ _. length self.new.left.now < length self.old.left.now) }
-        ensures some { (last : Option Place) (count : ℕ) → IsSurveyedTo form body.now
-            (length body.now - length self.old.left.now) id last count self.old.others_len →
+        ensures some { (last : Option Place) → IsSurveyedTo form body.now
+            (length body.now - length self.old.left.now) id last self.old.count
+            self.old.others_len →
             IfSome result (λ place. IsSurveyedTo form body.now
-            (length body.now - length self.new.left.now) id (Some place)
-            (count + 1) self.new.others_len) }
-        ensures none { (last : Option Place) (count : ℕ) → IsSurveyedTo form body.now
-            (length body.now - length self.old.left.now) id last count self.old.others_len →
+            (length body.now - length self.new.left.now) id (Some place) self.new.count
+            self.new.others_len) }
+        ensures none { (last : Option Place) → IsSurveyedTo form body.now
+            (length body.now - length self.old.left.now) id last self.old.count
+            self.old.others_len →
             IfNone result (IsSurveyedTo form body.now
-            (length body.now - length self.new.left.now) id last count self.new.others_len) }
+            (length body.now - length self.new.left.now) id last self.new.count
+            self.new.others_len) }
         ensures end { IfNone result
             (BeginsWithNoElement form
             (drop (length body.now - length self.new.left.now) body.now)) }
@@ -86,9 +93,14 @@ impl Walk<'_> {
         while let Some((other, data, after)) = first_element(self.left, form) {
             self.left = after;
             if other == id {
+                self.count += 1;
                 return Some(place_before(form, body.len(), after.len(), id, data.len()));
             }
-            self.others_len += element_header_len(form) + data.len();
+            if is_paddings(form, other) {
+                self.count += 1;
+            } else {
+                self.others_len += element_header_len(form) + data.len();
+            }
         }
         None
     }
@@ -100,18 +112,17 @@ fn survey_in(form: ExtensionsForm, body: &[u8], id: u8) -> Survey
     ensures { IsSurvey form body.now id result }
 {
     let mut last = None;
-    let mut count = 0;
     let mut walk = Walk {
         left: body,
+        count: 0,
         others_len: 0,
     };
     while let Some(place) = walk.next_of(form, body, id) {
         last = Some(place);
-        count += 1;
     }
     Survey {
         last,
-        count,
+        count: walk.count,
         others_len: walk.others_len,
         end: body.len() - walk.left.len(),
     }

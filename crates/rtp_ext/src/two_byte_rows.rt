@@ -9,7 +9,6 @@ ghost use Rattle.rtp_ext.specs.PutElement.{without};
 
 use super::ExtensionsForm;
 use super::form::write_header;
-use super::gathering::gather_around;
 use super::place::next_place;
 use super::raw_writing::put_element;
 
@@ -42,8 +41,8 @@ pub(super) fn widen(room: &mut [u8], len: usize) -> usize
 }
 
 // Puts the element after so many bytes at the front of the body, and behind it the `count` bytes at
-// the offset. These are elements of the one-byte form, and all are put in the two-byte form, except
-// for those of the id 0. It stays out of line, since few blocks change their form.
+// the offset. These are elements of the one-byte form, and all are put in the two-byte form. It stays
+// out of line, since few blocks change their form.
 #[inline(never)]
 pub(super) fn put_widened(
     body: &mut [u8],
@@ -57,13 +56,11 @@ pub(super) fn put_widened(
     requires rows { HasNarrowRows body.old front at count (id, «data».now) }
     ensures row { (rows : HasNarrowRows body.old front at count (id, «data».now)) →
         take result body.new ≡ elements_bytes TwoByte
-        (without 0 rows.before ++ (id, «data».now) ∷ without 0 rows.after) }
+        (rows.before ++ (id, «data».now) ∷ rows.after) }
     ensures end { (rows : HasNarrowRows body.old front at count (id, «data».now)) →
         result ≡ length (elements_bytes TwoByte
-        (without 0 rows.before ++ (id, «data».now) ∷ without 0 rows.after)) }
+        (rows.before ++ (id, «data».now) ∷ rows.after)) }
 {
-    let form = ExtensionsForm::OneByte;
-    let (front, count) = gather_around(form, body, front, at, at + count, 0);
     let rest = body.len() - count;
     body.copy_within(at..at + count, rest);
     body.copy_within(..front, rest - front);

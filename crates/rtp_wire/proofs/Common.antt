@@ -20,12 +20,12 @@ pub use lib.Seq.{paste}
 pub use Rattle.rtp_base.proofs.OverwritingLemmas.{overwritten-overwritten, overwritten-before, overwritten-front, overwritten-rest, length-overwritten, overwritten-set, overwritten-three, overwritten-nil}
 pub use Rattle.rtp_base.specs.Flag.{bit}
 pub use Rattle.rtp_base.specs.Overwriting.{overwritten}
-pub use Rattle.rtp_ext.proofs.AnewLemmas.{AreElements-each, carried_all}
+pub use Rattle.rtp_ext.proofs.AnewLemmas.{AreElements-each, without-each, sole-no_zero}
 pub use Rattle.rtp_ext.proofs.ElementLemmasOfBodies.{AreElements-only, AreBytes, AreElements-found}
 pub use Rattle.rtp_ext.proofs.MemoryLemmas.{OnErr-from}
 pub use Rattle.rtp_ext.proofs.ValuesLaws.{one_values, AreValues-none, ReadElements-itself, ReadUntilRefused-itself}
 pub use Rattle.rtp_ext.specs.BlockValues.{AreValues, SaysValues}
-pub use Rattle.rtp_ext.specs.BodySurvey.{IsTakenOut, IsSurvey}
+pub use Rattle.rtp_ext.specs.BodySurvey.{IsCompacted, IsSurvey}
 pub use Rattle.rtp_ext.specs.Elements.{AreElements, elements_bytes, Element, IsElement, element_bytes, piece_bytes, ended}
 pub use Rattle.rtp_ext.specs.ElementsInPlace.{SetsLast, HasNone, ChangesIds, renumbered, all_but, CanRenumber}
 pub use Rattle.rtp_ext.specs.ExtensionMap.{Slots, mapped_count, HasNoIdAbove}

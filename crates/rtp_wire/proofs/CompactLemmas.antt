@@ -1,5 +1,5 @@
 -- A packet whose block is made as short as its elements allow.
-use Rattle.rtp_wire.proofs.Common.{◌≡◌, ℕ, ◌+◌, ◌-◌, ◌*◌, ◌%◌, ◌<◌, ◌≤◌, Bool, true, not, cond, List, [], ◌∷◌, ◌++◌, length, take, drop, replicate, Option, Some, None, refl, sym, ap, subst, ◌∙◌, arith, length-append, length-take-le, slice_range, AllByRecursion, ne_eqb, take-append-drop, take-take, take_all, take-append-le, take-replicate, length-replicate, take-append-add, put_mid, ExtensionsForm, Element, IsElement, AreElements, elements_bytes, without, row_to, IsTakenOut, padding_of, whole_words, filled, AreElements-each, sources_end, PacketParts, IsPacket, header_len_of, block_len, AreElementsOf, form_of_block, body_of_block, compact_block, Compacts, resized}
+use Rattle.rtp_wire.proofs.Common.{◌≡◌, ℕ, ◌+◌, ◌-◌, ◌*◌, ◌%◌, ◌<◌, ◌≤◌, Bool, true, List, [], ◌++◌, length, take, drop, replicate, Option, Some, None, refl, sym, ap, subst, ◌∙◌, arith, length-append, length-take-le, slice_range, take-append-drop, take-take, take_all, take-append-le, take-replicate, length-replicate, take-append-add, put_mid, ExtensionsForm, Element, IsElement, AreElements, elements_bytes, without, row_to, IsCompacted, padding_of, whole_words, filled, AreElements-each, without-each, sources_end, PacketParts, IsPacket, header_len_of, block_len, AreElementsOf, form_of_block, body_of_block, compact_block, Compacts, resized}
 use Rattle.rtp_ext.proofs.WrittenElementsLemmas.{AreElements-in_a_row}
 use Rattle.rtp_wire.proofs.PartsLemmas.{length-packet}
 use Rattle.rtp_wire.proofs.ResizedLemmas.{sources_end-is, no_other-announced, extension-announced, whole-announced}
@@ -7,14 +7,6 @@ use Rattle.rtp_wire.proofs.GrowthLemmas.{IsLaid, IsLaid-announced, middle-laid, 
 use Rattle.rtp_wire.proofs.SetInPlaceLemmas.{block_len-announced, body-ends, body-here, length-new, IsPacket-new, word-set}
 
 -- ---- the elements in a row
-
--- no element has an id that the form doesn't carry
-without-none_of_form : (form : ExtensionsForm) (id : ℕ) (elements : List Element) → ((element : Element) → IsElement form element → element.0 ≡ id → ⊥)
-    → AllByRecursion (IsElement form) elements → without id elements ≡ elements
-without-none_of_form form id [] other all = refl
-without-none_of_form form id (element ∷ elements) other all =
-    ap (λ (b : Bool). cond (not b) (element ∷ without id elements) (without id elements)) (ne_eqb element.0 id (other element all.0))
-    ∙ ap (λ (es : List Element). element ∷ es) (without-none_of_form form id elements other all.1)
 
 -- the front of a row with zeros
 take-row : (form : ExtensionsForm) (elements : List Element) (n len : ℕ) → n ≡ whole_words (length (elements_bytes form elements)) → n ≤ len
@@ -28,10 +20,10 @@ take-row form elements n len n-is fits =
     ∙ ap (λ (xs : List ℕ). row ++ xs) (take-replicate (padding_of (length row)) (len - length row) 0 (omega arith))
 
 compact-announced : (block : Option (ExtensionsForm × List ℕ)) (elements : List Element) (form : ExtensionsForm) → form_of_block block ≡ Some form
-    → compact_block elements block ≡ Some (form, filled (elements_bytes form elements))
+    → compact_block elements block ≡ Some (form, filled (elements_bytes form (without 0 elements)))
 compact-announced None elements form some = absurd cc
 compact-announced (Some block) elements form some =
-    let same : block.0 ≡ form = cc in ap (λ (f : ExtensionsForm). Some (f, filled (elements_bytes f elements))) same
+    let same : block.0 ≡ form = cc in ap (λ (f : ExtensionsForm). Some (f, filled (elements_bytes f (without 0 elements)))) same
 
 elements-announced : (block : Option (ExtensionsForm × List ℕ)) (elements : List Element) (form : ExtensionsForm) → form_of_block block ≡ Some form
     → AreElements form (body_of_block block) elements → AreElementsOf block elements
@@ -41,9 +33,8 @@ elements-announced (Some block) elements form some are = let same : block.0 ≡ 
 -- ---- the packet
 
 module _ (bytes : List ℕ) (parts : PacketParts) (is : IsPacket bytes parts) (form : ExtensionsForm) (some : form_of_block parts.block ≡ Some form)
-    (block_at payload_at : ℕ) (block-is : block_at ≡ sources_end bytes) (payload-is : payload_at ≡ header_len_of parts) (id count n : ℕ)
-    (none : (element : Element) → IsElement form element → element.0 ≡ id → ⊥) (row : List ℕ)
-    (taken : IsTakenOut form id (take (payload_at - (block_at + 4)) (drop (block_at + 4) bytes)) row count)
+    (block_at payload_at : ℕ) (block-is : block_at ≡ sources_end bytes) (payload-is : payload_at ≡ header_len_of parts) (count n : ℕ) (row : List ℕ)
+    (taken : IsCompacted form (take (payload_at - (block_at + 4)) (drop (block_at + 4) bytes)) row count)
     (low : count ≤ n) (high : n < count + 4) (multiple : n % 4 ≡ 0) where
   abbrev moved : List ℕ
   moved = put_mid (block_at + 4) (payload_at - (block_at + 4)) bytes row
@@ -54,21 +45,17 @@ module _ (bytes : List ℕ) (parts : PacketParts) (is : IsPacket bytes parts) (f
   elements-are : AreElements form body taken.elements
   elements-are = subst (λ (b : List ℕ). AreElements form b taken.elements) (body-here bytes parts is form some block_at payload_at block-is payload-is) taken.are_elements
 
-  same-elements : without id taken.elements ≡ taken.elements
-  same-elements = without-none_of_form form id taken.elements none (AreElements-each form body taken.elements elements-are)
+  abbrev kept : List Element
+  kept = without 0 taken.elements
 
   length-body : length (take (payload_at - (block_at + 4)) (drop (block_at + 4) bytes)) ≡ length body
   length-body = ap length (body-here bytes parts is form some block_at payload_at block-is payload-is)
 
-  row-is : row ≡ row_to form taken.elements (length body)
-  row-is = taken.new_is ∙ ap (λ (es : List Element). row_to form es (length (take (payload_at - (block_at + 4)) (drop (block_at + 4) bytes)))) same-elements
-      ∙ ap (row_to form taken.elements) length-body
+  row-is : row ≡ row_to form kept (length body)
+  row-is = taken.new_is ∙ ap (row_to form kept) length-body
 
-  count-is : count ≡ length (elements_bytes form taken.elements)
-  count-is = taken.len_is ∙ ap (λ (es : List Element). length (elements_bytes form es)) same-elements
-
-  n-is : n ≡ whole_words (length (elements_bytes form taken.elements))
-  n-is = omega (arith, count-is)
+  n-is : n ≡ whole_words (length (elements_bytes form kept))
+  n-is = omega (arith, taken.len_is)
 
   body-whole : length body % 4 ≡ 0
   body-whole = whole-announced parts.has_extension parts.block parts.other_block is.part is.part_is
@@ -81,11 +68,11 @@ module _ (bytes : List ℕ) (parts : PacketParts) (is : IsPacket bytes parts) (f
       omega (
         arith,
         ap length row-is,
-        count-is,
+        taken.len_is,
         taken.within,
         length-body,
-        length-append (elements_bytes form taken.elements) (replicate (length body - length (elements_bytes form taken.elements)) 0),
-        length-replicate {A = ℕ} (length body - length (elements_bytes form taken.elements)) 0,
+        length-append (elements_bytes form kept) (replicate (length body - length (elements_bytes form kept)) 0),
+        length-replicate {A = ℕ} (length body - length (elements_bytes form kept)) 0,
       )
 
   -- the packet with the row and all zeros
@@ -125,7 +112,7 @@ module _ (bytes : List ℕ) (parts : PacketParts) (is : IsPacket bytes parts) (f
     middle : List ℕ
     middle = slice_range moved (block_at + 4) (block_at + 4 + n)
 
-    middle-is : middle ≡ filled (elements_bytes form taken.elements)
+    middle-is : middle ≡ filled (elements_bytes form kept)
     unfolding middle
     middle-is =
         let cut : block_at + 4 + n - (block_at + 4) ≡ n = omega arith in
@@ -135,7 +122,7 @@ module _ (bytes : List ℕ) (parts : PacketParts) (is : IsPacket bytes parts) (f
         ap (λ (k : ℕ). take k (drop (block_at + 4) moved)) cut
         ∙ sym (take-take n (payload_at - (block_at + 4)) (drop (block_at + 4) moved) (omega (arith, ends.2, n-within)))
         ∙ ap (take n) (here ∙ row-is)
-        ∙ take-row form taken.elements n (length body) n-is n-within
+        ∙ take-row form kept n (length body) n-is n-within
 
     long : length middle ≡ n
     unfolding middle
@@ -172,8 +159,9 @@ module _ (bytes : List ℕ) (parts : PacketParts) (is : IsPacket bytes parts) (f
           was_packet = is;
           were_elements = elements-announced parts.block taken.elements form some elements-are;
           is_packet = subst (IsPacket (take (block_at + 4 + n + (length bytes - payload_at)) laid)) with-x packet;
-          are_elements = subst (λ (b : Option (ExtensionsForm × List ℕ)). AreElementsOf b taken.elements) (sym (compact-announced parts.block taken.elements form some))
-              (AreElements-in_a_row form taken.elements (padding_of (length (elements_bytes form taken.elements))) (AreElements-each form body taken.elements elements-are));
+          are_elements = subst (λ (b : Option (ExtensionsForm × List ℕ)). AreElementsOf b kept) (sym (compact-announced parts.block taken.elements form some))
+              (AreElements-in_a_row form kept (padding_of (length (elements_bytes form kept)))
+              (without-each (IsElement form) 0 taken.elements (AreElements-each form body taken.elements elements-are)));
           word_is = λ _ _.
               ap (take (sources_end bytes + 2)) (sym same-laid)
               ∙ subst (λ (k : ℕ). take k (put_mid (block_at + 4) (block_at + 4 + n - (block_at + 4)) laid middle) ≡ take k moved) start word

@@ -1,5 +1,5 @@
 -- Bytes that begin with no header: they are no packet, or a packet whose block is of another form.
-use Rattle.rtp_wire.proofs.Common.{◌≡◌, ℕ, ◌+◌, ◌*◌, ◌/◌, ◌%◌, ◌<◌, ◌≤◌, Bool, true, false, List, length, drop, Option, Some, None, refl, sym, ap, ◌∙◌, arith, inl, inr, length-drop, ◌⊎◌, ◌↔◌, IfSome, IsSome, slice_index, slice_range, is_some, option_map, not, ◌&&◌, if◌then◌else◌, false≢true, eq-eqb, cases_eq, cases_lt, none-some, bit, ExtensionsForm, NotAPacket, CutSources, CutBlockHeader, CutBlock, word_at, IsNoPacket, cut_fixed, other_version, cut_sources, cut_block, cut_words, HasUnknownForm, HasNoHeader, no_packet, unknown_form, sources_end, place_of, IsFirstCause, PacketParts, IsPacket, HasOtherForm}
+use Rattle.rtp_wire.proofs.Common.{◌≡◌, ℕ, ◌+◌, ◌*◌, ◌/◌, ◌%◌, ◌<◌, ◌≤◌, Bool, true, false, List, length, drop, Option, Some, None, refl, sym, ap, ◌∙◌, arith, inl, inr, length-drop, ◌⊎◌, ◌↔◌, IfSome, IsSome, slice_index, slice_range, is_some, option_map, not, ◌&&◌, if◌then◌else◌, false≢true, eq-eqb, cases_eq, cases_lt, none-some, bit, ExtensionsForm, NotAPacket, CutSources, CutBlockHeader, CutBlock, word_at, IsNoPacket, cut_fixed, other_version, cut_sources, cut_block, cut_words, HasUnknownForm, HasNoHeader, no_packet, unknown_form, sources_end, IsFirstCause, PacketParts, IsPacket, HasOtherForm}
 use Rattle.std.specs.Bool.{then_some}
 use Rattle.rtp_wire.specs.declared.header.not_a_header.NotAHeader as not_a_header
 use Rattle.rtp_wire.specs.NoHeaderCause.{AppliesToHeader, header_place_of, IsFirstHeaderCause}

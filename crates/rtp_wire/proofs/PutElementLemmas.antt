@@ -33,9 +33,9 @@ same-growth bytes element allowed g h =
     same_Some _ _ (sym g.form_is ∙ ap (λ (p : PacketParts). allowed_form allowed (needed_form (form_of_block p.block) element)) parts ∙ h.form_is) in
     let size : g.body_len ≡ h.body_len =
     g.body_len_is
-    ∙ ap (λ (p : PacketParts). max (length (body_of_block p.block)) (whole_words (length (elements_bytes g.form (elements_with g.form element g.elements))))) parts
-    ∙ ap (λ (es : List Element). max (length (body_of_block h.parts.block)) (whole_words (length (elements_bytes g.form (elements_with g.form element es))))) elements
-    ∙ ap (λ (f : ExtensionsForm). max (length (body_of_block h.parts.block)) (whole_words (length (elements_bytes f (elements_with f element h.elements))))) form
+    ∙ ap (λ (p : PacketParts). max (length (body_of_block p.block)) (whole_words (length (elements_bytes g.form (elements_with element g.elements))))) parts
+    ∙ ap (λ (es : List Element). max (length (body_of_block h.parts.block)) (whole_words (length (elements_bytes g.form (elements_with element es))))) elements
+    ∙ ap (λ (f : ExtensionsForm). max (length (body_of_block h.parts.block)) (whole_words (length (elements_bytes f (elements_with element h.elements))))) form
     ∙ sym h.body_len_is in
     let sources : length g.parts.sources ≡ length h.parts.sources = ap (λ (p : PacketParts). length p.sources) parts in
     let payload : length g.parts.payload ≡ length h.parts.payload = ap (λ (p : PacketParts). length p.payload) parts in

@@ -57,31 +57,31 @@ pub whole-words : (n : ℕ) → (whole_words n % 4 ≡ 0) × (n ≤ whole_words 
 whole-words n = (omega arith, omega arith)
 
 module _ (bytes : List ℕ) (element : Element) (allowed : Option ExtensionsForm) (growth : IsGrowth bytes element allowed) where
-  pub elements-fit : length (elements_bytes growth.form (elements_with growth.form element growth.elements)) ≤ growth.body_len
+  pub elements-fit : length (elements_bytes growth.form (elements_with element growth.elements)) ≤ growth.body_len
   elements-fit =
-      let n : ℕ = length (elements_bytes growth.form (elements_with growth.form element growth.elements)) in
+      let n : ℕ = length (elements_bytes growth.form (elements_with element growth.elements)) in
       let w = whole-words n in
       omega (arith, growth.body_len_is, w.1)
 
   pub body-fits : length (body_of_block growth.parts.block) ≤ growth.body_len
   body-fits =
-      let n : ℕ = whole_words (length (elements_bytes growth.form (elements_with growth.form element growth.elements))) in
+      let n : ℕ = whole_words (length (elements_bytes growth.form (elements_with element growth.elements))) in
       let is : growth.body_len ≡ max (length (body_of_block growth.parts.block)) n = growth.body_len_is in
       omega (arith, is)
 
   pub body-whole : growth.body_len % 4 ≡ 0
   body-whole =
-      let n : ℕ = whole_words (length (elements_bytes growth.form (elements_with growth.form element growth.elements))) in
+      let n : ℕ = whole_words (length (elements_bytes growth.form (elements_with element growth.elements))) in
       let is : growth.body_len ≡ max (length (body_of_block growth.parts.block)) n = growth.body_len_is in
-      let here : n % 4 ≡ 0 = (whole-words (length (elements_bytes growth.form (elements_with growth.form element growth.elements)))).0 in
+      let here : n % 4 ≡ 0 = (whole-words (length (elements_bytes growth.form (elements_with element growth.elements)))).0 in
       let was : length (body_of_block growth.parts.block) % 4 ≡ 0 = whole-announced growth.parts.has_extension growth.parts.block growth.parts.other_block growth.is_packet.part growth.is_packet.part_is in
       omega (arith, is, here, was)
 
   -- how many bytes the body gets, as it is reckoned
-  pub body_len-reckoned : (n whole : ℕ) → n ≡ length (elements_bytes growth.form (elements_with growth.form element growth.elements)) → n ≤ whole → whole < n + 4 → whole % 4 ≡ 0
+  pub body_len-reckoned : (n whole : ℕ) → n ≡ length (elements_bytes growth.form (elements_with element growth.elements)) → n ≤ whole → whole < n + 4 → whole % 4 ≡ 0
       → max whole (length (body_of_block growth.parts.block)) ≡ growth.body_len
   body_len-reckoned n whole n-is low high multiple =
-      let words : whole ≡ whole_words (length (elements_bytes growth.form (elements_with growth.form element growth.elements))) = omega arith in
+      let words : whole ≡ whole_words (length (elements_bytes growth.form (elements_with element growth.elements))) = omega arith in
       omega (arith, growth.body_len_is, words)
 
   -- the elements of the body, whatever they are called
@@ -141,7 +141,7 @@ abbrev pub new-growth : (bytes : List ℕ) (element : Element) (allowed : Option
     → IsPacket bytes parts → parts.other_block ≡ None → IsFormOfBody parts.block new_form form → AreElements form (body_of_block parts.block) elements
     → allowed_form allowed (needed_form (form_of_block parts.block) element) ≡ Some new_form → IsGrowth bytes element allowed
 new-growth bytes element allowed parts elements form new_form is no_other was are form-is =
-    let body_len : ℕ = max (length (body_of_block parts.block)) (whole_words (length (elements_bytes new_form (elements_with new_form element elements)))) in
+    let body_len : ℕ = max (length (body_of_block parts.block)) (whole_words (length (elements_bytes new_form (elements_with element elements)))) in
     record {
       parts = parts;
       elements = elements;

@@ -1,9 +1,8 @@
 -- A packet in which the data of an element are set where they lie.
-use Rattle.rtp_wire.proofs.Common.{◌≡◌, ℕ, ◌+◌, ◌-◌, ◌*◌, ◌≤◌, Bool, true, false, List, [], ◌∷◌, ◌++◌, length, take, drop, Option, Some, None, refl, sym, ap, subst, ◌∙◌, arith, append_assoc, length-append, length-drop, length-take-le, take_at, drop_at, slice_index, concat, flat_map, filter_map, take-append-drop, take_all, take-put_mid_below, put_mid, ExtensionsForm, IsFormWord, Element, AreElements, element_bytes, elements_bytes, piece_bytes, SetsLast, put_element, IsSole, AreElements-each, carried_all, IsBlock, word_at, sources_end, PacketParts, IsFirstByte, IsFixedPart, IsAnnounced, IsAnnouncedBlock, IsPacket, block_len, header_len_of, IsGrowth, PutsElement, in_place, form_of_block, body_of_block, elements_with, IsFormOfBody}
+use Rattle.rtp_wire.proofs.Common.{◌≡◌, ℕ, ◌+◌, ◌-◌, ◌*◌, ◌≤◌, Bool, true, false, List, [], ◌∷◌, ◌++◌, length, take, drop, Option, Some, None, refl, sym, ap, subst, ◌∙◌, arith, append_assoc, length-append, length-drop, length-take-le, take_at, drop_at, slice_index, concat, flat_map, filter_map, take-append-drop, take_all, take-put_mid_below, put_mid, ExtensionsForm, IsFormWord, Element, AreElements, element_bytes, elements_bytes, piece_bytes, SetsLast, put_element, IsSole, sole-no_zero, IsBlock, word_at, sources_end, PacketParts, IsFirstByte, IsFixedPart, IsAnnounced, IsAnnouncedBlock, IsPacket, block_len, header_len_of, IsGrowth, PutsElement, in_place, form_of_block, body_of_block, elements_with, IsFormOfBody}
 use Rattle.rtp_wire.proofs.BlockLemmas.{word_at-take}
 use Rattle.rtp_wire.proofs.PartsLemmas.{announced, length-announced, length-packet}
 use Rattle.rtp_wire.proofs.ResizedLemmas.{head_of, length-head, sources_end-is, no_other-announced, extension-announced, whole-announced}
-use Rattle.rtp_wire.proofs.PutPlanLemmas.{body-elements}
 
 -- the elements of a body take no more than it
 pieces-fit : (form : ExtensionsForm) (pieces : List (Option Element)) → length (elements_bytes form (filter_map (λ piece. piece) pieces)) ≤ length (flat_map (piece_bytes form) pieces)
@@ -179,20 +178,17 @@ body-before bytes parts is (Some block) payload_at n some payload-is n-is =
 -- what the packet then is
 pub PutsElement-set : (bytes : List ℕ) (element : Element) (allowed : Option ExtensionsForm) (growth : IsGrowth bytes element allowed) (form : ExtensionsForm) (block_at payload_at : ℕ)
     → (some : form_of_block growth.parts.block ≡ Some form) → block_at ≡ sources_end bytes → payload_at ≡ header_len_of growth.parts → form ≡ growth.form
-    → (body : List ℕ) → length body ≡ length (body_of_block growth.parts.block) → IsSole growth.elements element
+    → (body : List ℕ) → length body ≡ length (body_of_block growth.parts.block) → 1 ≤ element.0 → IsSole growth.elements element
     → SetsLast form element.0 element.1 (body_of_block growth.parts.block) body → AreElements form body (put_element element growth.elements)
     → PutsElement bytes element allowed (put_mid (block_at + 4) (payload_at - (block_at + 4)) bytes body) (length bytes)
-PutsElement-set bytes element allowed growth form block_at payload_at some block-is payload-is form-is body as_long sole sets are =
+PutsElement-set bytes element allowed growth form block_at payload_at some block-is payload-is form-is body as_long above sole sets are =
     let parts = growth.parts in
-    let was : AreElements form (body_of_block parts.block) growth.elements =
-    body-elements parts.block growth.elements form form (was-form parts.block form some) growth.are_elements in
-    let with-is : elements_with growth.form element growth.elements ≡ put_element element growth.elements =
-    ap (λ (f : ExtensionsForm). elements_with f element growth.elements) (sym form-is)
-    ∙ ap (put_element element) (carried_all form growth.elements (AreElements-each form (body_of_block parts.block) growth.elements was)) in
-    let here : AreElements growth.form body (elements_with growth.form element growth.elements) =
-    subst (λ (f : ExtensionsForm). AreElements f body (elements_with growth.form element growth.elements)) form-is
+    let with-is : elements_with element growth.elements ≡ put_element element growth.elements =
+    ap (put_element element) (sole-no_zero element.0 element.1 growth.elements above sole) in
+    let here : AreElements growth.form body (elements_with element growth.elements) =
+    subst (λ (f : ExtensionsForm). AreElements f body (elements_with element growth.elements)) form-is
     (subst (AreElements form body) (sym with-is) are) in
-    let few = elements-within growth.form body (elements_with growth.form element growth.elements) here in
+    let few = elements-within growth.form body (elements_with element growth.elements) here in
     let whole = whole-announced parts.has_extension parts.block parts.other_block growth.is_packet.part growth.is_packet.part_is in
     let size : growth.body_len ≡ length body = omega (arith, growth.body_len_is, few, whole, as_long) in
     record {
@@ -206,7 +202,3 @@ PutsElement-set bytes element allowed growth form block_at payload_at some block
       word_is = λ _. word-set bytes parts growth.is_packet form some block_at payload_at block-is payload-is body as_long;
       new_word_is = λ other. absurd (other (some ∙ ap (λ (f : ExtensionsForm). Some f) form-is));
     }
-  where
-    was-form : (block : Option (ExtensionsForm × List ℕ)) (form : ExtensionsForm) → form_of_block block ≡ Some form → IsFormOfBody block form form
-    was-form None form some = refl
-    was-form (Some block) form some = cc

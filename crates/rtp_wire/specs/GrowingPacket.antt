@@ -63,9 +63,9 @@ pub record IsPlan (bytes : List ℕ) (element : Element) (allowed : Option Exten
 -- the first bytes are what the packet becomes, with the elements in a row; where the form stays, its word stays too, and else it is written; and what is behind the packet stays
 pub record MakesAnew (bytes : List ℕ) (element : Element) (allowed : Option ExtensionsForm) (growth : IsGrowth bytes element allowed) (old new : List ℕ) : Type 0 where
   pub body : List ℕ
-  pub body_is : body ≡ row_to growth.form (elements_with growth.form element growth.elements) growth.body_len
+  pub body_is : body ≡ row_to growth.form (elements_with element growth.elements) growth.body_len
   pub is_packet : IsPacket (take growth.len new) (record growth.parts { has_extension = true; block = Some (growth.form, body) })
-  pub are_elements : AreElements growth.form body (elements_with growth.form element growth.elements)
+  pub are_elements : AreElements growth.form body (elements_with element growth.elements)
   pub word_is : form_of_block growth.parts.block ≡ Some growth.form → take (sources_end bytes + 2) new ≡ take (sources_end bytes + 2) old
   pub new_word_is : (form_of_block growth.parts.block ≡ Some growth.form → ⊥) → take 2 (drop (sources_end bytes) new) ≡ to_be_bytes w16 (form_word growth.form)
   pub behind_is : drop growth.len new ≡ drop growth.len old

@@ -1,13 +1,13 @@
 -- An element that is put into a packet, which grows where it lies, and a packet that is made as short as its elements allow (RFC 3550, 5.3.1; RFC 8285, 4.1.2, 4.2 and 4.3).
 --
--- The fixed fields but X, the CSRC list and the payload stay. The block gets the form that `allowed_form` says, and the elements that `put_element` says; its body never becomes shorter.
+-- The fixed fields but X, the CSRC list and the payload stay. The block gets the form that `allowed_form` says, and the elements that `put_element` says, of which none has the id 0, which is padding's; its body never becomes shorter.
 use Rattle.std.specs.Prelude.{◌≡◌, ℕ, ◌+◌, ◌*◌, ◌<◌, List, [], length, take, drop, max, true, Option, Some, None, option_map}
 use Rattle.std.specs.Int.{w16, to_be_bytes}
 use Rattle.rtp_ext.specs.declared.form.ExtensionsForm.{ExtensionsForm}
 use Rattle.rtp_ext.specs.Form.{form_word}
 use Rattle.rtp_ext.specs.Elements.{Element, AreElements, elements_bytes}
 use Rattle.rtp_ext.specs.ElementsInPlace.{SetsLast}
-use Rattle.rtp_ext.specs.PutElement.{put_element, carried_in, needed_form, allowed_form, row_to, IsSole}
+use Rattle.rtp_ext.specs.PutElement.{without, put_element, needed_form, allowed_form, row_to, IsSole}
 use Rattle.rtp_ext.specs.WrittenBlock.{whole_words, filled}
 use Rattle.rtp_wire.specs.declared.packet.not_put.NotPut.{NotPut}
 use Rattle.rtp_wire.specs.declared.packet.not_put.NotPut.TheVariants.{CutPacket, ZeroId, LongData, NotAPacket, OtherForm, OneByteOnly, LongBlock, NoRoom}
@@ -25,9 +25,9 @@ abbrev pub body_of_block : Option (ExtensionsForm × List ℕ) → List ℕ
 body_of_block None = []
 body_of_block (Some block) = block.1
 
--- the elements that a block of this form has once the element is put among them
-abbrev pub elements_with : ExtensionsForm → Element → List Element → List Element
-elements_with form element elements = put_element element (carried_in form elements)
+-- the elements that a block has once the element is put among them: those of the id 0 go
+abbrev pub elements_with : Element → List Element → List Element
+elements_with element elements = put_element element (without 0 elements)
 
 -- what a packet becomes once the element is put into it: the form of its block, of those that are allowed; how many bytes the body has, the elements in whole words, but no fewer than before; and how many the packet has
 pub record IsGrowth (bytes : List ℕ) (element : Element) (allowed : Option ExtensionsForm) : Type 0 where
@@ -40,17 +40,17 @@ pub record IsGrowth (bytes : List ℕ) (element : Element) (allowed : Option Ext
   pub no_other : parts.other_block ≡ None
   pub are_elements : AreElementsOf parts.block elements
   pub form_is : allowed_form allowed (needed_form (form_of_block parts.block) element) ≡ Some form
-  pub body_len_is : body_len ≡ max (length (body_of_block parts.block)) (whole_words (length (elements_bytes form (elements_with form element elements))))
+  pub body_len_is : body_len ≡ max (length (body_of_block parts.block)) (whole_words (length (elements_bytes form (elements_with element elements))))
   pub len_is : len ≡ 12 + 4 * length parts.sources + (4 + body_len) + length parts.payload
 
--- the element is the only one of its id in a block that keeps its form, and has as many bytes as its old one
+-- the element is the only one of its id in a block that keeps its form and has none of the id 0, and has as many bytes as its old one
 abbrev pub IsSetInPlace : Option (ExtensionsForm × List ℕ) → List Element → Element → ExtensionsForm → Type 0
 IsSetInPlace block elements element form = (form_of_block block ≡ Some form) × IsSole elements element
 
 -- the new body: only the data of the element change where they can be set in place; else it is the elements in a row, and zeros
 pub data IsBodyWith (block : Option (ExtensionsForm × List ℕ)) (elements : List Element) (element : Element) (form : ExtensionsForm) (len : ℕ) (body : List ℕ) : Type 0 where
   in_place : IsSetInPlace block elements element form → SetsLast form element.0 element.1 (body_of_block block) body → IsBodyWith block elements element form len body
-  anew : (IsSetInPlace block elements element form → ⊥) → body ≡ row_to form (elements_with form element elements) len → IsBodyWith block elements element form len body
+  anew : (IsSetInPlace block elements element form → ⊥) → body ≡ row_to form (elements_with element elements) len → IsBodyWith block elements element form len body
 
 -- the first bytes, so many of them, are the packet with the element in it: X is set, the block has this form and body, and all other parts are as they were; where the form stays, its word stays too, with the bits that are the application's, and else the word is written, with these bits 0
 pub record PutsElement (old : List ℕ) (element : Element) (allowed : Option ExtensionsForm) (new : List ℕ) (len : ℕ) : Type 0 where
@@ -59,7 +59,7 @@ pub record PutsElement (old : List ℕ) (element : Element) (allowed : Option Ex
   pub len_is : len ≡ growth.len
   pub body_is : IsBodyWith growth.parts.block growth.elements element growth.form growth.body_len body
   pub is_packet : IsPacket (take len new) (record growth.parts { has_extension = true; block = Some (growth.form, body) })
-  pub are_elements : AreElements growth.form body (elements_with growth.form element growth.elements)
+  pub are_elements : AreElements growth.form body (elements_with element growth.elements)
   pub word_is : form_of_block growth.parts.block ≡ Some growth.form → take (sources_end old + 2) new ≡ take (sources_end old + 2) old
   pub new_word_is : (form_of_block growth.parts.block ≡ Some growth.form → ⊥) → take 2 (drop (sources_end old) new) ≡ to_be_bytes w16 (form_word growth.form)
 
@@ -100,9 +100,9 @@ put_place (NoRoom needed) = 7
 abbrev pub IsFirstNotPut : (NotPut → Type 0) → NotPut → Type 0
 IsFirstNotPut Fact cause = IsFirstBy put_place Fact cause
 
--- a block with the same elements in a row, and zeros that fill their last word
+-- a block with the same elements in a row, but those of the id 0, and zeros that fill their last word
 abbrev pub compact_block : List Element → Option (ExtensionsForm × List ℕ) → Option (ExtensionsForm × List ℕ)
-compact_block elements block = option_map (λ b. (b.0, filled (elements_bytes b.0 elements))) block
+compact_block elements block = option_map (λ b. (b.0, filled (elements_bytes b.0 (without 0 elements)))) block
 
 -- the first bytes, so many of them, are the packet with such a block, and all other parts are as they were; the word of its form stays, with the bits that are the application's
 pub record Compacts (old new : List ℕ) (len : ℕ) : Type 0 where
@@ -111,5 +111,5 @@ pub record Compacts (old new : List ℕ) (len : ℕ) : Type 0 where
   pub was_packet : IsPacket old parts
   pub were_elements : AreElementsOf parts.block elements
   pub is_packet : IsPacket (take len new) (record parts { block = compact_block elements parts.block })
-  pub are_elements : AreElementsOf (compact_block elements parts.block) elements
+  pub are_elements : AreElementsOf (compact_block elements parts.block) (without 0 elements)
   pub word_is : (form : ExtensionsForm) → form_of_block parts.block ≡ Some form → take (sources_end old + 2) new ≡ take (sources_end old + 2) old

@@ -1,7 +1,6 @@
 //! A packet that is made as short as its elements allow.
 
 ghost use Rattle.std.specs.Prelude.{◌≡◌, ◌↔◌, ◌≤◌, length, IsErr, IfOk, IfErr, OnErr};
-ghost use Rattle.rtp_ext.specs.Elements.{Element, IsElement};
 ghost use Rattle.rtp_wire.specs.NotAHeader.{IsNoPacket};
 ghost use Rattle.rtp_wire.specs.NotAPacket.{IsFirstCause};
 ghost use Rattle.rtp_wire.specs.PutIntoPacket.{Compacts};
@@ -10,24 +9,15 @@ use super::putting::resize;
 use super::rtp_packet::sources_end;
 use super::{NotAPacket, RtpPacket};
 use crate::header::{BLOCK_HEADER_LEN, in_words};
-use rtp_ext::{ExtensionsForm, take_out};
-
-// An id that no element of the form has.
-fn id_of_none(form: ExtensionsForm) -> u8
-    ensures { (element : Element) → IsElement form element → element.0 ≡ result → ⊥ }
-{
-    match form {
-        ExtensionsForm::OneByte => 15,
-        ExtensionsForm::TwoByte => 0,
-    }
-}
+use rtp_ext::compact_body;
 
 /// Makes the packet in the buffer as short as its elements allow, and returns how many bytes it then has,
 /// which are the first ones of the buffer (RFC 3550, 5.3.1; RFC 8285, 4.2 and 4.3). The elements stand in a
 /// row in the same order, those of one id too, the body is filled up to whole words, and the payload moves
-/// to the front; X and the form stay. What stands where reading ends is no element, and goes. Behind the
-/// new end any bytes may stand. Where the buffer holds no packet nothing changes, and neither does a packet
-/// whose block has another form than 0xBEDE and 0x1000 to 0x100F.
+/// to the front; X and the form stay. Those of the id 0, which is padding's, go, and so does what stands
+/// where reading ends, which is no element. Behind the new end any bytes may stand. Where the buffer holds
+/// no packet nothing changes, and neither does a packet whose block has another form than 0xBEDE and 0x1000
+/// to 0x100F.
 ///
 /// After [`remove_element`](super::RtpPacketMut::remove_element), which leaves padding, this gives the
 /// bytes back. Before [`put_element`](super::put_element) it isn't needed.
@@ -50,7 +40,7 @@ pub fn compact(datagram: &mut [u8]) -> Result<usize, NotAPacket>
     };
     let block_at = sources_end(datagram[0]);
     let body = &mut datagram[block_at + BLOCK_HEADER_LEN..payload_at];
-    let elements_len = take_out(form, body, id_of_none(form));
+    let elements_len = compact_body(form, body);
     let body_len = in_words(elements_len);
     resize(datagram, len, block_at, payload_at, body_len);
     Ok(block_at + BLOCK_HEADER_LEN + body_len + (len - payload_at))

@@ -228,21 +228,21 @@ pub(super) fn announce(buf: &mut [u8], block_at: usize, form: ExtensionsForm)
 /// Puts an element into the packet in the first `len` bytes of the buffer, and returns how many bytes the
 /// packet then has (RFC 3550, 5.3.1; RFC 8285, 4.2 and 4.3). It then has exactly one element of this id, 1
 /// to 255, with these data, of at most 255 bytes: in place of the last one of the id, or as the last of
-/// all. The other elements stay, in order, and so do the other fields, the CSRC list and the payload.
+/// all. The other elements stay, in order, but those of the id 0, which is padding's: they go, since a
+/// receiver that reads as the RFC says ends at one. The other fields, the CSRC list and the payload stay.
 ///
-/// Where the element is the only one of its id and has as many bytes, only these change. Else the block is
-/// made anew where it lies: its padding is used up, and where that isn't enough the payload moves by whole
-/// words. Without X the packet gets a block. The body never becomes shorter: [`compact`](super::compact)
-/// gives bytes back.
+/// Where the element is the only one of its id, has as many bytes, and none is of the id 0, only these bytes
+/// change. Else the block is made anew where it lies: its padding is used up, and where that isn't enough
+/// the payload moves by whole words. Without X the packet gets a block. The body never becomes shorter:
+/// [`compact`](super::compact) gives bytes back.
 /// What stands where reading ends, an element that is cut short or what follows the id 15, is no element,
 /// and goes where the block is made anew.
 ///
-/// A block in the one-byte form that can't carry the element becomes one in the two-byte form, which
-/// carries no element of the id 0, unless only the one-byte form is `allowed`, as for a peer that hasn't
-/// agreed to both forms in one stream (RFC 8285, 4.1.2). Where only the two-byte form is allowed, the block
-/// gets that. The application bits of a block that gets the two-byte form are 0, and those of one that has
-/// it stay. A block of another form than 0xBEDE and 0x1000 to 0x100F carries no elements, and gets none.
-/// Where the call is refused nothing changes.
+/// A block in the one-byte form that can't carry the element becomes one in the two-byte form, unless only
+/// the one-byte form is `allowed`, as for a peer that hasn't agreed to both forms in one stream (RFC 8285,
+/// 4.1.2). Where only the two-byte form is allowed, the block gets that. The application bits of a block
+/// that gets the two-byte form are 0, and those of one that has it stay. A block of another form than 0xBEDE
+/// and 0x1000 to 0x100F carries no elements, and gets none. Where the call is refused nothing changes.
 ///
 /// The packet `90 60 00 05 00 00 00 64 00 00 00 2C BE DE 00 01 10 AA 00 00 01` (hexadecimal), with room
 /// behind it and the data `07 08` of id 2, becomes

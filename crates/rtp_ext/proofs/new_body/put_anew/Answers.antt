@@ -1,4 +1,4 @@
-use Rattle.rtp_ext.proofs.Common.{◌≡◌, ◌-◌, ◌≤◌, ℕ, List, length, take, replicate, arith, sym, ap, ◌∙◌, subst, ExtensionsForm, Element, AreElements, IsWritable, overwritten, put_element, carried_in, row_to}
+use Rattle.rtp_ext.proofs.Common.{◌≡◌, ◌-◌, ◌≤◌, ℕ, List, length, take, replicate, arith, sym, ap, ◌∙◌, subst, ExtensionsForm, Element, AreElements, IsWritable, overwritten, put_element, without, row_to}
 use Rattle.rtp_ext.proofs.SameFormLemmas.{same_form, other_form}
 use Rattle.rtp_ext.proofs.PutLengthLemmas.{row_to-read}
 use Rattle.rtp_ext.proofs.AroundLemmas.{IsSplit-surveyed}
@@ -28,7 +28,7 @@ put_widened-len-requires-clause-writable c =
 
 -- the row, in either case
 row_len : (c : goal.Joined-eq) (elements : List Element) → AreElements c.args.form (take c.args.body_len c.args.body.now) elements
-    → IsRow c.args.new_form (put_element (c.args.id, c.args.data.now) (carried_in c.args.new_form elements)) c.if-eq.body c.if-eq.len
+    → IsRow c.args.new_form (put_element (c.args.id, c.args.data.now) (without 0 elements)) c.if-eq.body c.if-eq.len
 row_len c elements are =
     let room = c.requires.room elements are in
     elim c.if-eq.branch [
@@ -61,13 +61,13 @@ clear_after-requires c = let f = fits (goal.at.clear_after-requires c).Joined-eq
 
 written : (c : goal.Joined-eq) (new : List ℕ) → new ≡ overwritten c.if-eq.body c.if-eq.len (replicate (length c.if-eq.body - c.if-eq.len) 0)
     → (elements : List Element) → AreElements c.args.form (take c.args.body_len c.args.body.now) elements
-    → new ≡ row_to c.args.new_form (put_element (c.args.id, c.args.data.now) (carried_in c.args.new_form elements)) (length c.args.body.now)
+    → new ≡ row_to c.args.new_form (put_element (c.args.id, c.args.data.now) (without 0 elements)) (length c.args.body.now)
 written c new new_is elements are =
     let row = row_len c elements are in
     let f = fits c in
     let long : length c.if-eq.body ≡ length c.args.body.now = c.if-eq.auto.body ∙ c.put_in_rows-front.ensures.length_is in
     new_is
-    ∙ row_to-zeros c.args.new_form (put_element (c.args.id, c.args.data.now) (carried_in c.args.new_form elements)) c.if-eq.body c.if-eq.len (length c.args.body.now) long
+    ∙ row_to-zeros c.args.new_form (put_element (c.args.id, c.args.data.now) (without 0 elements)) c.if-eq.body c.if-eq.len (length c.args.body.now) long
     row.row_is row.len_is (omega arith)
 
 pub returns-clause-row : goal.returns-clause-row
@@ -75,6 +75,6 @@ returns-clause-row c = λ elements are. written (goal.at.returns-clause-row c).J
 
 pub returns-clause-elements : goal.returns-clause-elements
 returns-clause-elements c = λ elements are.
-    subst (λ (b : List ℕ). AreElements c.args.new_form b (put_element (c.args.id, c.args.data.now) (carried_in c.args.new_form elements)))
+    subst (λ (b : List ℕ). AreElements c.args.new_form b (put_element (c.args.id, c.args.data.now) (without 0 elements)))
     (sym (written (goal.at.returns-clause-elements c).Joined-eq c.clear_after.new.buf c.clear_after.ensures elements are))
     (row_to-read c.args.form c.args.new_form (take c.args.body_len c.args.body.now) elements (c.args.id, c.args.data.now) (length c.args.body.now) c.requires.forms are c.requires.writable)

@@ -1,12 +1,13 @@
-use Rattle.rtp_ext.proofs.Common.{◌≡◌, ◌+◌, ◌*◌, ◌≤◌, List, length, arith, sym, ap, ◌∙◌, subst, ExtensionsForm, Element, AreElements, element_bytes, elements_bytes, put_element, carried_in, without}
+use Rattle.rtp_ext.proofs.Common.{◌≡◌, ◌+◌, ◌*◌, ◌≤◌, List, length, arith, sym, ap, ◌∙◌, subst, ExtensionsForm, Element, AreElements, element_bytes, elements_bytes, put_element, without, others}
 use Rattle.rtp_ext.proofs.SameFormLemmas.{same_form, other_form}
 use Rattle.rtp_ext.proofs.PlaceLemmas.{length-element}
 use Rattle.rtp_ext.proofs.WrittenBlockLemmas.{length-header_bytes}
 use Rattle.rtp_ext.proofs.RawWritingLemmas.{IsWritable-short}
+use Rattle.rtp_ext.proofs.GatheredLemmas.{others-twice}
 use Rattle.rtp_ext.proofs.LastPlaceLemmas.{AreElements-same}
 use Rattle.rtp_ext.proofs.AroundLemmas.{some_split}
 use Rattle.rtp_ext.proofs.AnewLemmas.{forms_differ}
-use Rattle.rtp_ext.proofs.PutLengthLemmas.{length-put_same, length-put_wide}
+use Rattle.rtp_ext.proofs.PutLengthLemmas.{length-put}
 use Rattle.rtp_ext.proofs.new_body.put_len.Goals as goal
 use Rattle.rtp_ext.proofs.new_body.put_len.Goals.{Joined-eq, then-eq, else-eq}
 
@@ -17,29 +18,33 @@ few c = elim c.if-eq.branch [
 ]
 
 long : (c : goal.Joined-eq) (elements : List Element) → AreElements c.args.form c.args.body.now elements
-    → length (elements_bytes c.args.new_form (put_element (c.args.id, c.args.data.now) (carried_in c.args.new_form elements)))
+    → length (elements_bytes c.args.new_form (put_element (c.args.id, c.args.data.now) (without 0 elements)))
     ≡ c.if-eq.others_len + length (element_bytes c.args.new_form (c.args.id, c.args.data.now))
 long c elements are =
     let s = c.requires.survey in
     let split = some_split c.args.form c.args.body.now c.args.id c.args.survey.now s in
     let same = AreElements-same c.args.form c.args.body.now s.elements elements s.are_elements are in
+    let put = length-put c.args.form c.args.id split.0 split.1.0 c.args.body.now c.args.data.now elements split.1.1 are c.args.new_form c.requires.writable.0 in
     elim c.if-eq.branch [
       | then-eq w ↦
           let form = same_form c.args.new_form c.args.form (sym c.eq.ensures ∙ w.if-eq.true) in
           omega (
             arith,
-            length-put_same c.args.form c.args.id split.0 split.1.0 c.args.body.now c.args.data.now elements split.1.1 are c.args.new_form form,
+            put,
             w.others_len-is,
             s.others_are,
-            ap (λ es. length (elements_bytes c.args.form (without c.args.id es))) same,
+            ap (λ es. length (elements_bytes c.args.form (others c.args.id es))) same,
+            ap (λ es. length (elements_bytes c.args.form es)) (others-twice c.args.id elements),
+            ap (λ (f : ExtensionsForm). length (elements_bytes f (without 0 (without c.args.id elements)))) form,
           )
       | else-eq w ↦
           let forms = forms_differ c.args.form c.args.new_form c.requires.forms (other_form c.args.new_form c.args.form (sym c.eq.ensures ∙ w.if-eq.false)) in
           omega (
             arith,
-            length-put_wide c.args.form c.args.id split.0 split.1.0 c.args.body.now c.args.data.now elements split.1.1 are c.args.new_form forms.1 c.requires.writable.0,
+            put,
             w.others_len-is,
             w.widened_len-others_len.ensures.length elements (subst (λ (f : ExtensionsForm). AreElements f c.args.body.now elements) forms.0 are),
+            ap (λ (f : ExtensionsForm). length (elements_bytes f (without 0 (without c.args.id elements)))) forms.1,
           )
     ]
 

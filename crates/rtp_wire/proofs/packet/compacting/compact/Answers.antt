@@ -25,18 +25,18 @@ resize-requires-clause-order c =
 pub resize-requires-clause-room : goal.resize-requires-clause-room
 resize-requires-clause-room c =
     room c.args.datagram.now (parts_of c.in_ok-packet.packet) c.in_ok-packet.ensures.found c.in-Some.form (sym c.form-form.ensures ∙ c.in-Some.is)
-    c.sources_end-block_at.result c.header_len-payload_at.result c.sources_end-block_at.ensures c.header_len-payload_at.ensures c.id_of_none.result c.take_out-elements_len.result c.in_words-body_len.result
-    c.id_of_none.ensures c.take_out-elements_len.new.body c.take_out-elements_len.ensures (words-low _ _ c.in_words-body_len.ensures) (words-high _ _ c.in_words-body_len.ensures) (words-whole _ _ c.in_words-body_len.ensures)
+    c.sources_end-block_at.result c.header_len-payload_at.result c.sources_end-block_at.ensures c.header_len-payload_at.ensures c.compact_body-elements_len.result c.in_words-body_len.result
+    c.compact_body-elements_len.new.body c.compact_body-elements_len.ensures (words-low _ _ c.in_words-body_len.ensures) (words-high _ _ c.in_words-body_len.ensures) (words-whole _ _ c.in_words-body_len.ensures)
 
 pub in_words-body_len-requires : goal.in_words-body_len-requires
 in_words-body_len-requires c =
     omega (
       arith,
-      words-low c.take_out-elements_len.result _ refl,
+      words-low c.compact_body-elements_len.result _ refl,
       short-body c.in_ok-packet.packet,
       n-within c.args.datagram.now (parts_of c.in_ok-packet.packet) c.in_ok-packet.ensures.found c.in-Some.form (sym c.form-form.ensures ∙ c.in-Some.is)
-          c.sources_end-block_at.result c.header_len-payload_at.result c.sources_end-block_at.ensures c.header_len-payload_at.ensures c.id_of_none.result c.take_out-elements_len.result (whole_words c.take_out-elements_len.result)
-          c.id_of_none.ensures c.take_out-elements_len.new.body c.take_out-elements_len.ensures (words-low _ _ refl) (words-high _ _ refl) (words-whole _ _ refl),
+          c.sources_end-block_at.result c.header_len-payload_at.result c.sources_end-block_at.ensures c.header_len-payload_at.ensures c.compact_body-elements_len.result (whole_words c.compact_body-elements_len.result)
+          c.compact_body-elements_len.new.body c.compact_body-elements_len.ensures (words-low _ _ refl) (words-high _ _ refl) (words-whole _ _ refl),
     )
 
 pub resize-requires-clause-few : goal.resize-requires-clause-few
@@ -45,8 +45,8 @@ resize-requires-clause-few c =
       arith,
       short-body c.in_ok-packet.packet,
       n-within c.args.datagram.now (parts_of c.in_ok-packet.packet) c.in_ok-packet.ensures.found c.in-Some.form (sym c.form-form.ensures ∙ c.in-Some.is)
-          c.sources_end-block_at.result c.header_len-payload_at.result c.sources_end-block_at.ensures c.header_len-payload_at.ensures c.id_of_none.result c.take_out-elements_len.result c.in_words-body_len.result
-          c.id_of_none.ensures c.take_out-elements_len.new.body c.take_out-elements_len.ensures (words-low _ _ c.in_words-body_len.ensures) (words-high _ _ c.in_words-body_len.ensures) (words-whole _ _ c.in_words-body_len.ensures),
+          c.sources_end-block_at.result c.header_len-payload_at.result c.sources_end-block_at.ensures c.header_len-payload_at.ensures c.compact_body-elements_len.result c.in_words-body_len.result
+          c.compact_body-elements_len.new.body c.compact_body-elements_len.ensures (words-low _ _ c.in_words-body_len.ensures) (words-high _ _ c.in_words-body_len.ensures) (words-whole _ _ c.in_words-body_len.ensures),
     )
 
 pub overflow_add-result-2 : goal.overflow_add-result-2
@@ -56,8 +56,8 @@ overflow_add-result-2 c =
     c.sources_end-block_at.result c.header_len-payload_at.result c.sources_end-block_at.ensures c.header_len-payload_at.ensures in
     let within =
     n-within c.args.datagram.now (parts_of c.in_ok-packet.packet) c.in_ok-packet.ensures.found c.in-Some.form (sym c.form-form.ensures ∙ c.in-Some.is)
-    c.sources_end-block_at.result c.header_len-payload_at.result c.sources_end-block_at.ensures c.header_len-payload_at.ensures c.id_of_none.result c.take_out-elements_len.result c.in_words-body_len.result
-    c.id_of_none.ensures c.take_out-elements_len.new.body c.take_out-elements_len.ensures (words-low _ _ c.in_words-body_len.ensures) (words-high _ _ c.in_words-body_len.ensures) (words-whole _ _ c.in_words-body_len.ensures) in
+    c.sources_end-block_at.result c.header_len-payload_at.result c.sources_end-block_at.ensures c.header_len-payload_at.ensures c.compact_body-elements_len.result c.in_words-body_len.result
+    c.compact_body-elements_len.new.body c.compact_body-elements_len.ensures (words-low _ _ c.in_words-body_len.ensures) (words-high _ _ c.in_words-body_len.ensures) (words-whole _ _ c.in_words-body_len.ensures) in
     omega (arith, ends.0, ends.2, within, c.header_len-payload_at.type_inv)
 
 pub overflow_sub-result : goal.overflow_sub-result
@@ -68,14 +68,14 @@ overflow_sub-result c =
 pub returns-clause-compacted : goal.returns-clause-compacted
 returns-clause-compacted c =
     Compacts-made c.args.datagram.now (parts_of c.in_ok-packet.packet) c.in_ok-packet.ensures.found c.in-Some.form (sym c.form-form.ensures ∙ c.in-Some.is)
-    c.sources_end-block_at.result c.header_len-payload_at.result c.sources_end-block_at.ensures c.header_len-payload_at.ensures c.id_of_none.result c.take_out-elements_len.result c.in_words-body_len.result
-    c.id_of_none.ensures c.take_out-elements_len.new.body c.take_out-elements_len.ensures (words-low _ _ c.in_words-body_len.ensures) (words-high _ _ c.in_words-body_len.ensures) (words-whole _ _ c.in_words-body_len.ensures)
+    c.sources_end-block_at.result c.header_len-payload_at.result c.sources_end-block_at.ensures c.header_len-payload_at.ensures c.compact_body-elements_len.result c.in_words-body_len.result
+    c.compact_body-elements_len.new.body c.compact_body-elements_len.ensures (words-low _ _ c.in_words-body_len.ensures) (words-high _ _ c.in_words-body_len.ensures) (words-whole _ _ c.in_words-body_len.ensures)
     c.resize.new.buf c.resize.ensures (omega (
       arith,
       short-body c.in_ok-packet.packet,
       n-within c.args.datagram.now (parts_of c.in_ok-packet.packet) c.in_ok-packet.ensures.found c.in-Some.form (sym c.form-form.ensures ∙ c.in-Some.is)
-          c.sources_end-block_at.result c.header_len-payload_at.result c.sources_end-block_at.ensures c.header_len-payload_at.ensures c.id_of_none.result c.take_out-elements_len.result c.in_words-body_len.result
-          c.id_of_none.ensures c.take_out-elements_len.new.body c.take_out-elements_len.ensures (words-low _ _ c.in_words-body_len.ensures) (words-high _ _ c.in_words-body_len.ensures) (words-whole _ _ c.in_words-body_len.ensures),
+          c.sources_end-block_at.result c.header_len-payload_at.result c.sources_end-block_at.ensures c.header_len-payload_at.ensures c.compact_body-elements_len.result c.in_words-body_len.result
+          c.compact_body-elements_len.new.body c.compact_body-elements_len.ensures (words-low _ _ c.in_words-body_len.ensures) (words-high _ _ c.in_words-body_len.ensures) (words-whole _ _ c.in_words-body_len.ensures),
     ))
 
 pub returns-clause-within : goal.returns-clause-within
@@ -83,9 +83,9 @@ returns-clause-within c =
     omega (
       arith,
       room c.args.datagram.now (parts_of c.in_ok-packet.packet) c.in_ok-packet.ensures.found c.in-Some.form (sym c.form-form.ensures ∙ c.in-Some.is)
-          c.sources_end-block_at.result c.header_len-payload_at.result c.sources_end-block_at.ensures c.header_len-payload_at.ensures c.id_of_none.result c.take_out-elements_len.result c.in_words-body_len.result
-          c.id_of_none.ensures c.take_out-elements_len.new.body c.take_out-elements_len.ensures (words-low _ _ c.in_words-body_len.ensures) (words-high _ _ c.in_words-body_len.ensures) (words-whole _ _ c.in_words-body_len.ensures),
+          c.sources_end-block_at.result c.header_len-payload_at.result c.sources_end-block_at.ensures c.header_len-payload_at.ensures c.compact_body-elements_len.result c.in_words-body_len.result
+          c.compact_body-elements_len.new.body c.compact_body-elements_len.ensures (words-low _ _ c.in_words-body_len.ensures) (words-high _ _ c.in_words-body_len.ensures) (words-whole _ _ c.in_words-body_len.ensures),
       length-moved c.args.datagram.now (parts_of c.in_ok-packet.packet) c.in_ok-packet.ensures.found c.in-Some.form (sym c.form-form.ensures ∙ c.in-Some.is)
-          c.sources_end-block_at.result c.header_len-payload_at.result c.sources_end-block_at.ensures c.header_len-payload_at.ensures c.id_of_none.result c.take_out-elements_len.result c.in_words-body_len.result
-          c.id_of_none.ensures c.take_out-elements_len.new.body c.take_out-elements_len.ensures (words-low _ _ c.in_words-body_len.ensures) (words-high _ _ c.in_words-body_len.ensures) (words-whole _ _ c.in_words-body_len.ensures),
+          c.sources_end-block_at.result c.header_len-payload_at.result c.sources_end-block_at.ensures c.header_len-payload_at.ensures c.compact_body-elements_len.result c.in_words-body_len.result
+          c.compact_body-elements_len.new.body c.compact_body-elements_len.ensures (words-low _ _ c.in_words-body_len.ensures) (words-high _ _ c.in_words-body_len.ensures) (words-whole _ _ c.in_words-body_len.ensures),
     )

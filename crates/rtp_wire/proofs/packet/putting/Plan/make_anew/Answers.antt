@@ -57,15 +57,15 @@ module _ (c : Joined-not-self) (allowed : Option ExtensionsForm) (plan : IsPlan 
       (body-elements growth.parts.block growth.elements self.new_form self.form plan.was_form growth.are_elements)
 
   fits : (elements : List Element) → AreElements self.form (take self.body_len room) elements
-      → length (elements_bytes self.new_form (elements_with self.new_form (c.args.id, c.args.data.now) elements)) ≤ length room
+      → length (elements_bytes self.new_form (elements_with (c.args.id, c.args.data.now) elements)) ≤ length room
   fits elements are =
       let same : elements ≡ growth.elements =
       same-elements (take c.args.len c.args.buf.now) (c.args.id, c.args.data.now) allowed growth self.new_form self.form elements plan.was_form
       (subst (λ (b : List ℕ). AreElements self.form b elements) body-here are) in
       omega (
         arith,
-        ap (λ (es : List Element). length (elements_bytes self.new_form (elements_with self.new_form (c.args.id, c.args.data.now) es))) same,
-        ap (λ (f : ExtensionsForm). length (elements_bytes f (elements_with f (c.args.id, c.args.data.now) growth.elements))) plan.form_is,
+        ap (λ (es : List Element). length (elements_bytes self.new_form (elements_with (c.args.id, c.args.data.now) es))) same,
+        ap (λ (f : ExtensionsForm). length (elements_bytes f (elements_with (c.args.id, c.args.data.now) growth.elements))) plan.form_is,
         elements-fit (take c.args.len c.args.buf.now) (c.args.id, c.args.data.now) allowed growth,
         (c.requires.body_len allowed plan),
         length-room,
@@ -104,13 +104,13 @@ returns c = λ allowed plan.
     record {
       body = body;
       body_is = c.put_anew.ensures.row growth.elements (elements-here joined allowed plan)
-          ∙ ap (row_to self.new_form (elements_with self.new_form (c.args.id, c.args.data.now) growth.elements)) (length-room joined allowed plan ∙ (c.requires.body_len allowed plan))
-          ∙ ap (λ (f : ExtensionsForm). row_to f (elements_with f (c.args.id, c.args.data.now) growth.elements) growth.body_len) plan.form_is;
+          ∙ ap (row_to self.new_form (elements_with (c.args.id, c.args.data.now) growth.elements)) (length-room joined allowed plan ∙ (c.requires.body_len allowed plan))
+          ∙ ap (λ (f : ExtensionsForm). row_to f (elements_with (c.args.id, c.args.data.now) growth.elements) growth.body_len) plan.form_is;
       is_packet = subst (λ (f : ExtensionsForm). IsPacket (take growth.len (put_mid (self.block_at + 4) (self.block_at + 4 + c.args.new_body_len - (self.block_at + 4)) c.if-not-self.buf body)) (record growth.parts { has_extension = true; block = Some (f, body) })) plan.form_is
           (IsPacket-new c.args.buf.now c.args.len growth.parts growth.is_packet c.requires.within self.block_at plan.block_is self.payload_at plan.payload_is c.args.new_body_len c.requires.room
           self.new_form c.if-not-self.buf (laid joined allowed plan) body as_long growth.len growth.no_other size
           (omega (arith, body-whole (take c.args.len c.args.buf.now) (c.args.id, c.args.data.now) allowed growth, (c.requires.body_len allowed plan))) c.requires.few);
-      are_elements = subst (λ (f : ExtensionsForm). AreElements f body (elements_with f (c.args.id, c.args.data.now) growth.elements)) plan.form_is
+      are_elements = subst (λ (f : ExtensionsForm). AreElements f body (elements_with (c.args.id, c.args.data.now) growth.elements)) plan.form_is
           (c.put_anew.ensures.elements growth.elements (elements-here joined allowed plan));
       word_is = λ some.
           word-new c.args.buf.now c.args.len growth.parts growth.is_packet c.requires.within self.block_at plan.block_is self.payload_at plan.payload_is c.args.new_body_len c.requires.room

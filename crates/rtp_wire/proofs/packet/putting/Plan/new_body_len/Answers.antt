@@ -31,9 +31,9 @@ returns c = λ allowed plan.
     body-before c.args.datagram.now growth.parts growth.is_packet growth.parts.block self.payload_at self.body_len refl plan.payload_is plan.body_is in
     let are : AreElements self.form (take (self.payload_at - (self.payload_at - self.body_len)) (drop (self.payload_at - self.body_len) c.args.datagram.now)) growth.elements =
     subst (λ (b : List ℕ). AreElements self.form b growth.elements) (sym here) (body-elements growth.parts.block growth.elements self.new_form self.form plan.was_form growth.are_elements) in
-    let count : c.put_len-elements_len.result ≡ length (elements_bytes growth.form (elements_with growth.form (c.args.id, c.args.data.now) growth.elements)) =
+    let count : c.put_len-elements_len.result ≡ length (elements_bytes growth.form (elements_with (c.args.id, c.args.data.now) growth.elements)) =
     c.put_len-elements_len.ensures.length growth.elements are
-    ∙ ap (λ (f : ExtensionsForm). length (elements_bytes f (elements_with f (c.args.id, c.args.data.now) growth.elements))) plan.form_is in
+    ∙ ap (λ (f : ExtensionsForm). length (elements_bytes f (elements_with (c.args.id, c.args.data.now) growth.elements))) plan.form_is in
     let reckoned =
     body_len-reckoned c.args.datagram.now (c.args.id, c.args.data.now) allowed growth c.put_len-elements_len.result c.in_words.result count
     (words-low _ _ c.in_words.ensures) (words-high _ _ c.in_words.ensures) (words-whole _ _ c.in_words.ensures) in

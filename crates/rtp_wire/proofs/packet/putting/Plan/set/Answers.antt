@@ -36,7 +36,7 @@ returns-clause-set c = λ allowed plan.
     (subst (λ (b : List ℕ). AreElements self.form b growth.elements) (sym here) (body-elements growth.parts.block growth.elements self.new_form self.form plan.was_form growth.are_elements)) in
     OnTrue_from _ _ (λ yes.
     PutsElement-set c.args.datagram.now (c.args.id, c.args.data.now) allowed growth self.new_form self.block_at self.payload_at some plan.block_is plan.payload_is plan.form_is
-    c.set_sole.new.body (c.set_sole.auto.body ∙ ap length here) ((c.set_sole.ensures.answer self.new_form growth.elements survey are).0 yes)
+    c.set_sole.new.body (c.set_sole.auto.body ∙ ap length here) plan.writable.0 ((c.set_sole.ensures.answer self.new_form growth.elements survey are).0 yes)
     (subst (λ (b : List ℕ). SetsLast self.new_form c.args.id c.args.data.now b c.set_sole.new.body) here (OnTrue_at yes (c.set_sole.ensures.set self.new_form survey)))
     (OnTrue_at yes (c.set_sole.ensures.elements self.new_form growth.elements survey are)))
 

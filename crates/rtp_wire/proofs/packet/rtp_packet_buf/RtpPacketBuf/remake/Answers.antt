@@ -1,4 +1,4 @@
-use Rattle.std.proofs.Common.{rules, ◌≡◌, ℕ, List, length, refl, subst, arith, sym}
+use Rattle.std.proofs.Common.{rules, ℕ, List, length, refl, subst, arith, sym}
 use Rattle.std.proofs.lemmas.Bool.{false≢true}
 use Rattle.rtp_ext.specs.ElementsInARow.{elements_added}
 use Rattle.rtp_wire.specs.declared.packet.not_put.NotPut.TheVariants.{NoRoom}
