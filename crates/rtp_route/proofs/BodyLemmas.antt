@@ -12,12 +12,12 @@ use Rattle.rtp_wire.proofs.PartsLemmas.{length-packet}
 use Rattle.rtp_route.proofs.RoutingLemmas.{word_in_front}
 
 -- what X announces is this block, and may be another one
-record Announces (x : Bool) (other : Option (ℕ × List ℕ)) (part : List ℕ) (form : ExtensionsForm) (body : List ℕ) : Type 0 where
+pub record Announces (x : Bool) (other : Option (ℕ × List ℕ)) (part : List ℕ) (form : ExtensionsForm) (body : List ℕ) : Type 0 where
   pub is_block : IsBlock part form body
   pub no_other : block_len other ≡ 0
   pub others : (part body : List ℕ) → IsBlock part form body → IsAnnouncedBlock x (Some (form, body)) other part
 
-announces : (x : Bool) (block : Option (ExtensionsForm × List ℕ)) (other : Option (ℕ × List ℕ)) (part : List ℕ) (form : ExtensionsForm) (body : List ℕ) → block ≡ Some (form, body)
+pub announces : (x : Bool) (block : Option (ExtensionsForm × List ℕ)) (other : Option (ℕ × List ℕ)) (part : List ℕ) (form : ExtensionsForm) (body : List ℕ) → block ≡ Some (form, body)
     → IsAnnouncedBlock x block other part → Announces x other part form body
 announces x block (Some other) part form body is announced = absurd (none-some (form, body) (sym announced.1 ∙ is))
 announces false None None part form body is announced = absurd (none-some (form, body) is)

@@ -19,12 +19,8 @@ use Rattle.rtp_ext.proofs.NewIdLemmas.{All-IsElement}
 use Rattle.rtp_ext.proofs.PutLemmas.{filter-none, none-counted}
 use Rattle.rtp_route.specs.declared.slots.Slot.{Slot}
 use Rattle.rtp_route.specs.Routing.{put_all}
-use Rattle.rtp_route.specs.Template.{HaveOwnIds, IsSlot}
+use Rattle.rtp_route.specs.Template.{HaveOwnIds, HasOnly, IsSlot}
 use Rattle.rtp_route.proofs.SetDataLemmas.{all_set, data_set, sets}
-
--- it is the only one of its id
-abbrev pub HasOnly : List Element → Element → Type 0
-HasOnly elements new = filter (has_id new.0) elements ≡ new ∷ []
 
 any-counted : (id : ℕ) (elements : List Element) → list_any (has_id id) elements ≡ false → filter (has_id id) elements ≡ []
 any-counted id [] none = refl

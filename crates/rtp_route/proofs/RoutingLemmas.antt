@@ -93,6 +93,11 @@ word_within bytes parts block is some =
     let body : block_len parts.block ≡ 4 + length block.1 = ap block_len some in
     omega (arith, long, body)
 
+pub from_twelve : (s : ℕ) (xs : List ℕ) → 12 ≤ s → drop s xs ≡ drop (s - 12) (drop 12 xs)
+from_twelve s xs more =
+    let back : s ≡ 12 + (s - 12) = omega (arith, more) in
+    ap (λ (k : ℕ). drop k xs) back ∙ sym (drop-drop (s - 12) 12 xs)
+
 -- the words of two packets with as many sources
 word_of : (bytes : List ℕ) (parts : PacketParts) → IsPacket bytes parts → word_bytes bytes ≡ take 2 (drop (12 + 4 * length parts.sources) bytes)
 word_of bytes parts is = ap (λ (s : ℕ). take 2 (drop s bytes)) (sources_end-is bytes parts is)
@@ -354,9 +359,6 @@ routed-by_calls old new len fields ids news allowed gives no_zero calls =
         };
       },
     )
-  where
-    from_twelve : (s : ℕ) (xs : List ℕ) → 12 ≤ s → drop s xs ≡ drop (s - 12) (drop 12 xs)
-    from_twelve s xs more = ap (λ (k : ℕ). drop k xs) (omega arith) ∙ sym (drop-drop (s - 12) 12 xs)
 
 -- ---- the header alone and the whole packet
 

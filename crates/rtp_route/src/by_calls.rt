@@ -47,7 +47,7 @@ fn put_each(buf: &mut [u8], len: usize, group: &Group<'_>) -> Result<usize, NotP
 
 // Makes the header that the packet gets with these fields for the group in the first bytes of the
 // buffer, and returns how many bytes it has.
-fn make_header(
+pub(super) fn make_header(
     packet: &RtpPacket<'_>,
     fields: &Fields,
     group: &Group<'_>,
