@@ -99,7 +99,7 @@ from_twelve s xs more =
     ap (λ (k : ℕ). drop k xs) back ∙ sym (drop-drop (s - 12) 12 xs)
 
 -- the words of two packets with as many sources
-word_of : (bytes : List ℕ) (parts : PacketParts) → IsPacket bytes parts → word_bytes bytes ≡ take 2 (drop (12 + 4 * length parts.sources) bytes)
+pub word_of : (bytes : List ℕ) (parts : PacketParts) → IsPacket bytes parts → word_bytes bytes ≡ take 2 (drop (12 + 4 * length parts.sources) bytes)
 word_of bytes parts is = ap (λ (s : ℕ). take 2 (drop s bytes)) (sources_end-is bytes parts is)
 
 -- a block that has the two-byte form keeps it

@@ -1,8 +1,11 @@
 -- A header that is made once, and what other fields and data make of it.
 use Rattle.std.proofs.Common.{◌≡◌, ◌≢◌, ℕ, ◌+◌, ◌-◌, ◌*◌, ◌≤◌, Bool, true, false, ◌&&◌, nat_le, cond, List, [], ◌∷◌, ◌++◌, length, take, drop, map, Option, Some, None, refl, sym, ap, subst, ◌∙◌, arith, take_at, append-nil}
 use Rattle.std.specs.List.{AllByRecursion, filter_map}
-use Rattle.std.proofs.lemmas.List.{drop-drop, drop-append-le, take-append-le, length-drop, take_all}
+use Rattle.std.proofs.lemmas.List.{drop-drop, drop-append-le, take-append-le, length-drop, length-map, take_all}
+use Rattle.std.proofs.lemmas.Option.{none-some}
+use Rattle.std.specs.Borrow.{Bor}
 use Rattle.rtp_base.specs.Overwriting.{overwritten}
+use Rattle.rtp_base.proofs.OverwritingLemmas.{overwritten-front}
 use Rattle.rtp_ext.specs.declared.form.ExtensionsForm.{ExtensionsForm}
 use Rattle.rtp_ext.specs.declared.form.ExtensionsForm.TheVariants.{OneByte, TwoByte}
 use Rattle.rtp_ext.specs.Elements.{Element, IsElement, elements_bytes, AreElements}
@@ -19,12 +22,17 @@ use Rattle.rtp_wire.specs.PutIntoPacket.{form_of_block}
 use Rattle.rtp_route.specs.declared.slots.Slot.{Slot}
 use Rattle.rtp_route.specs.Calls.{no_fields}
 use Rattle.rtp_route.specs.Routing.{put_all, IsFormAfter, extension_after, row_in, routed_elements, routed_parts, word_bytes, KeepsWord, IsRouted}
-use Rattle.rtp_route.specs.Template.{with_data, HaveOwnIds, data_lengths, slot_lengths, filled_in, IsSlot, AreSlots, body_start_of}
+use Rattle.rtp_wire.specs.PartsOf.{parts_of}
+use Rattle.rtp_wire.proofs.PacketLemmas.{one_packet}
+use Rattle.rtp_route.specs.declared.template.HeaderTemplate.{HeaderTemplate}
+use Rattle.rtp_route.specs.Template.{with_data, HaveOwnIds, HasOnly, HasRow, data_lengths, slot_lengths, filled_in, IsSlot, AreSlots, body_start_of}
+use Rattle.rtp_route.specs.TemplateOf.{header_of, slots_in, lengths_of, IsTemplate}
+use Rattle.rtp_route.proofs.ByCallsLemmas.{front-put}
 use Rattle.rtp_route.proofs.BodyLemmas.{HasBody, has-body}
-use Rattle.rtp_route.proofs.OnlyLemmas.{elements-by_turns, filled-elements}
+use Rattle.rtp_route.proofs.OnlyLemmas.{elements-by_turns, filled-elements, only-put_all}
 use Rattle.rtp_route.proofs.RoutingLemmas.{word_of, word_in_front, from_twelve}
 use Rattle.rtp_route.proofs.SetDataLemmas.{data_set, all_set, sets, put_all-data}
-use Rattle.rtp_route.proofs.SlotLemmas.{slots-stay, write-slots}
+use Rattle.rtp_route.proofs.SlotLemmas.{slots-stay, write-slots, filled-sets_length, slots-lengths}
 
 -- ---- elements with other data of the same length
 
@@ -150,7 +158,7 @@ filled-with old ids news allowed header slots fields contents set is (Some form)
     let all_now = elements-sets form (length body.front) xs news slots contents slots_are is.own same all in
     let now_block : row_in routed.form (put_all (with_data news contents) es) ≡ Some (form, filled (elements_bytes form now)) =
     ap (λ (f : Option ExtensionsForm). row_in f (put_all (with_data news contents) es)) some ∙ ap (λ (zs : List Element). Some (form, filled (elements_bytes form zs))) put_is in
-    let long : length (filled (elements_bytes form now)) ≡ length (filled (elements_bytes form xs)) = ? in
+    let long : length (filled (elements_bytes form now)) ≡ length (filled (elements_bytes form xs)) = filled-sets_length form (length body.front) xs news slots contents slots_are is.own same in
     let made : IsPacket (body.front ++ filled (elements_bytes form now)) (record old_parts { block = Some (form, filled (elements_bytes form now)) }) = body.other (filled (elements_bytes form now)) long in
     let extension : extension_after (with_data news contents) parts.has_extension ≡ extension_after news parts.has_extension = extension-alike news contents parts.has_extension same in
     let new_parts : PacketParts = set_parts fields ids (with_data news contents) routed.form routed.elements parts in
@@ -182,3 +190,68 @@ filled-with old ids news allowed header slots fields contents set is (Some form)
         new_word_is = λ f is_form other. word ∙ routed.word_is.new_word_is f is_form other;
       };
     }
+
+-- ---- in the terms of the calls
+
+pub lengths-of : (contents : List (Bor (List ℕ))) → map length (map (λ (b : Bor (List ℕ)). b.now) contents) ≡ map (λ (b : Bor (List ℕ)). length b.now) contents
+lengths-of [] = refl
+lengths-of (bytes ∷ contents) = ap (λ (ks : List ℕ). length bytes.now ∷ ks) (lengths-of contents)
+
+pub whole-put : (buf new front : List ℕ) → new ≡ overwritten buf 0 front → length front ≡ length new → new ≡ front
+whole-put buf new front is same = sym (take_all (length front) new (omega (arith, same))) ∙ front-put buf new front is
+
+-- the header that is written for a receiver
+pub written-with : (old : List ℕ) (ids : ℕ → Option ℕ) (news : List Element) (allowed : Option ExtensionsForm) (template : HeaderTemplate) (fields : Fields) (contents : List (List ℕ)) (header put set : List ℕ)
+    → IsTemplate old ids news allowed template → map length contents ≡ lengths_of template → header_of template ≡ header ++ (parts_of template.header).payload → put ≡ header
+    → ((parts : PacketParts) → IsPacket put parts → IsPacket set (with_header_fields fields parts)) → ChangesOnly 1 12 put set
+    → IsRouted old fields ids (with_data news contents) allowed (filled_in (slots_in template) contents set)
+written-with old ids news allowed template fields contents header put set is same front put-is sets_fields only =
+    let routed = is.routed in
+    let parts : PacketParts = set_parts no_fields ids news routed.form routed.elements routed.parts in
+    let parts_is : parts_of template.header ≡ parts = one_packet (header_of template) parts routed.is_packet in
+    let none : (parts_of template.header).payload ≡ [] = ap (λ (p : PacketParts). p.payload) parts_is in
+    let whole : put ≡ header_of template = put-is ∙ sym (append-nil header) ∙ ap (λ (p : List ℕ). header ++ p) (sym none) ∙ sym front in
+    filled-with old ids news allowed (header_of template) (slots_in template) fields contents set
+    (record { routed = routed; own = is.own; lengths_are = is.lengths_are; slots_are = is.slots_are }) routed.form refl (same ∙ is.lengths_are)
+    (sets_fields parts (subst (λ (b : List ℕ). IsPacket b parts) (sym whole) routed.is_packet))
+    (subst (λ (b : List ℕ). ChangesOnly 1 12 b set) whole only)
+
+-- the template that is made of a packet
+pub template-made : (old : List ℕ) (ids : ℕ → Option ℕ) (news : List Element) (allowed : Option ExtensionsForm) (template : HeaderTemplate)
+    → IsRouted old no_fields ids news allowed (header_of template) → HaveOwnIds news → template.count ≡ length news
+    → ((form : ExtensionsForm) (row : List Element) → HasRow (parts_of template.header) form row → AllByRecursion (HasOnly row) news
+    → (slots : List Slot) × (Some template.slots ≡ Some slots) × AreSlots form (body_start_of (parts_of template.header)) row news (take template.count slots))
+    → IsTemplate old ids news allowed template
+template-made old ids news allowed template routed own count found =
+    let es : List Element = filter_map (renumbered ids) routed.elements in
+    let xs : List Element = put_all news es in
+    let parts : PacketParts = set_parts no_fields ids news routed.form routed.elements routed.parts in
+    let parts_is : parts_of template.header ≡ parts = one_packet (header_of template) parts routed.is_packet in
+    let there : (form : ExtensionsForm) → routed.form ≡ Some form → AreSlots form (body_start_of routed.parts) xs news (slots_in template) =
+    λ form some.
+    let block : row_in routed.form xs ≡ Some (form, filled (elements_bytes form xs)) = ap (λ (f : Option ExtensionsForm). row_in f xs) some in
+    let found_slots = found form xs (record {
+      block_is = ap (λ (p : PacketParts). p.block) parts_is ∙ block;
+      are_elements = subst (λ (b : Option (ExtensionsForm × List ℕ)). AreElementsOf b xs) block routed.are_elements;
+    }) (only-put_all news es own) in
+    let same : template.slots ≡ found_slots.0 = some_list template.slots found_slots.0 found_slots.1 in
+    subst (λ (p : PacketParts). AreSlots form (body_start_of p) xs news (slots_in template)) parts_is
+    (subst (λ (slots : List Slot). AreSlots form (body_start_of (parts_of template.header)) xs news (take template.count slots)) (sym same) found_slots.2) in
+    record {
+      routed = routed;
+      own = own;
+      lengths_are = lengths routed.form refl there;
+      slots_are = there;
+    }
+  where
+    some_list : (a b : List Slot) → Some a ≡ Some b → a ≡ b
+    some_list a b same = cc
+    none_put : (form : Option ExtensionsForm) (put : List Element) → IsFormAfter allowed (form_of_block routed.parts.block) put form → form ≡ None → (count : ℕ) → count ≡ length put
+        → slot_lengths (take count template.slots) ≡ data_lengths put
+    none_put form [] is none count zero_is = ap (λ (k : ℕ). slot_lengths (take k template.slots)) zero_is
+    none_put form (new ∷ more) is none count zero_is = absurd (form-some allowed (form_of_block routed.parts.block) new more (subst (IsFormAfter allowed (form_of_block routed.parts.block) (new ∷ more)) none is))
+    lengths : (form : Option ExtensionsForm) → routed.form ≡ form
+        → ((f : ExtensionsForm) → routed.form ≡ Some f → AreSlots f (body_start_of routed.parts) (put_all news (filter_map (renumbered ids) routed.elements)) news (slots_in template))
+        → lengths_of template ≡ data_lengths news
+    lengths None none there = none_put routed.form news routed.form_is none template.count count
+    lengths (Some f) some there = slots-lengths f (body_start_of routed.parts) (put_all news (filter_map (renumbered ids) routed.elements)) news (slots_in template) (there f some)
