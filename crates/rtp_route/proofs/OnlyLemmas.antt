@@ -63,6 +63,7 @@ others-put id new (element ∷ elements) other = by_test (others-put id new elem
     either : (filter (has_id id) (put_element new elements) ≡ filter (has_id id) elements) → (b : Bool) → filter (has_id id) (cond b (put_element new elements) (new ∷ elements)) ≡ filter (has_id id) elements
     either later true = later
     either later false = keep (has_id id) new elements false (ne_eqb new.0 id other)
+
     by_test : (filter (has_id id) (put_element new elements) ≡ filter (has_id id) elements) → (a b : Bool) → has_id new.0 element ≡ a
         → filter (has_id id) (cond (has_id new.0 element) (cond (list_any (has_id new.0) elements) (put_element new elements) (new ∷ elements)) (element ∷ put_element new elements))
         ≡ filter (has_id id) (element ∷ elements)
@@ -180,8 +181,8 @@ slot-lies form start elements new place slot all only id_is last start_is len_is
       none_before = none-counted new.0 before (ap length alone.0);
       none_after = none-counted new.0 stands.rest (ap length alone.2);
       start_is = start_is ∙ ap (λ (k : ℕ). start + k) (lies.data_is ∙ ap (λ (k : ℕ). k + length (element_header form place.id (length lies.bytes))) (lies.start_is ∙ long)
-      ∙ ap (λ (e : Element). length (elements_bytes form before) + length (element_header form e.0 (length e.1))) alone.1)
-      ∙ omega arith;
+          ∙ ap (λ (e : Element). length (elements_bytes form before) + length (element_header form e.0 (length e.1))) alone.1)
+          ∙ omega arith;
       len_is = omega (arith, len_is, lies.end_is, bytes);
     }
   where

@@ -173,8 +173,8 @@ slot-stays form start elements new other slot slot_of_other bytes is same apart 
       before = all_set new.0 bytes there.before;
       after = all_set new.0 bytes there.after;
       in_order = ap (all_set new.0 bytes) there.in_order
-      ∙ all_set-append new.0 bytes there.before (other ∷ there.after)
-      ∙ ap (λ (e : Element). all_set new.0 bytes there.before ++ e ∷ all_set new.0 bytes there.after) (data_set-other new.0 bytes other apart);
+          ∙ all_set-append new.0 bytes there.before (other ∷ there.after)
+          ∙ ap (λ (e : Element). all_set new.0 bytes there.before ++ e ∷ all_set new.0 bytes there.after) (data_set-other new.0 bytes other apart);
       none_before = none-all_set other.0 new.0 bytes there.before there.none_before;
       none_after = none-all_set other.0 new.0 bytes there.after there.none_after;
       start_is = there.start_is ∙ ap (λ (k : ℕ). start + k + length (element_header form other.0 (length other.1))) (sym (length-set form new.0 bytes there.before front));

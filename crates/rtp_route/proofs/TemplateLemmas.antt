@@ -184,7 +184,7 @@ filled-with old ids news allowed header slots fields contents set is (Some form)
       form_is = form-alike allowed (form_of_block parts.block) news contents routed.form same routed.form_is;
       is_packet = is_now;
       are_elements = subst (λ (b : Option (ExtensionsForm × List ℕ)). AreElementsOf b (put_all (with_data news contents) es)) (sym now_block)
-      (subst (λ (zs : List Element). AreElements form (filled (elements_bytes form now)) zs) (sym put_is) (filled-elements form now all_now));
+          (subst (λ (zs : List Element). AreElements form (filled (elements_bytes form now)) zs) (sym put_is) (filled-elements form now all_now));
       word_is = record {
         word_is = λ f is_form was. word ∙ routed.word_is.word_is f is_form was;
         new_word_is = λ f is_form other. word ∙ routed.word_is.new_word_is f is_form other;
@@ -246,10 +246,12 @@ template-made old ids news allowed template routed own count found =
   where
     some_list : (a b : List Slot) → Some a ≡ Some b → a ≡ b
     some_list a b same = cc
+
     none_put : (form : Option ExtensionsForm) (put : List Element) → IsFormAfter allowed (form_of_block routed.parts.block) put form → form ≡ None → (count : ℕ) → count ≡ length put
         → slot_lengths (take count template.slots) ≡ data_lengths put
     none_put form [] is none count zero_is = ap (λ (k : ℕ). slot_lengths (take k template.slots)) zero_is
     none_put form (new ∷ more) is none count zero_is = absurd (form-some allowed (form_of_block routed.parts.block) new more (subst (IsFormAfter allowed (form_of_block routed.parts.block) (new ∷ more)) none is))
+
     lengths : (form : Option ExtensionsForm) → routed.form ≡ form
         → ((f : ExtensionsForm) → routed.form ≡ Some f → AreSlots f (body_start_of routed.parts) (put_all news (filter_map (renumbered ids) routed.elements)) news (slots_in template))
         → lengths_of template ≡ data_lengths news

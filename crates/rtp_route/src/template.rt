@@ -2,6 +2,7 @@
 
 ghost use Rattle.std.specs.Prelude.{◌≡◌, ◌↔◌, ◌+◌, ◌<◌, ◌≤◌, ℕ, List, Option, Some, length, map, take, drop, true, All, IsErr, IfOk, IfErr, IfSome, OnErr};
 ghost use Rattle.rtp_ext.specs.declared.form.ExtensionsForm.{ExtensionsForm};
+ghost use Rattle.rtp_route.specs.declared.not_written.NotWritten.{NotWritten};
 ghost use Rattle.rtp_ext.specs.Elements.{Element};
 ghost use Rattle.rtp_ext.specs.ElementsInARow.{elements_of};
 ghost use Rattle.rtp_ext.specs.NewIds.{new_id};
@@ -33,9 +34,14 @@ pub struct HeaderTemplate<'a> {
 }
 
 impl<'a> HeaderTemplate<'a> {
-    ghost use Rattle.rtp_route.specs.TemplateOf.{IsTemplate, lengths_of, header_len_in};
+    ghost use Rattle.rtp_route.specs.TemplateOf.{IsTemplate, KeepsFromWriting, lengths_of, header_len_in};
 
-    /// Makes the header that the packet gets for the group in the buffer.
+    /// Makes the header that the packet gets for the group in the buffer, which is lent to the
+    /// template. A buffer of the header's length and, for each element, 258 bytes has room.
+    ///
+    /// It is refused where a call for one packet is, for more elements than
+    /// [`MAX_ELEMENTS`](super::MAX_ELEMENTS), and for two of one id; the buffer then has any bytes. The
+    /// contract says what an `Ok` is, and not exactly when there is one: tests do.
     pub fn new(
         packet: &RtpPacket<'_>,
         group: &Group<'_>,
@@ -73,8 +79,10 @@ impl<'a> HeaderTemplate<'a> {
         self.header.header_len()
     }
 
-    /// Writes the header with these fields, and with these data of the elements that were put, in
-    /// their order.
+    /// Writes the header with these fields, and with these data of the group's elements in their order,
+    /// each as long as the data in the group, and returns how many bytes it has. With the payload behind
+    /// it, it is the packet that goes to the receiver. Where it is refused nothing changes. Requires a
+    /// payload type of at most 127.
     pub fn write_header(
         &self,
         fields: &Fields,
@@ -88,6 +96,10 @@ impl<'a> HeaderTemplate<'a> {
             (with_data news (map (λ bytes. bytes.now) contents.now)) allowed (take len buf.new)) }
         ensures length { IfOk result (λ len. len ≡ header_len_in self.now) }
         ensures behind { IfOk result (λ len. drop len buf.new ≡ drop len buf.old) }
+        ensures cause { IfErr result (KeepsFromWriting self.now
+            (map (λ bytes. length bytes.now) contents.now) (length buf.old)) }
+        ensures refused { IsErr result ↔ ((cause : NotWritten) × KeepsFromWriting self.now
+            (map (λ bytes. length bytes.now) contents.now) (length buf.old) cause) }
         ensures unchanged { OnErr result (buf.new ≡ buf.old) }
     {
         let slots = &self.slots[..self.count];

@@ -20,5 +20,5 @@ returns-clause-found c form elements new row only id_is = (
   _,
   refl,
   slot-found c.args.packet.now form c.in_ok-form.form c.in_ok-form.body.now elements new c.args.id c.in_ok-place.place _ c.header_len.result c.in_ok-form.ensures.parts row only id_is
-  c.in_ok-place.ensures.id c.in_ok-place.ensures.lies c.header_len.ensures refl refl,
+      c.in_ok-place.ensures.id c.in_ok-place.ensures.lies c.header_len.ensures refl refl,
 )

@@ -31,13 +31,13 @@ loop-index-preserved c =
     let long : k < length c.loop-index.slots = omega (arith, c.loop-index-test.true, c.loop-index.invariant.1, c.requires) in
     let more = take_more_set c.loop-index.slots k c.in_ok-slots.field-0 long in (
       λ form row has only.
-      let found = c.in_ok-slots.ensures.found form row (element_of (get_or lents k none_lent)) has (all-at (HasOnly row) lents k none_lent within only) refl in
-      let same : c.in_ok-slots.field-0 ≡ found.0 = some_slot c.in_ok-slots.field-0 found.0 found.1 in
-      subst (λ (slots : List Slot). AreSlots form (body_start_of (parts_of c.args.packet.now)) row (elements_of (take (k + 1) lents)) slots) (sym more)
-      (subst (λ (es : List Element). AreSlots form (body_start_of (parts_of c.args.packet.now)) row es (take k c.loop-index.slots ++ c.in_ok-slots.field-0 ∷ [])) (sym (map_more element_of lents k none_lent within))
-      (slots-push form (body_start_of (parts_of c.args.packet.now)) row (elements_of (take k lents)) (take k c.loop-index.slots) (element_of (get_or lents k none_lent)) c.in_ok-slots.field-0
-      (c.loop-index.invariant.0 form row has only) (subst (λ (slot : Slot). IsSlot form (body_start_of (parts_of c.args.packet.now)) row (element_of (get_or lents k none_lent)) slot) (sym same) found.2))),
+          let found = c.in_ok-slots.ensures.found form row (element_of (get_or lents k none_lent)) has (all-at (HasOnly row) lents k none_lent within only) refl in
+          let same : c.in_ok-slots.field-0 ≡ found.0 = some_slot c.in_ok-slots.field-0 found.0 found.1 in
+          subst (λ (slots : List Slot). AreSlots form (body_start_of (parts_of c.args.packet.now)) row (elements_of (take (k + 1) lents)) slots) (sym more)
+          (subst (λ (es : List Element). AreSlots form (body_start_of (parts_of c.args.packet.now)) row es (take k c.loop-index.slots ++ c.in_ok-slots.field-0 ∷ [])) (sym (map_more element_of lents k none_lent within))
+          (slots-push form (body_start_of (parts_of c.args.packet.now)) row (elements_of (take k lents)) (take k c.loop-index.slots) (element_of (get_or lents k none_lent)) c.in_ok-slots.field-0
+          (c.loop-index.invariant.0 form row has only) (subst (λ (slot : Slot). IsSlot form (body_start_of (parts_of c.args.packet.now)) row (element_of (get_or lents k none_lent)) slot) (sym same) found.2))),
       search rules,
       subst (All (LiesInHeader (parts_of c.args.packet.now))) (sym more)
-      (All-push (LiesInHeader (parts_of c.args.packet.now)) (take k c.loop-index.slots) c.in_ok-slots.field-0 c.loop-index.invariant.2 c.in_ok-slots.ensures.within),
+          (All-push (LiesInHeader (parts_of c.args.packet.now)) (take k c.loop-index.slots) c.in_ok-slots.field-0 c.loop-index.invariant.2 c.in_ok-slots.ensures.within),
     )
