@@ -12,12 +12,12 @@ use Rattle.rtp_wire.proofs.PartsLemmas.{length-packet}
 use Rattle.rtp_route.proofs.RoutingLemmas.{word_in_front}
 
 -- what X announces is this block, and may be another one
-record Announces (x : Bool) (other : Option (ℕ × List ℕ)) (part : List ℕ) (form : ExtensionsForm) (body : List ℕ) : Type 0 where
+pub record Announces (x : Bool) (other : Option (ℕ × List ℕ)) (part : List ℕ) (form : ExtensionsForm) (body : List ℕ) : Type 0 where
   pub is_block : IsBlock part form body
   pub no_other : block_len other ≡ 0
   pub others : (part body : List ℕ) → IsBlock part form body → IsAnnouncedBlock x (Some (form, body)) other part
 
-announces : (x : Bool) (block : Option (ExtensionsForm × List ℕ)) (other : Option (ℕ × List ℕ)) (part : List ℕ) (form : ExtensionsForm) (body : List ℕ) → block ≡ Some (form, body)
+pub announces : (x : Bool) (block : Option (ExtensionsForm × List ℕ)) (other : Option (ℕ × List ℕ)) (part : List ℕ) (form : ExtensionsForm) (body : List ℕ) → block ≡ Some (form, body)
     → IsAnnouncedBlock x block other part → Announces x other part form body
 announces x block (Some other) part form body is announced = absurd (none-some (form, body) (sym announced.1 ∙ is))
 announces false None None part form body is announced = absurd (none-some (form, body) is)
@@ -60,28 +60,28 @@ has-body bytes parts form body is none some =
       bytes_are = bytes_are;
       long = omega (arith, length-packet bytes parts is, body_len, announced.no_other, no_payload, ap length bytes_are, length-append front body);
       other = λ new same.
-      let word : (at : ℕ) → at + 2 ≤ 4 → word_at (top ++ new) at ≡ word_at is.part at =
-      λ at within. same_word at top new within four ∙ sym (same_word at top body within four) ∙ ap (λ (p : List ℕ). word_at p at) (sym part) in
-      record {
-        fixed = is.fixed;
-        groups = is.groups;
-        part = top ++ new;
-        in_order = sym (behind new);
-        fixed_is = record {
-          twelve = is.fixed_is.twelve;
-          first_is = is.fixed_is.first_is;
-          second_is = is.fixed_is.second_is;
-          number_is = is.fixed_is.number_is;
-          timestamp_is = is.fixed_is.timestamp_is;
-          ssrc_is = is.fixed_is.ssrc_is;
-        };
-        sources_are = is.sources_are;
-        part_is = announced.others (top ++ new) new (record {
-          form_is = subst (λ (w : ℕ). IsFormWord w form) (sym (word 0 (omega arith))) announced.is_block.form_is;
-          words = omega (arith, length-append top new, same, ap length part, length-append top body, announced.is_block.words, word 2 (omega arith));
-          body_is = sym (drop_at top new 4 four);
-        });
-      };
+          let word : (at : ℕ) → at + 2 ≤ 4 → word_at (top ++ new) at ≡ word_at is.part at =
+          λ at within. same_word at top new within four ∙ sym (same_word at top body within four) ∙ ap (λ (p : List ℕ). word_at p at) (sym part) in
+          record {
+            fixed = is.fixed;
+            groups = is.groups;
+            part = top ++ new;
+            in_order = sym (behind new);
+            fixed_is = record {
+              twelve = is.fixed_is.twelve;
+              first_is = is.fixed_is.first_is;
+              second_is = is.fixed_is.second_is;
+              number_is = is.fixed_is.number_is;
+              timestamp_is = is.fixed_is.timestamp_is;
+              ssrc_is = is.fixed_is.ssrc_is;
+            };
+            sources_are = is.sources_are;
+            part_is = announced.others (top ++ new) new (record {
+              form_is = subst (λ (w : ℕ). IsFormWord w form) (sym (word 0 (omega arith))) announced.is_block.form_is;
+              words = omega (arith, length-append top new, same, ap length part, length-append top body, announced.is_block.words, word 2 (omega arith));
+              body_is = sym (drop_at top new 4 four);
+            });
+          };
     }
   where
     same_word : (at : ℕ) (top body : List ℕ) → at + 2 ≤ 4 → length top ≡ 4 → word_at (top ++ body) at ≡ from_be_bytes w16 (take 2 (drop at top))

@@ -45,7 +45,7 @@ renumbered-in ids true old new header buf parts elements fits old-is new-is is c
     record {
       parts = parts_in new;
       is_renumbered = subst (λ (p : PacketParts). IsRenumbered ids elements p.block p (parts_in new)) same
-      (renumbers-as ids elements (parts_in old).block (parts_in old) (parts_in new) refl changes (same_bytes (parts_in old).block old new without) are);
+          (renumbers-as ids elements (parts_in old).block (parts_in old) (parts_in new) refl changes (same_bytes (parts_in old).block old new without) are);
       is_packet = IsPacket-in new buf fits new-is;
       only_body = subst (λ (b : List ℕ). ChangesOnlyBody header b) new-is (subst (λ (b : List ℕ). ChangesOnlyBody b new.datagram.now) old-is body);
     }

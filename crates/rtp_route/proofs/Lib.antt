@@ -5,3 +5,5 @@ mod SetDataLemmas
 mod SlotLemmas
 mod BodyLemmas
 mod OnlyLemmas
+mod SlotsFound
+mod TemplateLemmas

@@ -19,12 +19,8 @@ use Rattle.rtp_ext.proofs.NewIdLemmas.{All-IsElement}
 use Rattle.rtp_ext.proofs.PutLemmas.{filter-none, none-counted}
 use Rattle.rtp_route.specs.declared.slots.Slot.{Slot}
 use Rattle.rtp_route.specs.Routing.{put_all}
-use Rattle.rtp_route.specs.Template.{HaveOwnIds, IsSlot}
+use Rattle.rtp_route.specs.Template.{HaveOwnIds, HasOnly, IsSlot}
 use Rattle.rtp_route.proofs.SetDataLemmas.{all_set, data_set, sets}
-
--- it is the only one of its id
-abbrev pub HasOnly : List Element → Element → Type 0
-HasOnly elements new = filter (has_id new.0) elements ≡ new ∷ []
 
 any-counted : (id : ℕ) (elements : List Element) → list_any (has_id id) elements ≡ false → filter (has_id id) elements ≡ []
 any-counted id [] none = refl
@@ -67,6 +63,7 @@ others-put id new (element ∷ elements) other = by_test (others-put id new elem
     either : (filter (has_id id) (put_element new elements) ≡ filter (has_id id) elements) → (b : Bool) → filter (has_id id) (cond b (put_element new elements) (new ∷ elements)) ≡ filter (has_id id) elements
     either later true = later
     either later false = keep (has_id id) new elements false (ne_eqb new.0 id other)
+
     by_test : (filter (has_id id) (put_element new elements) ≡ filter (has_id id) elements) → (a b : Bool) → has_id new.0 element ≡ a
         → filter (has_id id) (cond (has_id new.0 element) (cond (list_any (has_id new.0) elements) (put_element new elements) (new ∷ elements)) (element ∷ put_element new elements))
         ≡ filter (has_id id) (element ∷ elements)
@@ -184,8 +181,8 @@ slot-lies form start elements new place slot all only id_is last start_is len_is
       none_before = none-counted new.0 before (ap length alone.0);
       none_after = none-counted new.0 stands.rest (ap length alone.2);
       start_is = start_is ∙ ap (λ (k : ℕ). start + k) (lies.data_is ∙ ap (λ (k : ℕ). k + length (element_header form place.id (length lies.bytes))) (lies.start_is ∙ long)
-      ∙ ap (λ (e : Element). length (elements_bytes form before) + length (element_header form e.0 (length e.1))) alone.1)
-      ∙ omega arith;
+          ∙ ap (λ (e : Element). length (elements_bytes form before) + length (element_header form e.0 (length e.1))) alone.1)
+          ∙ omega arith;
       len_is = omega (arith, len_is, lies.end_is, bytes);
     }
   where

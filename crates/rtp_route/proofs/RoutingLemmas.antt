@@ -93,8 +93,13 @@ word_within bytes parts block is some =
     let body : block_len parts.block ≡ 4 + length block.1 = ap block_len some in
     omega (arith, long, body)
 
+pub from_twelve : (s : ℕ) (xs : List ℕ) → 12 ≤ s → drop s xs ≡ drop (s - 12) (drop 12 xs)
+from_twelve s xs more =
+    let back : s ≡ 12 + (s - 12) = omega (arith, more) in
+    ap (λ (k : ℕ). drop k xs) back ∙ sym (drop-drop (s - 12) 12 xs)
+
 -- the words of two packets with as many sources
-word_of : (bytes : List ℕ) (parts : PacketParts) → IsPacket bytes parts → word_bytes bytes ≡ take 2 (drop (12 + 4 * length parts.sources) bytes)
+pub word_of : (bytes : List ℕ) (parts : PacketParts) → IsPacket bytes parts → word_bytes bytes ≡ take 2 (drop (12 + 4 * length parts.sources) bytes)
 word_of bytes parts is = ap (λ (s : ℕ). take 2 (drop s bytes)) (sources_end-is bytes parts is)
 
 -- a block that has the two-byte form keeps it
@@ -136,12 +141,14 @@ KeepsWord-then was after form allowed new news old middle last first rest one tw
     at f is other same =
         other (form_stays f form f allowed new news refl (subst (λ (w : Option ExtensionsForm). allowed_form allowed (needed_form w new) ≡ Some form) same first)
         (subst (IsFormAfter allowed (Some form) news) is rest))
+
     stays : (f : ExtensionsForm) → after ≡ Some f → was ≡ Some f → word_bytes last ≡ word_bytes old
     stays f is same = stays_by f is same (either_form form f)
       where
         stays_by : (f : ExtensionsForm) → after ≡ Some f → was ≡ Some f → (form ≡ f) ⊎ (form ≢ f) → word_bytes last ≡ word_bytes old
         stays_by f is same (inl here) = two.word_is f is (ap Some here) ∙ one.word_is f (ap Some here) same
         stays_by f is same (inr other) = absurd (at f is other same)
+
     changes : (f : ExtensionsForm) → after ≡ Some f → was ≢ Some f → word_bytes last ≡ to_be_bytes w16 (form_word f)
     changes f is other = changes_by (either_form form f)
       where
@@ -163,12 +170,12 @@ KeepsWord-put bytes buf len new allowed parts block was is puts same =
     word_of (take len buf) _ is ∙ word_in_take s len buf (word_within (take len buf) _ block is refl) in
     record {
       word_is = λ f form-is was-is. here
-      ∙ word_at_end s buf bytes
-      (ap (λ (k : ℕ). take (k + 2) buf) (sym end) ∙ puts.word_is (ap (λ (p : PacketParts). form_of_block p.block) same ∙ was-is ∙ sym form-is) ∙ ap (λ (k : ℕ). take (k + 2) bytes) end)
-      ∙ sym (word_of bytes parts was);
+          ∙ word_at_end s buf bytes
+          (ap (λ (k : ℕ). take (k + 2) buf) (sym end) ∙ puts.word_is (ap (λ (p : PacketParts). form_of_block p.block) same ∙ was-is ∙ sym form-is) ∙ ap (λ (k : ℕ). take (k + 2) bytes) end)
+          ∙ sym (word_of bytes parts was);
       new_word_is = λ f form-is other. here ∙ ap (λ (k : ℕ). take 2 (drop k buf)) (sym end)
-      ∙ puts.new_word_is (λ kept. other (sym (ap (λ (p : PacketParts). form_of_block p.block) same) ∙ kept ∙ form-is))
-      ∙ ap (λ (g : ExtensionsForm). to_be_bytes w16 (form_word g)) (some_form puts.growth.form f form-is);
+          ∙ puts.new_word_is (λ kept. other (sym (ap (λ (p : PacketParts). form_of_block p.block) same) ∙ kept ∙ form-is))
+          ∙ ap (λ (g : ExtensionsForm). to_be_bytes w16 (form_word g)) (some_form puts.growth.form f form-is);
     }
   where
     some_form : (a b : ExtensionsForm) → Some a ≡ Some b → a ≡ b
@@ -220,8 +227,8 @@ put-each (new ∷ news) allowed bytes final parts elements is are none ids put =
       is_packet = subst (λ (x : Bool). IsPacket final (record parts { has_extension = x; block = rest.block })) (still_set news) rest.is_packet;
       are_elements = rest.are_elements;
       word_is = KeepsWord-then (form_of_block parts.block) rest.form growth.form allowed new news bytes (take put.1 put.0) final
-      (subst (λ (p : PacketParts). allowed_form allowed (needed_form (form_of_block p.block) new) ≡ Some growth.form) p_is growth.form_is) rest.is_after
-      (KeepsWord-put bytes put.0 put.1 new allowed parts (growth.form, puts.body) is next_is puts p_is) rest.word_is;
+          (subst (λ (p : PacketParts). allowed_form allowed (needed_form (form_of_block p.block) new) ≡ Some growth.form) p_is growth.form_is) rest.is_after
+          (KeepsWord-put bytes put.0 put.1 new allowed parts (growth.form, puts.body) is next_is puts p_is) rest.word_is;
     }
   where
     still_set : (more : List Element) → extension_after more true ≡ true
@@ -346,17 +353,14 @@ routed-by_calls old new len fields ids news allowed gives no_zero calls =
         form_is = subst (λ (f : Option ExtensionsForm). IsFormAfter allowed f news put.form) has.same_form put.is_after;
         is_packet = split.2;
         are_elements = subst (λ (b : Option (ExtensionsForm × List ℕ)). AreElementsOf b (put_all news es)) block_is
-        (subst (λ (xs : List Element). AreElementsOf (compact_block compacts.elements put.block) xs) es_is
-        (subst (λ (p : PacketParts). AreElementsOf (compact_block compacts.elements p.block) compacts.elements) p_is compacts.are_elements));
+            (subst (λ (xs : List Element). AreElementsOf (compact_block compacts.elements put.block) xs) es_is
+            (subst (λ (p : PacketParts). AreElementsOf (compact_block compacts.elements p.block) compacts.elements) p_is compacts.are_elements));
         word_is = record {
           word_is = λ f is same. last_word f is ∙ put.word_is.word_is f is (same_form ∙ same) ∙ first_word;
           new_word_is = λ f is other. last_word f is ∙ put.word_is.new_word_is f is (λ same. other (sym same_form ∙ same));
         };
       },
     )
-  where
-    from_twelve : (s : ℕ) (xs : List ℕ) → 12 ≤ s → drop s xs ≡ drop (s - 12) (drop 12 xs)
-    from_twelve s xs more = ap (λ (k : ℕ). drop k xs) (omega arith) ∙ sym (drop-drop (s - 12) 12 xs)
 
 -- ---- the header alone and the whole packet
 

@@ -173,15 +173,15 @@ slot-stays form start elements new other slot slot_of_other bytes is same apart 
       before = all_set new.0 bytes there.before;
       after = all_set new.0 bytes there.after;
       in_order = ap (all_set new.0 bytes) there.in_order
-      ∙ all_set-append new.0 bytes there.before (other ∷ there.after)
-      ∙ ap (λ (e : Element). all_set new.0 bytes there.before ++ e ∷ all_set new.0 bytes there.after) (data_set-other new.0 bytes other apart);
+          ∙ all_set-append new.0 bytes there.before (other ∷ there.after)
+          ∙ ap (λ (e : Element). all_set new.0 bytes there.before ++ e ∷ all_set new.0 bytes there.after) (data_set-other new.0 bytes other apart);
       none_before = none-all_set other.0 new.0 bytes there.before there.none_before;
       none_after = none-all_set other.0 new.0 bytes there.after there.none_after;
       start_is = there.start_is ∙ ap (λ (k : ℕ). start + k + length (element_header form other.0 (length other.1))) (sym (length-set form new.0 bytes there.before front));
       len_is = there.len_is;
     }
 
-slots-stay : (form : ExtensionsForm) (start : ℕ) (elements : List Element) (new : Element) (slot : Slot) (bytes : List ℕ) (news : List Element) (slots : List Slot) → IsSlot form start elements new slot
+pub slots-stay : (form : ExtensionsForm) (start : ℕ) (elements : List Element) (new : Element) (slot : Slot) (bytes : List ℕ) (news : List Element) (slots : List Slot) → IsSlot form start elements new slot
     → length bytes ≡ length new.1 → HasNone news new.0 → AreSlots form start elements news slots → AreSlots form start (all_set new.0 bytes elements) news slots
 slots-stay form start elements new slot bytes [] slots is same none are = are
 slots-stay form start elements new slot bytes (other ∷ news) [] is same none are = are
@@ -203,3 +203,39 @@ write-slots form front elements (new ∷ news) (slot ∷ slots) (bytes ∷ conte
     let rest : map length contents ≡ data_lengths news = cc in
     ap (filled_in slots contents) (write-slot form front elements new slot bytes are.0 here)
     ∙ write-slots form front (all_set new.0 bytes elements) news slots contents (slots-stay form (length front) elements new slot bytes news slots are.0 here own.0 are.1) own.1 rest
+
+-- how many bytes the elements take
+
+set-row_length : (form : ExtensionsForm) (start : ℕ) (elements : List Element) (new : Element) (slot : Slot) (bytes : List ℕ) → IsSlot form start elements new slot → length bytes ≡ length new.1
+    → length (elements_bytes form (all_set new.0 bytes elements)) ≡ length (elements_bytes form elements)
+set-row_length form start elements new slot bytes is same =
+    let set_is : all_set new.0 bytes elements ≡ is.before ++ (new.0, bytes) ∷ is.after =
+    ap (all_set new.0 bytes) is.in_order ∙ all_set-one new.0 bytes new.1 is.before is.after is.none_before is.none_after in
+    ap (λ (es : List Element). length (elements_bytes form es)) set_is
+    ∙ row-length form is.before is.after new.0 bytes new.1 same
+    ∙ ap (λ (es : List Element). length (elements_bytes form es)) (sym is.in_order)
+
+sets-row_length : (form : ExtensionsForm) (start : ℕ) (elements news : List Element) (slots : List Slot) (contents : List (List ℕ)) → AreSlots form start elements news slots → HaveOwnIds news
+    → map length contents ≡ data_lengths news → length (elements_bytes form (sets news contents elements)) ≡ length (elements_bytes form elements)
+sets-row_length form start elements [] slots contents are own same = refl
+sets-row_length form start elements (new ∷ news) slots [] are own same = refl
+sets-row_length form start elements (new ∷ news) [] (bytes ∷ contents) are own same = absurd are
+sets-row_length form start elements (new ∷ news) (slot ∷ slots) (bytes ∷ contents) are own same =
+    let here : length bytes ≡ length new.1 = cc in
+    let rest : map length contents ≡ data_lengths news = cc in
+    sets-row_length form start (all_set new.0 bytes elements) news slots contents (slots-stay form start elements new slot bytes news slots are.0 here own.0 are.1) own.1 rest
+    ∙ set-row_length form start elements new slot bytes are.0 here
+
+pub filled-sets_length : (form : ExtensionsForm) (start : ℕ) (elements news : List Element) (slots : List Slot) (contents : List (List ℕ)) → AreSlots form start elements news slots → HaveOwnIds news
+    → map length contents ≡ data_lengths news → length (filled (elements_bytes form (sets news contents elements))) ≡ length (filled (elements_bytes form elements))
+filled-sets_length form start elements news slots contents are own same =
+    length-append (elements_bytes form (sets news contents elements)) (replicate (padding_of (length (elements_bytes form (sets news contents elements)))) 0)
+    ∙ ap (λ (k : ℕ). k + length {A = ℕ} (replicate (padding_of k) 0)) (sets-row_length form start elements news slots contents are own same)
+    ∙ sym (length-append (elements_bytes form elements) (replicate (padding_of (length (elements_bytes form elements))) 0))
+
+pub slots-lengths : (form : ExtensionsForm) (start : ℕ) (elements news : List Element) (slots : List Slot) → AreSlots form start elements news slots → slot_lengths slots ≡ data_lengths news
+slots-lengths form start elements [] [] are = refl
+slots-lengths form start elements [] (slot ∷ slots) are = absurd cc
+slots-lengths form start elements (new ∷ news) [] are = absurd are
+slots-lengths form start elements (new ∷ news) (slot ∷ slots) are =
+    ap (λ (k : ℕ). k ∷ slot_lengths slots) are.0.len_is ∙ ap (λ (ks : List ℕ). length new.1 ∷ ks) (slots-lengths form start elements news slots are.1)

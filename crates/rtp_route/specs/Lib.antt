@@ -2,3 +2,4 @@
 pub mod Routing
 pub mod Calls
 pub mod Template
+pub mod TemplateOf

@@ -1,8 +1,12 @@
 -- Where data lie in a header that is made once, and the header once other data stand there (RFC 8285, 4.2 and 4.3).
-use Rattle.std.specs.Prelude.{◌≡◌, ◌≢◌, ℕ, ◌+◌, ◌*◌, List, [], ◌∷◌, ◌++◌, length, map, take, Option, Some}
+use Rattle.std.specs.Prelude.{◌≡◌, ℕ, ◌+◌, ◌*◌, ◌≤◌, List, [], ◌∷◌, ◌++◌, length, map, take, Option, Some}
 use Rattle.rtp_base.specs.Overwriting.{overwritten}
 use Rattle.rtp_ext.specs.declared.form.ExtensionsForm.{ExtensionsForm}
-use Rattle.rtp_ext.specs.Elements.{Element, elements_bytes}
+use Rattle.std.specs.List.{filter}
+use Rattle.rtp_ext.specs.Elements.{Element, elements_bytes, AreElements}
+use Rattle.rtp_ext.specs.PutElement.{has_id}
+use Rattle.rtp_ext.specs.WrittenBlock.{filled}
+use Rattle.rtp_wire.specs.Packet.{PacketParts, header_len_of}
 use Rattle.rtp_ext.specs.ElementWriting.{element_header}
 use Rattle.rtp_ext.specs.ElementsInPlace.{HasNone}
 use Rattle.rtp_route.specs.declared.slots.Slot.{Slot}
@@ -47,3 +51,20 @@ abbrev pub AreSlots : ExtensionsForm → ℕ → List Element → List Element �
 AreSlots form start elements [] slots = slots ≡ []
 AreSlots form start elements (new ∷ news) [] = ⊥
 AreSlots form start elements (new ∷ news) (slot ∷ slots) = IsSlot form start elements new slot × AreSlots form start elements news slots
+
+-- it is the only one of its id
+abbrev pub HasOnly : List Element → Element → Type 0
+HasOnly elements new = filter (has_id new.0) elements ≡ new ∷ []
+
+-- the packet has a block of this form with these elements in a row
+pub record HasRow (parts : PacketParts) (form : ExtensionsForm) (elements : List Element) : Type 0 where
+  pub block_is : parts.block ≡ Some (form, filled (elements_bytes form elements))
+  pub are_elements : AreElements form (filled (elements_bytes form elements)) elements
+
+-- where the body of a block begins in a packet with so many sources
+abbrev pub body_start_of : PacketParts → ℕ
+body_start_of parts = 16 + 4 * length parts.sources
+
+-- the place lies in the header
+abbrev pub LiesInHeader : PacketParts → Slot → Type 0
+LiesInHeader parts slot = slot.start + slot.len ≤ header_len_of parts

@@ -9,6 +9,12 @@ use thiserror::Error;
 /// Why no header is made for a group of receivers.
 #[derive(Clone, Copy, Debug, PartialEq, Eq, Error)]
 pub enum NotRouted {
+    /// More elements than [`MAX_ELEMENTS`](super::MAX_ELEMENTS) are put.
+    #[error("more than 16 elements")]
+    ManyElements,
+    /// Two elements of one id are put.
+    #[error("two elements of one id")]
+    RepeatedId,
     /// An element would get an id above 14 in the one-byte form (RFC 8285, 4.2).
     #[error("a new id above 14 in the one-byte form")]
     LongId,

@@ -1,16 +1,92 @@
 //! Where the data of elements lie in a header.
 
-ghost use Rattle.std.specs.Prelude.{◌≡◌, ◌↔◌, ◌+◌, ◌≤◌, ℕ, List, length, map, All, IsTrue};
+ghost use Rattle.std.specs.Prelude.{◌≡◌, ◌↔◌, ◌+◌, ◌≤◌, ℕ, List, [], Some, length, map, take, All, IsTrue, IsSome, IfSome};
+ghost use Rattle.std.specs.Bool.{OnTrue, OnFalse};
+ghost use Rattle.std.specs.List.{AllByRecursion};
+ghost use Rattle.rtp_ext.specs.declared.form.ExtensionsForm.{ExtensionsForm};
 ghost use Rattle.rtp_ext.specs.Elements.{Element};
-ghost use Rattle.rtp_route.specs.Template.{HaveOwnIds, slot_lengths, filled_in};
+ghost use Rattle.rtp_ext.specs.ElementsInARow.{elements_of};
+ghost use Rattle.rtp_ext.specs.ElementsInPlace.{HasNone};
+ghost use Rattle.rtp_wire.specs.PartsOf.{parts_of};
+ghost use Rattle.rtp_route.specs.declared.slots.Slot.{Slot};
+ghost use Rattle.rtp_route.specs.Template.{HaveOwnIds, HasOnly, HasRow, IsSlot, AreSlots, LiesInHeader, body_start_of, slot_lengths, filled_in};
 
 use rtp_base::put;
+use rtp_ext::last_place;
+use rtp_wire::RtpPacket;
+
+/// The most elements that are put into a header for a group.
+pub const MAX_ELEMENTS: usize = 16;
 
 // Where the data of an element lie.
 #[derive(Clone, Copy)]
 pub(super) struct Slot {
     pub(super) start: usize,
     pub(super) len: usize,
+}
+
+// Whether one of the elements has the id.
+fn has_id(elements: &[(u8, &[u8])], id: u8) -> bool
+    ensures { OnFalse result (HasNone (elements_of elements.now) id) }
+{
+    for index in 0..elements.len() {
+        if elements[index].0 == id {
+            return true;
+        }
+    }
+    false
+}
+
+// Whether no two of the elements have one id.
+pub(super) fn have_own_ids(elements: &[(u8, &[u8])]) -> bool
+    ensures { OnTrue result (HaveOwnIds (elements_of elements.now)) }
+{
+    for index in 0..elements.len() {
+        if has_id(&elements[index + 1..], elements[index].0) {
+            return false;
+        }
+    }
+    true
+}
+
+// The place of the last element of the id in the packet's header, and none without one.
+fn slot_of(packet: &RtpPacket<'_>, id: u8) -> Option<Slot>
+    ensures found { (form : ExtensionsForm) (elements : List Element) (new : Element) →
+        HasRow (parts_of packet.now) form elements → HasOnly elements new → id ≡ new.0 →
+        (slot : Slot) × (result ≡ Some slot)
+        × IsSlot form (body_start_of (parts_of packet.now)) elements new slot }
+    ensures within { IfSome result (LiesInHeader (parts_of packet.now)) }
+{
+    let (form, body) = packet.block()?;
+    let place = last_place(form, body, id)?;
+    Some(Slot {
+        start: packet.header_len() - body.len() + place.data_start,
+        len: place.end - place.data_start,
+    })
+}
+
+// The places of the elements in the packet's header.
+pub(super) fn slots_of(
+    packet: &RtpPacket<'_>,
+    elements: &[(u8, &[u8])],
+) -> Option<[Slot; MAX_ELEMENTS]>
+    requires { length elements.now ≤ 16 }
+    ensures found { (form : ExtensionsForm) (row : List Element) →
+        HasRow (parts_of packet.now) form row →
+        AllByRecursion (HasOnly row) (elements_of elements.now) →
+        (slots : List Slot) × (result ≡ Some slots)
+        × AreSlots form (body_start_of (parts_of packet.now)) row (elements_of elements.now)
+        (take (length elements.now) slots) }
+    ensures long { IfSome result (λ slots. length slots ≡ 16) }
+    ensures within { IfSome result (λ slots. All (LiesInHeader (parts_of packet.now))
+        (take (length elements.now) slots)) }
+    ensures none { elements_of elements.now ≡ [] → IsSome result }
+{
+    let mut slots = [Slot { start: 0, len: 0 }; MAX_ELEMENTS];
+    for index in 0..elements.len() {
+        slots[index] = slot_of(packet, elements[index].0)?;
+    }
+    Some(slots)
 }
 
 // Whether there are as many data as places, each as long as its place.

@@ -58,10 +58,10 @@ returns-in-Ok-clause-made c =
       set_only = subst (λ (b : List ℕ). ChangesOnly 1 12 b c.set_fields.new.header) front c.set_fields.ensures.fixed;
       renumbered_bytes = c.renumber.new.header;
       renumbered = subst (λ (b : List ℕ). IsUnderNewIds (new_id c.args.group.now.ids.now) there.0 b (with_header_fields c.args.fields.now parts) c.renumber.new.header) set_is
-      (c.if-not-renumber.ensures (with_header_fields c.args.fields.now parts) there.0
-      (subst (λ (b : List ℕ). IsPacket b (with_header_fields c.args.fields.now parts)) (sym set_is) set_packet) there.1);
+          (c.if-not-renumber.ensures (with_header_fields c.args.fields.now parts) there.0
+          (subst (λ (b : List ℕ). IsPacket b (with_header_fields c.args.fields.now parts)) (sym set_is) set_packet) there.1);
       put_bytes = take c.in_ok-len.len c.put_each.new.buf;
       are_put = subst (λ (b : List ℕ). ArePut b (elements_of c.args.group.now.elements.now) c.args.group.now.allowed (take c.in_ok-len.len c.put_each.new.buf))
-      (take_at c.renumber.new.header _ (length header) (omega (arith, c.renumber.auto.header, ap length set_is, c.set_fields.auto.header, ap length front))) c.in_ok-len.ensures.put;
+          (take_at c.renumber.new.header _ (length header) (omega (arith, c.renumber.auto.header, ap length set_is, c.set_fields.auto.header, ap length front))) c.in_ok-len.ensures.put;
       compacted = Compacts-front _ c.compact.new.datagram _ c.in-Ok.len (omega (arith, c.in-Ok.ensures.within, c.compact.auto.datagram)) c.in-Ok.ensures.compacted;
     })

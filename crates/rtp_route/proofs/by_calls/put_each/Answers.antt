@@ -15,8 +15,8 @@ loop-id-preserved c =
     let k = c.loop-id.id-index in
     let within : k < length lents = omega (arith, c.loop-id-test.true) in (
       λ new rest. c.loop-id.invariant.0 new
-      (subst (λ (es : List Element). ArePut (take c.loop-id.len c.loop-id.buf) es c.args.group.now.allowed new) (sym (elements-at lents k _ within))
-      (c.put_element.new.buf, c.in_ok-len.len, c.in_ok-len.ensures.put, rest)),
+          (subst (λ (es : List Element). ArePut (take c.loop-id.len c.loop-id.buf) es c.args.group.now.allowed new) (sym (elements-at lents k _ within))
+          (c.put_element.new.buf, c.in_ok-len.len, c.in_ok-len.ensures.put, rest)),
       none-more lents k 0 _ within c.loop-id.invariant.1 (λ is. absurd (false≢true (c.in_ok-len.ensures.refused.1 (ZeroId, is)))),
       omega (arith, c.in_ok-len.ensures.within.1, c.put_element.auto.buf),
       search rules,

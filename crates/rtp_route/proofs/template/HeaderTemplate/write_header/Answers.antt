@@ -1,0 +1,18 @@
+use Rattle.std.proofs.Common.{◌≡◌, ℕ, List, ◌++◌, length, take, map, sym, subst, take_at, arith, rules}
+use Rattle.std.proofs.Common.{refl}
+use Rattle.std.specs.Borrow.{Bor}
+use Rattle.rtp_route.specs.declared.not_written.NotWritten.TheVariants.{NoRoom}
+use Rattle.rtp_route.specs.Routing.{IsRouted}
+use Rattle.rtp_route.specs.Template.{with_data}
+use Rattle.rtp_route.proofs.template.HeaderTemplate.write_header.Goals as goal
+
+pub returns-clause-routed : goal.returns-clause-routed
+returns-clause-routed c old ids news allowed is =
+    subst (IsRouted old c.args.fields.now ids (with_data news (map (λ (b : Bor (List ℕ)). b.now) c.args.contents.now)) allowed)
+    (sym (take_at c.fill_header.new.buf _ c.header_len-needed.result (search rules))) (c.fill_header.ensures old ids news allowed is)
+
+pub returns-then-buf-needed-clause-refused : goal.returns-then-buf-needed-clause-refused
+returns-then-buf-needed-clause-refused c = (
+  λ _. (NoRoom c.header_len-needed.result, (c.if-not-have_lengths.ensures.0 refl, c.header_len-needed.ensures, c.if-buf-needed.true)),
+  λ _. refl,
+)
