@@ -1,5 +1,5 @@
 -- Values and layers that lie apart: what reading one element makes of both.
-use Rattle.std.proofs.Common.{◌≡◌, ◌≢◌, ◌⊎◌, inl, inr, length, get_or, arith, ℕ, List, ◌∷◌, Bool, true, false, Option, Some, None, Result, Ok, Err, IsOk, IsErr, IfOk, IsSomeAnd, All, ap, refl, sym, ◌∙◌, subst}
+use Rattle.std.proofs.Common.{◌≡◌, ◌≢◌, ◌⊎◌, inl, inr, length, get_or, arith, ℕ, List, ◌∷◌, Bool, true, false, Option, Some, None, Result, Ok, Err, IsOk, IsErr, IsSomeAnd, All, ap, refl, sym, ◌∙◌, subst}
 use Rattle.std.specs.declared.alloc.AllocError.{AllocError}
 use Rattle.std.proofs.lemmas.Bool.{false≢true}
 use Rattle.rtp_vla.specs.Allocation.{Allocation, Means}
@@ -10,7 +10,7 @@ use Rattle.rtp_values.specs.declared.value.values.ExtensionValues.{ExtensionValu
 use Rattle.rtp_values.specs.declared.known_kind.KnownKind.{KnownKind}
 use Rattle.rtp_values.specs.declared.known_kind.KnownKind.TheVariants as known
 use Rattle.rtp_values.specs.KnownKind.{extension_of_kind}
-use Rattle.rtp_values.specs.Values.{Reads, SameFields, IsWellFormed, TakesMemory, with_fields}
+use Rattle.rtp_values.specs.Values.{TakesMemory, with_fields}
 use Rattle.rtp_values.specs.KindBytes.{ReadsInto}
 use Rattle.rtp_values.proofs.FieldLemmas.{Reads-same, SameFields-each, SameFields-others}
 use Rattle.rtp_ext.specs.Elements.{Element}

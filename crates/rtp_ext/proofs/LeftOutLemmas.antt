@@ -18,7 +18,7 @@ use Rattle.rtp_ext.specs.WrittenBlock.{image_values, IsLeftOut}
 use Rattle.rtp_ext.proofs.FormLemmas.{Item}
 use Rattle.rtp_ext.proofs.KnownItemsLemmas.{image_known}
 use Rattle.rtp_ext.proofs.RenamedIdLemmas.{same_kind}
-use Rattle.rtp_ext.proofs.WrittenValuesLemmas.{find_last, image-there, image-absent, carried-none, others, without_data, map-none, is-none, both-none}
+use Rattle.rtp_ext.proofs.WrittenValuesLemmas.{find_last, image-there, image-absent, carried-none, others, without_data, map-none, both-none}
 
 -- none of the items is of the kind and has data
 abbrev pub NoneHasData : ExtensionValues → Extension → List Item → Type 0
