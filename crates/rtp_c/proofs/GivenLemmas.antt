@@ -1,11 +1,9 @@
 -- Texts that end at a zero.
-use Rattle.std.proofs.Common.{◌≡◌, ◌≢◌, ℕ, ◌+◌, ◌<◌, List, ◌∷◌, ◌++◌, length, take, drop, replicate, get_or, sym, ap, ◌∙◌, subst, All, arith, length-append, get_or-append-add, take_at, take-append-drop, Option, Some, None, IfSome, IfNone}
+use Rattle.std.proofs.Common.{◌≡◌, ◌≢◌, ℕ, ◌+◌, ◌<◌, List, ◌∷◌, ◌++◌, length, take, drop, get_or, sym, ap, ◌∙◌, subst, All, arith, length-append, get_or-append-add, take_at, take-append-drop, Option, Some, None, IfSome, IfNone}
 use Rattle.std.proofs.lemmas.Bool.{false≢true}
-use Rattle.std.proofs.lemmas.List.{get_or_append_left, drop_more, drop-replicate}
-use Rattle.rtp_base.specs.Id.{IsIdByte, padded}
-use Rattle.rtp_base.specs.Overwriting.{overwritten}
-use Rattle.rtp_base.proofs.OverwritingLemmas.{overwritten-front}
-use Rattle.rtp_c.specs.Given.{IsGiven, IsTextIn}
+use Rattle.std.proofs.lemmas.List.{get_or_append_left, drop_more}
+use Rattle.rtp_base.specs.Id.{IsIdByte}
+use Rattle.rtp_c.specs.Given.{IsTextIn}
 
 -- a zero is none of an id's characters
 pub zero-no_id_byte : (b : ℕ) → b ≡ 0 → IsIdByte b → ⊥
@@ -54,20 +52,7 @@ all-text bytes text n is first =
     subst (All IsIdByte)
     (sym (ap (take n) is.bytes_are ∙ take_at text (0 ∷ is.after) n (sym (one_text bytes text n is first)))) is.text_is
 
--- a text put to the front of spaces
-pub padded-put : (size : ℕ) (text : List ℕ) → overwritten (replicate size 32) 0 text ≡ padded size text
-padded-put size text =
-    overwritten-front (replicate size 32) text ∙ ap (λ (xs : List ℕ). text ++ xs) (drop-replicate (length text) size 32)
-
 -- ---- what isn't given
-
-pub any_none : {A X : Type 0} (o : Option A) → X → IfNone o X
-any_none None x = x
-any_none (Some value) x = tt
-
-pub none_given : {A : Type 0} (has : ℕ) (IsIt : A → Type 0) (o : Option A) → (0 < has) × ((value : A) → IsIt value → ⊥) → IsGiven has IsIt o → ⊥
-none_given has IsIt None none is = omega (arith, none.0, is)
-none_given has IsIt (Some value) none is = none.1 value is.1
 
 pub weaker_none : {A X Y : Type 0} (o : Option A) → (X → Y) → IfNone o X → IfNone o Y
 weaker_none None f x = f x

@@ -1,6 +1,5 @@
 -- The values that lie in C's struct are those that are given, where each of them is one.
-use Rattle.std.proofs.Common.{◌≡◌, ◌≢◌, ℕ, ◌+◌, ◌-◌, ◌<◌, ◌≤◌, eqb, false, List, ◌∷◌, ◌++◌, length, take, get_or, replicate, All, Option, Some, None, IfSome, refl, sym, ap, ◌∙◌, subst, inl, inr, arith, length-append, take_at, get_or-append-add}
-use Rattle.std.specs.List.{position_or_len}
+use Rattle.std.proofs.Common.{◌≡◌, ◌≢◌, ℕ, ◌+◌, ◌-◌, ◌<◌, ◌≤◌, eqb, List, ◌∷◌, length, take, get_or, replicate, All, Option, Some, None, IfSome, refl, sym, ap, ◌∙◌, subst, inl, inr, arith, length-append, take_at}
 use Rattle.std.proofs.lemmas.Bool.{cases_eq, cases_lt, lt-ltb, le-ltb, ne_eqb, eq-eqb}
 use Rattle.std.proofs.lemmas.List.{get_or_append_left, take_all, length-replicate}
 use Rattle.std.specs.Prelude.{IsUtf8}
@@ -15,7 +14,7 @@ use Rattle.rtp_values.specs.declared.value.video_orientation.VideoOrientation.Th
 use Rattle.rtp_values.specs.declared.value.values.ExtensionValues.{ExtensionValues}
 use Rattle.rtp_c.specs.declared.values.ValuesView.{ValuesView}
 use Rattle.rtp_c.specs.Told.{degrees_of}
-use Rattle.rtp_c.specs.Given.{given, IsGiven, IsTextIn, IsIdIn, text_in, turn_of, values_in, CanBeGiven, AreGivenValues}
+use Rattle.rtp_c.specs.Given.{given, IsGiven, IsTextIn, IsIdIn, text_in, turn_of, CanBeGiven, AreGivenValues}
 use Rattle.rtp_c.proofs.GivenLemmas.{IsFirstZero, zero-no_id_byte, zero-after}
 
 -- a value that is there is given, where it is one
@@ -71,26 +70,6 @@ turn_of-is turn degrees is = sym (turn_of-degrees turn) ∙ ap turn_of is
 
 pub degrees-turn_of : (turn : VideoOrientation) (degrees : ℕ) → degrees_of turn ≡ degrees → degrees_of (turn_of degrees) ≡ degrees
 degrees-turn_of turn degrees is = ap degrees_of (sym (turn_of-is turn degrees is)) ∙ is
-
-pub values_in-given : (view : ValuesView) → CanBeGiven view → AreGivenValues view (values_in view)
-values_in-given view can = record {
-  send_time_is = refl;
-  capture_time_is = refl;
-  transmission_offset_is = refl;
-  frame_marking_is = refl;
-  transport_number_is = refl;
-  video_orientation_is = IsGiven-given view.has_video_orientation _ _ can.turn;
-  video_content_type_is = refl;
-  audio_level_is = refl;
-  voice_activity_is = refl;
-  playout_delay_min_is = IsGiven-given view.has_playout_delay_min _ _ (λ there. (can.min there, refl));
-  playout_delay_max_is = IsGiven-given view.has_playout_delay_max _ _ (λ there. (can.max there, refl));
-  video_timing_is = refl;
-  mid_is = IsGiven-given view.has_mid _ _ (λ there. record { text = text_in view.mid; is_text = can.mid there; id_is = refl });
-  rid_is = IsGiven-given view.has_rid _ _ (λ there. record { text = text_in view.rid; is_text = can.rid there; id_is = refl });
-  repaired_rid_is = IsGiven-given view.has_repaired_rid _ _ (λ there. record { text = text_in view.repaired_rid; is_text = can.repaired_rid there; id_is = refl });
-  no_layers = refl;
-}
 
 text_of : (size : ℕ) (bytes : List ℕ) → (id : List ℕ) × IsIdIn size bytes id → IsTextIn bytes (text_in bytes)
 text_of size bytes one = IsTextIn-in bytes one.1.text one.1.is_text

@@ -1,5 +1,5 @@
 -- Lists whose elements are changed in turn, from the first one on.
-use Rattle.rtp_c.proofs.Common.{◌≡◌, ℕ, ◌+◌, ◌-◌, ◌<◌, ◌≤◌, List, [], ◌∷◌, ◌++◌, length, take, drop, get_or, set, refl, sym, ap, ◌∙◌, subst, add-zero, arith, AllZip, take_more, take_more_set, drop-set-lt, drop-drop, get_or-drop, length-drop, take_all, AllZip-push, StoredReceiver}
+use Rattle.rtp_c.proofs.Common.{◌≡◌, ℕ, ◌+◌, ◌-◌, ◌<◌, ◌≤◌, List, [], ◌∷◌, ◌++◌, length, take, drop, get_or, set, refl, sym, ap, ◌∙◌, subst, add-zero, arith, AllZip, take_more, take_more_set, drop-set-lt, drop-drop, get_or-drop, length-drop, AllZip-push, StoredReceiver}
 use Rattle.std.proofs.ResultArms.{subst_both}
 use Rattle.rtp_c.specs.declared.arrivals.Arrival.{Arrival}
 use Rattle.rtp_c.specs.Arrivals.{IsReceived, AreReceived}
@@ -34,9 +34,6 @@ pub record AreReadTo {X : Type 0} (R : X → X → Type 0) (olds news : List X) 
   pub read : AllZip R (take index olds) (take index news)
   pub left : AreLeft olds news index
 
-pub AreReadTo-start : {X : Type 0} (R : X → X → Type 0) (xs : List X) → AreReadTo R xs xs 0
-AreReadTo-start R xs = record { read = tt; left = refl }
-
 pub AreReadTo-next : {X : Type 0} (R : X → X → Type 0) (olds news : List X) (index : ℕ) (d new : X) → AreReadTo R olds news index → index < length news
     → R (get_or news index d) new → AreReadTo R olds (set news index new) (index + 1)
 AreReadTo-next R olds news index d new so_far within is =
@@ -45,10 +42,6 @@ AreReadTo-next R olds news index d new so_far within is =
           (AllZip-push R (take index olds) (take index news) (get_or olds index d) new so_far.read (subst (λ x. R x new) (AreLeft-at olds news index d so_far.left) is));
       left = AreLeft-next olds news index new so_far.left;
     }
-
-pub AreReadTo-end : {X : Type 0} (R : X → X → Type 0) (olds news : List X) (index : ℕ) → AreReadTo R olds news index → length news ≤ index → AllZip R olds news
-AreReadTo-end R olds news index so_far past =
-    subst_both (AllZip R) (take_all index olds (AreLeft-past olds news index so_far.left past)) (take_all index news past) so_far.read
 
 -- ---- receivers, which are changed with each arrival
 
@@ -64,9 +57,6 @@ pub record AreReceivedTo (receivers : List StoredReceiver) (olds news : List Arr
   pub received : AreReceived receivers (take index olds) (take index news) after
   pub left : AreLeft olds news index
 
-pub AreReceivedTo-start : (receivers : List StoredReceiver) (arrivals : List Arrival) → AreReceivedTo receivers arrivals arrivals receivers 0
-AreReceivedTo-start receivers arrivals = record { received = refl; left = refl }
-
 pub AreReceivedTo-next : (receivers : List StoredReceiver) (olds news : List Arrival) (between : List StoredReceiver) (index : ℕ) (d new : Arrival) (after : List StoredReceiver)
     → AreReceivedTo receivers olds news between index → index < length news → IsReceived between (get_or news index d) new after
     → AreReceivedTo receivers olds (set news index new) after (index + 1)
@@ -78,8 +68,3 @@ AreReceivedTo-next receivers olds news between index d new after so_far within i
           (subst (λ old. IsReceived between old new after) (AreLeft-at olds news index d so_far.left) is));
       left = AreLeft-next olds news index new so_far.left;
     }
-
-pub AreReceivedTo-end : (receivers : List StoredReceiver) (olds news : List Arrival) (after : List StoredReceiver) (index : ℕ)
-    → AreReceivedTo receivers olds news after index → length news ≤ index → AreReceived receivers olds news after
-AreReceivedTo-end receivers olds news after index so_far past =
-    subst_both (λ os ns. AreReceived receivers os ns after) (take_all index olds (AreLeft-past olds news index so_far.left past)) (take_all index news past) so_far.received

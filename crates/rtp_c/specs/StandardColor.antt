@@ -6,25 +6,7 @@ use Rattle.rtp_values.specs.declared.standard.color_space.ColorSpace.{ColorSpace
 use Rattle.rtp_values.specs.declared.standard.color_space.HdrMetadata.{HdrMetadata}
 use Rattle.rtp_c.specs.Told.{IsToldOr}
 use Rattle.rtp_c.specs.Given.{given}
-use Rattle.rtp_c.specs.declared.standard.color_space.PointView.{PointView}
-use Rattle.rtp_c.specs.declared.standard.color_space.HdrView.{HdrView}
 use Rattle.rtp_c.specs.declared.standard.color_space.SpaceView.{SpaceView}
-
--- the point and the metadata in their places
-abbrev pub point_in : PointView → Chromaticity
-point_in view = record { x = view.x; y = view.y }
-
-abbrev pub hdr_in : HdrView → HdrMetadata
-hdr_in view = record {
-  luminance_max = view.luminance_max;
-  luminance_min = view.luminance_min;
-  red = point_in view.red;
-  green = point_in view.green;
-  blue = point_in view.blue;
-  white = point_in view.white;
-  max_content_light_level = view.max_content_light_level;
-  max_frame_average_light_level = view.max_frame_average_light_level;
-}
 
 -- metadata with zeros alone
 abbrev pub no_point : Chromaticity
@@ -50,7 +32,7 @@ pub record IsViewOfSpace (space : ColorSpace) (view : SpaceView) : Type 0 where
   pub range_is : view.range ≡ range_number space.range
   pub horizontal_is : view.horizontal ≡ siting_number space.horizontal
   pub vertical_is : view.vertical ≡ siting_number space.vertical
-  pub hdr_is : IsToldOr (λ hdr. hdr ≡ no_hdr) view.has_hdr (hdr_in view.hdr) space.hdr
+  pub hdr_is : IsToldOr (λ hdr. hdr ≡ no_hdr) view.has_hdr view.hdr space.hdr
 
 -- the color space that is given
 pub record IsGivenSpace (view : SpaceView) (space : ColorSpace) : Type 0 where
@@ -60,7 +42,7 @@ pub record IsGivenSpace (view : SpaceView) (space : ColorSpace) : Type 0 where
   pub range_is : range_number space.range ≡ view.range
   pub horizontal_is : siting_number space.horizontal ≡ view.horizontal
   pub vertical_is : siting_number space.vertical ≡ view.vertical
-  pub hdr_is : space.hdr ≡ given view.has_hdr (hdr_in view.hdr)
+  pub hdr_is : space.hdr ≡ given view.has_hdr view.hdr
 
 -- its data
 pub record AreSpaceData (view : SpaceView) (bytes : List ℕ) : Type 0 where

@@ -43,13 +43,13 @@ pub extern "C" fn rtpw_data_of(
     let Some(kind) = known else {
         return NONE;
     };
-    let Some(data_len) = kind.data_len_from(&given) else {
+    let Some(data_len) = kind.data_len(&given) else {
         return NONE;
     };
     if buf.len() < data_len {
         return SHORT_BUFFER;
     }
-    kind.write_from(buf, &given);
+    kind.write_to(buf, &given);
     *len = data_len;
     OK
 }

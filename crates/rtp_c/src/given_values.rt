@@ -273,12 +273,12 @@ impl<'a> ElementValues for GivenValues<'a> {
 
     #[inline(always)]
     fn data_len(&self, kind: KnownKind) -> Option<usize> {
-        kind.data_len_from(self)
+        kind.data_len(self)
     }
 
     #[inline(always)]
     fn write_data(&self, kind: KnownKind, buf: &mut [u8]) -> Option<usize> {
-        kind.write_from(buf, self)
+        kind.write_to(buf, self)
     }
 }
 

@@ -128,23 +128,6 @@ at_place known.VideoLayersAllocation = refl
 pub one_place : (a b : KnownKind) → place_of a ≡ place_of b → a ≡ b
 one_place a b same = sym (at_place a) ∙ (ap (λ (place : ℕ). slice_index_or kinds place known.ColorSpace) same ∙ at_place b)
 
-pub place_below : (kind : KnownKind) → place_of kind < 15
-place_below known.AbsoluteSendTime = omega arith
-place_below known.AbsoluteCaptureTime = omega arith
-place_below known.AudioLevel = omega arith
-place_below known.TransmissionTimeOffset = omega arith
-place_below known.VideoOrientation = omega arith
-place_below known.TransportSequenceNumber = omega arith
-place_below known.PlayoutDelay = omega arith
-place_below known.VideoContentType = omega arith
-place_below known.VideoTiming = omega arith
-place_below known.RtpStreamId = omega arith
-place_below known.RepairedRtpStreamId = omega arith
-place_below known.RtpMid = omega arith
-place_below known.FrameMarking = omega arith
-place_below known.ColorSpace = omega arith
-place_below known.VideoLayersAllocation = omega arith
-
 -- each place is that of a kind
 at_each : (place : ℕ) → place < 15 → (kind : KnownKind) × (place_of kind ≡ place)
 at_each zero below = (known.AbsoluteSendTime, refl)
@@ -197,63 +180,50 @@ clear-exactly inside flags any shown len is = (
 
 -- ---- flags of values
 
--- flags that say of each kind in turn whether one of its fields is there
-has-there : (values : ExtensionValues) (send_time_flag capture_time_flag level_flag offset_flag orientation_flag number_flag delay_flag content_flag timing_flag rid_flag repaired_flag mid_flag marking_flag layers_flag : Bool)
-    → send_time_flag ≡ is_some values.abs_send_time
-    → capture_time_flag ≡ is_some values.abs_capture_time
-    → level_flag ≡ (is_some values.audio_level || is_some values.voice_activity)
-    → offset_flag ≡ is_some values.tx_time_offs
-    → orientation_flag ≡ is_some values.video_orientation
-    → number_flag ≡ is_some values.transport_cc
-    → delay_flag ≡ (is_some values.play_delay_min || is_some values.play_delay_max)
-    → content_flag ≡ is_some values.video_content_type
-    → timing_flag ≡ is_some values.video_timing
-    → rid_flag ≡ is_some values.rid
-    → repaired_flag ≡ is_some values.rid_repair
-    → mid_flag ≡ is_some values.mid
-    → marking_flag ≡ is_some values.frame_mark
-    → layers_flag ≡ is_some values.video_layers_allocation
-    → (kind : KnownKind) → has (send_time_flag ∷ capture_time_flag ∷ level_flag ∷ offset_flag ∷ orientation_flag ∷ number_flag ∷ delay_flag ∷ content_flag ∷ timing_flag ∷ rid_flag ∷ repaired_flag ∷ mid_flag ∷ marking_flag ∷ false ∷ layers_flag ∷ []) kind ≡ is_there kind values
-has-there values _ _ _ _ _ _ _ _ _ _ _ _ _ _ send_time capture_time level offset orientation number delay content timing rid repaired mid marking layers known.AbsoluteSendTime = send_time
-has-there values _ _ _ _ _ _ _ _ _ _ _ _ _ _ send_time capture_time level offset orientation number delay content timing rid repaired mid marking layers known.AbsoluteCaptureTime = capture_time
-has-there values _ _ _ _ _ _ _ _ _ _ _ _ _ _ send_time capture_time level offset orientation number delay content timing rid repaired mid marking layers known.AudioLevel = level
-has-there values _ _ _ _ _ _ _ _ _ _ _ _ _ _ send_time capture_time level offset orientation number delay content timing rid repaired mid marking layers known.TransmissionTimeOffset = offset
-has-there values _ _ _ _ _ _ _ _ _ _ _ _ _ _ send_time capture_time level offset orientation number delay content timing rid repaired mid marking layers known.VideoOrientation = orientation
-has-there values _ _ _ _ _ _ _ _ _ _ _ _ _ _ send_time capture_time level offset orientation number delay content timing rid repaired mid marking layers known.TransportSequenceNumber = number
-has-there values _ _ _ _ _ _ _ _ _ _ _ _ _ _ send_time capture_time level offset orientation number delay content timing rid repaired mid marking layers known.PlayoutDelay = delay
-has-there values _ _ _ _ _ _ _ _ _ _ _ _ _ _ send_time capture_time level offset orientation number delay content timing rid repaired mid marking layers known.VideoContentType = content
-has-there values _ _ _ _ _ _ _ _ _ _ _ _ _ _ send_time capture_time level offset orientation number delay content timing rid repaired mid marking layers known.VideoTiming = timing
-has-there values _ _ _ _ _ _ _ _ _ _ _ _ _ _ send_time capture_time level offset orientation number delay content timing rid repaired mid marking layers known.RtpStreamId = rid
-has-there values _ _ _ _ _ _ _ _ _ _ _ _ _ _ send_time capture_time level offset orientation number delay content timing rid repaired mid marking layers known.RepairedRtpStreamId = repaired
-has-there values _ _ _ _ _ _ _ _ _ _ _ _ _ _ send_time capture_time level offset orientation number delay content timing rid repaired mid marking layers known.RtpMid = mid
-has-there values _ _ _ _ _ _ _ _ _ _ _ _ _ _ send_time capture_time level offset orientation number delay content timing rid repaired mid marking layers known.FrameMarking = marking
-has-there values _ _ _ _ _ _ _ _ _ _ _ _ _ _ send_time capture_time level offset orientation number delay content timing rid repaired mid marking layers known.ColorSpace = refl
-has-there values _ _ _ _ _ _ _ _ _ _ _ _ _ _ send_time capture_time level offset orientation number delay content timing rid repaired mid marking layers known.VideoLayersAllocation = layers
-
 -- both of two flags
 pub or-same : (a b x y : Bool) → a ≡ x → b ≡ y → (a || b) ≡ (x || y)
 or-same a b x y first second = ap (λ (c : Bool). c || b) first ∙ ap (λ (c : Bool). x || c) second
 
--- so their kinds are those that have a value
-pub flags-HasValue : (values shown : ExtensionValues) (send_time_flag capture_time_flag level_flag offset_flag orientation_flag number_flag delay_flag content_flag timing_flag rid_flag repaired_flag mid_flag marking_flag layers_flag : Bool) → values ≡ shown
-    → send_time_flag ≡ is_some values.abs_send_time
-    → capture_time_flag ≡ is_some values.abs_capture_time
-    → level_flag ≡ (is_some values.audio_level || is_some values.voice_activity)
-    → offset_flag ≡ is_some values.tx_time_offs
-    → orientation_flag ≡ is_some values.video_orientation
-    → number_flag ≡ is_some values.transport_cc
-    → delay_flag ≡ (is_some values.play_delay_min || is_some values.play_delay_max)
-    → content_flag ≡ is_some values.video_content_type
-    → timing_flag ≡ is_some values.video_timing
-    → rid_flag ≡ is_some values.rid
-    → repaired_flag ≡ is_some values.rid_repair
-    → mid_flag ≡ is_some values.mid
-    → marking_flag ≡ is_some values.frame_mark
-    → layers_flag ≡ is_some values.video_layers_allocation
-    → (kind : KnownKind) → (has (send_time_flag ∷ capture_time_flag ∷ level_flag ∷ offset_flag ∷ orientation_flag ∷ number_flag ∷ delay_flag ∷ content_flag ∷ timing_flag ∷ rid_flag ∷ repaired_flag ∷ mid_flag ∷ marking_flag ∷ false ∷ layers_flag ∷ []) kind ≡ true) ↔ HasValue (extension_of_kind kind) shown
-flags-HasValue values shown send_time_flag capture_time_flag level_flag offset_flag orientation_flag number_flag delay_flag content_flag timing_flag rid_flag repaired_flag mid_flag marking_flag layers_flag same send_time capture_time level offset orientation number delay content timing rid repaired mid marking layers kind =
-    let is = has-there values send_time_flag capture_time_flag level_flag offset_flag orientation_flag number_flag delay_flag content_flag timing_flag rid_flag repaired_flag mid_flag marking_flag layers_flag send_time capture_time level offset orientation number delay content timing rid repaired mid marking layers kind in
-    subst (λ (v : ExtensionValues). (has (send_time_flag ∷ capture_time_flag ∷ level_flag ∷ offset_flag ∷ orientation_flag ∷ number_flag ∷ delay_flag ∷ content_flag ∷ timing_flag ∷ rid_flag ∷ repaired_flag ∷ mid_flag ∷ marking_flag ∷ false ∷ layers_flag ∷ []) kind ≡ true) ↔ HasValue (extension_of_kind kind) v) same (
-      λ set. HasValue-there kind values (sym is ∙ set),
-      λ value. is ∙ there-HasValue kind values value,
-    )
+-- flags that say of each kind in turn whether one of its fields is there
+module _ (values shown : ExtensionValues) (send_time_flag capture_time_flag level_flag offset_flag orientation_flag number_flag delay_flag content_flag timing_flag rid_flag repaired_flag mid_flag marking_flag layers_flag : Bool) (same : values ≡ shown)
+    (send_time : send_time_flag ≡ is_some values.abs_send_time)
+    (capture_time : capture_time_flag ≡ is_some values.abs_capture_time)
+    (level : level_flag ≡ (is_some values.audio_level || is_some values.voice_activity))
+    (offset : offset_flag ≡ is_some values.tx_time_offs)
+    (orientation : orientation_flag ≡ is_some values.video_orientation)
+    (number : number_flag ≡ is_some values.transport_cc)
+    (delay : delay_flag ≡ (is_some values.play_delay_min || is_some values.play_delay_max))
+    (content : content_flag ≡ is_some values.video_content_type)
+    (timing : timing_flag ≡ is_some values.video_timing)
+    (rid : rid_flag ≡ is_some values.rid)
+    (repaired : repaired_flag ≡ is_some values.rid_repair)
+    (mid : mid_flag ≡ is_some values.mid)
+    (marking : marking_flag ≡ is_some values.frame_mark)
+    (layers : layers_flag ≡ is_some values.video_layers_allocation) where
+  abbrev flags : List Bool
+  flags = send_time_flag ∷ capture_time_flag ∷ level_flag ∷ offset_flag ∷ orientation_flag ∷ number_flag ∷ delay_flag ∷ content_flag ∷ timing_flag ∷ rid_flag ∷ repaired_flag ∷ mid_flag ∷ marking_flag ∷ false ∷ layers_flag ∷ []
+
+  has-there : (kind : KnownKind) → has flags kind ≡ is_there kind values
+  has-there known.AbsoluteSendTime = send_time
+  has-there known.AbsoluteCaptureTime = capture_time
+  has-there known.AudioLevel = level
+  has-there known.TransmissionTimeOffset = offset
+  has-there known.VideoOrientation = orientation
+  has-there known.TransportSequenceNumber = number
+  has-there known.PlayoutDelay = delay
+  has-there known.VideoContentType = content
+  has-there known.VideoTiming = timing
+  has-there known.RtpStreamId = rid
+  has-there known.RepairedRtpStreamId = repaired
+  has-there known.RtpMid = mid
+  has-there known.FrameMarking = marking
+  has-there known.ColorSpace = refl
+  has-there known.VideoLayersAllocation = layers
+
+  -- so their kinds are those that have a value
+  pub flags-HasValue : (kind : KnownKind) → (has flags kind ≡ true) ↔ HasValue (extension_of_kind kind) shown
+  flags-HasValue kind =
+      subst (λ (v : ExtensionValues). (has flags kind ≡ true) ↔ HasValue (extension_of_kind kind) v) same (
+        λ set. HasValue-there kind values (sym (has-there kind) ∙ set),
+        λ value. has-there kind ∙ there-HasValue kind values value,
+      )

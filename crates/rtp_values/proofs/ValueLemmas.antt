@@ -1,5 +1,5 @@
 -- The data that a kind's values are written as, and what they are read as.
-use Rattle.std.proofs.Common.{◌≡◌, ℕ, ◌+◌, ◌*◌, ◌/◌, ◌%◌, ◌<◌, ◌≤◌, ℤ, pos, neg_ℤ, Bool, true, false, List, [], ◌∷◌, ◌++◌, length, Option, Some, None, refl, sym, ap, inl, inr, ◌∙◌, subst, arith, eq-eqb, length-take}
+use Rattle.std.proofs.Common.{◌≡◌, ℕ, ◌+◌, ◌*◌, ◌/◌, ◌%◌, ◌<◌, ◌≤◌, ℤ, pos, neg_ℤ, Bool, true, false, List, [], ◌∷◌, ◌++◌, length, Option, Some, None, refl, sym, ap, inl, inr, ◌∙◌, arith, eq-eqb, length-take}
 use Rattle.std.specs.Prelude.{◌&&◌, nat_le, if◌then◌else◌, unsigned_abs, ◌==◌, map, IsUtf8}
 use Rattle.std.specs.Option.{option_map, ForSome}
 use Rattle.std.specs.Str.{chars}

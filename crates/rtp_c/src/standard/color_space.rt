@@ -6,53 +6,21 @@ ghost use Rattle.rtp_values.specs.declared.standard.color_space.ColorRange.{Colo
 ghost use Rattle.rtp_values.specs.declared.standard.color_space.ChromaSiting.{ChromaSiting as Siting};
 ghost use Rattle.rtp_values.specs.declared.standard.color_space.ColorSpace.{ColorSpace as Space};
 ghost use Rattle.rtp_c.specs.Status.{ok, bad_field, short_buffer};
-ghost use Rattle.rtp_c.specs.Told.{IsToldOr};
-ghost use Rattle.rtp_c.specs.Given.{given};
 ghost use Rattle.rtp_c.specs.StandardData.{AreWritten, AreTooLong, AreNone};
-ghost use Rattle.rtp_c.specs.StandardColor.{point_in, hdr_in, no_hdr, IsViewOfSpace, IsGivenSpace, AreSpaceData};
+ghost use Rattle.rtp_c.specs.StandardColor.{IsViewOfSpace, IsGivenSpace, AreSpaceData};
 
 use super::putting::put_data;
+use crate::given::given;
 use crate::status::{BAD_FIELD, OK};
-use rtp_values::standard::{ChromaSiting, Chromaticity, ColorRange, ColorSpace, HdrMetadata};
-
-/// A point of the CIE 1931 chromaticity diagram, in 0.00002: `rtpw_chromaticity` in C, 4 bytes.
-#[repr(C)]
-#[derive(Clone, Copy, Default)]
-pub struct PointView {
-    /// From left to right.
-    pub x: u16,
-    /// Upwards.
-    pub y: u16,
-}
-
-/// The metadata of a video of high dynamic range: `rtpw_hdr_metadata` in C, 24 bytes.
-#[repr(C)]
-#[derive(Clone, Copy, Default)]
-pub struct HdrView {
-    /// The greatest luminance of the screen, in cd/m^2.
-    pub luminance_max: u16,
-    /// Its least luminance, in 0.0001 cd/m^2.
-    pub luminance_min: u16,
-    /// Its red.
-    pub red: PointView,
-    /// Its green.
-    pub green: PointView,
-    /// Its blue.
-    pub blue: PointView,
-    /// Its white.
-    pub white: PointView,
-    /// The greatest light level of a pixel, in cd/m^2.
-    pub max_content_light_level: u16,
-    /// The greatest mean light level of a frame, in cd/m^2.
-    pub max_frame_average_light_level: u16,
-}
+use crate::values::told;
+use rtp_values::standard::{ChromaSiting, ColorRange, ColorSpace, HdrMetadata};
 
 /// The color space of a video: `rtpw_color_space` in C, 32 bytes.
 #[repr(C)]
 #[derive(Clone, Copy)]
 pub struct SpaceView {
     /// The metadata: all zeros as read where there are none.
-    pub hdr: HdrView,
+    pub hdr: HdrMetadata,
     /// The color primaries, a code point of H.273, 8.1.
     pub primaries: u8,
     /// The transfer characteristics, a code point of H.273, 8.2.
@@ -69,78 +37,19 @@ pub struct SpaceView {
     pub has_hdr: u8,
 }
 
-// What C is told of a point.
-fn view_of_point(point: Chromaticity) -> PointView
-    ensures { point_in result ≡ point }
-{
-    PointView {
-        x: point.x,
-        y: point.y,
-    }
-}
-
-// What C is told of metadata.
-fn view_of_hdr(hdr: &HdrMetadata) -> HdrView
-    ensures { hdr_in result ≡ hdr.now }
-{
-    HdrView {
-        luminance_max: hdr.luminance_max,
-        luminance_min: hdr.luminance_min,
-        red: view_of_point(hdr.red),
-        green: view_of_point(hdr.green),
-        blue: view_of_point(hdr.blue),
-        white: view_of_point(hdr.white),
-        max_content_light_level: hdr.max_content_light_level,
-        max_frame_average_light_level: hdr.max_frame_average_light_level,
-    }
-}
-
-// Whether there are metadata, as 1 or 0, and what C is told of them.
-fn told_hdr(hdr: &Option<HdrMetadata>) -> (u8, HdrView)
-    ensures { IsToldOr (λ told. told ≡ no_hdr) result.0 (hdr_in result.1) hdr.now }
-{
-    match hdr {
-        Some(hdr) => (1, view_of_hdr(hdr)),
-        None => (0, HdrView::default()),
-    }
-}
-
-// The number of a range.
-fn range_number(range: ColorRange) -> u8
-    ensures { result ≡ range_number range }
-{
-    match range {
-        ColorRange::Unknown => 0,
-        ColorRange::Limited => 1,
-        ColorRange::Full => 2,
-        ColorRange::Derived => 3,
-    }
-}
-
-// The number of a siting.
-fn siting_number(siting: ChromaSiting) -> u8
-    ensures { result ≡ siting_number siting }
-{
-    match siting {
-        ChromaSiting::Unspecified => 0,
-        ChromaSiting::Collocated => 1,
-        ChromaSiting::Half => 2,
-    }
-}
-
 // What C is told of a color space.
 fn view_of(space: &ColorSpace) -> SpaceView
     ensures { IsViewOfSpace space.now result }
 {
-    let (has_hdr, hdr) = told_hdr(&space.hdr);
+    let (has_hdr, hdr) = told(space.hdr);
     SpaceView {
         hdr,
         primaries: space.primaries,
         transfer: space.transfer,
         matrix: space.matrix,
-        range: range_number(space.range),
-        horizontal: siting_number(space.horizontal),
-        vertical: siting_number(space.vertical),
+        range: space.range as u8,
+        horizontal: space.horizontal as u8,
+        vertical: space.vertical as u8,
         has_hdr,
     }
 }
@@ -172,35 +81,6 @@ fn siting_of(number: u8) -> Option<ChromaSiting>
     }
 }
 
-// The point that is given.
-fn given_point(view: PointView) -> Chromaticity
-    ensures { result ≡ point_in view }
-{
-    Chromaticity {
-        x: view.x,
-        y: view.y,
-    }
-}
-
-// The metadata, where they are given.
-fn given_hdr(has: u8, view: &HdrView) -> Option<HdrMetadata>
-    ensures { result ≡ given has (hdr_in view.now) }
-{
-    if has == 0 {
-        return None;
-    }
-    Some(HdrMetadata {
-        luminance_max: view.luminance_max,
-        luminance_min: view.luminance_min,
-        red: given_point(view.red),
-        green: given_point(view.green),
-        blue: given_point(view.blue),
-        white: given_point(view.white),
-        max_content_light_level: view.max_content_light_level,
-        max_frame_average_light_level: view.max_frame_average_light_level,
-    })
-}
-
 // The color space that is given.
 fn given_space(view: &SpaceView) -> Option<ColorSpace>
     ensures found { IfSome result (IsGivenSpace view.now) }
@@ -213,7 +93,7 @@ fn given_space(view: &SpaceView) -> Option<ColorSpace>
         range: range_of(view.range)?,
         horizontal: siting_of(view.horizontal)?,
         vertical: siting_of(view.vertical)?,
-        hdr: given_hdr(view.has_hdr, &view.hdr),
+        hdr: given(view.has_hdr, view.hdr),
     })
 }
 

@@ -27,16 +27,6 @@ pub struct OrientationView {
     pub flip: u8,
 }
 
-// The number of a camera.
-fn camera_number(camera: Camera) -> u8
-    ensures { result ≡ camera_bit camera }
-{
-    match camera {
-        Camera::Front => 0,
-        Camera::Back => 1,
-    }
-}
-
 // The camera of this number.
 fn camera_of(number: u8) -> Option<Camera>
     ensures found { IfSome result (λ camera. camera_bit camera ≡ number) }
@@ -76,7 +66,7 @@ pub extern "C" fn rtpw_read_orientation(bytes: &[u8], orientation: &mut Orientat
     };
     *orientation = OrientationView {
         turn: degrees(read.turn),
-        camera: camera_number(read.camera),
+        camera: read.camera as u8,
         flip: flag_number(read.flip),
     };
     OK

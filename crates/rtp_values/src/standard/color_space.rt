@@ -3,7 +3,7 @@
 ghost use Rattle.std.specs.Prelude.{◌≡◌, ◌⊎◌, ◌≤◌, ◌<◌, ◌+◌, ◌*◌, ◌/◌, ◌%◌, length, slice_index};
 ghost use Rattle.std.specs.Option.{SomeIff};
 ghost use Rattle.rtp_base.specs.Overwriting.{overwritten};
-ghost use Rattle.rtp_values.specs.StandardColor.{range_in, range_number, siting_in, siting_number, sampling_byte, point_at, hdr_in, hdr_numbers, numbers_data, color_with, color_in, color_data};
+ghost use Rattle.rtp_values.specs.StandardColor.{range_in, siting_in, sampling_byte, point_at, hdr_in, hdr_numbers, numbers_data, color_with, color_in, color_data};
 
 use crate::value::{u16_at, u16_bytes};
 use rtp_base::put;
@@ -12,24 +12,24 @@ use rtp_base::put;
 #[derive(Clone, Copy, Debug, PartialEq, Eq)]
 pub enum ColorRange {
     /// It isn't known.
-    Unknown,
+    Unknown = 0,
     /// As in broadcasting, 16 to 235 where there are 8 bits.
-    Limited,
+    Limited = 1,
     /// All numbers.
-    Full,
+    Full = 2,
     /// By the transfer and matrix code points.
-    Derived,
+    Derived = 3,
 }
 
 /// Where the chroma samples lie in one direction.
 #[derive(Clone, Copy, Debug, PartialEq, Eq)]
 pub enum ChromaSiting {
     /// It isn't known.
-    Unspecified,
+    Unspecified = 0,
     /// On the luma samples.
-    Collocated,
+    Collocated = 1,
     /// Half way between two of them.
-    Half,
+    Half = 2,
 }
 
 /// The color space of a video, as WebRTC's `color-space` has it.
@@ -51,8 +51,10 @@ pub struct ColorSpace {
     pub hdr: Option<HdrMetadata>,
 }
 
-/// The metadata of a video of high dynamic range (SMPTE ST 2086, CTA-861.3).
-#[derive(Clone, Copy, Debug, PartialEq, Eq)]
+/// The metadata of a video of high dynamic range (SMPTE ST 2086, CTA-861.3), in 24 bytes, as C has
+/// them too.
+#[repr(C)]
+#[derive(Clone, Copy, Debug, Default, PartialEq, Eq)]
 pub struct HdrMetadata {
     /// The greatest luminance of the screen, in cd/m^2.
     pub luminance_max: u16,
@@ -73,7 +75,8 @@ pub struct HdrMetadata {
 }
 
 /// A point of the CIE 1931 chromaticity diagram, in 0.00002.
-#[derive(Clone, Copy, Debug, PartialEq, Eq)]
+#[repr(C)]
+#[derive(Clone, Copy, Debug, Default, PartialEq, Eq)]
 pub struct Chromaticity {
     /// From left to right.
     pub x: u16,
@@ -93,18 +96,6 @@ fn range_in(number: u8) -> ColorRange
     }
 }
 
-// The number of the range.
-fn range_number(range: ColorRange) -> u8
-    ensures { result ≡ range_number range }
-{
-    match range {
-        ColorRange::Unknown => 0,
-        ColorRange::Limited => 1,
-        ColorRange::Full => 2,
-        ColorRange::Derived => 3,
-    }
-}
-
 // The siting of this number, if it is one.
 fn siting_in(number: u8) -> Option<ChromaSiting>
     ensures { SomeIff result (number < 3) (siting_in number) }
@@ -115,17 +106,6 @@ fn siting_in(number: u8) -> Option<ChromaSiting>
         2 => ChromaSiting::Half,
         _ => return None,
     })
-}
-
-// The number of the siting.
-fn siting_number(siting: ChromaSiting) -> u8
-    ensures { result ≡ siting_number siting }
-{
-    match siting {
-        ChromaSiting::Unspecified => 0,
-        ChromaSiting::Collocated => 1,
-        ChromaSiting::Half => 2,
-    }
 }
 
 // The point in the four bytes from this offset on.
@@ -238,8 +218,7 @@ impl ColorSpace {
     fn sampling(&self) -> u8
         ensures { result ≡ sampling_byte self.now }
     {
-        let horizontal = siting_number(self.horizontal);
-        range_number(self.range) * 16 + horizontal * 4 + siting_number(self.vertical)
+        self.range as u8 * 16 + self.horizontal as u8 * 4 + self.vertical as u8
     }
 
     /// Writes the color space to the front of the buffer and returns how many bytes it has: four, or

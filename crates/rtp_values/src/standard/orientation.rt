@@ -11,9 +11,9 @@ use crate::VideoOrientation;
 #[derive(Clone, Copy, Debug, PartialEq, Eq)]
 pub enum Camera {
     /// Towards the user.
-    Front,
+    Front = 0,
     /// Away from the user.
-    Back,
+    Back = 1,
 }
 
 /// How a picture was taken, and is to be shown (3GPP TS 26.114, 7.4.5).
@@ -59,11 +59,6 @@ impl Orientation {
         ensures bytes { result ≡ orientation_byte self ∷ [] }
         ensures back { orientation_in (orientation_byte self) ≡ self }
     {
-        let camera = match self.camera {
-            Camera::Front => 0,
-            Camera::Back => 8,
-        };
-        let flip = if self.flip { 4 } else { 0 };
-        [camera + flip + self.turn as u8]
+        [self.camera as u8 * 8 + u8::from(self.flip) * 4 + self.turn as u8]
     }
 }

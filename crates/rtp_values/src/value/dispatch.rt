@@ -1,16 +1,15 @@
 //! The data of an element, by its known kind.
 
-ghost use Rattle.std.specs.Prelude.{◌≡◌, ◌≢◌, ◌≤◌, [], ◌++◌, drop, length, unwrap_or, Some, IfOk, IfSome, IsErr};
-ghost use Rattle.std.specs.Option.{option_map};
+ghost use Rattle.std.specs.Prelude.{◌≡◌, ◌≢◌, Some, IfOk, IsErr};
 ghost use Rattle.rtp_values.specs.KnownKind.{extension_of_kind};
-ghost use Rattle.rtp_values.specs.Values.{Reads, IsWellFormed, TakesMemory};
+ghost use Rattle.rtp_values.specs.Values.{IsWellFormed, TakesMemory};
 ghost use Rattle.rtp_values.specs.KindBytes.{ReadsInto, WritesData};
-ghost use Rattle.rtp_values.specs.Spelling.{spelled_data, carried_values, longest, HasRoom};
+ghost use Rattle.rtp_values.specs.Spelling.{HasRoom};
 
 use super::{
-    ExtensionValues, GetValues, SetValues, abs_capture_time, abs_send_time, audio_level,
-    frame_marking, mid, playout_delay, stream_id, transmission_offset, transport_sequence_number,
-    video_content_type, video_layers_allocation, video_orientation, video_timing,
+    GetValues, SetValues, abs_capture_time, abs_send_time, audio_level, frame_marking, mid,
+    playout_delay, stream_id, transmission_offset, transport_sequence_number, video_content_type,
+    video_layers_allocation, video_orientation, video_timing,
 };
 use crate::KnownKind;
 use std::alloc::AllocError;
@@ -61,25 +60,10 @@ impl KnownKind {
     /// Writes the data of this kind's element to the front of the buffer and returns their length,
     /// or returns `None` and changes nothing where a value that the kind needs is absent, or is an
     /// allocation that can't be written in 255 bytes. The bytes after the data stay as they were.
-    /// It requires room for the data; 255 bytes always suffice.
+    /// What was written is read as the value that these bytes carry. It requires room for the data;
+    /// 255 bytes always suffice.
     #[inline(always)]
-    pub fn write_to(self, buf: &mut [u8], ev: &ExtensionValues) -> Option<usize>
-        requires room { HasRoom (extension_of_kind self) ev.now buf.old }
-        ensures length { result ≡ option_map length (spelled_data (extension_of_kind self) ev.now) }
-        ensures written { buf.new ≡ unwrap_or (spelled_data (extension_of_kind self) ev.now) []
-            ++ drop (length (unwrap_or (spelled_data (extension_of_kind self) ev.now) [])) buf.old }
-
-        // What was written is read as the value that these bytes carry.
-        ensures read_back { IfSome (spelled_data (extension_of_kind self) ev.now) (λ bytes.
-            Reads (extension_of_kind self) bytes (carried_values ev.now)) }
-        ensures few { IfSome (spelled_data (extension_of_kind self) ev.now) (λ bytes. length bytes ≤ longest (extension_of_kind self)) }
-    {
-        self.write_from(buf, ev)
-    }
-
-    /// Writes the data of this kind's element as [`write_to`](Self::write_to) does, from any values.
-    #[inline(always)]
-    pub fn write_from<V: GetValues>(self, buf: &mut [u8], ev: &V) -> Option<usize>
+    pub fn write_to<V: GetValues>(self, buf: &mut [u8], ev: &V) -> Option<usize>
         requires room { HasRoom (extension_of_kind self) (V.values ev.now) buf.old }
         ensures { WritesData (extension_of_kind self) (V.values ev.now) buf.old buf.new result }
     {

@@ -1,12 +1,12 @@
 //! What the elements of a block are written from.
 
-ghost use Rattle.std.specs.Prelude.{◌≡◌, ◌≤◌, [], ◌++◌, drop, length, unwrap_or, is_some, if◌then◌else◌, IfSome};
+ghost use Rattle.std.specs.Prelude.{◌≡◌, ◌≤◌, [], ◌++◌, drop, length, unwrap_or, is_some, if◌then◌else◌, IfSome, false, None};
 ghost use Rattle.std.specs.Option.{option_map};
 ghost use Rattle.rtp_values.specs.declared.kind.Extension.{Extension};
 ghost use Rattle.rtp_values.specs.declared.kind.Extension.TheVariants.{VideoLayersAllocation};
 ghost use Rattle.rtp_values.specs.KnownKind.{extension_of_kind};
-ghost use Rattle.rtp_values.specs.Values.{Reads};
-ghost use Rattle.rtp_values.specs.Spelling.{has_no_data, has_empty_text, spelled_data, carried_values, longest, HasRoom};
+ghost use Rattle.rtp_values.specs.KindBytes.{WritesData};
+ghost use Rattle.rtp_values.specs.Spelling.{has_no_data, has_empty_text, spelled_data, longest, HasRoom};
 
 use super::ExtensionValues;
 use crate::KnownKind;
@@ -55,18 +55,7 @@ pub trait ElementValues {
     /// [`KnownKind::write_to`] does.
     fn write_data(&self, kind: KnownKind, buf: &mut [u8]) -> Option<usize>
         requires room { HasRoom (extension_of_kind kind) (values self.now) buf.old }
-        ensures length { result
-            ≡ option_map length (spelled_data (extension_of_kind kind) (values self.now)) }
-        ensures written { buf.new
-            ≡ unwrap_or (spelled_data (extension_of_kind kind) (values self.now)) []
-            ++ drop (length
-            (unwrap_or (spelled_data (extension_of_kind kind) (values self.now)) [])) buf.old }
-
-        // What was written is read as the value that these bytes carry.
-        ensures read_back { IfSome (spelled_data (extension_of_kind kind) (values self.now))
-            (λ bytes. Reads (extension_of_kind kind) bytes (carried_values (values self.now))) }
-        ensures few { IfSome (spelled_data (extension_of_kind kind) (values self.now))
-            (λ bytes. length bytes ≤ longest (extension_of_kind kind)) };
+        ensures { WritesData (extension_of_kind kind) (values self.now) buf.old buf.new result };
 }
 
 impl ElementValues for ExtensionValues {

@@ -121,16 +121,7 @@ impl KnownKind {
 
     /// How many bytes [`write_to`](Self::write_to) writes, and `None` where it writes no element.
     #[inline(always)]
-    pub fn data_len(self, ev: &ExtensionValues) -> Option<usize>
-        ensures length { result ≡ option_map length (spelled_data (extension_of_kind self) ev.now) }
-        ensures few { IfSome result (λ len. len ≤ 255) }
-    {
-        self.data_len_from(ev)
-    }
-
-    /// How many bytes [`write_from`](Self::write_from) writes, and `None` where it writes no element.
-    #[inline(always)]
-    pub fn data_len_from<V: GetValues>(self, ev: &V) -> Option<usize>
+    pub fn data_len<V: GetValues>(self, ev: &V) -> Option<usize>
         ensures length { result
             ≡ option_map length (spelled_data (extension_of_kind self) (V.values ev.now)) }
         ensures few { IfSome result (λ len. len ≤ 255) }

@@ -34,19 +34,19 @@ kind_asked c =
     IsAskedFor-found c.args.kind c.args.values.now (Some c.in-Some-known.kind) c.in-Some-of.given c.in-Some.ensures.named.0
     (sym c.in-Some-known.is ∙ c.in-Some.ensures.named.1) c.in-Some-of.ensures.found
 
-pub returns-in_default-data_len_from-clause-none : goal.returns-in_default-data_len_from-clause-none
-returns-in_default-data_len_from-clause-none c _ =
-    HasNoData-kind c.args.kind c.args.values.now c.in-Some-known.kind c.in-Some-of.given (kind_asked (goal.at.returns-in_default-data_len_from-clause-none c).In-Some-known)
-    (sym c.in_default-data_len_from.is ∙ c.data_len_from.ensures.length)
+pub returns-in_default-data_len-clause-none : goal.returns-in_default-data_len-clause-none
+returns-in_default-data_len-clause-none c _ =
+    HasNoData-kind c.args.kind c.args.values.now c.in-Some-known.kind c.in-Some-of.given (kind_asked (goal.at.returns-in_default-data_len-clause-none c).In-Some-known)
+    (sym c.in_default-data_len.is ∙ c.data_len.ensures.length)
 
-pub returns-in_default-data_len_from-clause-bad_field : goal.returns-in_default-data_len_from-clause-bad_field
-returns-in_default-data_len_from-clause-bad_field c =
-    (λ is. absurd (none_is_not is), λ nothing. absurd (nothing (Some c.in-Some-known.kind) c.in-Some-of.given (kind_asked (goal.at.returns-in_default-data_len_from-clause-bad_field c).In-Some-known)))
+pub returns-in_default-data_len-clause-bad_field : goal.returns-in_default-data_len-clause-bad_field
+returns-in_default-data_len-clause-bad_field c =
+    (λ is. absurd (none_is_not is), λ nothing. absurd (nothing (Some c.in-Some-known.kind) c.in-Some-of.given (kind_asked (goal.at.returns-in_default-data_len-clause-bad_field c).In-Some-known)))
 
 pub returns-then-buf-data_len-clause-short : goal.returns-then-buf-data_len-clause-short
 returns-then-buf-data_len-clause-short c _ =
     AreTooLongData-short c.args.kind c.args.values.now c.in-Some-known.kind c.in-Some-of.given (kind_asked (goal.at.returns-then-buf-data_len-clause-short c).In-Some-known)
-    c.in-Some-data_len_from.data_len (sym c.in-Some-data_len_from.is ∙ c.data_len_from.ensures.length) (length c.args.buf.now) c.if-buf-data_len.true
+    c.in-Some-data_len.data_len (sym c.in-Some-data_len.is ∙ c.data_len.ensures.length) (length c.args.buf.now) c.if-buf-data_len.true
 
 pub returns-then-buf-data_len-clause-bad_field : goal.returns-then-buf-data_len-clause-bad_field
 returns-then-buf-data_len-clause-bad_field c =
@@ -55,8 +55,8 @@ returns-then-buf-data_len-clause-bad_field c =
 pub returns-clause-written : goal.returns-clause-written
 returns-clause-written c _ =
     AreWrittenData-written c.args.kind c.args.values.now c.in-Some-known.kind c.in-Some-of.given (kind_asked (goal.at.returns-clause-written c).In-Some-known)
-    c.in-Some-data_len_from.data_len (sym c.in-Some-data_len_from.is ∙ c.data_len_from.ensures.length) c.args.buf.now c.write_from.new.buf
-    c.write_from.ensures.read_back c.write_from.ensures.written
+    c.in-Some-data_len.data_len (sym c.in-Some-data_len.is ∙ c.data_len.ensures.length) c.args.buf.now c.write_to.new.buf
+    c.write_to.ensures.read_back c.write_to.ensures.written
 
 pub returns-clause-bad_field : goal.returns-clause-bad_field
 returns-clause-bad_field c =

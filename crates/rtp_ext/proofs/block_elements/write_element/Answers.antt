@@ -15,7 +15,7 @@ write_data-requires g c = record {
 pub returns-in_default-clause-written : goal.returns-in_default-clause-written
 returns-in_default-clause-written g c =
     let start = c.args.at + c.element_header_len.result in
-    let none = none-from_map (spelled_data (extension_of_kind c.args.kind) (g.V.ElementValues.values c.args.ev.now)) (sym c.in_default.is ∙ c.write_data.ensures.length) in
+    let none = none-from_map (spelled_data (extension_of_kind c.args.kind) (g.V.ElementValues.values c.args.ev.now)) (sym c.in_default.is ∙ c.write_data.ensures.length_is) in
     let back = HasNone-from_none c.args.form (g.V.ElementValues.values c.args.ev.now) c.args.buf.now c.args.at c.args.id (extension_of_kind c.args.kind) none in
     let data_put = overwritten-rest c.args.buf.now c.write_data.new.buf (unwrap_or (spelled_data (extension_of_kind c.args.kind) (g.V.ElementValues.values c.args.ev.now)) [])
     start (omega (
@@ -37,7 +37,7 @@ element_put g c =
     room-for_data c.args.form c.args.id bytes c.element_header_len.result
     (length c.args.buf.now - c.args.at) c.element_header_len.ensures (omega (arith, c.requires.room)) (omega (arith, c.requires.header, c.element_header_len.ensures c.args.id 0)) in
     element_or_nothing-put c.args.form c.args.id c.in-Some.len c.args.at start c.args.buf.now _ c.write_header.new.buf bytes
-    (sym c.in-Some.is ∙ c.write_data.ensures.length) (ap (λ (h : ℕ). c.args.at + h) (c.element_header_len.ensures c.args.id c.in-Some.len)) c.requires.room
+    (sym c.in-Some.is ∙ c.write_data.ensures.length_is) (ap (λ (h : ℕ). c.args.at + h) (c.element_header_len.ensures c.args.id c.in-Some.len)) c.requires.room
     (overwritten-rest c.args.buf.now c.write_data.new.buf (unwrap_or bytes []) start (omega (arith, room, c.requires.header, c.element_header_len.ensures c.args.id 0)) c.write_data.ensures.written)
     c.write_header.ensures
 

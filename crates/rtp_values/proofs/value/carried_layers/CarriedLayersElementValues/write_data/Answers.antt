@@ -7,8 +7,5 @@ use Rattle.rtp_values.proofs.value.carried_layers.CarriedLayersElementValues.wri
 
 pub returns-in_default : goal.returns-in_default
 returns-in_default g c =
-    let done = c.write_data.ensures in
-    let writes = subst (λ (values : ExtensionValues). WritesData (extension_of_kind c.args.kind) values c.args.buf.now c.write_data.new.buf c.write_data.result) c.self.view_is
-    (WritesData-other c.args.kind (g.V.ElementValues.values c.self.inside.values.now) (Some c.self.inside.layers) c.in_default.not-VideoLayersAllocation
-    (record { length_is = done.length; written = done.written; read_back = done.read_back; few = done.few })) in
-    record { length = writes.length_is; written = writes.written; read_back = writes.read_back; few = writes.few }
+    subst (λ (values : ExtensionValues). WritesData (extension_of_kind c.args.kind) values c.args.buf.now c.write_data.new.buf c.write_data.result) c.self.view_is
+    (WritesData-other c.args.kind (g.V.ElementValues.values c.self.inside.values.now) (Some c.self.inside.layers) c.in_default.not-VideoLayersAllocation c.write_data.ensures)
