@@ -5,6 +5,7 @@ mod HeaderStatusLemmas
 mod PacketLemmas
 mod ChangeLemmas
 mod PutLemmas
+mod BlockLemmas
 mod ElementLemmas
 mod KindNumberLemmas
 mod LeftOutLemmas

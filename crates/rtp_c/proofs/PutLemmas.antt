@@ -1,5 +1,5 @@
 -- The statuses of an element that is put into a packet.
-use Rattle.rtp_c.proofs.Common.{◌≡◌, w32, to_z, of_z, refl, sym, CutFixedPart, OtherVersion, CutSources, CutBlockHeader, CutBlock, NotPut, ok, put_status}
+use Rattle.rtp_c.proofs.Common.{◌≡◌, ℤ, ap, ◌∙◌, w32, to_z, of_z, refl, sym, CutFixedPart, OtherVersion, CutSources, CutBlockHeader, CutBlock, NotPut, ok, put_status}
 use Rattle.rtp_wire.specs.declared.packet.not_put.NotPut.TheVariants.{CutPacket, NotAPacket, ZeroId, LongData, OtherForm, OneByteOnly, LongBlock, NoRoom}
 use Rattle.rtp_c.proofs.StatusLemmas.{ok≢cause}
 
@@ -28,3 +28,11 @@ put_status-fits OtherForm = refl
 put_status-fits OneByteOnly = refl
 put_status-fits LongBlock = refl
 put_status-fits (NoRoom needed) = refl
+
+-- the status that is returned
+pub status_is : (result : ℤ) (cause : NotPut) → result ≡ put_status cause → to_z w32 (of_z w32 result) ≡ put_status cause
+status_is result cause is = ap (λ (z : ℤ). to_z w32 (of_z w32 z)) is ∙ put_status-fits cause
+
+-- it isn't that of success
+pub status≢ok : (result : ℤ) (cause : NotPut) → result ≡ put_status cause → to_z w32 (of_z w32 result) ≡ ok → ⊥
+status≢ok result cause is is_ok = put_status≢ok cause (sym (status_is result cause is) ∙ is_ok)

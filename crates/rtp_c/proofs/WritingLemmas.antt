@@ -12,7 +12,7 @@ AreTooLong-carried form bytes views room within short all = record {
 }
 
 -- the forms have different numbers
-one_form : (f g : ExtensionsForm) → form_number (Some f) ≡ form_number (Some g) → f ≡ g
+pub one_form : (f g : ExtensionsForm) → form_number (Some f) ≡ form_number (Some g) → f ≡ g
 one_form OneByte OneByte same = refl
 one_form OneByte TwoByte same = absurd (omega (arith, same))
 one_form TwoByte OneByte same = absurd (omega (arith, same))

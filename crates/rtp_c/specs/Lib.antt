@@ -3,6 +3,7 @@ pub mod Status
 pub mod PacketView
 pub mod ChangedElements
 pub mod PutStatus
+pub mod ChangedBlock
 pub mod StoredWindow
 pub mod StoredReceiver
 pub mod Judging

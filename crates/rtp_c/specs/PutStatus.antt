@@ -18,8 +18,12 @@ put_status OneByteOnly = form_not_allowed
 put_status LongBlock = long_block
 put_status (NoRoom needed) = short_buffer
 
--- the status of the first cause that applies to an element that is put into the packet in so many first bytes of the buffer
-pub record IsPutStatus (buf : List ℕ) (len : ℕ) (element : Element) (allowed : Option ExtensionsForm) (status : ℤ) : Type 0 where
+-- the status of the first cause that applies
+pub record IsFirstPutStatus (Applies : NotPut → Type 0) (status : ℤ) : Type 0 where
   pub cause : NotPut
-  pub is_first : IsFirstNotPut (AppliesToPut buf len element allowed) cause
+  pub is_first : IsFirstNotPut Applies cause
   pub status_is : status ≡ put_status cause
+
+-- the status of the first cause that applies to an element that is put into the packet in so many first bytes of the buffer
+abbrev pub IsPutStatus : List ℕ → ℕ → Element → Option ExtensionsForm → ℤ → Type 0
+IsPutStatus buf len element allowed status = IsFirstPutStatus (AppliesToPut buf len element allowed) status

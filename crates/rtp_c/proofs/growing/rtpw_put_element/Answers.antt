@@ -1,18 +1,14 @@
-use Rattle.rtp_c.proofs.Common.{◌≡◌, ℤ, take, Option, w32, to_z, of_z, refl, sym, ap, ◌∙◌, subst, false≢true, ExtensionsForm, NotPut, put_status, IsPutStatus}
+use Rattle.rtp_c.proofs.Common.{take, Option, w32, to_z, of_z, refl, sym, ◌∙◌, subst, false≢true, ExtensionsForm, NotPut, IsPutStatus}
 use Rattle.rtp_wire.specs.PutIntoPacket.{PutsElement, AppliesToPut}
-use Rattle.rtp_c.proofs.PutLemmas.{put_status≢ok, put_status-fits}
+use Rattle.rtp_c.proofs.PutLemmas.{status_is, status≢ok}
 use Rattle.rtp_c.proofs.WritingLemmas.{one_allowed}
 use Rattle.rtp_c.proofs.growing.rtpw_put_element.Goals as goal
 
--- the status that is returned
-abbrev status_is : (result : ℤ) (cause : NotPut) → result ≡ put_status cause → to_z w32 (of_z w32 result) ≡ put_status cause
-status_is result cause is = ap (λ (z : ℤ). to_z w32 (of_z w32 z)) is ∙ put_status-fits cause
-
 pub returns-in-Err-clause-put : goal.returns-in-Err-clause-put
-returns-in-Err-clause-put c = λ form same is_ok. absurd (put_status≢ok c.in-Err.cause (sym (status_is c.put_status_of.result c.in-Err.cause c.put_status_of.ensures) ∙ is_ok))
+returns-in-Err-clause-put c = λ form same is_ok. absurd (status≢ok c.put_status_of.result c.in-Err.cause c.put_status_of.ensures is_ok)
 
 pub returns-in-Err-clause-within : goal.returns-in-Err-clause-within
-returns-in-Err-clause-within c = λ is_ok. absurd (put_status≢ok c.in-Err.cause (sym (status_is c.put_status_of.result c.in-Err.cause c.put_status_of.ensures) ∙ is_ok))
+returns-in-Err-clause-within c = λ is_ok. absurd (status≢ok c.put_status_of.result c.in-Err.cause c.put_status_of.ensures is_ok)
 
 pub returns-in-Err-clause-cause : goal.returns-in-Err-clause-cause
 returns-in-Err-clause-cause c = λ form same not_ok.
@@ -24,7 +20,7 @@ pub returns-in-Err-clause-refused : goal.returns-in-Err-clause-refused
 returns-in-Err-clause-refused c = λ form same. (
   λ _. subst (λ (f : Option ExtensionsForm). (cause : NotPut) × AppliesToPut c.args.buf.now c.args.len.now (c.args.id, c.args.data.now) f cause)
       (one_allowed c.in-Some.allowed form (c.in-Some.ensures.found ∙ sym same)) (c.in-Err.ensures.refused.0 refl),
-  λ _ is_ok. put_status≢ok c.in-Err.cause (sym (status_is c.put_status_of.result c.in-Err.cause c.put_status_of.ensures) ∙ is_ok),
+  λ _ is_ok. status≢ok c.put_status_of.result c.in-Err.cause c.put_status_of.ensures is_ok,
 )
 
 pub returns-in-Ok-clause-put : goal.returns-in-Ok-clause-put
