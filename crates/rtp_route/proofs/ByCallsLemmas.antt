@@ -1,5 +1,5 @@
 -- The steps of the calls for one packet.
-use Rattle.std.proofs.Common.{◌≡◌, ℕ, ◌+◌, ◌<◌, ◌≤◌, Bool, true, false, List, [], ◌++◌, length, take, drop, Option, Some, None, IfSome, slice_index, refl, sym, ap, subst, ◌∙◌, arith, take_at}
+use Rattle.std.proofs.Common.{◌≡◌, ℕ, ◌<◌, Bool, true, false, List, length, take, drop, Option, Some, None, IfSome, slice_index, refl, sym, ap, subst, ◌∙◌, take_at}
 use Rattle.std.specs.Bool.{OnTrue}
 use Rattle.std.specs.Option.{IfNone}
 use Rattle.std.specs.List.{filter_map}

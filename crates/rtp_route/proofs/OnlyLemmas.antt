@@ -1,12 +1,12 @@
 -- Each element that is put is the only one of its id, and where it lies in a row.
-use Rattle.std.proofs.Common.{◌≡◌, ◌≢◌, ℕ, zero, suc, ◌+◌, ◌-◌, ◌*◌, Bool, true, false, not, cond, List, [], ◌∷◌, ◌++◌, length, drop, replicate, Option, Some, None, All, refl, sym, ap, subst, ◌∙◌, arith, append_assoc, length-append, drop_at}
+use Rattle.std.proofs.Common.{◌≡◌, ◌≢◌, ℕ, zero, suc, ◌+◌, ◌-◌, ◌*◌, Bool, true, false, cond, List, [], ◌∷◌, ◌++◌, length, drop, replicate, Option, Some, None, All, refl, sym, ap, subst, ◌∙◌, arith, append_assoc, drop_at}
 use Rattle.std.specs.List.{filter, filter_map, flat_map, list_any, AllByRecursion}
 use Rattle.std.proofs.lemmas.Bool.{eq-eqb, eqb-true, ne_eqb}
-use Rattle.std.proofs.lemmas.List.Elements.{filter-append, All-nil, All-cons, All-head, All-tail}
+use Rattle.std.proofs.lemmas.List.Elements.{filter-append, All-head, All-tail}
 use Rattle.rtp_ext.specs.declared.form.ExtensionsForm.{ExtensionsForm}
 use Rattle.rtp_ext.specs.declared.form.ExtensionsForm.TheVariants.{OneByte, TwoByte}
 use Rattle.rtp_ext.specs.declared.place.Place.{Place}
-use Rattle.rtp_ext.specs.Elements.{Element, IsElement, element_bytes, elements_bytes, IsPiece, piece_bytes, AreElements, IsTail, ended}
+use Rattle.rtp_ext.specs.Elements.{Element, IsElement, element_bytes, elements_bytes, IsPiece, piece_bytes, AreElements, ended}
 use Rattle.rtp_ext.specs.ElementPlaces.{LiesLast}
 use Rattle.rtp_ext.specs.ElementReading.{elements_left}
 use Rattle.rtp_ext.specs.ElementWriting.{element_header}
@@ -15,12 +15,10 @@ use Rattle.rtp_ext.specs.PutElement.{has_id, put_element}
 use Rattle.rtp_ext.specs.WrittenBlock.{filled, padding_of}
 use Rattle.rtp_ext.proofs.ElementLemmas.{elements_left-none, elements_left-padding}
 use Rattle.rtp_ext.proofs.ElementLemmasOfBodies.{elements_left-element, AreElements-padding, AreElements-element, AreElements-tail}
-use Rattle.rtp_ext.proofs.NewIdLemmas.{All-IsElement}
-use Rattle.rtp_ext.proofs.PutLemmas.{filter-none, none-counted}
+use Rattle.rtp_ext.proofs.PutLemmas.{none-counted}
 use Rattle.rtp_route.specs.declared.slots.Slot.{Slot}
 use Rattle.rtp_route.specs.Routing.{put_all}
 use Rattle.rtp_route.specs.Template.{HaveOwnIds, HasOnly, IsSlot}
-use Rattle.rtp_route.proofs.SetDataLemmas.{all_set, data_set, sets}
 
 any-counted : (id : ℕ) (elements : List Element) → list_any (has_id id) elements ≡ false → filter (has_id id) elements ≡ []
 any-counted id [] none = refl

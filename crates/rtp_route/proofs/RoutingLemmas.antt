@@ -1,5 +1,5 @@
 -- The calls one after another make the header that the route makes.
-use Rattle.std.proofs.Common.{◌≡◌, ◌≢◌, ℕ, ◌+◌, ◌-◌, ◌*◌, ◌≤◌, ◌⊎◌, inl, inr, Bool, true, false, cond, List, [], ◌∷◌, ◌++◌, length, take, drop, Option, Some, None, option_map, refl, sym, ap, subst, ◌∙◌, arith, append_assoc, append-nil, length-append, take_at, Result, Ok, Err, IfOk}
+use Rattle.std.proofs.Common.{◌≡◌, ◌≢◌, ℕ, ◌+◌, ◌-◌, ◌*◌, ◌≤◌, ◌⊎◌, inl, inr, Bool, true, false, cond, List, [], ◌∷◌, ◌++◌, length, take, drop, Option, Some, None, option_map, refl, sym, ap, subst, ◌∙◌, arith, append_assoc, append-nil, take_at, Result, Ok, Err, IfOk}
 use Rattle.std.specs.List.{concat, filter_map, list_any, cons_option}
 use Rattle.std.specs.Int.{w16, to_be_bytes}
 use Rattle.std.proofs.lemmas.List.{drop-drop, drop-take, take-take, take-append-drop, drop-append-le, take-append-le, length-drop}
@@ -14,7 +14,6 @@ use Rattle.rtp_ext.specs.WrittenBlock.{filled}
 use Rattle.rtp_ext.proofs.LastPlaceLemmas.{AreElements-same}
 use Rattle.rtp_ext.proofs.PutLemmas.{without-none}
 use Rattle.rtp_wire.specs.declared.packet.fields.Fields.{Fields}
-use Rattle.rtp_wire.specs.ChangedPacket.{ChangesOnly, ChangesOnlyBody}
 use Rattle.rtp_wire.specs.GivenFields.{with_header_fields}
 use Rattle.rtp_wire.specs.NotAHeader.{sources_end}
 use Rattle.rtp_wire.specs.Packet.{PacketParts, IsPacket, block_len, header_len_of}

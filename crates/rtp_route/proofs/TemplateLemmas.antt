@@ -1,11 +1,10 @@
 -- A header that is made once, and what other fields and data make of it.
-use Rattle.std.proofs.Common.{◌≡◌, ◌≢◌, ℕ, ◌+◌, ◌-◌, ◌*◌, ◌≤◌, Bool, true, false, ◌&&◌, nat_le, cond, List, [], ◌∷◌, ◌++◌, length, take, drop, map, Option, Some, None, refl, sym, ap, subst, ◌∙◌, arith, take_at, append-nil}
+use Rattle.std.proofs.Common.{◌≡◌, ℕ, ◌+◌, ◌-◌, ◌*◌, Bool, true, false, ◌&&◌, nat_le, cond, List, [], ◌∷◌, ◌++◌, length, take, drop, map, Option, Some, None, refl, sym, ap, subst, ◌∙◌, arith, append-nil}
 use Rattle.std.specs.List.{AllByRecursion, filter_map}
-use Rattle.std.proofs.lemmas.List.{drop-drop, drop-append-le, take-append-le, length-drop, length-map, take_all}
+use Rattle.std.proofs.lemmas.List.{length-map, take_all}
 use Rattle.std.proofs.lemmas.Option.{none-some}
 use Rattle.std.specs.Borrow.{Bor}
 use Rattle.rtp_base.specs.Overwriting.{overwritten}
-use Rattle.rtp_base.proofs.OverwritingLemmas.{overwritten-front}
 use Rattle.rtp_ext.specs.declared.form.ExtensionsForm.{ExtensionsForm}
 use Rattle.rtp_ext.specs.declared.form.ExtensionsForm.TheVariants.{OneByte, TwoByte}
 use Rattle.rtp_ext.specs.Elements.{Element, IsElement, elements_bytes, AreElements}
@@ -21,17 +20,17 @@ use Rattle.rtp_wire.specs.PacketElements.{AreElementsOf}
 use Rattle.rtp_wire.specs.PutIntoPacket.{form_of_block}
 use Rattle.rtp_route.specs.declared.slots.Slot.{Slot}
 use Rattle.rtp_route.specs.Calls.{no_fields}
-use Rattle.rtp_route.specs.Routing.{put_all, IsFormAfter, extension_after, row_in, routed_elements, routed_parts, word_bytes, KeepsWord, IsRouted}
+use Rattle.rtp_route.specs.Routing.{put_all, IsFormAfter, extension_after, row_in, routed_elements, routed_parts, word_bytes, IsRouted}
 use Rattle.rtp_wire.specs.PartsOf.{parts_of}
 use Rattle.rtp_wire.proofs.PacketLemmas.{one_packet}
 use Rattle.rtp_route.specs.declared.template.HeaderTemplate.{HeaderTemplate}
-use Rattle.rtp_route.specs.Template.{with_data, HaveOwnIds, HasOnly, HasRow, data_lengths, slot_lengths, filled_in, IsSlot, AreSlots, body_start_of}
+use Rattle.rtp_route.specs.Template.{with_data, HaveOwnIds, HasOnly, HasRow, data_lengths, slot_lengths, filled_in, AreSlots, body_start_of}
 use Rattle.rtp_route.specs.TemplateOf.{header_of, slots_in, lengths_of, IsTemplate}
 use Rattle.rtp_route.proofs.ByCallsLemmas.{front-put}
-use Rattle.rtp_route.proofs.BodyLemmas.{HasBody, has-body}
+use Rattle.rtp_route.proofs.BodyLemmas.{has-body}
 use Rattle.rtp_route.proofs.OnlyLemmas.{elements-by_turns, filled-elements, only-put_all}
 use Rattle.rtp_route.proofs.RoutingLemmas.{word_of, word_in_front, from_twelve}
-use Rattle.rtp_route.proofs.SetDataLemmas.{data_set, all_set, sets, put_all-data}
+use Rattle.rtp_route.proofs.SetDataLemmas.{all_set, sets, put_all-data}
 use Rattle.rtp_route.proofs.SlotLemmas.{slots-stay, write-slots, filled-sets_length, slots-lengths}
 
 -- ---- elements with other data of the same length

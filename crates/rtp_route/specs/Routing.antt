@@ -1,7 +1,7 @@
 -- A packet's header as a receiver is to get it: with fields, ids and elements of its own (RFC 7667, 3.7; RFC 8285, 4.1.2 and 5).
 --
 -- The elements get the receiver's ids, and those whose id has none go. Then each element that is put takes the place of the last one of its id, or comes last. They stand in a row, in whole words. The block has the form that each of those that are put needs in its turn. The payload stays where it lies.
-use Rattle.std.specs.Prelude.{◌≡◌, ◌≢◌, ℕ, List, [], ◌∷◌, take, drop, Bool, true, Option, Some, None, option_map}
+use Rattle.std.specs.Prelude.{◌≡◌, ◌≢◌, ℕ, List, [], ◌∷◌, take, drop, Bool, true, Option, Some, option_map}
 use Rattle.std.specs.List.{filter_map}
 use Rattle.std.specs.Int.{w16, to_be_bytes}
 use Rattle.rtp_ext.specs.declared.form.ExtensionsForm.{ExtensionsForm}

@@ -78,16 +78,16 @@ pub(super) fn make_header(
     }
 }
 
-/// Writes the header that the packet gets on its way to a receiver with these fields, by the calls for one
-/// packet, and returns how many bytes it has: each element gets its new id, and one without goes; each of
-/// the group's elements is put among them; and the block is as short as they allow (RFC 7667, 3.7; RFC
-/// 8285, 4.1.2 to 4.3 and 5). Requires a payload type of at most 127.
+/// Writes the header that the packet gets on its way to a receiver with these fields, by the calls
+/// for one packet, and returns how many bytes it has: each element gets its new id, and one without
+/// goes; each of the group's elements is put among them; and the block is as short as they allow
+/// (RFC 7667, 3.7; RFC 8285, 4.1.2 to 4.3 and 5). Requires a payload type of at most 127.
 ///
-/// It is refused where one of the calls is, and the buffer then has any bytes. The contract says what an
-/// `Ok` is, and not exactly when there is one.
+/// It is refused where one of the calls is, and the buffer then has any bytes. The contract says
+/// what an `Ok` is, and not exactly when there is one.
 ///
-/// Of the packet `90 60 00 05 00 00 00 64 00 00 00 2C BE DE 00 01 10 AA 00 00` (hexadecimal) the number 9,
-/// the id 3 for 1 and the data `00 07` of the id 4 make
+/// Of the packet `90 60 00 05 00 00 00 64 00 00 00 2C BE DE 00 01 10 AA 00 00` (hexadecimal) the
+/// number 9, the id 3 for 1 and the data `00 07` of the id 4 make
 /// `90 60 00 09 00 00 00 64 00 00 00 2C BE DE 00 02 30 AA 41 00 07 00 00 00`, and 24 is returned.
 pub fn route_header(
     packet: &RtpPacket<'_>,
@@ -104,10 +104,13 @@ pub fn route_header(
     make_header(packet, fields, group, buf)
 }
 
-// The law: where the calls for one packet, one after another, don't refuse, they make the header
-// that the route makes, and leave the payload behind it.
+/// The law: where the calls for one packet, one after another, don't refuse, they make the header
+/// that [`route_header`] makes, and leave the payload behind it.
 pub fn routes_as_the_calls_do()
-    ensures { (old new : List ℕ) (len : ℕ) (fields : Fields) (ids : ℕ → Option ℕ) (news : List Element) (allowed : Option ExtensionsForm) →
-        GivesIds ids → HasNone news 0 → (calls : IsRoutedByCalls old fields ids news allowed new len) →
-        (header : List ℕ) × (take len new ≡ header ++ calls.parts.payload) × IsRouted old fields ids news allowed header }
+    ensures { (old new : List ℕ) (len : ℕ) (fields : Fields) (ids : ℕ → Option ℕ)
+        (news : List Element) (allowed : Option ExtensionsForm) →
+        GivesIds ids → HasNone news 0 →
+        (calls : IsRoutedByCalls old fields ids news allowed new len) →
+        (header : List ℕ) × (take len new ≡ header ++ calls.parts.payload)
+        × IsRouted old fields ids news allowed header }
 {}

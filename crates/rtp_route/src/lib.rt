@@ -1,17 +1,18 @@
-//! One packet to all its receivers: a header for each, while the payload stays where it lies (RFC 7667,
-//! 3.7; RFC 8285, 5).
+//! One packet to all its receivers: a header for each, while the payload stays where it lies (RFC
+//! 7667, 3.7; RFC 8285, 5).
 //!
 //! Receivers that have the ids, the elements and their lengths in common are a [`Group`]. A
-//! [`HeaderTemplate`] is made once for a packet and a group, and then writes a header for each receiver,
-//! with fields and data of its own. Each is, byte for byte, what `set_fields`, `renumber`, `put_element` for
-//! each element and `compact` make of a copy of the packet's header, one after another;
-//! [`route_header`] makes one header so.
+//! [`HeaderTemplate`] is made once for a packet and a group, and then writes a header for each
+//! receiver, with fields and data of its own. Each is, byte for byte, what `set_fields`,
+//! `renumber`, `put_element` for each element and `compact` make of a copy of the packet's header,
+//! one after another; [`route_header`] makes one header so.
 //!
-//! The packet `90 60 00 05 00 00 00 64 00 00 00 2C BE DE 00 01 10 AA 00 00` (hexadecimal) with any payload
-//! goes to a group for which the id 1 becomes 3, and two bytes of the id 4 are put. To the receiver that gets
-//! the number 9, the SSRC 45 and the data `00 07` goes the header
-//! `90 60 00 09 00 00 00 64 00 00 00 2D BE DE 00 02 30 AA 41 00 07 00 00 00`, and to the one that gets 12,
-//! 46 and `00 08` the header `90 60 00 0C 00 00 00 64 00 00 00 2E BE DE 00 02 30 AA 41 00 08 00 00 00`.
+//! The packet `90 60 00 05 00 00 00 64 00 00 00 2C BE DE 00 01 10 AA 00 00` (hexadecimal) with any
+//! payload goes to a group for which the id 1 becomes 3, and two bytes of the id 4 are put. To the
+//! receiver that gets the number 9, the SSRC 45 and the data `00 07` goes the header
+//! `90 60 00 09 00 00 00 64 00 00 00 2D BE DE 00 02 30 AA 41 00 07 00 00 00`, and to the one that
+//! gets 12, 46 and `00 08` the header
+//! `90 60 00 0C 00 00 00 64 00 00 00 2E BE DE 00 02 30 AA 41 00 08 00 00 00`.
 #![tactic(auto)]
 
 mod by_calls;

@@ -92,7 +92,8 @@ pub(super) fn slots_of(
 // Whether there are as many data as places, each as long as its place.
 #[inline(always)]
 pub(super) fn have_lengths(slots: &[Slot], contents: &[&[u8]]) -> bool
-    ensures { IsTrue result ↔ (map (λ bytes. length bytes.now) contents.now ≡ slot_lengths slots.now) }
+    ensures { IsTrue result
+        ↔ (map (λ bytes. length bytes.now) contents.now ≡ slot_lengths slots.now) }
 {
     if contents.len() != slots.len() {
         return false;

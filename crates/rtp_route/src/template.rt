@@ -40,8 +40,8 @@ impl<'a> HeaderTemplate<'a> {
     /// template. A buffer of the header's length and, for each element, 258 bytes has room.
     ///
     /// It is refused where a call for one packet is, for more elements than
-    /// [`MAX_ELEMENTS`](super::MAX_ELEMENTS), and for two of one id; the buffer then has any bytes. The
-    /// contract says what an `Ok` is, and not exactly when there is one: tests do.
+    /// [`MAX_ELEMENTS`](super::MAX_ELEMENTS), and for two of one id; the buffer then has any bytes.
+    /// The contract says what an `Ok` is, and not exactly when there is one: tests do.
     pub fn new(
         packet: &RtpPacket<'_>,
         group: &Group<'_>,
@@ -79,10 +79,10 @@ impl<'a> HeaderTemplate<'a> {
         self.header.header_len()
     }
 
-    /// Writes the header with these fields, and with these data of the group's elements in their order,
-    /// each as long as the data in the group, and returns how many bytes it has. With the payload behind
-    /// it, it is the packet that goes to the receiver. Where it is refused nothing changes. Requires a
-    /// payload type of at most 127.
+    /// Writes the header with these fields, and with these data of the group's elements in their
+    /// order, each as long as the data in the group, and returns how many bytes it has. With the
+    /// payload behind it, it is the packet that goes to the receiver. Where it is refused nothing
+    /// changes. Requires a payload type of at most 127.
     pub fn write_header(
         &self,
         fields: &Fields,
@@ -114,7 +114,8 @@ impl<'a> HeaderTemplate<'a> {
         Ok(needed)
     }
 
-    // The same, where the data are as long as those that were put, in a buffer of the header's length.
+    // The same, where the data are as long as those that were put, in a buffer of the header's
+    // length.
     #[inline(always)]
     fn fill_header(&self, fields: &Fields, contents: &[&[u8]], buf: &mut [u8])
         requires payload_type { IfSome fields.now.payload_type (λ pt. pt ≤ 127) }

@@ -1,12 +1,11 @@
-use Rattle.std.proofs.Common.{◌≡◌, ℕ, List, [], ◌++◌, length, take, drop, refl, sym, ap, subst, ◌∙◌, arith, rules, take_at}
-use Rattle.rtp_ext.specs.Elements.{Element}
+use Rattle.std.proofs.Common.{◌≡◌, ℕ, List, [], ◌++◌, length, take, drop, sym, ap, subst, ◌∙◌, arith, take_at}
 use Rattle.rtp_ext.specs.NewIds.{new_id}
 use Rattle.rtp_ext.specs.ElementsInARow.{elements_of}
 use Rattle.rtp_wire.specs.Packet.{PacketParts, IsPacket, header_len_of}
 use Rattle.rtp_wire.specs.ChangedPacket.{ChangesOnly}
 use Rattle.rtp_wire.specs.GivenFields.{with_header_fields}
 use Rattle.rtp_wire.specs.PartsAt.{HasLayout}
-use Rattle.rtp_wire.specs.PartsOf.{parts_of, datagram_of}
+use Rattle.rtp_wire.specs.PartsOf.{parts_of}
 use Rattle.rtp_wire.proofs.CompactLemmas.{Compacts-front}
 use Rattle.rtp_wire.proofs.PartsLemmas.{length-packet, IsPacket-found}
 use Rattle.rtp_wire.proofs.RetransmissionHeaders.{elements_there}

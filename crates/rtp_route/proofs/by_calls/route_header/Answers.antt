@@ -1,8 +1,5 @@
-use Rattle.std.proofs.Common.{sym, take_at, ap, ◌∙◌}
 use Rattle.rtp_ext.specs.ElementsInARow.{elements_of}
 use Rattle.rtp_ext.specs.NewIds.{new_id}
-use Rattle.rtp_wire.specs.PartsOf.{parts_of}
-use Rattle.rtp_wire.proofs.PartsLemmas.{IsPacket-found}
 use Rattle.rtp_route.proofs.RoutingLemmas.{on-ok, routed-of}
 use Rattle.rtp_route.proofs.by_calls.route_header.Goals as goal
 

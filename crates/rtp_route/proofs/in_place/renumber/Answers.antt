@@ -2,7 +2,6 @@ use Rattle.std.proofs.Common.{rules, arith, subst}
 use Rattle.rtp_ext.specs.NewIds.{new_id}
 use Rattle.rtp_wire.specs.Packet.{PacketParts}
 use Rattle.rtp_wire.specs.PacketElements.{AreElementsOf}
-use Rattle.rtp_wire.specs.PartsOf.{parts_in}
 use Rattle.rtp_wire.proofs.RetransmissionHeaders.{parts-of_bytes}
 use Rattle.std.proofs.Common.{sym}
 use Rattle.rtp_route.proofs.ByCallsLemmas.{renumbered-in}

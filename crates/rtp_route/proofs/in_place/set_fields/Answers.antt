@@ -1,10 +1,5 @@
-use Rattle.std.proofs.Common.{◌≡◌, ◌∙◌, List, ℕ, ap, subst, arith, rules}
-use Rattle.rtp_wire.specs.ChangedPacket.{ChangesOnly}
-use Rattle.rtp_wire.specs.GivenFields.{with_header_fields}
-use Rattle.rtp_wire.specs.Packet.{PacketParts, IsPacket}
-use Rattle.rtp_wire.specs.PartsOf.{parts_in}
+use Rattle.std.proofs.Common.{arith, rules}
 use Rattle.rtp_wire.proofs.BytesBetween.{in_fixed_part}
-use Rattle.rtp_wire.proofs.RetransmissionHeaders.{IsPacket-in, parts-of_bytes}
 use Rattle.rtp_route.proofs.ByCallsLemmas.{fields-in, layout-in, only-in}
 use Rattle.rtp_route.proofs.in_place.set_fields.Goals as goal
 

@@ -1,10 +1,6 @@
-use Rattle.std.proofs.Common.{refl, subst, sym, ap, ◌∙◌, List, [], ◌∷◌, ◌≡◌}
+use Rattle.std.proofs.Common.{refl, sym, ap, ◌∙◌, [], ◌∷◌, ◌≡◌}
 use Rattle.std.specs.List.{filter}
-use Rattle.std.proofs.lemmas.Option.{none-some}
-use Rattle.rtp_ext.specs.declared.form.ExtensionsForm.{ExtensionsForm}
-use Rattle.rtp_ext.specs.Elements.{Element, AreElements, elements_bytes}
 use Rattle.rtp_ext.specs.PutElement.{has_id}
-use Rattle.rtp_ext.specs.WrittenBlock.{filled}
 use Rattle.rtp_route.proofs.SlotsFound.{slot-found, row-in}
 use Rattle.rtp_ext.proofs.PutLemmas.{filter-none}
 use Rattle.rtp_route.proofs.slots.slot_of.Goals as goal

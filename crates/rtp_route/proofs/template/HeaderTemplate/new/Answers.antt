@@ -1,4 +1,4 @@
-use Rattle.std.proofs.Common.{◌≡◌, ◌∙◌, ℕ, List, length, take, map, sym, ap, subst, arith, rules}
+use Rattle.std.proofs.Common.{sym, subst, rules}
 use Rattle.std.proofs.lemmas.List.{length-map}
 use Rattle.rtp_ext.specs.ElementsInARow.{elements_of}
 use Rattle.rtp_ext.specs.NewIds.{new_id}

@@ -1,4 +1,4 @@
-use Rattle.std.proofs.Common.{◌≡◌, ℕ, List, ◌++◌, length, take, map, sym, subst, take_at, arith, rules}
+use Rattle.std.proofs.Common.{ℕ, List, map, sym, subst, take_at, rules}
 use Rattle.std.proofs.Common.{refl}
 use Rattle.std.specs.Borrow.{Bor}
 use Rattle.rtp_route.specs.declared.not_written.NotWritten.TheVariants.{NoRoom}
