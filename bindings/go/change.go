@@ -89,16 +89,17 @@ func RemovePadding(datagram []byte) ([]byte, error) {
 
 // PutElement puts an element, of an id from 1 on with at most 255 bytes of data, into the packet in the first length
 // bytes of the buffer, whose other bytes are the room for it, and returns the packet's bytes. It then has exactly one
-// element of the id, in place of the last one of the id or as the last of all; the other elements stay, in order, and
-// all other parts too. Without a block the packet gets one. Where the element is the only one of its id and has as many
-// bytes, only these change. Else the block is made anew: its padding is used up, and then the payload moves by whole
-// words; a body never becomes shorter ([Compact]). What stands where reading ends, an element that is cut short or what
-// follows the id 15, is no element, and goes where the block is made anew. A header alone is enough. Data that overlap
-// the buffer are copied first.
+// element of the id, in place of the last one of the id or as the last of all; the other elements stay, in order, but
+// those of the id 0, behind which a receiver that follows RFC 8285, 4.2, reads nothing, and all other parts stay too.
+// Without a block the packet gets one. Where the element is the only one of its id and has as many bytes, and none is
+// of the id 0, only these bytes change. Else the block is made anew: its padding is used up, and then the payload moves
+// by whole words; a body never becomes shorter ([Compact]). What stands where reading ends, an element that is cut
+// short or what follows the id 15, is no element, and goes where the block is made anew. A header alone is enough. Data
+// that overlap the buffer are copied first.
 //
 // A one-byte block that can't carry the element becomes a two-byte one, where the forms that are allowed let it:
 // AnyForm; OneByteForm alone, as for a peer that hasn't agreed to both in one stream (RFC 8285, 4.1.2); or TwoByteForm
-// alone, which the block then gets. It carries no element of the id 0, so these go.
+// alone, which the block then gets.
 //
 // It returns ErrBadField where the length isn't one of the buffer, allowed is none of the three, or there are more than
 // 255 bytes of data; [ErrBadID] where the id is 0; ErrOtherForm where the block has another form, and so carries no
@@ -185,8 +186,8 @@ func RemoveBlock(datagram []byte) ([]byte, error) {
 
 // Compact makes the packet as short as its elements allow, and returns the bytes that it then has, the first ones of
 // the datagram: the elements stand in a row, the body is filled up to whole words, and the payload moves to the front.
-// What stands where reading ends goes, and a block of another form stays. So [RemoveElement] and then this gives bytes
-// back. A header alone is enough.
+// Elements of the id 0 go, and so does what stands where reading ends; a block of another form stays. So
+// [RemoveElement] and then this gives bytes back. A header alone is enough.
 func Compact(datagram []byte) ([]byte, error) {
 	length, err := compact(datagram)
 	if err != nil {

@@ -38,8 +38,8 @@ static size_t count_of(const walked *it, unsigned id) {
     return count;
 }
 
-/* Puts the packet's elements in a row in the form, with these data in place of the last one of the id; the two-byte
- * form carries none of the id 0. With the id 256 it is the elements alone. */
+/* Puts the packet's elements in a row in the form, with these data in place of the last one of the id, and none of the
+ * id 0. With the id 256 it is the elements alone. */
 static void make_row(const walked *it, int form, unsigned id, const uint8_t *data, size_t len) {
     found element;
     size_t left = count_of(it, id);
@@ -54,7 +54,7 @@ static void make_row(const walked *it, int form, unsigned id, const uint8_t *dat
                 add_element(form, id, data, len);
                 is_put = true;
             }
-        } else if (form == 1 || element.id != 0) {
+        } else if (element.id != 0) {
             add_element(form, element.id, body + element.data_at, element.data_len);
         }
     }
@@ -144,8 +144,8 @@ static int32_t put(size_t size, size_t *len, unsigned id, const uint8_t *data, s
     }
     found last;
     const uint8_t *body = before + it.body_at;
-    if (it.form == form && count_of(&it, id) == 1 && walk_last(body, it.body_len, form, id, &last) &&
-        last.data_len == data_len) {
+    bool is_alone = count_of(&it, id) == 1 && count_of(&it, 0) == 0;
+    if (it.form == form && is_alone && walk_last(body, it.body_len, form, id, &last) && last.data_len == data_len) {
         memcpy(expected + it.body_at + last.data_at, data, data_len);
         return RTPW_OK;
     }

@@ -24,7 +24,6 @@ mod RemovedIdLemmas
 mod ReplacedLemmas
 mod ExchangedLemmas
 mod CopiedLemmas
-mod CountedLemmas
 mod MemoryFacts
 -- The known extensions of a map, and walks over them.
 pub mod KindsByIdLemmas

@@ -1,5 +1,5 @@
 -- What a body has of an id, and its elements in a row: what the functions that make a body anew promise each other.
-use Rattle.std.specs.Prelude.{◌≡◌, ℕ, ◌+◌, ◌-◌, ◌*◌, ◌<◌, ◌≤◌, ◌↔◌, ◌⊎◌, List, [], ◌∷◌, ◌++◌, length, take, drop, slice_range, slice_index_or, Bool, false, not, ◌||◌, Option, IsTrue, IfSome, IfNone}
+use Rattle.std.specs.Prelude.{◌≡◌, ℕ, ◌+◌, ◌-◌, ◌*◌, ◌≤◌, List, [], ◌∷◌, ◌++◌, length, take, drop, slice_range, Bool, not, ◌||◌, Option, IfSome, IfNone}
 use Rattle.std.specs.List.{filter, AllByRecursion}
 use Rattle.rtp_ext.specs.declared.form.ExtensionsForm.{ExtensionsForm}
 use Rattle.rtp_ext.specs.declared.form.ExtensionsForm.TheVariants.{OneByte, TwoByte}
@@ -15,10 +15,6 @@ use Rattle.rtp_ext.specs.PutElement.{has_id, without, row_to}
 -- whether an element has the id, or the id 0
 abbrev pub goes : ℕ → Element → Bool
 goes id element = has_id id element || has_id 0 element
-
--- of the first sixteen ids the table tells which are this one or 0
-abbrev pub AreCounted : ℕ → List Bool → Type 0
-AreCounted id table = (k : ℕ) → k < 16 → IsTrue (slice_index_or table k false) ↔ ((k ≡ id) ⊎ (k ≡ 0))
 
 -- the elements of other ids, in order, and none of the id 0
 abbrev pub others : ℕ → List Element → List Element

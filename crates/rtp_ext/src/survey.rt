@@ -1,14 +1,13 @@
 //! What the body of a block has of an id.
 
-ghost use Rattle.std.specs.Prelude.{◌≡◌, ◌↔◌, ◌⊎◌, ◌+◌, ◌-◌, ◌<◌, ◌≤◌, length, drop, Option, Some, IsTrue, IfSome, IfNone};
+ghost use Rattle.std.specs.Prelude.{◌≡◌, ℕ, ◌+◌, ◌-◌, ◌^◌, ◌<◌, ◌≤◌, length, drop, Option, Some, IfSome, IfNone};
 ghost use Rattle.rtp_ext.specs.ElementReading.{BeginsWithNoElement};
 ghost use Rattle.rtp_ext.specs.ElementPlaces.{IsLeft};
-ghost use Rattle.rtp_ext.specs.declared.form.ExtensionsForm.TheVariants.{OneByte, TwoByte};
-ghost use Rattle.rtp_ext.specs.BodySurvey.{AreCounted, IsSurvey, IsSurveyedTo};
+ghost use Rattle.rtp_ext.specs.BodySurvey.{IsSurvey, IsSurveyedTo};
 
 use super::ExtensionsForm;
 use super::elements::first_element;
-use super::form::element_header_len;
+use super::form::{element_header_len, is_paddings};
 use super::place::{Place, place_before};
 
 /// What a body has of an id, and how much besides.
@@ -51,32 +50,15 @@ pub fn survey_of(form: ExtensionsForm, body: &[u8], id: u8) -> Survey
     }
 }
 
-// Whether each id of the one-byte form is this one or 0. One look at it tells elements of either apart from
-// the others, which are most.
-#[inline(always)]
-fn counted_ids(id: u8) -> [bool; 16]
-    ensures { AreCounted id result }
+// One more than a count. It stays out of line, so that a walk over elements, of which next to none has
+// the id 0, reckons nothing for those that have another.
+#[cold]
+#[inline(never)]
+fn one_more(count: usize) -> usize
+    requires { count + 1 < 2 ^ 64 }
+    ensures { result ≡ count + 1 }
 {
-    let mut counted = [false; 16];
-    counted[0] = true;
-    if id < 16 {
-        counted[usize::from(id)] = true;
-    }
-    counted
-}
-
-// Whether an element's id is this one or 0, which only the one-byte form has.
-#[inline(always)]
-fn is_counted(form: ExtensionsForm, counted: &[bool; 16], id: u8, other: u8) -> bool
-    requires table { AreCounted id counted.now }
-    requires one { form ≡ OneByte → other ≤ 14 }
-    requires two { form ≡ TwoByte → 1 ≤ other }
-    ensures { IsTrue result ↔ ((other ≡ id) ⊎ (other ≡ 0)) }
-{
-    match form {
-        ExtensionsForm::OneByte => counted[usize::from(other)],
-        ExtensionsForm::TwoByte => other == id,
-    }
+    count + 1
 }
 
 // How far a walk over a body has come.
@@ -95,14 +77,7 @@ impl Walk<'_> {
     // end of reading. It has a loop of its own, so that less is kept from one element of another id
     // to the next.
     #[inline(always)]
-    fn next_of(
-        &mut self,
-        form: ExtensionsForm,
-        body: &[u8],
-        id: u8,
-        counted: &[bool; 16],
-    ) -> Option<Place>
-        requires table { AreCounted id counted.now }
+    fn next_of(&mut self, form: ExtensionsForm, body: &[u8], id: u8) -> Option<Place>
         requires left { IsLeft body.now self.old.left.now }
         requires few { self.old.others_len ≤ length body.now - length self.old.left.now }
         requires counted { self.old.count ≤ length body.now - length self.old.left.now }
@@ -128,13 +103,14 @@ impl Walk<'_> {
     {
         while let Some((other, data, after)) = first_element(self.left, form) {
             self.left = after;
-            if !is_counted(form, counted, id, other) {
-                self.others_len += element_header_len(form) + data.len();
-                continue;
-            }
-            self.count += 1;
             if other == id {
+                self.count += 1;
                 return Some(place_before(form, body.len(), after.len(), id, data.len()));
+            }
+            if is_paddings(form, other) {
+                self.count = one_more(self.count);
+            } else {
+                self.others_len += element_header_len(form) + data.len();
             }
         }
         None
@@ -146,14 +122,13 @@ impl Walk<'_> {
 fn survey_in(form: ExtensionsForm, body: &[u8], id: u8) -> Survey
     ensures { IsSurvey form body.now id result }
 {
-    let counted = counted_ids(id);
     let mut last = None;
     let mut walk = Walk {
         left: body,
         count: 0,
         others_len: 0,
     };
-    while let Some(place) = walk.next_of(form, body, id, &counted) {
+    while let Some(place) = walk.next_of(form, body, id) {
         last = Some(place);
     }
     Survey {

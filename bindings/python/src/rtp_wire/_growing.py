@@ -20,14 +20,15 @@ def put_element(
 ) -> int:
     """Puts an element, of an id from 1 on with at most 255 bytes of data, into the packet in the first `length` bytes
     of the buffer, and returns how many bytes the packet then has: it has exactly one element of the id, in place of the
-    last one of the id or as the last of all. The other elements stay, in order, and all other parts too; without a
-    block the packet gets one. A body never becomes shorter (`compact`). What stands where reading ends, an element that
+    last one of the id or as the last of all. The other elements stay, in order, but those of the id 0, behind which a
+    receiver that follows RFC 8285, 4.2, reads nothing, and all other parts stay too; without a block the packet gets
+    one. A body never becomes shorter (`compact`). What stands where reading ends, an element that
     is cut short or what follows the id 15, goes where the block is made anew. A header alone is enough, and the data
     may be a part of the buffer.
 
-    A one-byte block that can't carry the element becomes a two-byte one, which carries no element of the id 0, unless
-    the one-byte form alone is allowed, as for a peer that hasn't agreed to both in one stream (RFC 8285, 4.1.2). Where
-    the two-byte form alone is allowed, the block gets that.
+    A one-byte block that can't carry the element becomes a two-byte one, unless the one-byte form alone is allowed, as
+    for a peer that hasn't agreed to both in one stream (RFC 8285, 4.1.2). Where the two-byte form alone is allowed, the
+    block gets that.
 
     BadField where `length` is past the buffer, or there are more than 255 bytes of data; BadId where the id isn't 1 to
     255; NotAPacket; OtherForm; FormNotAllowed where the block has, or the element needs, a form that isn't allowed;
@@ -139,8 +140,8 @@ def remove_block(datagram: WritableBuffer) -> int:
 def compact(datagram: WritableBuffer) -> int:
     """Makes the packet in the buffer as short as its elements allow, and returns how many bytes it then has, which are
     the first ones: the elements stand in a row, the body is filled up to whole words, and the payload moves to the
-    front; what stands where reading ends goes, and a block of another form stays. So `Packet.remove_element` and then
-    this gives bytes back. A header alone is enough.
+    front; elements of the id 0 go, and so does what stands where reading ends, and a block of another form stays. So
+    `Packet.remove_element` and then this gives bytes back. A header alone is enough.
 
     NotAPacket where the buffer holds none, and then nothing changes.
     """

@@ -4,15 +4,17 @@ use crate::sys;
 
 /// Puts an element, of an id from 1 on with at most 255 bytes of data, into the packet in the first `len` bytes
 /// of the buffer, and returns how many bytes the packet then has. It then has exactly one element of the id, in
-/// place of the last one of the id or as the last of all. The other elements stay, in order, and all other
-/// parts too; without a block the packet gets one. Where the element is the only one of its id and has as many
-/// bytes, only these change. Else the block is made anew: its padding is used up, and then the payload moves by
-/// whole words; a body never becomes shorter ([`compact`]). What stands where reading ends, an element that is
-/// cut short or what follows the id 15, goes where the block is made anew. A header alone is enough.
+/// place of the last one of the id or as the last of all. The other elements stay, in order, but those of the
+/// id 0, behind which a receiver that follows RFC 8285, 4.2, reads nothing, and all other parts stay too;
+/// without a block the packet gets one. Where the element is the only one of its id and has as many bytes, and
+/// none is of the id 0, only these bytes change. Else the block is made anew: its padding is used up, and then
+/// the payload moves by whole words; a body never becomes shorter ([`compact`]). What stands where reading ends,
+/// an element that is cut short or what follows the id 15, goes where the block is made anew. A header alone is
+/// enough.
 ///
-/// A one-byte block that can't carry the element becomes a two-byte one, which carries no element of the id 0,
-/// unless the one-byte form alone is `allowed`, as for a peer that hasn't agreed to both in one stream (RFC 8285,
-/// 4.1.2). Where the two-byte form alone is allowed, the block gets that.
+/// A one-byte block that can't carry the element becomes a two-byte one, unless the one-byte form alone is
+/// `allowed`, as for a peer that hasn't agreed to both in one stream (RFC 8285, 4.1.2). Where the two-byte form
+/// alone is allowed, the block gets that.
 ///
 /// # Errors
 ///
@@ -147,8 +149,9 @@ pub fn remove_block(datagram: &mut [u8]) -> Result<usize, NotAPacket> {
 
 /// Makes the packet in the buffer as short as its elements allow, and returns how many bytes it then has, which
 /// are the first ones of the buffer: the elements stand in a row, the body is filled up to whole words, and the
-/// payload moves to the front; what stands where reading ends goes, and a block of another form stays. So
-/// [`remove_element`](crate::PacketMut::remove_element) and then this gives bytes back. A header alone is enough.
+/// payload moves to the front; elements of the id 0 go, and so does what stands where reading ends, and a block
+/// of another form stays. So [`remove_element`](crate::PacketMut::remove_element) and then this gives bytes back.
+/// A header alone is enough.
 ///
 /// # Errors
 ///

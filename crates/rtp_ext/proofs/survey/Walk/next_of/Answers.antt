@@ -1,4 +1,4 @@
-use Rattle.rtp_ext.proofs.Common.{◌≡◌, ◌≢◌, ◌⊎◌, inl, inr, ℕ, ◌+◌, ◌-◌, length, Some, arith, refl, sym, ◌∙◌, subst, false≢true, BeginsWithElement, IsSurveyedTo}
+use Rattle.rtp_ext.proofs.Common.{ℕ, ◌+◌, ◌-◌, length, Some, arith, refl, sym, ◌∙◌, subst, false≢true, BeginsWithElement, IsSurveyedTo}
 use Rattle.rtp_ext.proofs.SurveyLemmas.{IsSurveyedTo-this, IsSurveyedTo-zero, IsSurveyedTo-other}
 use Rattle.rtp_ext.proofs.PlaceLemmas.{length-header-some}
 use Rattle.rtp_ext.proofs.LeftLemmas.{IsLeft-next, next_left, place_left, next_other, end_other, id_other, len_other, fits_all}
@@ -17,24 +17,19 @@ returns-then-other-id-clause-some c = λ last was.
     (IsSurveyedTo-this c.args.form c.args.body.now (length c.args.body.now - length c.loop-other.self.left.now) c.args.id last c.loop-other.self.count c.loop-other.self.others_len
     c.place_before.result (c.loop-other.invariant.4 last was) next c.place_before.ensures.id)
 
-pub overflow_add-self : goal.overflow_add-self
-overflow_add-self c =
+pub overflow_add-self-else-is_paddings : goal.overflow_add-self-else-is_paddings
+overflow_add-self-else-is_paddings c =
     let few = fits_all c.args.form c.args.body.now c.loop-other.self.left.now c.in-Some.other c.in-Some.data.now c.in-Some.after.now c.loop-other.invariant.0 c.in-Some.ensures in
     omega (arith, few, c.element_header_len.ensures c.in-Some.other (length c.in-Some.data.now))
 
-pub overflow_add-self-then-not-is_counted : goal.overflow_add-self-then-not-is_counted
-overflow_add-self-then-not-is_counted c =
+pub overflow_add-self-else-is_paddings-2 : goal.overflow_add-self-else-is_paddings-2
+overflow_add-self-else-is_paddings-2 c =
     let few = fits_all c.args.form c.args.body.now c.loop-other.self.left.now c.in-Some.other c.in-Some.data.now c.in-Some.after.now c.loop-other.invariant.0 c.in-Some.ensures in
     let small = c.loop-other.invariant.2 in
     omega (arith, few, small, c.element_header_len.ensures c.in-Some.other (length c.in-Some.data.now))
 
--- one that is counted and hasn't the id has the id 0
-zero_of : (other id : ℕ) → other ≢ id → (other ≡ id) ⊎ (other ≡ 0) → other ≡ 0
-zero_of other id differs (inl same) = absurd (differs same)
-zero_of other id differs (inr zero_id) = zero_id
-
-pub loop-other-preserved : goal.loop-other-preserved
-loop-other-preserved c =
+pub loop-other-preserved-then-is_paddings : goal.loop-other-preserved-then-is_paddings
+loop-other-preserved-then-is_paddings c =
     let left = c.loop-other.invariant.0 in
     let place = place_left c.args.form c.args.body.now c.loop-other.self.left.now c.in-Some.other c.in-Some.data.now c.in-Some.after.now left c.in-Some.ensures in
     let end = end_other c.args.form c.args.body.now c.loop-other.self.left.now c.in-Some.other c.in-Some.data.now c.in-Some.after.now left c.in-Some.ensures in
@@ -47,17 +42,18 @@ loop-other-preserved c =
       IsLeft-next c.args.form c.args.body.now c.loop-other.self.left.now c.in-Some.other c.in-Some.data.now c.in-Some.after.now left c.in-Some.ensures,
       omega (arith, few, fewer, left.few),
       omega (arith, few, small, left.few),
-      omega (arith, few, counted, header, left.few),
+      omega (arith, few, counted, header, left.few, c.one_more-self.ensures),
       λ last was.
-          subst (λ (at : ℕ). IsSurveyedTo c.args.form c.args.body.now at c.args.id last (c.loop-other.self.count + 1) c.loop-other.self.others_len) end
+          subst (λ (at : ℕ). IsSurveyedTo c.args.form c.args.body.now at c.args.id last c.one_more-self.result c.loop-other.self.others_len) end
+          (subst (λ (more : ℕ). IsSurveyedTo c.args.form c.args.body.now place.end c.args.id last more c.loop-other.self.others_len) (sym c.one_more-self.ensures)
           (IsSurveyedTo-zero c.args.form c.args.body.now (length c.args.body.now - length c.loop-other.self.left.now) c.args.id last c.loop-other.self.count c.loop-other.self.others_len place
           (c.loop-other.invariant.4 last was)
           (next_other c.args.form c.args.body.now c.loop-other.self.left.now c.in-Some.other c.in-Some.data.now c.in-Some.after.now left c.in-Some.ensures)
-          (λ same. c.if-other-id.false (sym id ∙ same)) (id ∙ zero_of c.in-Some.other c.args.id c.if-other-id.false (c.if-not-is_counted.ensures.0 refl))),
+          (λ same. c.if-other-id.false (sym id ∙ same)) (id ∙ c.if-is_paddings.ensures.0 refl))),
     )
 
-pub loop-other-preserved-then-not-is_counted : goal.loop-other-preserved-then-not-is_counted
-loop-other-preserved-then-not-is_counted c =
+pub loop-other-preserved : goal.loop-other-preserved
+loop-other-preserved c =
     let left = c.loop-other.invariant.0 in
     let place = place_left c.args.form c.args.body.now c.loop-other.self.left.now c.in-Some.other c.in-Some.data.now c.in-Some.after.now left c.in-Some.ensures in
     let end = end_other c.args.form c.args.body.now c.loop-other.self.left.now c.in-Some.other c.in-Some.data.now c.in-Some.after.now left c.in-Some.ensures in
@@ -78,5 +74,5 @@ loop-other-preserved-then-not-is_counted c =
           (IsSurveyedTo-other c.args.form c.args.body.now (length c.args.body.now - length c.loop-other.self.left.now) c.args.id last c.loop-other.self.count c.loop-other.self.others_len place
           (c.loop-other.invariant.4 last was)
           (next_other c.args.form c.args.body.now c.loop-other.self.left.now c.in-Some.other c.in-Some.data.now c.in-Some.after.now left c.in-Some.ensures)
-          (λ same. absurd (false≢true (c.if-not-is_counted.ensures.1 (inl (sym id ∙ same))))) (λ zero_id. absurd (false≢true (c.if-not-is_counted.ensures.1 (inr (sym id ∙ zero_id))))))),
+          (λ same. c.if-other-id.false (sym id ∙ same)) (λ zero_id. absurd (false≢true (c.if-is_paddings.ensures.1 (sym id ∙ zero_id)))))),
     )
