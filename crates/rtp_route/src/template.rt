@@ -37,7 +37,7 @@ impl<'a> HeaderTemplate<'a> {
     ghost use Rattle.rtp_route.specs.TemplateOf.{IsTemplate, KeepsFromWriting, lengths_of, header_len_in};
 
     /// Makes the header that the packet gets for the group in the buffer, which is lent to the
-    /// template. A buffer of the header's length and, for each element, 258 bytes has room.
+    /// template. One of twice the packet's header and 264 bytes for each element has room.
     ///
     /// It is refused where a call for one packet is, for more elements than
     /// [`MAX_ELEMENTS`](super::MAX_ELEMENTS), and for two of one id; the buffer then has any bytes.
@@ -58,6 +58,7 @@ impl<'a> HeaderTemplate<'a> {
             return Err(NotRouted::RepeatedId);
         }
         let len = make_header(packet, &Fields::default(), group, buf)?;
+        // Neither is refused: the calls made a packet, in which each element is.
         let header = match RtpPacket::parse(&buf[..len]) {
             Ok(header) => header,
             Err(cause) => return Err(NotRouted::NotPut(NotPut::NotAPacket(cause))),
