@@ -233,16 +233,16 @@ enum { RTPW_ANY_FORM = 0 };
  * of this id, in place of the last one of the id or as the last of all. The other elements stay, in order,
  * and all other parts too, as do the low four bits of a profile 0x1000 to 0x100F (a block that gets the two-byte form
  * here has 0x1000); without a block the packet gets one. Where the element is the only one of its id and has as
- * many bytes, and the block keeps its form, only these bytes change. Else the block is made anew: its padding is used
- * up, and then the payload moves by whole words; a body never becomes shorter (rtpw_compact). What stands where reading
- * ends, an element that is cut short or what follows the id 15, is no element, and goes where the block is made anew.
- * What lies behind the packet's new end stays.
+ * many bytes, no element has the id 0, and the block keeps its form, only these bytes change. Else the block is made
+ * anew: its padding is used up, and then the payload moves by whole words; a body never becomes shorter (rtpw_compact).
+ * What is made anew has no element of the id 0, which is padding's: behind one of the one-byte form with length bits a
+ * receiver that follows RFC 8285, 4.2, reads nothing. What stands where reading ends, an element that is cut short or
+ * what follows the id 15, is no element, and goes too. What lies behind the packet's new end stays.
  *
  * A one-byte block that can't carry the element becomes a two-byte one, where the forms that are allowed let
  * it: RTPW_ANY_FORM; RTPW_ONE_BYTE_FORM alone, as for a peer that hasn't agreed to both in one stream (RFC 8285,
  * 4.1.2), which refuses each packet whose block has the two-byte form, whatever stands there; or RTPW_TWO_BYTE_FORM
- * alone, which the block then gets, also where the element would only change. It carries no element of the id 0, so
- * these go.
+ * alone, which the block then gets, also where the element would only change.
  *
  *     uint8_t bytes[1500];
  *     memcpy(bytes, datagram, len);
@@ -271,8 +271,8 @@ RTPW_CHECKED int32_t rtpw_put_element(uint8_t *buf, size_t size, size_t *len, ui
 RTPW_CHECKED int32_t rtpw_add_element(uint8_t *buf, size_t size, size_t *len, uint8_t id, const uint8_t *data,
                                       size_t data_len, uint8_t allowed);
 
-/* Makes the packet as short as its elements allow: these stand in a row, the body is filled up to whole words,
- * and the payload moves to the front; what stands where reading ends goes. So rtpw_remove_element and then this gives
+/* Makes the packet as short as its elements allow: these stand in a row, without those of the id 0, which is padding's,
+ * the body is filled up to whole words, and the payload moves to the front; what stands where reading ends goes. So rtpw_remove_element and then this gives
  * bytes back; what is then behind the packet, up to its old end, may be anything. A block without elements becomes
  * one of no words, and X stays set; a block of RTPW_OTHER_FORM stays as it is. RTPW_OK; RTPW_BAD_FIELD where *len is
  * past the buffer; or the first cause for which the bytes are no packet. */
