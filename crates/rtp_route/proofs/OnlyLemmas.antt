@@ -1,8 +1,8 @@
 -- Each element that is put is the only one of its id, and where it lies in a row.
 use Rattle.std.proofs.Common.{◌≡◌, ◌≢◌, ℕ, zero, suc, ◌+◌, ◌-◌, ◌*◌, Bool, true, false, cond, List, [], ◌∷◌, ◌++◌, length, drop, replicate, Option, Some, None, All, refl, sym, ap, subst, ◌∙◌, arith, append_assoc, drop_at}
 use Rattle.std.specs.List.{filter, filter_map, flat_map, list_any, AllByRecursion}
-use Rattle.std.proofs.lemmas.Bool.{eq-eqb, eqb-true, ne_eqb}
-use Rattle.std.proofs.lemmas.List.Elements.{filter-append, All-head, All-tail}
+use Rattle.std.proofs.lemmas.Bool.{eq-eqb, eqb-true, ne_eqb, false≢true}
+use Rattle.std.proofs.lemmas.List.Elements.{filter-append, All-nil, All-cons, All-head, All-tail}
 use Rattle.rtp_ext.specs.declared.form.ExtensionsForm.{ExtensionsForm}
 use Rattle.rtp_ext.specs.declared.form.ExtensionsForm.TheVariants.{OneByte, TwoByte}
 use Rattle.rtp_ext.specs.declared.place.Place.{Place}
@@ -15,7 +15,6 @@ use Rattle.rtp_ext.specs.PutElement.{has_id, put_element}
 use Rattle.rtp_ext.specs.WrittenBlock.{filled, padding_of}
 use Rattle.rtp_ext.proofs.ElementLemmas.{elements_left-none, elements_left-padding}
 use Rattle.rtp_ext.proofs.ElementLemmasOfBodies.{elements_left-element, AreElements-padding, AreElements-element, AreElements-tail}
-use Rattle.rtp_ext.proofs.PutLemmas.{none-counted}
 use Rattle.rtp_route.specs.declared.slots.Slot.{Slot}
 use Rattle.rtp_route.specs.Routing.{put_all}
 use Rattle.rtp_route.specs.Template.{HaveOwnIds, HasOnly, IsSlot}
@@ -155,6 +154,26 @@ stands-behind form (Some piece ∷ pieces) (x ∷ xs) element after count are al
       bytes_are = ap (λ (b : List ℕ). element_bytes form piece ++ b) later.bytes_are;
     }
 
+-- none is of the id where none is found, and the other way round
+pub filter-none : (id : ℕ) (elements : List Element) → HasNone elements id → filter (has_id id) elements ≡ []
+filter-none id [] none = refl
+filter-none id (element ∷ elements) none =
+    ap (λ (b : Bool). cond b (element ∷ filter (has_id id) elements) (filter (has_id id) elements)) (ne_eqb element.0 id (All-head (λ (e : Element). e.0 ≢ id) element elements none))
+    ∙ filter-none id elements (All-tail (λ (e : Element). e.0 ≢ id) element elements none)
+
+none-filtered : (id : ℕ) (elements : List Element) → filter (has_id id) elements ≡ [] → HasNone elements id
+none-filtered id [] none = All-nil (λ (e : Element). e.0 ≢ id)
+none-filtered id (element ∷ elements) none = by_test (λ rest. none-filtered id elements rest) (has_id id element) refl
+  where
+    by_test : (filter (has_id id) elements ≡ [] → HasNone elements id) → (same : Bool) → has_id id element ≡ same → HasNone (element ∷ elements) id
+    by_test others true is =
+        let some : cond true (element ∷ filter (has_id id) elements) (filter (has_id id) elements) ≡ [] =
+        ap (λ (b : Bool). cond b (element ∷ filter (has_id id) elements) (filter (has_id id) elements)) (sym is) ∙ none in
+        absurd cc
+    by_test others false is =
+        let rest : filter (has_id id) elements ≡ [] = ap (λ (b : Bool). cond b (element ∷ filter (has_id id) elements) (filter (has_id id) elements)) (sym is) ∙ none in
+        All-cons (λ (e : Element). e.0 ≢ id) element elements (λ same. false≢true (sym is ∙ eq-eqb element.0 id same)) (others rest)
+
 -- the place of the only one of its id
 pub slot-lies : (form : ExtensionsForm) (start : ℕ) (elements : List Element) (new : Element) (place : Place) (slot : Slot) → AllByRecursion (IsElement form) elements → HasOnly elements new
     → place.id ≡ new.0 → LiesLast form (AreElements form) new.0 (filled (elements_bytes form elements)) place → slot.start ≡ start + place.data_start → slot.len + place.data_start ≡ place.end
@@ -176,8 +195,8 @@ slot-lies form start elements new place slot all only id_is last start_is len_is
       before = before;
       after = stands.rest;
       in_order = stands.in_order ∙ ap (λ (e : Element). before ++ e ∷ stands.rest) alone.1;
-      none_before = none-counted new.0 before (ap length alone.0);
-      none_after = none-counted new.0 stands.rest (ap length alone.2);
+      none_before = none-filtered new.0 before alone.0;
+      none_after = none-filtered new.0 stands.rest alone.2;
       start_is = start_is ∙ ap (λ (k : ℕ). start + k) (lies.data_is ∙ ap (λ (k : ℕ). k + length (element_header form place.id (length lies.bytes))) (lies.start_is ∙ long)
           ∙ ap (λ (e : Element). length (elements_bytes form before) + length (element_header form e.0 (length e.1))) alone.1)
           ∙ omega arith;

@@ -9,7 +9,7 @@ use Rattle.rtp_ext.specs.declared.form.ExtensionsForm.TheVariants.{OneByte, TwoB
 use Rattle.rtp_ext.specs.Form.{form_word}
 use Rattle.rtp_ext.specs.Elements.{Element, AreElements, elements_bytes}
 use Rattle.rtp_ext.specs.ElementsInPlace.{HasNone, renumbered}
-use Rattle.rtp_ext.specs.PutElement.{has_id, put_element, carried_in, needed_form, allowed_form}
+use Rattle.rtp_ext.specs.PutElement.{has_id, without, put_element, needed_form, allowed_form}
 use Rattle.rtp_ext.specs.WrittenBlock.{filled}
 use Rattle.rtp_ext.proofs.LastPlaceLemmas.{AreElements-same}
 use Rattle.rtp_ext.proofs.PutLemmas.{without-none}
@@ -66,9 +66,10 @@ none_zero-put new (element ∷ elements) some none =
     none_zero-either new element elements (put_element new elements) some none (none_zero-put new elements some (All-tail SomeId element elements none)) (has_id new.0 element)
     (list_any (has_id new.0) elements)
 
-carried-all : (form : ExtensionsForm) (elements : List Element) → HasNone elements 0 → carried_in form elements ≡ elements
-carried-all OneByte elements none = refl
-carried-all TwoByte elements none = without-none 0 elements none
+none_zero-put_all : (news elements : List Element) → HasNone news 0 → HasNone elements 0 → HasNone (put_all news elements) 0
+none_zero-put_all [] elements some none = none
+none_zero-put_all (new ∷ news) elements some none =
+    none_zero-put_all news (put_element new elements) (All-tail SomeId new news some) (none_zero-put new elements (All-head SomeId new news some) none)
 
 -- ---- the word of a block's form
 
@@ -209,8 +210,8 @@ put-each (new ∷ news) allowed bytes final parts elements is are none ids put =
     let p_is : growth.parts ≡ parts = same_parts bytes growth.parts parts growth.is_packet is in
     let es_is : growth.elements ≡ elements =
     same_elements parts.block growth.elements elements (subst (λ (p : PacketParts). AreElementsOf p.block growth.elements) p_is growth.are_elements) are in
-    let with_all : elements_with growth.form new growth.elements ≡ put_element new elements =
-    ap (λ (es : List Element). put_element new (carried_in growth.form es)) es_is ∙ ap (put_element new) (carried-all growth.form elements none) in
+    let with_all : elements_with new growth.elements ≡ put_element new elements =
+    ap (λ (es : List Element). put_element new (without 0 es)) es_is ∙ ap (put_element new) (without-none 0 elements none) in
     let next : PacketParts = record parts { has_extension = true; block = Some (growth.form, puts.body) } in
     let next_is : IsPacket (take put.1 put.0) next =
     subst (λ (p : PacketParts). IsPacket (take put.1 put.0) (record p { has_extension = true; block = Some (growth.form, puts.body) })) p_is puts.is_packet in
@@ -236,11 +237,15 @@ put-each (new ∷ news) allowed bytes final parts elements is are none ids put =
 
 -- ---- the whole
 
-row-compact : (block : Option (ExtensionsForm × List ℕ)) (form : Option ExtensionsForm) (elements : List Element) → form_of_block block ≡ form → compact_block elements block ≡ row_in form elements
-row-compact None None elements is = refl
-row-compact None (Some form) elements is = absurd cc
-row-compact (Some block) None elements is = absurd cc
-row-compact (Some block) (Some form) elements is = let same : block.0 ≡ form = cc in ap (λ (f : ExtensionsForm). Some (f, filled (elements_bytes f elements))) same
+row-compact : (block : Option (ExtensionsForm × List ℕ)) (form : Option ExtensionsForm) (elements : List Element) → HasNone elements 0 → form_of_block block ≡ form
+    → compact_block elements block ≡ row_in form elements
+row-compact None None elements none is = refl
+row-compact None (Some form) elements none is = absurd cc
+row-compact (Some block) None elements none is = absurd cc
+row-compact (Some block) (Some form) elements none is =
+    let same : block.0 ≡ form = cc in
+    ap (λ (f : ExtensionsForm). Some (f, filled (elements_bytes f (without 0 elements)))) same
+    ∙ ap (λ (es : List Element). Some (form, filled (elements_bytes form es))) (without-none 0 elements none)
 
 -- the packet under its new ids
 pub record HasNewIds (ids : ℕ → Option ℕ) (elements : List Element) (was new : PacketParts) : Type 0 where
@@ -305,8 +310,10 @@ routed-by_calls old new len fields ids news allowed gives no_zero calls =
     new_ids ids calls.elements was calls.renumbered.parts calls.parts.block refl calls.were_elements calls.renumbered.is_renumbered in
     let here : PacketParts = record was { block = has.block } in
     let is_here : IsPacket calls.renumbered_bytes here = subst (IsPacket calls.renumbered_bytes) has.parts_are calls.renumbered.is_packet in
+    let none : HasNone es 0 = none_zero-renumbered ids calls.elements gives in
+    let all_none : HasNone (put_all news es) 0 = none_zero-put_all news es no_zero none in
     let put : IsPutTo calls.renumbered_bytes here es news allowed calls.put_bytes =
-    put-each news allowed calls.renumbered_bytes calls.put_bytes here es is_here has.are_elements (none_zero-renumbered ids calls.elements gives) no_zero calls.are_put in
+    put-each news allowed calls.renumbered_bytes calls.put_bytes here es is_here has.are_elements none no_zero calls.are_put in
     let there : PacketParts = record here { has_extension = extension_after news here.has_extension; block = put.block } in
     let compacts : Compacts calls.put_bytes new len = calls.compacted in
     let p_is : compacts.parts ≡ there = same_parts calls.put_bytes compacts.parts there compacts.was_packet put.is_packet in
@@ -315,7 +322,7 @@ routed-by_calls old new len fields ids news allowed gives no_zero calls =
     let with_parts : IsPacket (take len new) (record there { block = compact_block compacts.elements put.block }) =
     subst (λ (p : PacketParts). IsPacket (take len new) (record p { block = compact_block compacts.elements p.block })) p_is compacts.is_packet in
     let block_is : compact_block compacts.elements put.block ≡ row_in put.form (put_all news es) =
-    ap (λ (xs : List Element). compact_block xs put.block) es_is ∙ row-compact put.block put.form (put_all news es) put.form_is in
+    ap (λ (xs : List Element). compact_block xs put.block) es_is ∙ row-compact put.block put.form (put_all news es) all_none put.form_is in
     let whole : IsPacket (take len new) (record there { block = row_in put.form (put_all news es) }) =
     subst (λ (b : Option (ExtensionsForm × List ℕ)). IsPacket (take len new) (record there { block = b })) block_is with_parts in
     let split = header-split (take len new) (record there { block = row_in put.form (put_all news es) }) whole in
@@ -352,8 +359,8 @@ routed-by_calls old new len fields ids news allowed gives no_zero calls =
         form_is = subst (λ (f : Option ExtensionsForm). IsFormAfter allowed f news put.form) has.same_form put.is_after;
         is_packet = split.2;
         are_elements = subst (λ (b : Option (ExtensionsForm × List ℕ)). AreElementsOf b (put_all news es)) block_is
-            (subst (λ (xs : List Element). AreElementsOf (compact_block compacts.elements put.block) xs) es_is
-            (subst (λ (p : PacketParts). AreElementsOf (compact_block compacts.elements p.block) compacts.elements) p_is compacts.are_elements));
+            (subst (λ (xs : List Element). AreElementsOf (compact_block compacts.elements put.block) xs) (ap (without 0) es_is ∙ without-none 0 (put_all news es) all_none)
+            (subst (λ (p : PacketParts). AreElementsOf (compact_block compacts.elements p.block) (without 0 compacts.elements)) p_is compacts.are_elements));
         word_is = record {
           word_is = λ f is same. last_word f is ∙ put.word_is.word_is f is (same_form ∙ same) ∙ first_word;
           new_word_is = λ f is other. last_word f is ∙ put.word_is.new_word_is f is (λ same. other (sym same_form ∙ same));

@@ -2,7 +2,7 @@ use Rattle.std.proofs.Common.{refl, sym, ap, ◌∙◌, [], ◌∷◌, ◌≡◌
 use Rattle.std.specs.List.{filter}
 use Rattle.rtp_ext.specs.PutElement.{has_id}
 use Rattle.rtp_route.proofs.SlotsFound.{slot-found, row-in}
-use Rattle.rtp_ext.proofs.PutLemmas.{filter-none}
+use Rattle.rtp_route.proofs.OnlyLemmas.{filter-none}
 use Rattle.rtp_route.proofs.slots.slot_of.Goals as goal
 
 pub returns-in_err-place-clause-found : goal.returns-in_err-place-clause-found
