@@ -146,7 +146,7 @@ first_there size state count found low taken (Some h) holds top empty = refl
 module _ (bounds : Bounds) (count found : ℕ) (taken : Numbers) (highest : Option ℕ) (Lead : ℕ → Type 0) (low : ℕ)
     (top : IsHighest taken highest) (there : first_number found highest low ≡ first_number count highest low) where
   -- the packet that begins an epoch by its row does so
-  pub Begins-from : (number : ℕ) → BeginsAt bounds.min_sequential found highest Lead low number → Begins bounds count taken Lead low (announced highest number)
+  Begins-from : (number : ℕ) → BeginsAt bounds.min_sequential found highest Lead low number → Begins bounds count taken Lead low (announced highest number)
   Begins-from number begins =
       let is : number ≡ first_number count highest low = begins.number_is ∙ there in
       record {
