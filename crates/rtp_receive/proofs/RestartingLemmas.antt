@@ -146,7 +146,7 @@ first_there size state count found low taken (Some h) holds top empty = refl
 module _ (bounds : Bounds) (count found : ℕ) (taken : Numbers) (highest : Option ℕ) (Lead : ℕ → Type 0) (low : ℕ)
     (top : IsHighest taken highest) (there : first_number found highest low ≡ first_number count highest low) where
   -- the packet that begins an epoch by its row does so
-  Begins-from : (number : ℕ) → BeginsAt bounds.min_sequential found highest Lead low number → Begins bounds count taken Lead low (announced highest number)
+  pub Begins-from : (number : ℕ) → BeginsAt bounds.min_sequential found highest Lead low number → Begins bounds count taken Lead low (announced highest number)
   Begins-from number begins =
       let is : number ≡ first_number count highest low = begins.number_is ∙ there in
       record {
@@ -164,15 +164,6 @@ module _ (bounds : Bounds) (count found : ℕ) (taken : Numbers) (highest : Opti
         fits = subst (λ (h : Option ℕ). first_number count h low < 2 ^ 64) same begins.is_first.fits;
         lead = subst (λ (h : Option ℕ). Lead (leading_after bounds.min_sequential h)) same begins.lead;
       }
-
--- the packet that begins an epoch by its row is answered as the first one of an epoch is
-pub begun : {W : Type 0} (size : ℕ) (receiver : RestartingStreamReceiver W) (count found low number : ℕ) (taken : Numbers) (highest : Option ℕ) (verdict : RestartingVerdict)
-    → HoldsEpochOf size receiver count taken → IsHighest taken highest → ((c : ℕ) → receiver.receiver ≡ Start c → found ≡ c)
-    → BeginsAt receiver.min_sequential found highest (RowLeadsOf receiver low) low number → announced highest number ≡ verdict
-    → Begins (bounds_of_size size receiver) count taken (RowLeadsOf receiver low) low verdict
-begun size receiver count found low number taken highest verdict holds top empty begins is =
-    subst (λ (v : RestartingVerdict). Begins (bounds_of_size size receiver) count taken (RowLeadsOf receiver low) low v) is
-    (Begins-from (bounds_of_size size receiver) count found taken highest (RowLeadsOf receiver low) low top (first_there size receiver.receiver count found low taken highest holds top empty) number begins)
 
 -- what is answered to the first packet of all, and to one of a later epoch
 pub announced_new : (highest : Option ℕ) (number : ℕ) → is_some highest ≡ false → announced highest number ≡ Taken number
