@@ -50,6 +50,30 @@ impl RestartingRow {
         }
     }
 
+    // The number of the packet as the first one of an epoch, where as many lead up to it as must
+    // and it has one.
+    fn first(
+        &self,
+        sequence_number: u16,
+        min_sequential: u8,
+        highest: Option<SeqNo>,
+        rollover_count: u64,
+    ) -> Option<SeqNo>
+        requires { rollover_count < 2 ^ 48 }
+        ensures begins { (number : ℕ) → result ≡ Some number →
+            BeginsAt min_sequential rollover_count highest
+            (Leads self.now.len self.now.next sequence_number) sequence_number number }
+        ensures none { result ≡ None → (number : ℕ) →
+            BeginsAt min_sequential rollover_count highest
+            (Leads self.now.len self.now.next sequence_number) sequence_number number → ⊥ }
+    {
+        let (leading, first_count) = first_after(highest, rollover_count, min_sequential);
+        if self.before(sequence_number) < leading || first_count >= 1 << 48 {
+            return None;
+        }
+        Some(SeqNo::from(first_count * 65_536 + u64::from(sequence_number)))
+    }
+
     /// Judges a packet that is outside of the stream: returns the number with which it begins an
     /// epoch, and the row ends; or `None` where it begins none, and then it is one more of the row.
     ///
@@ -75,15 +99,17 @@ impl RestartingRow {
             ↔ ((result ≡ None) × (later ≡ (sequence_number + 1) % 65536)
             × Leads self.old.len self.old.next sequence_number k) }
     {
-        let (leading, first_count) = first_after(highest, rollover_count, min_sequential);
-        let before = self.before(sequence_number);
-        if before < leading || first_count >= 1 << 48 {
-            self.len = before.saturating_add(1);
-            self.next = sequence_number.wrapping_add(1);
-            return None;
+        match self.first(sequence_number, min_sequential, highest, rollover_count) {
+            Some(number) => {
+                self.len = 0;
+                Some(number)
+            }
+            None => {
+                self.len = self.before(sequence_number).saturating_add(1);
+                self.next = sequence_number.wrapping_add(1);
+                None
+            }
         }
-        self.len = 0;
-        Some(SeqNo::from(first_count * 65_536 + u64::from(sequence_number)))
     }
 }
 
