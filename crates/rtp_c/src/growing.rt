@@ -15,7 +15,10 @@ use super::status::{
 };
 use rtp_wire::{NotPut, compact, put_element};
 
-// The status of this cause.
+// The status of this cause. It stays out of line, so that no status is at hand for a packet that isn't
+// refused.
+#[cold]
+#[inline(never)]
 pub fn put_status_of(cause: NotPut) -> i32
     ensures { result ≡ put_status cause }
 {

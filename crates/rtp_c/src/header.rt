@@ -51,6 +51,17 @@ pub struct HeaderView {
     pub values: ValuesView,
 }
 
+// Puts the contributing sources into the first slots and zeros into the others, and returns how many
+// sources there are. It stays out of line, so that less is kept where a packet is refused.
+#[inline(never)]
+fn put_sources(packet: &RtpPacket<'_>, slots: &mut [u32; 15]) -> u8
+    ensures sources { slots.new ≡ (parts_of packet.now).sources
+        ++ replicate (15 - length (parts_of packet.now).sources) 0 }
+    ensures count { result ≡ length (parts_of packet.now).sources }
+{
+    packet.put_csrc(slots) as u8
+}
+
 // Puts what C is told of the values that the packet's block gives under the map.
 #[inline(always)]
 fn put_values_of(packet: &RtpPacket<'_>, map: &StoredMap, view: &mut ValuesView)
@@ -99,7 +110,7 @@ fn put_fields(packet: &RtpPacket<'_>, view: &mut HeaderView)
     view.header_len = packet.header_len();
     view.timestamp = packet.timestamp();
     view.ssrc = packet.ssrc().get();
-    view.csrc_count = packet.put_csrc(&mut view.csrc) as u8;
+    view.csrc_count = put_sources(packet, &mut view.csrc);
     view.sequence_number = packet.sequence_number();
     view.payload_type = packet.payload_type().get();
     view.marker = flag_number(packet.marker());
