@@ -11,21 +11,19 @@ ghost use Rattle.rtp_c.specs.PutStatus.{put_status, IsPutStatus};
 
 use super::packet::allowed_of;
 use super::status::{
-    BAD_FIELD, BAD_ID, FORM_NOT_ALLOWED, LONG_BLOCK, OK, SHORT_BUFFER, UNKNOWN_FORM, status_of,
+    BAD_FIELD, BAD_ID, FORM_NOT_ALLOWED, LONG_BLOCK, OK, SHORT_BUFFER, UNKNOWN_FORM,
+    refusal_status, status_of,
 };
 use rtp_wire::{NotPut, compact, put_element};
 
-// The status of this cause. It stays out of line, so that no status is at hand for a packet that isn't
-// refused.
-#[cold]
-#[inline(never)]
+// The status of this cause.
 pub fn put_status_of(cause: NotPut) -> i32
     ensures { result ≡ put_status cause }
 {
     match cause {
         NotPut::CutPacket | NotPut::LongData => BAD_FIELD,
         NotPut::ZeroId => BAD_ID,
-        NotPut::NotAPacket(cause) => status_of(cause),
+        NotPut::NotAPacket(cause) => refusal_status(cause),
         NotPut::OtherForm => UNKNOWN_FORM,
         NotPut::OneByteOnly => FORM_NOT_ALLOWED,
         NotPut::LongBlock => LONG_BLOCK,
