@@ -11,19 +11,21 @@ ghost use Rattle.rtp_c.specs.PutStatus.{put_status, IsPutStatus};
 
 use super::packet::allowed_of;
 use super::status::{
-    BAD_FIELD, BAD_ID, FORM_NOT_ALLOWED, LONG_BLOCK, OK, SHORT_BUFFER, UNKNOWN_FORM,
-    refusal_status, status_of,
+    BAD_FIELD, BAD_ID, FORM_NOT_ALLOWED, LONG_BLOCK, OK, SHORT_BUFFER, UNKNOWN_FORM, status_of,
 };
 use rtp_wire::{NotPut, compact, put_element};
 
-// The status of this cause.
+// The status of this cause. It stays out of line, so that a call does nothing for it where an element
+// is put.
+#[cold]
+#[inline(never)]
 pub fn put_status_of(cause: NotPut) -> i32
     ensures { result ≡ put_status cause }
 {
     match cause {
         NotPut::CutPacket | NotPut::LongData => BAD_FIELD,
         NotPut::ZeroId => BAD_ID,
-        NotPut::NotAPacket(cause) => refusal_status(cause),
+        NotPut::NotAPacket(cause) => status_of(cause),
         NotPut::OtherForm => UNKNOWN_FORM,
         NotPut::OneByteOnly => FORM_NOT_ALLOWED,
         NotPut::LongBlock => LONG_BLOCK,
@@ -67,6 +69,8 @@ pub extern "C" fn rtpw_put_element(
         return BAD_FIELD;
     };
     match put_element(buf, *len, id, data, allowed) {
+        // A sender may have such a block in each packet.
+        Err(NotPut::OtherForm) => UNKNOWN_FORM,
         Err(cause) => put_status_of(cause),
         Ok(new_len) => {
             *len = new_len;
