@@ -135,7 +135,7 @@ func TestVersion(t *testing.T) {
 	if !strings.Contains(string(header), `#define RTPW_VERSION "`+rtpwire.Version+`"`) {
 		t.Error(rtpwire.Version)
 	}
-	same(t, "the library's version", rtpwire.LibraryVersion(), uint32(0<<16|1<<8|0))
+	same(t, "the library's version", rtpwire.LibraryVersion(), uint32(1<<16|0<<8|0))
 }
 
 func TestElements(t *testing.T) {

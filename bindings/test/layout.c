@@ -246,7 +246,7 @@ HOLDS(offsetof(rtpw_dependency_descriptor, start_of_frame) == 2);
 HOLDS(offsetof(rtpw_dependency_descriptor, end_of_frame) == 3);
 HOLDS(offsetof(rtpw_dependency_descriptor, template_id) == 4);
 
-HOLDS(RTPW_VERSION_NUMBER == 256);
+HOLDS(RTPW_VERSION_NUMBER == 65536);
 HOLDS(RTPW_OK == 0);
 HOLDS(RTPW_CUT_FIXED_PART == 1);
 HOLDS(RTPW_OTHER_VERSION == 2);
