@@ -2,8 +2,8 @@
  * rtp_lines for Linux on aarch64: the assembly text that Rattle's compiler makes of the program, each function of which is proved.
  * Made anew by: generated/make
  * kit: rattle-kit-13f logic dac8208d650f15bf
- * sources: 37770cbbd3ea56c7b9e351d2897877a926c1b019a187fdbf9b16925225e9f051
- * text: b27cf2f9d659c5e6a1af49d162c5ee6008aebe4472b35d8c5ff59332d8bda53f
+ * sources: f59e930ae6bb630785238a1b34605154faf81aec38a20a795759750cfbbd9c0f
+ * text: fcd49c949a3e34714dca2d0cde5e3707e53417493a3efec32f68b8bf09aa4bb2
  * SPDX-License-Identifier: MIT OR Apache-2.0
  * Copyright (c) 2026 The rtp-wire developers (NOTICE)
  */

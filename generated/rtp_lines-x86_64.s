@@ -2,8 +2,8 @@
  * rtp_lines for Linux on x86_64: the assembly text that Rattle's compiler makes of the program, each function of which is proved.
  * Made anew by: generated/make
  * kit: rattle-kit-13f logic dac8208d650f15bf
- * sources: 37770cbbd3ea56c7b9e351d2897877a926c1b019a187fdbf9b16925225e9f051
- * text: d4c38d815a47afaae23fccf74d51ab584079b8aaed6b493b36fa122d4ddce64f
+ * sources: f59e930ae6bb630785238a1b34605154faf81aec38a20a795759750cfbbd9c0f
+ * text: df4d08fbc1cdc0988438d2de6cb7c69d4593cae4385083227b5b727bd71fb8a9
  * SPDX-License-Identifier: MIT OR Apache-2.0
  * Copyright (c) 2026 The rtp-wire developers (NOTICE)
  */

@@ -35,4 +35,4 @@
 package rtpwire
 
 // Version is the version of this package and of its library.
-const Version = "0.1.0"
+const Version = "1.0.0"

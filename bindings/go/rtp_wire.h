@@ -66,8 +66,8 @@ extern "C" {
 #endif
 
 /* The version of this header file: as text, and as the number that rtpw_version returns of its library. */
-#define RTPW_VERSION "0.1.0"
-#define RTPW_VERSION_NUMBER 256
+#define RTPW_VERSION "1.0.0"
+#define RTPW_VERSION_NUMBER 65536
 
 /* The version of the library that is linked: 65,536 times its major number, 256 times the minor one,
  * and the patch. */

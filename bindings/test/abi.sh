@@ -1,5 +1,5 @@
 #!/usr/bin/env bash
-# Whether bindings/c/rtp_wire.h is the ABI that abi-0.txt lists: the size and the alignment of each struct, the place,
+# Whether bindings/c/rtp_wire.h is the ABI that abi-1.txt lists: the size and the alignment of each struct, the place,
 # the size and the type of each field, each constant, and each function. Prints what differs; the status is then 1.
 #
 # usage: bindings/test/abi.sh [--write]      with --write: writes the list anew

@@ -23,7 +23,7 @@ measure() { # arguments of the program
     done <"$scratch/nanoseconds"
 }
 measure >"$scratch/all"
-sed -nE 's/^function .*\<(rtpw_[a-z0-9_]+)\(.*/\1/p' bindings/test/abi-0.txt | sort >"$scratch/declared"
+sed -nE 's/^function .*\<(rtpw_[a-z0-9_]+)\(.*/\1/p' bindings/test/abi-1.txt | sort >"$scratch/declared"
 cut -d' ' -f1 "$scratch/all" | sort | diff "$scratch/declared" - >&2 || {
     echo 'costs.sh: not the functions of the header file' >&2
     exit 1

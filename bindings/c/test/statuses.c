@@ -53,11 +53,11 @@ static void statuses_are_told(void) {
 static void versions_agree(void) {
     unsigned major, minor, patch;
     char rest;
-    CHECK(strcmp(RTPW_VERSION, "0.1.0") == 0);
+    CHECK(strcmp(RTPW_VERSION, "1.0.0") == 0);
     CHECK(sscanf(RTPW_VERSION, "%u.%u.%u%c", &major, &minor, &patch, &rest) == 3);
     CHECK(rtpw_version() == 65536 * major + 256 * minor + patch);
-    CHECK(rtpw_version() == 256);
-    CHECK(RTPW_VERSION_NUMBER == 256);
+    CHECK(rtpw_version() == 65536);
+    CHECK(RTPW_VERSION_NUMBER == 65536);
 }
 
 int main(void) {

@@ -1,14 +1,18 @@
--- What C is told of values and layers that were read apart: each stands in its place.
-use Rattle.std.proofs.Common.{◌≡◌, ℕ, Bool, true, false, Option, Some, None, is_some, IfSome, unwrap_or, ap, sym, ◌∙◌}
+-- What C is told of a packet: there is a place for each of its sources, and of values and layers that were read apart each stands in its place.
+use Rattle.std.proofs.Common.{◌≡◌, ℕ, ◌≤◌, List, length, Bool, true, false, Option, Some, None, is_some, IfSome, unwrap_or, ap, sym, ◌∙◌, subst, arith}
 use Rattle.std.proofs.lemmas.Bool.{false≢true}
 use Rattle.rtp_base.specs.Flag.{bit}
 use Rattle.rtp_vla.specs.Allocation.{Allocation, nothing_sent}
 use Rattle.rtp_values.specs.declared.value.values.ExtensionValues.{ExtensionValues}
 use Rattle.rtp_ext.specs.BlockValues.{ShowsApart}
+use Rattle.rtp_wire.specs.Packet.{PacketParts, IsPacket}
 use Rattle.rtp_c.specs.declared.layers.Layers.{Layers}
 use Rattle.rtp_c.specs.declared.values.ValuesView.{ValuesView}
 use Rattle.rtp_c.specs.LayersView.{IsViewOfLayers}
 use Rattle.rtp_c.specs.ValuesView.{IsViewOfValues}
+
+pub few_sources : (bytes : List ℕ) (parts : PacketParts) → IsPacket bytes parts → length parts.sources ≤ 15
+few_sources bytes parts is = omega (arith, is.fixed_is.first_is.few)
 
 -- values in this place, and layers in that one
 abbrev pub AreReadApart : ValuesView → Layers → Bool → ExtensionValues → Type 0

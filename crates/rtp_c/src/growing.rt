@@ -15,8 +15,8 @@ use super::status::{
 };
 use rtp_wire::{NotPut, compact, put_element};
 
-// The status of this cause. It stays out of line, so that no status is at hand for a packet that isn't
-// refused.
+// The status of this cause. It stays out of line, so that a call does nothing for it where an element
+// is put.
 #[cold]
 #[inline(never)]
 pub fn put_status_of(cause: NotPut) -> i32
@@ -69,6 +69,8 @@ pub extern "C" fn rtpw_put_element(
         return BAD_FIELD;
     };
     match put_element(buf, *len, id, data, allowed) {
+        // A sender may have such a block in each packet.
+        Err(NotPut::OtherForm) => UNKNOWN_FORM,
         Err(cause) => put_status_of(cause),
         Ok(new_len) => {
             *len = new_len;

@@ -20,7 +20,7 @@ use super::layers::{Layers, put_no_layers};
 use super::status::{OK, UNKNOWN_FORM, header_status_of};
 use super::values::{ValuesView, flag_number, put_no_values, put_values};
 use rtp_ext::read_apart;
-use rtp_wire::{RtpHeader, RtpPacket};
+use rtp_wire::{Csrcs, RtpHeader, RtpPacket};
 
 /// The header of a packet (RFC 3550, 5.1), with the values of its block: `rtpw_header` in C, 224
 /// bytes.
@@ -51,15 +51,21 @@ pub struct HeaderView {
     pub values: ValuesView,
 }
 
-// Puts the contributing sources into the first slots and zeros into the others, and returns how many
-// sources there are. It stays out of line, so that less is kept where a packet is refused.
-#[inline(never)]
-fn put_sources(packet: &RtpPacket<'_>, slots: &mut [u32; 15]) -> u8
-    ensures sources { slots.new ≡ (parts_of packet.now).sources
-        ++ replicate (15 - length (parts_of packet.now).sources) 0 }
-    ensures count { result ≡ length (parts_of packet.now).sources }
+// Puts the sources into the first slots and zeros into the others, and returns how many sources
+// there are.
+fn put_sources(sources: Csrcs<'_>, slots: &mut [u32; 15]) -> u8
+    requires { length sources ≤ 15 }
+    ensures sources { slots.new
+        ≡ sources.entry ++ replicate (15 - length sources.entry) 0 }
+    ensures count { result ≡ length sources.entry }
 {
-    packet.put_csrc(slots) as u8
+    *slots = [0; 15];
+    let mut count = 0;
+    for source in sources {
+        slots[usize::from(count)] = source;
+        count += 1;
+    }
+    count
 }
 
 // Puts what C is told of the values that the packet's block gives under the map.
@@ -104,13 +110,14 @@ fn put_values_and_layers_of(
 // Puts the fields of the packet's header, and leaves the values.
 #[inline(always)]
 fn put_fields(packet: &RtpPacket<'_>, view: &mut HeaderView)
+    requires sources { length (parts_of packet.now).sources ≤ 15 }
     ensures { (values : ExtensionValues) (told : ValuesView) → IsViewOfValues values told →
         IsViewOfHeader (header_of (parts_of packet.now) values) (record view.new { values = told }) }
 {
     view.header_len = packet.header_len();
     view.timestamp = packet.timestamp();
     view.ssrc = packet.ssrc().get();
-    view.csrc_count = put_sources(packet, &mut view.csrc);
+    view.csrc_count = put_sources(packet.csrc(), &mut view.csrc);
     view.sequence_number = packet.sequence_number();
     view.payload_type = packet.payload_type().get();
     view.marker = flag_number(packet.marker());

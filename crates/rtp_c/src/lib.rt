@@ -44,7 +44,7 @@ mod writing_layers;
 /// patch. That of the header file is `RTPW_VERSION`.
 #[unsafe(no_mangle)]
 pub extern "C" fn rtpw_version() -> u32
-    ensures { result ≡ 256 }
+    ensures { result ≡ 65536 }
 {
-    256
+    65_536
 }

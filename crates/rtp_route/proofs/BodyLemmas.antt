@@ -9,7 +9,7 @@ use Rattle.rtp_ext.specs.Form.{IsFormWord}
 use Rattle.rtp_wire.specs.Block.{IsBlock, word_at}
 use Rattle.rtp_wire.specs.Packet.{PacketParts, IsAnnouncedBlock, IsPacket, block_len}
 use Rattle.rtp_wire.proofs.PartsLemmas.{length-packet}
-use Rattle.rtp_route.proofs.RoutingLemmas.{word_in_front}
+use Rattle.rtp_route.proofs.WordLemmas.{word_in_front}
 
 -- what X announces is this block, and may be another one
 pub record Announces (x : Bool) (other : Option (ℕ × List ℕ)) (part : List ℕ) (form : ExtensionsForm) (body : List ℕ) : Type 0 where

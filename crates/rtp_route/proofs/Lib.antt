@@ -1,5 +1,6 @@
 mod LentLemmas
 mod ByCallsLemmas
+mod WordLemmas
 mod RoutingLemmas
 mod SetDataLemmas
 mod SlotLemmas

@@ -29,7 +29,7 @@ use Rattle.rtp_route.specs.TemplateOf.{header_of, slots_in, lengths_of, IsTempla
 use Rattle.rtp_route.proofs.ByCallsLemmas.{front-put}
 use Rattle.rtp_route.proofs.BodyLemmas.{has-body}
 use Rattle.rtp_route.proofs.OnlyLemmas.{elements-by_turns, filled-elements, only-put_all}
-use Rattle.rtp_route.proofs.RoutingLemmas.{word_of, word_in_front, from_twelve}
+use Rattle.rtp_route.proofs.WordLemmas.{word_of, word_in_front, from_twelve}
 use Rattle.rtp_route.proofs.SetDataLemmas.{all_set, sets, put_all-data}
 use Rattle.rtp_route.proofs.SlotLemmas.{slots-stay, write-slots, filled-sets_length, slots-lengths}
 

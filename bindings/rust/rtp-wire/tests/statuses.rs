@@ -202,7 +202,7 @@ fn texts_are_those_of_the_header_file() {
         rtp_wire::version(),
         65_536 * parts[0] + 256 * parts[1] + parts[2]
     );
-    assert_eq!(rtp_wire::version(), 256);
+    assert_eq!(rtp_wire::version(), 65_536);
 }
 
 #[test]

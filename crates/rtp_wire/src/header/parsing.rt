@@ -114,10 +114,10 @@ impl<'a> RtpPacket<'a> {
     ghost use Rattle.rtp_wire.specs.declared.header.rtp_header.RtpHeader.{RtpHeader};
     ghost use Rattle.rtp_wire.specs.PartsOf.{parts_of};
 
-    /// Puts the contributing sources into the first slots and zeros into the others, and returns
-    /// how many sources there are, at most 15 (RFC 3550, 5.1).
+    // Puts the contributing sources into the first slots and zeros into the others, and returns
+    // how many sources there are.
     #[inline(always)]
-    pub fn put_csrc(&self, slots: &mut [u32; 15]) -> usize
+    fn put_csrc(&self, slots: &mut [u32; 15]) -> usize
         ensures sources { slots.new ≡ (parts_of self.now).sources
             ++ replicate (15 - length (parts_of self.now).sources) 0 }
         ensures count { result ≡ length (parts_of self.now).sources }

@@ -3,7 +3,11 @@ use Rattle.rtp_wire.specs.Header.{header_of}
 use Rattle.rtp_wire.specs.PartsOf.{parts_of}
 use Rattle.rtp_c.specs.StoredMap.{numbered_slots}
 use Rattle.rtp_c.proofs.NumberedLemmas.{HasKinds-numbered}
+use Rattle.rtp_c.proofs.HeaderViewLemmas.{few_sources}
 use Rattle.rtp_c.proofs.header.read_header.Goals as goal
+
+pub put_fields-requires : goal.put_fields-requires
+put_fields-requires c = record { sources = few_sources c.args.buf.now _ c.in-Ok.ensures.found }
 
 pub returns-in-Ok : goal.returns-in-Ok
 returns-in-Ok c =
