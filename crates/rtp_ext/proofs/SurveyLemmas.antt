@@ -1,5 +1,5 @@
 -- What is known of a body's elements from the front up to an offset.
-use Rattle.rtp_ext.proofs.Common.{◌≡◌, ◌≢◌, ℕ, ◌+◌, ◌-◌, Bool, true, false, cond, List, [], ◌∷◌, ◌++◌, length, drop, Option, Some, None, IfNone, length-append, arith, refl, sym, ap, ◌∙◌, subst, filter, append-nil, drop_at, filter-append, ExtensionsForm, Place, Element, element_bytes, elements_bytes, AreElements, BeginsWithNoElement, HasNone, IsNextPlace, IsLastOrNone, IsSurvey, IsSurveyedTo, goes, others, eq-eqb, ne_eqb, has_id, without}
+use Rattle.rtp_ext.proofs.Common.{◌≡◌, ◌≢◌, ℕ, ◌+◌, ◌-◌, Bool, true, false, cond, List, [], ◌∷◌, ◌++◌, length, drop, Option, Some, None, IfNone, length-append, arith, refl, sym, ap, ◌∙◌, subst, filter, append-nil, drop_at, filter-append, ExtensionsForm, Place, Element, element_bytes, elements_bytes, AreElements, BeginsWithNoElement, HasNone, IsNextPlace, IsLastOrNone, IsSurvey, IsSurveyedTo, goes, others}
 use Rattle.rtp_ext.proofs.PlaceLemmas.{length-element, length-header-some}
 use Rattle.rtp_ext.proofs.PieceLemmas.{AreElements-after, AreElements-none}
 use Rattle.rtp_ext.proofs.LastPlaceLemmas.{IsPassed-start, IsPassed-this, IsPassed-other, IsPassed-lies, elements-start, elements-other, elements-this}

@@ -19,7 +19,7 @@ ghost use Rattle.rtp_ext.specs.WrittenBlock.{mapped_fields};
 use super::elements::first_element;
 use super::form::{element_header_len, write_header};
 use super::raw_writing::clear;
-use super::survey::survey_of;
+use super::survey::survey_by;
 use super::{ExtensionsForm, NewIds};
 
 /// Where an element lies in the body of a block, as offsets from the body's first byte.
@@ -87,7 +87,7 @@ pub fn last_place(form: ExtensionsForm, body: &[u8], id: u8) -> Option<Place>
     ensures none { (elements : List Element) → AreElements form body.now elements →
         IfNone result (HasNone elements id) }
 {
-    survey_of(form, body, id).last
+    survey_by(form, body, id, false).last
 }
 
 // Gives the element at the place another id, or makes it padding.

@@ -1,7 +1,7 @@
 //! What the body of a block has of an id.
 
 ghost use Rattle.std.specs.Prelude.{◌≡◌, ℕ, ◌+◌, ◌-◌, ◌^◌, ◌<◌, ◌≤◌, length, drop, Option, Some, IfSome, IfNone};
-ghost use Rattle.rtp_ext.specs.ElementReading.{BeginsWithNoElement};
+ghost use Rattle.rtp_ext.specs.ElementReading.{BeginsWithElement, BeginsWithNoElement, IsFirstElement};
 ghost use Rattle.rtp_ext.specs.ElementPlaces.{IsLeft};
 ghost use Rattle.rtp_ext.specs.BodySurvey.{IsSurvey, IsSurveyedTo};
 
@@ -44,14 +44,23 @@ impl Survey {
 pub fn survey_of(form: ExtensionsForm, body: &[u8], id: u8) -> Survey
     ensures { IsSurvey form body.now id result }
 {
+    survey_by(form, body, id, true)
+}
+
+// The same. Trying the front first takes fewer steps where elements are counted, and more where
+// only the last place is asked for, which has a tighter loop.
+#[inline(always)]
+pub(super) fn survey_by(form: ExtensionsForm, body: &[u8], id: u8, front_first: bool) -> Survey
+    ensures { IsSurvey form body.now id result }
+{
     match form {
-        ExtensionsForm::OneByte => survey_in(ExtensionsForm::OneByte, body, id),
-        ExtensionsForm::TwoByte => survey_in(ExtensionsForm::TwoByte, body, id),
+        ExtensionsForm::OneByte => survey_in(ExtensionsForm::OneByte, body, id, front_first),
+        ExtensionsForm::TwoByte => survey_in(ExtensionsForm::TwoByte, body, id, front_first),
     }
 }
 
-// One more than a count. It stays out of line, so that a walk over elements, of which next to none has
-// the id 0, reckons nothing for those that have another.
+// One more than a count. It stays out of line, so that a walk over elements, of which next to none
+// has the id 0, reckons nothing for those that have another.
 #[cold]
 #[inline(never)]
 fn one_more(count: usize) -> usize
@@ -59,6 +68,44 @@ fn one_more(count: usize) -> usize
     ensures { result ≡ count + 1 }
 {
     count + 1
+}
+
+// The first element of bytes, and what follows it, as `first_element` finds it. Most elements of
+// the one-byte form have no padding before them, and are found in fewer steps by trying the front.
+#[inline(always)]
+fn next_element(bytes: &[u8], form: ExtensionsForm, front_first: bool) -> Option<(u8, &[u8], &[u8])>
+    ensures { IsFirstElement form bytes.now result }
+{
+    if !front_first {
+        return first_element(bytes, form);
+    }
+    match element_at_front(bytes, form) {
+        None => first_element(bytes, form),
+        element => element,
+    }
+}
+
+// The element of the one-byte form at the very front of bytes, and what follows it. None where that
+// is padding or an element of the id 0, or where reading ends: one test of a byte tells these.
+#[inline(always)]
+fn element_at_front(bytes: &[u8], form: ExtensionsForm) -> Option<(u8, &[u8], &[u8])>
+    ensures { IfSome result (λ first.
+        BeginsWithElement form bytes.now (first.0, first.1.now) first.2.now) }
+{
+    match form {
+        ExtensionsForm::OneByte => {
+            if bytes.is_empty() {
+                return None;
+            }
+            let first = bytes[0];
+            if first < 16 || first >= 240 {
+                return None;
+            }
+            let (element, left) = bytes.split_at_checked(usize::from(first % 16) + 2)?;
+            Some((first / 16, &element[1..], left))
+        }
+        ExtensionsForm::TwoByte => None,
+    }
 }
 
 // How far a walk over a body has come.
@@ -77,7 +124,13 @@ impl Walk<'_> {
     // end of reading. It has a loop of its own, so that less is kept from one element of another id
     // to the next.
     #[inline(always)]
-    fn next_of(&mut self, form: ExtensionsForm, body: &[u8], id: u8) -> Option<Place>
+    fn next_of(
+        &mut self,
+        form: ExtensionsForm,
+        body: &[u8],
+        id: u8,
+        front_first: bool,
+    ) -> Option<Place>
         requires left { IsLeft body.now self.old.left.now }
         requires few { self.old.others_len ≤ length body.now - length self.old.left.now }
         requires counted { self.old.count ≤ length body.now - length self.old.left.now }
@@ -101,7 +154,7 @@ impl Walk<'_> {
             (BeginsWithNoElement form
             (drop (length body.now - length self.new.left.now) body.now)) }
     {
-        while let Some((other, data, after)) = first_element(self.left, form) {
+        while let Some((other, data, after)) = next_element(self.left, form, front_first) {
             self.left = after;
             if other == id {
                 self.count += 1;
@@ -119,7 +172,7 @@ impl Walk<'_> {
 
 // The same. It is inlined, so that each form has loops of its own.
 #[inline(always)]
-fn survey_in(form: ExtensionsForm, body: &[u8], id: u8) -> Survey
+fn survey_in(form: ExtensionsForm, body: &[u8], id: u8, front_first: bool) -> Survey
     ensures { IsSurvey form body.now id result }
 {
     let mut last = None;
@@ -128,7 +181,7 @@ fn survey_in(form: ExtensionsForm, body: &[u8], id: u8) -> Survey
         count: 0,
         others_len: 0,
     };
-    while let Some(place) = walk.next_of(form, body, id) {
+    while let Some(place) = walk.next_of(form, body, id, front_first) {
         last = Some(place);
     }
     Survey {
