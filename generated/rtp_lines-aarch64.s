@@ -2,8 +2,8 @@
  * rtp_lines for Linux on aarch64: the assembly text that Rattle's compiler makes of the program, each function of which is proved.
  * Made anew by: generated/make
  * kit: rattle-kit-13f logic dac8208d650f15bf
- * sources: f59e930ae6bb630785238a1b34605154faf81aec38a20a795759750cfbbd9c0f
- * text: fcd49c949a3e34714dca2d0cde5e3707e53417493a3efec32f68b8bf09aa4bb2
+ * sources: 9ca666d025a888383dcb55cee28efd5c36e62c098d20791308709074b5f28376
+ * text: 2fb7a80ac0628746cb8faee9a1fe92e901e5c6229bc8c2f14a7484b4a1dddf8d
  * SPDX-License-Identifier: MIT OR Apache-2.0
  * Copyright (c) 2026 The rtp-wire developers (NOTICE)
  */

@@ -2,8 +2,8 @@
  * rtp_lines for Linux on x86_64: the assembly text that Rattle's compiler makes of the program, each function of which is proved.
  * Made anew by: generated/make
  * kit: rattle-kit-13f logic dac8208d650f15bf
- * sources: f59e930ae6bb630785238a1b34605154faf81aec38a20a795759750cfbbd9c0f
- * text: df4d08fbc1cdc0988438d2de6cb7c69d4593cae4385083227b5b727bd71fb8a9
+ * sources: 9ca666d025a888383dcb55cee28efd5c36e62c098d20791308709074b5f28376
+ * text: b5ab900efc8083353e663d77e9a00cbd42f774381984669938d930e61fdbe818
  * SPDX-License-Identifier: MIT OR Apache-2.0
  * Copyright (c) 2026 The rtp-wire developers (NOTICE)
  */
