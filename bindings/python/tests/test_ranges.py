@@ -269,8 +269,8 @@ class Ranges(unittest.TestCase):
     def test_numbers(self) -> None:
         buf, ids = self.datagram, NewIds()
         rows: List[Refused] = [
-            (lambda: Receiver(1 << 64), past("rollover_count", 64)),
-            (lambda: WideReceiver(1, 1 << 64), past("rollover_count", 64)),
+            (lambda: Receiver(1 << 64), past("rollover_count", 48, 1 << 64)),
+            (lambda: WideReceiver(1, 1 << 64), past("rollover_count", 48, 1 << 64)),
             (lambda: WideReceiver(513, 1), "words is 513, and not 1 to 512"),
             (lambda: RestartingReceiver(0), "max_dropout is 0, and not 1 to 65535"),
             (lambda: RestartingReceiver(65537), "max_dropout is 65537, and not 1 to 65535"),
@@ -283,7 +283,7 @@ class Ranges(unittest.TestCase):
             (lambda: RestartingReceiver().receive(65536), past("sequence_number", 16)),
             (lambda: pad(buf, 1 << 64, 1), past("header_len", 64)),
             (lambda: pad(buf, 38, 257), past("pad_len", 8, 257)),
-            (lambda: pad(buf, 38, 1, 1 << 64), past("block_size", 64)),
+            (lambda: pad(buf, 38, 1, 1 << 64), f"block_size is {1 << 64}, and not 1 to {(1 << 64) - 1}"),
             (lambda: write_original(buf, 1 << 64), past("number", 64)),
             (lambda: extend_u8(0, 256), past("number", 8)),
             (lambda: extend_u15(0, 32768), past("number", 15)),
@@ -300,7 +300,7 @@ class Ranges(unittest.TestCase):
         send: Any
         for send in (partial(to_retransmission, number=1, ids=ids), partial(from_retransmission, ids=ids)):
             rows += [
-                (lambda send=send: send(buf, 1 << 64, 1, 1), past("length", 64)),
+                (lambda send=send: send(buf, 1 << 64, 1, 1), f"length is {1 << 64}, and not 0 to {len(buf)}"),
                 (lambda send=send: send(buf, 38, 1 << 32, 1), past("ssrc", 32)),
                 (lambda send=send: send(buf, 38, 1, 257), past("payload_type", 7, 257)),
             ]

@@ -101,7 +101,8 @@ class BadId(BadField):
 
 class FormNotAllowed(BadField):
     """The block has, or an element needs, a form that isn't allowed; or an element can't be in the form that the block
-    is to get."""
+    is to get. Where the one-byte form alone is allowed, `Packet.form` tells which: the two-byte form, or else the
+    element doesn't fit, by an id above 14, no data or more than 16 bytes of them."""
 
 
 class LongBlock(BadField):

@@ -30,7 +30,7 @@ def read_layers(address: Address, length: int, map: Map) -> Layers:
 
 @dataclass
 class Header:
-    """The header of a packet, with the values of its block: read by `parse`, or filled and written by `write`.
+    """The header of a packet, with the values of its block: read by `parse`, or filled and written by `write_all`.
 
     >>> from rtp_wire import Kind
     >>> header = Header(payload_type=33, sequence_number=47000, values=Values(mid="1"))
@@ -121,8 +121,10 @@ class Header:
     def write(self, map: Map) -> bytes:
         """The bytes of the header. Where has_extension is set there is a block, by rising id an element for each
         mapped id whose value is there: in the one-byte form unless an id above 14 or Kind.LAYERS is mapped or a text
-        that is written is empty. Spatial layers at the end of a stream that aren't active are left out. BadField where
-        a field or a value is out of its range, or no element can carry the layers, as those of more than 255 bytes.
+        that is written is empty. Spatial layers at the end of a stream that aren't active are left out. So is a value
+        without an id, or without a block, and nothing says so: `left_out` tells these, and `write_all` refuses them.
+        BadField where a field or a value is out of its range, or no element can carry the layers, as those of more than
+        255 bytes.
         """
         wire_len, write, given = self._calls(map)
         length = c_size_t()

@@ -185,7 +185,7 @@ class NewIds(_Table[int]):
         whose URI has no kind goes on where both maps give it one kind of your own, or its new id is set by hand.
         """
         made = cls()
-        _library.new_ids_between(sender._raw, receiver._raw, made._raw)
+        _library.new_ids_between(raw_map(sender), raw_map(receiver), made._raw)
         return made
 
     @classmethod
@@ -194,7 +194,7 @@ class NewIds(_Table[int]):
         Kind.REPAIRED_RID, an id of the first becomes the lowest id of the second, and the ids of the second get none.
         Every other id keeps itself, and so does each where the map hasn't both."""
         made = cls()
-        _library.new_ids_to_retransmission(map._raw, made._raw)
+        _library.new_ids_to_retransmission(raw_map(map), made._raw)
         return made
 
     @classmethod
@@ -202,7 +202,7 @@ class NewIds(_Table[int]):
         """The same on the way back: an id of Kind.REPAIRED_RID becomes the lowest id of Kind.RID, and the ids of that
         get none."""
         made = cls()
-        _library.new_ids_from_retransmission(map._raw, made._raw)
+        _library.new_ids_from_retransmission(raw_map(map), made._raw)
         return made
 
     def __getitem__(self, id: int) -> int:
@@ -216,3 +216,11 @@ class NewIds(_Table[int]):
 
     def _remove(self, id: int) -> None:
         self._raw.id[id] = 0
+
+
+def raw_new_ids(ids: NewIds) -> _library.RawNewIds:
+    """The new ids as the library has them; TypeError where they are none."""
+    if not isinstance(ids, NewIds):
+        raise TypeError(f"new ids are {type(ids).__name__}, and not NewIds")
+    raw: _library.RawNewIds = ids._raw
+    return raw

@@ -12,7 +12,7 @@ from ._buffers import address_of, copy_of, place_of, view_of, writable_view_of
 from ._errors import Status, check, error_of, unsigned
 from ._header import read_layers
 from ._library import whole_packet_parse
-from ._map import Map, NewIds, raw_map
+from ._map import Map, NewIds, raw_map, raw_new_ids
 from ._standard import token_of
 from ._values import Values, values_of
 
@@ -312,4 +312,4 @@ class Packet:
         """Gives each element its new id, and makes one that gets none padding. BadField where the form of the block
         can't carry a new id, one above 14 in the one-byte form, of which `change_form` makes the other; then nothing
         changes. To read the values under the receiver's map parse the packet again."""
-        self._set(_library.renumber, ids._raw)
+        self._set(_library.renumber, raw_new_ids(ids))
