@@ -13,15 +13,19 @@ from rtp_wire import (
     FrameMarking,
     Header,
     Kind,
+    Layer,
+    Layers,
     Map,
     NewIds,
     Orientation,
     Packet,
     Receiver,
     ReceptionStatistics,
+    Resolution,
     Values,
     WideReceiver,
     compact,
+    elements,
     from_retransmission,
     pad,
     put_element,
@@ -37,6 +41,18 @@ LAST = (1 << 64) - 1
 def packet(block: str) -> bytes:
     """V=2, X; PT=96; 5; 100; 44; then the block, and a payload of one byte."""
     return bytes.fromhex("90600005 00000064 0000002C" + block + "09")
+
+
+def written(**fields: Any) -> bytes:
+    return Header(**fields).write(Map())
+
+
+def told(**values: Any) -> bytes:
+    return written(values=Values(**values))
+
+
+def layered(layer: Layer) -> bytes:
+    return told(layers=Layers(((layer,),), 0))
 
 
 class Elements(unittest.TestCase):
@@ -127,6 +143,18 @@ class Messages(unittest.TestCase):
             (lambda: pad(buf, 12, 3, 0), f"block_size is 0, and not 1 to {LAST}"),
             (lambda: to_retransmission(buf, 22, 1, 2, 3, NewIds()), "length is 22, and not 0 to 21"),
             (lambda: from_retransmission(buf, 22, 1, 2, NewIds()), "length is 22, and not 0 to 21"),
+            (lambda: write_elements([(15, b"1")], ONE), "an id is 15, and not 1 to 14"),
+            (lambda: write_elements([(1, b"")], ONE), "the length of data is 0, and not 1 to 16"),
+            (lambda: Header().write_with([(1, bytes(17))], ONE), "the length of data is 17, and not 1 to 16"),
+            (lambda: Header().write_with([(1, bytes(256))]), "the length of data is 256, and not 0 to 255"),
+            (lambda: Header().write_with([(1, bytes(255))] * 1021), "the elements have more bytes than a block can"),
+            (lambda: next(elements(b"", Form.OTHER)), "a form is 3, and not 1 to 2"),
+            (lambda: Values.read(b"", Form.NONE, Map()), "a form is 0, and not 1 to 2"),
+            (lambda: Values().data_of(Kind.NONE), "a kind is 0, and not 1 to 15 or 128 to 255"),
+            (lambda: layered(Layer((1,), Resolution(0, 1, 1))), "width is 0, and not 1 to 65535"),
+            (lambda: layered(Layer((1,), Resolution(1, 0, 1))), "height is 0, and not 1 to 65535"),
+            (lambda: layered(Layer((), Resolution(1, 1, 1))), "no element can carry the layers"),
+            (lambda: told(layers=Layers((), 1)), "current is 1, and not 0 to 0"),
         ]
         for call, text in rows:
             with self.assertRaises(BadField) as raised:
@@ -134,6 +162,24 @@ class Messages(unittest.TestCase):
             self.assertEqual(str(raised.exception), text)
         self.assertEqual(buf, packet("BEDE0001 10AA0000"))
         self.assertEqual(Receiver((1 << 48) - 1).number_of(9), LAST - 65526)
+
+    def test_a_value_of_another_type_is_named(self) -> None:
+        rows: List[Tuple[Callable[[], Any], str]] = [
+            (lambda: told(mid=5), "mid is int, and not str"),
+            (lambda: told(rid=b"a"), "rid is bytes, and not str"),
+            (lambda: told(audio_level=1.5), "audio_level is float, and no whole number"),
+            (lambda: told(video_orientation="90"), "video_orientation is str, and no whole number"),
+            (lambda: told(playout_delay_min=5), "playout_delay_min is int, and not Time"),
+            (lambda: told(playout_delay_max=(1, 2, 3)), "playout_delay_max is tuple, and not Time"),
+            (lambda: told(video_timing=(1, 2, 3, 4, 5)), "video_timing is tuple, and not VideoTiming"),
+            (lambda: told(layers=[]), "layers are list, and not Layers"),
+            (lambda: written(values={}), "values are dict, and not Values"),
+            (lambda: written(ssrc=None), "ssrc is NoneType, and no whole number"),
+        ]
+        for call, text in rows:
+            with self.assertRaises(TypeError) as raised:
+                call()
+            self.assertEqual(str(raised.exception), text)
 
     def test_what_is_no_map_is_named(self) -> None:
         buf: Any = bytearray(packet("BEDE0001 10AA0000"))

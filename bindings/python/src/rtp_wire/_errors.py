@@ -156,9 +156,17 @@ def check(status: int) -> None:
         raise error_of(status)
 
 
+def whole(name: str, value: int) -> int:
+    """The value; TypeError where it is no whole number."""
+    try:
+        return index(value)
+    except TypeError:
+        raise TypeError(f"{name} is {type(value).__name__}, and no whole number") from None
+
+
 def within(name: str, value: int, low: int, high: int) -> int:
     """The value, where it is in this range; TypeError where it is no whole number."""
-    value = index(value)
+    value = whole(name, value)
     if not low <= value <= high:
         raise BadField(Status.BAD_FIELD, f"{name} is {value}, and not {low} to {high}")
     return value

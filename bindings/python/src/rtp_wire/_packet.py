@@ -9,7 +9,7 @@ from typing import TYPE_CHECKING, Iterator, NamedTuple, Optional, Tuple, Union
 
 from . import _library
 from ._buffers import address_of, copy_of, place_of, view_of, writable_view_of
-from ._errors import Status, check, error_of, unsigned
+from ._errors import Status, check, error_of, unsigned, within
 from ._header import read_layers
 from ._library import whole_packet_parse
 from ._map import Map, NewIds, raw_map, raw_new_ids
@@ -49,7 +49,7 @@ def elements(body: Buffer, form: int) -> Iterator[Element]:
     """The elements of a block's body in order, up to one that is cut short, or in the one-byte form has the id 15.
     BadField where the form is none of the two."""
     view, raw = view_of(body), _library.RawElement()
-    at, length, form = address_of(view), len(view), unsigned("a form", form, 8)
+    at, length, form = address_of(view), len(view), within("a form", form, 1, 2)
     while True:
         status = _library.next_element(at, length, form, raw.end, raw)
         if status == Status.NONE:
