@@ -136,6 +136,8 @@ class Reports(unittest.TestCase):
 class Messages(unittest.TestCase):
     def test_the_range_is_the_real_one(self) -> None:
         buf: Any = bytearray(packet("BEDE0001 10AA0000"))
+        padded = bytearray(b"\xA0" + bytes(11) + b"\2")
+        long, high = "the padding is longer than the payload", "a new id is above 14, and the block in the one-byte form"
         rows: List[Tuple[Callable[[], Any], str]] = [
             (lambda: Receiver(1 << 48), f"rollover_count is {1 << 48}, and not 0 to {(1 << 48) - 1}"),
             (lambda: WideReceiver(1, 1 << 48), f"rollover_count is {1 << 48}, and not 0 to {(1 << 48) - 1}"),
@@ -155,6 +157,10 @@ class Messages(unittest.TestCase):
             (lambda: layered(Layer((1,), Resolution(1, 0, 1))), "height is 0, and not 1 to 65535"),
             (lambda: layered(Layer((), Resolution(1, 1, 1))), "no element can carry the layers"),
             (lambda: told(layers=Layers((), 1)), "current is 1, and not 0 to 0"),
+            (lambda: Packet.parse(buf).renumber(NewIds({1: 15})), high),
+            (lambda: to_retransmission(buf, 21, 1, 2, 3, NewIds({1: 15})), f"{long}, or {high}"),
+            (lambda: from_retransmission(bytearray(buf + b"9"), 22, 1, 2, NewIds({1: 15})), f"{long}, or {high}"),
+            (lambda: Packet.parse(padded).remove_padding(), long),
         ]
         for call, text in rows:
             with self.assertRaises(BadField) as raised:

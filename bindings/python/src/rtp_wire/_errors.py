@@ -156,6 +156,18 @@ def check(status: int) -> None:
         raise error_of(status)
 
 
+# Why a packet isn't changed, where all that was given is in its range.
+LONG_PADDING = "the padding is longer than the payload"
+HIGH_ID = "a new id is above 14, and the block in the one-byte form"
+
+
+def checked(status: int, reason: str) -> None:
+    """As `check`, where this alone may be wrong with what was given."""
+    if status == Status.BAD_FIELD:
+        raise BadField(Status.BAD_FIELD, reason)
+    check(status)
+
+
 def whole(name: str, value: int) -> int:
     """The value; TypeError where it is no whole number."""
     try:

@@ -8,7 +8,7 @@ from typing import TYPE_CHECKING, FrozenSet, Iterable, Optional, Tuple, cast
 
 from . import _library
 from ._buffers import address_of, place_of, view_of, writable_view_of
-from ._errors import BadField, LeftOut, Status, check, unsigned, within
+from ._errors import BadField, LeftOut, Status, check, checked, unsigned, within
 from ._layers import Layers, layers_of, raw_layers_of
 from ._map import Kind, Map, raw_map
 from ._values import Values, put_values, values_of
@@ -115,7 +115,7 @@ class Header:
         """How many bytes `write` writes: a multiple of 4. BadField as `write`."""
         wire_len, _, given = self._calls(map)
         length = c_size_t()
-        _checked(wire_len(*given, length), NO_LAYERS)
+        checked(wire_len(*given, length), NO_LAYERS)
         return length.value
 
     def write(self, map: Map) -> bytes:
@@ -128,9 +128,9 @@ class Header:
         """
         wire_len, write, given = self._calls(map)
         length = c_size_t()
-        _checked(wire_len(*given, length), NO_LAYERS)
+        checked(wire_len(*given, length), NO_LAYERS)
         buf = bytearray(length.value)
-        _checked(write(*given, address_of(memoryview(buf)), len(buf), length), NO_LAYERS)
+        checked(write(*given, address_of(memoryview(buf)), len(buf), length), NO_LAYERS)
         return bytes(buf)
 
     def write_to(self, buf: WritableBuffer, map: Map) -> int:
@@ -138,7 +138,7 @@ class Header:
         BadField as `write`, and else ShortBuffer; nothing is written then."""
         view, length = writable_view_of(buf), c_size_t()
         _, write, given = self._calls(map)
-        _checked(write(*given, address_of(view), len(view), length), NO_LAYERS)
+        checked(write(*given, address_of(view), len(view), length), NO_LAYERS)
         return length.value
 
     def left_out(self, map: Map) -> FrozenSet[Kind]:
@@ -155,9 +155,9 @@ class Header:
         """
         kinds, given = c_uint32(), (raw_map(map), self._raw())
         if self.values.layers is None:
-            _checked(_library.left_out(*given, kinds), NO_LAYERS)
+            checked(_library.left_out(*given, kinds), NO_LAYERS)
         else:
-            _checked(_library.left_out_layers(*given, raw_layers_of(self.values.layers), kinds), NO_LAYERS)
+            checked(_library.left_out_layers(*given, raw_layers_of(self.values.layers), kinds), NO_LAYERS)
         return frozenset(kind for kind in Kind if kind < Kind.OWN and kinds.value >> kind & 1)
 
     def _all_is_written(self, map: Map) -> None:
@@ -190,22 +190,15 @@ class Header:
         given = (self._raw(with_values=False), data, len(data), places, len(places))
         into = (address_of(memoryview(buf)), len(buf), length)
         if form is None:
-            _checked(_library.write_with(*given, *into), LONG)
+            checked(_library.write_with(*given, *into), LONG)
         else:
-            _checked(_library.write_with_form(*given, allowed, *into), LONG)
+            checked(_library.write_with_form(*given, allowed, *into), LONG)
         return bytes(memoryview(buf)[: length.value])
 
 
 # Why a header isn't written, all of whose fields are in their ranges.
 NO_LAYERS = "no element can carry the layers"
 LONG = "the elements have more bytes than a block can"
-
-
-def _checked(status: int, reason: str) -> None:
-    """As `check`, where this alone may be wrong with what was given."""
-    if status == Status.BAD_FIELD:
-        raise BadField(Status.BAD_FIELD, reason)
-    check(status)
 
 
 # By form the highest id, and the least and the most bytes, that elements have.

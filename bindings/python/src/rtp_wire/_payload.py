@@ -7,7 +7,7 @@ from typing import TYPE_CHECKING
 
 from . import _library
 from ._buffers import address_of, place_of, writable_view_of
-from ._errors import check, unsigned, within
+from ._errors import HIGH_ID, LONG_PADDING, check, checked, unsigned, within
 from ._map import raw_new_ids
 
 if TYPE_CHECKING:
@@ -61,7 +61,8 @@ def to_retransmission(buf: WritableBuffer, length: int, ssrc: int, payload_type:
     view = writable_view_of(buf)
     end = c_size_t(within("length", length, 0, len(view)))
     fields = (unsigned("ssrc", ssrc, 32), unsigned("payload_type", payload_type, 7), unsigned("number", number, 16))
-    check(_library.to_retransmission(address_of(view), len(view), end, *fields, raw_new_ids(ids)))
+    status = _library.to_retransmission(address_of(view), len(view), end, *fields, raw_new_ids(ids))
+    checked(status, f"{LONG_PADDING}, or {HIGH_ID}")
     return end.value
 
 
@@ -76,5 +77,6 @@ def from_retransmission(buf: WritableBuffer, length: int, ssrc: int, payload_typ
     view = writable_view_of(buf)
     end = c_size_t(within("length", length, 0, len(view)))
     fields = (unsigned("ssrc", ssrc, 32), unsigned("payload_type", payload_type, 7))
-    check(_library.from_retransmission(address_of(view), len(view), end, *fields, raw_new_ids(ids)))
+    status = _library.from_retransmission(address_of(view), len(view), end, *fields, raw_new_ids(ids))
+    checked(status, f"{LONG_PADDING}, or {HIGH_ID}")
     return end.value
