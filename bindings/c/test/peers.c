@@ -1,7 +1,7 @@
 /* What a caller meets with other peers than str0m, and what its hand finds first: ids that differ in one character,
  * values of the standards beside those of a header, elements of the id 0, packets from before the first one, and the
- * URIs of an answer. The expected values are worked out by hand from RFC 3550, RFC 5450, RFC 8285, 4.2 and 4.3, RFC 9626
- * and 3GPP TS 26.114, 7.4.5. */
+ * URIs of an answer. The expected values are worked out by hand from RFC 3550, RFC 5450, RFC 8285, 4.2 and 4.3, RFC
+ * 9626 and 3GPP TS 26.114, 7.4.5. */
 #include "../rtp_wire.h"
 
 #include <stdio.h>
@@ -57,8 +57,8 @@ static void ids_are_told_apart(void) {
         CHECK(header.values.has_mid == 1 && strcmp(header.values.mid, ROWS[row].read) == 0);
         CHECK(element.data_len == strlen(ROWS[row].lies) && memcmp(data, ROWS[row].lies, element.data_len) == 0);
         CHECK(rtpw_is_token(data, element.data_len) == ROWS[row].is_token);
-        CHECK((strlen(header.values.mid) == element.data_len && memcmp(header.values.mid, data, element.data_len) == 0) ==
-              ROWS[row].is_kept);
+        CHECK((strlen(header.values.mid) == element.data_len &&
+               memcmp(header.values.mid, data, element.data_len) == 0) == ROWS[row].is_kept);
     }
 }
 
@@ -77,16 +77,19 @@ static void elements_of_the_standards(void) {
     CHECK(header.values.has_transmission_offset == 0 && header.values.has_frame_marking == 0);
     CHECK(rtpw_read_transmission_offset(PACKET + 17, 3, &offset) == RTPW_OK && offset == -90);
     CHECK(rtpw_read_transmission_offset(OF_STR0M, 4, &offset) == RTPW_BAD_FIELD && offset == -90);
-    CHECK(rtpw_write_transmission_offset(-90, data, 3, &len) == RTPW_OK && len == 3 && memcmp(data, PACKET + 17, 3) == 0);
+    CHECK(rtpw_write_transmission_offset(-90, data, 3, &len) == RTPW_OK && len == 3 &&
+          memcmp(data, PACKET + 17, 3) == 0);
     CHECK(rtpw_read_frame_marking(PACKET + 21, 3, &marking) == RTPW_OK);
     CHECK(marking.start == 1 && marking.end == 0 && marking.independent == 1 && marking.discardable == 0);
     CHECK(marking.has_layers == 1 && marking.base_layer_sync == 1 && marking.temporal_id == 1 && marking.layer_id == 2);
     CHECK(marking.has_tl0_pic_idx == 1 && marking.tl0_pic_idx == 7);
-    CHECK(rtpw_write_frame_marking(&marking, data, 3, &len) == RTPW_OK && len == 3 && memcmp(data, PACKET + 21, 3) == 0);
+    CHECK(rtpw_write_frame_marking(&marking, data, 3, &len) == RTPW_OK && len == 3 &&
+          memcmp(data, PACKET + 21, 3) == 0);
     CHECK(rtpw_read_frame_marking(OF_STR0M, 4, &marking) == RTPW_BAD_FIELD);
 }
 
-/* A header that is read and written keeps the turn, and loses the camera and the flip; the element by itself keeps all. */
+/* A header that is read and written keeps the turn, and loses the camera and the flip; the element by itself keeps all.
+ */
 static void an_orientation_is_written_again(void) {
     static const rtpw_map MAP = {{0, RTPW_KIND_VIDEO_ORIENTATION}};
     static const uint8_t PACKET[20] = {WITH, 0xBE, 0xDE, 0, 1, 0x10, 0x0D, 0, 0};
@@ -152,7 +155,8 @@ static void elements_of_the_id_0_go(void) {
         memcpy(buf + 16, ROWS[row].body, 8);
         buf[24] = 9;
         CHECK(rtpw_put_element(buf, 25, &len, ROWS[row].id, &ROWS[row].byte, 1, RTPW_ONE_BYTE_FORM) == RTPW_OK);
-        CHECK(len == 25 && buf[13] == 0xDE && buf[15] == 2 && memcmp(buf + 16, ROWS[row].becomes, 8) == 0 && buf[24] == 9);
+        CHECK(len == 25 && buf[13] == 0xDE && buf[15] == 2 && memcmp(buf + 16, ROWS[row].becomes, 8) == 0 &&
+              buf[24] == 9);
     }
     /* compact takes it away, and what is read there stays */
     uint8_t buf[25] = {WITH, 0xBE, 0xDE, 0, 2, 0x01, 0xAA, 0xBB, 0, 0x10, 0x77, 0, 0, 9};

@@ -137,7 +137,8 @@ class Messages(unittest.TestCase):
     def test_the_range_is_the_real_one(self) -> None:
         buf: Any = bytearray(packet("BEDE0001 10AA0000"))
         padded = bytearray(b"\xA0" + bytes(11) + b"\2")
-        long, high = "the padding is longer than the payload", "a new id is above 14, and the block in the one-byte form"
+        long = "the padding is longer than the payload"
+        high = "a new id is above 14, and the block in the one-byte form"
         rows: List[Tuple[Callable[[], Any], str]] = [
             (lambda: Receiver(1 << 48), f"rollover_count is {1 << 48}, and not 0 to {(1 << 48) - 1}"),
             (lambda: WideReceiver(1, 1 << 48), f"rollover_count is {1 << 48}, and not 0 to {(1 << 48) - 1}"),

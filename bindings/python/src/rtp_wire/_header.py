@@ -206,8 +206,8 @@ _BOUNDS = {0: (255, 0, 255), 1: (14, 1, 16), 2: (255, 0, 255)}
 
 
 def _gather(elements: Iterable[Tuple[int, Buffer]], form: int) -> Tuple[bytes, _library.Places]:
-    """The data of all elements, one after the other, and where those of each lie; 0 stands for each form. BadField where
-    the form can't carry one."""
+    """The data of all elements, one after the other, and where those of each lie; 0 stands for each form. BadField
+    where the form can't carry one."""
     data, places = bytearray(), []
     highest, least, most = _BOUNDS[form]
     for id, part in elements:
