@@ -108,7 +108,7 @@ done
 if grep -hoE '\b(rtp|RTP)_\w+' bindings/c/rtp_wire{,_sanitized}.h | grep -vxE 'rtp_wire(_sanitized)?' >&2; then fail 'names of the header file'; fi
 said "the header file beside ${beside:-no other library}"
 
-for it in packets blocks padding faults headers statuses receivers reception corners standard datagrams apart; do
+for it in packets blocks padding faults headers statuses receivers reception corners peers standard datagrams apart; do
     cc -std=c99 "${strict[@]}" bindings/c/test/$it.c "$library" -o "$scratch/by_hand"
     "$scratch/by_hand"
     c++ -std=c++11 "${strict[@]}" -Wno-missing-field-initializers -x c++ bindings/c/test/$it.c -x none "$library" -o "$scratch/by_hand"
@@ -121,8 +121,10 @@ printf '#include <rtp_wire.hpp>\nvoid it(rtpw::buffer packet) { LOOKED_AT rtpw::
 for it in c++ clang++; do
     has $it || continue
     for standard in c++17 c++20; do
-        $it -std=$standard "${strict[@]}" -Wshadow -Wold-style-cast "${include[@]}" bindings/c/test/wrapped.cpp "$library" -o "$scratch/by_hand"
-        "$scratch/by_hand"
+        for program in wrapped wrapped_peers; do
+            $it -std=$standard "${strict[@]}" -Wshadow -Wold-style-cast "${include[@]}" bindings/c/test/$program.cpp "$library" -o "$scratch/by_hand"
+            "$scratch/by_hand"
+        done
         looks=("$it" -std=$standard "${strict[@]}" "${include[@]}" -fsyntax-only "$scratch/status.cpp")
         "${looks[@]}" -D 'LOOKED_AT=(void)'
         ! "${looks[@]}" -D LOOKED_AT= 2>/dev/null || fail "a status that isn't looked at passed $it"
@@ -280,11 +282,15 @@ told_by_sanitizers() { # those of -fsanitize=
     clang "${built[@]}" bindings/c/test/sanitized.c "$library" -o "$scratch/of_blocks"
     "$scratch/of_blocks" >"$scratch/told" || { cat "$scratch/told" >&2; fail "-fsanitize=$1 tells nothing"; }
     clang++ "${built[@]/-std=c99/-std=c++11}" -x c++ -fsyntax-only "$scratch/header.c"
+    for program in wrapped wrapped_peers; do
+        clang++ "${built[@]/-std=c99/-std=c++17}" bindings/c/test/$program.cpp "$library" -o "$scratch/by_hand"
+        "$scratch/by_hand" >"$scratch/said" 2>&1 || { cat "$scratch/said" >&2; fail "-fsanitize=$1, $program.cpp"; }
+    done
     CC=clang CXX=clang++ SANITIZERS=$1 bindings/test/sanitized.sh "$scratch/$1" "$prefix/include" "$library"
     bindings/test/examples.sh "$scratch/$1"
     hostile clang "$library" "$scratch/hostile_$1" "${built[@]}" -fno-sanitize=nonnull-attribute,pointer-overflow
     "$scratch/hostile_$1" 4 20000 malloc >"$scratch/said" 2>&1 || { cat "$scratch/said" >&2; fail "-fsanitize=$1, hostile"; }
-    said "clang's -fsanitize=$1: the examples, random bytes, and $(cat "$scratch/told") of all calls that it tells of"
+    said "clang's -fsanitize=$1: the examples, the header file of C++17, random bytes, and $(cat "$scratch/told") of all calls that it tells of"
 }
 if has clang; then
     for it in address,undefined memory; do told_by_sanitizers "$it"; done
@@ -311,7 +317,7 @@ if has aarch64-linux-gnu-gcc && has qemu-aarch64; then
     mkdir "$scratch/emulated"
     cp "$scratch/arm" "$scratch/emulated/lines_arm"
     bindings/test/examples.sh "$scratch/emulated" qemu-aarch64
-    for it in packets blocks padding faults headers statuses receivers reception corners standard datagrams apart; do
+    for it in packets blocks padding faults headers statuses receivers reception corners peers standard datagrams apart; do
         aarch64-linux-gnu-gcc -std=c99 "${strict[@]}" -static bindings/c/test/$it.c "$arm" -o "$scratch/arm"
         qemu-aarch64 "$scratch/arm"
     done

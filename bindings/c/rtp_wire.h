@@ -252,8 +252,9 @@ enum { RTPW_ANY_FORM = 0 };
  * another element of the packet do: copy them first; or where `allowed` is none of the three, or *len is past the
  * buffer; RTPW_BAD_ID where the id is 0; RTPW_BAD_FIELD where there are more than 255 bytes of data; the first cause
  * for which the bytes are no packet; RTPW_UNKNOWN_FORM where the block is of RTPW_OTHER_FORM; RTPW_FORM_NOT_ALLOWED
- * where it has or needs a form that isn't allowed; RTPW_LONG_BLOCK where it would have more than 65,535 words;
- * RTPW_SHORT_BUFFER. */
+ * where it has or needs a form that isn't allowed (RTPW_ONE_BYTE_FORM alone: it has RTPW_TWO_BYTE_FORM, or else the
+ * element doesn't fit, by an id above 14, no data or more than 16 bytes of them); RTPW_LONG_BLOCK where it would have
+ * more than 65,535 words; RTPW_SHORT_BUFFER. */
 RTPW_CHECKED int32_t rtpw_put_element(uint8_t *buf, size_t size, size_t *len, uint8_t id, const uint8_t *data,
                                       size_t data_len, uint8_t allowed);
 
@@ -424,18 +425,23 @@ typedef struct {
 /* The values of a block's elements. Each has_ is 1 where the value is there; as read, one that is absent
  * is 0. The texts are letters, digits and underscores, and a zero ends them: as read each other character, a zero byte
  * too, is an underscore, and what is too long is cut, so compare with the SDP's text changed likewise, or look at the
- * element's data. Data that aren't UTF-8 are not well-formed for a text, and give none. 136 bytes. */
+ * element's data (rtpw_is_token): a text that has another length than these, or another character, isn't the peer's.
+ * Data that aren't UTF-8 are not well-formed for a text, and give none. Some values have str0m's readings and not those
+ * of their standards: the call that has these stands beside each. 136 bytes. */
 typedef struct {
     uint64_t send_time;           /* microseconds, modulo 64 seconds */
     uint64_t capture_time;        /* an NTP timestamp, 32.32 */
     int64_t capture_offset;       /* the capturer's clock is ahead by these seconds, 32.32 */
     rtpw_time playout_delay_min;   /* the receiver may hold the frame for so long at least */
     rtpw_time playout_delay_max;   /* and for so long at most */
-    uint32_t transmission_offset; /* ticks of the stream's clock; an element of four bytes, where RFC 5450 has three */
-    uint32_t frame_marking;       /* the first four bytes, where RFC 9626 has one to three */
-    uint16_t transport_number;    /* over all streams of the transport */
-    uint16_t video_orientation;   /* how the receiver has to turn the picture, counter-clockwise: 0, 90, 180 or 270 */
-    uint16_t encode_start;        /* video timing, in milliseconds after the frame's capture: its encoding began, */
+    uint32_t transmission_offset; /* ticks of the stream's clock; an element of four bytes, where RFC 5450 has three:
+                                   * rtpw_read_transmission_offset */
+    uint32_t frame_marking;       /* the first four bytes, where RFC 9626 has one to three: rtpw_read_frame_marking */
+    uint16_t transport_number;    /* over all streams of the transport; with a request: rtpw_read_transport_number */
+    uint16_t video_orientation;   /* how the receiver has to turn the picture, counter-clockwise: 0, 90, 180 or 270;
+                                   * with camera and flip: rtpw_read_orientation */
+    uint16_t encode_start;        /* video timing (of 12 or 13 bytes, with all times: rtpw_read_timing), in
+                                   * milliseconds after the frame's capture: its encoding began, */
     uint16_t encode_finish;       /* and ended, */
     uint16_t packetize_complete;  /* its last packet was made, */
     uint16_t last_left_pacer;     /* and left the pacer */
@@ -553,7 +559,8 @@ RTPW_CHECKED int32_t rtpw_wire_len(const rtpw_map *map, const rtpw_header *heade
  * a block: by rising id an element for each mapped id whose value is there (its has_ isn't 0), in the
  * one-byte form unless an id above 14 or RTPW_KIND_LAYERS is mapped or a text that it writes is empty.
  * An audio level takes has_voice_activity too, a playout delay both its times, and a capture offset
- * a capture time; a layer allocation isn't written (rtpw_write_layers). Of a time the whole ticks are written of 2^-18
+ * a capture time; a layer allocation isn't written (rtpw_write_layers). Where a value is there and isn't written, as one
+ * without an id or all without has_extension, the status doesn't say so: rtpw_left_out tells it. Of a time the whole ticks are written of 2^-18
  * seconds (send time, modulo 64 seconds) or of 1/100 second (playout delay, modulo 4,096); of a level
  * its magnitude modulo 128. Flags count as set where they aren't 0.
  *
@@ -1088,7 +1095,8 @@ RTPW_CHECKED int32_t rtpw_restarting_receive(rtpw_restarting_receiver *receiver,
  *
  * Record each packet of the source, those that are late and duplicates too, whether the receiver then takes it or
  * refuses it: they count as received, so that the loss may be negative. With SRTP record it once it is authentic.
- * Packets are expected from the first one's number on, even where one with a lower number comes later.
+ * Packets are expected from the first one's number on, even where one with a lower number comes later: once one came
+ * these are highest - first + 1.
  *
  * Of packets that an rtpw_restarting_receiver refuses record those of the stream, after which its in_row is 0:
  * rtpw_extend_u16(receiver.highest, ..) is their number. After RTPW_RESTARTED begin anew with {0}.

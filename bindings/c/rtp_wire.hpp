@@ -274,6 +274,15 @@ inline std::optional<bytes> data_of_element(bytes datagram, const rtpw_packet &p
     const auto it = last_element(body(datagram, packet), packet.block_form, id);
     return it ? std::optional(body(datagram, packet).subspan(it->data_at, it->data_len)) : std::nullopt;
 }
+/* The text of that element as it lies, to be compared with the SDP's, where its data are a token. mid() and its like
+ * have another text where they don't keep one of its characters, or its length. */
+inline std::optional<std::string_view> token(bytes datagram, const rtpw_packet &packet, std::uint8_t id) noexcept {
+    const auto data = data_of_element(datagram, packet, id);
+    if (!data || !::rtpw_is_token(data->data(), data->size())) {
+        return std::nullopt;
+    }
+    return std::string_view(reinterpret_cast<const char *>(data->data()), data->size());
+}
 
 /* ---- The values of a block ---- */
 
@@ -575,12 +584,20 @@ inline result<std::uint64_t> receiver_receive(rtpw_receiver &receiver, std::uint
         [&](std::uint64_t *it) { return ::rtpw_receiver_receive(&receiver, sequence_number, it); });
 }
 
-/* A receiver with a window of 64 numbers for each of 1 to 512 words. Start it at a rollover count: 1 where nothing is
- * authenticated. Without a start its first packet has the rollover count 0. */
+/* A receiver with a window of 64 numbers for each of 1 to 512 words, made at a rollover count: 1 where nothing is
+ * authenticated, so that a packet from before the first one has a number too, and with SRTP the one that was signalled,
+ * or 0. */
 template <std::size_t count> class wide_receiver {
     static_assert(count >= 1 && count <= 512, "a window has 1 to 512 words");
+    friend class result<wide_receiver>;
+    wide_receiver() noexcept = default;
 
   public:
+    /* The status is bad_field where the rollover count is 2^48 or more. */
+    static result<wide_receiver> starting_at(std::uint64_t rollover_count) noexcept {
+        return result<wide_receiver>(
+            [&](wide_receiver *it) { return ::rtpw_wide_receiver_start(&it->state, rollover_count); });
+    }
     status start(std::uint64_t rollover_count) noexcept {
         return status(::rtpw_wide_receiver_start(&state, rollover_count));
     }

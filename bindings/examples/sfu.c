@@ -19,7 +19,6 @@ bool sfu_add(sfu *sfu, const rtpw_map *sender, const sfu_peer *peer) {
     route->wide = route->mid_id != 0 && mid_len > 16;
     for (unsigned id = 15; id <= 255; id++) { /* those that only the two-byte form can carry */
         route->wide |= rtpw_map_get(&peer->map, (uint8_t)id) != RTPW_KIND_NONE;
-        route->spare_id = route->ids.id[id] == 0 ? (uint8_t)id : route->spare_id;
     }
     return true;
 }
@@ -53,10 +52,11 @@ static bool put(header *header, uint8_t id, const uint8_t *data, size_t len) {
            rtpw_put_element(header->bytes, SFU_HEADER, &header->len, id, data, len, header->allowed) == RTPW_OK;
 }
 
-/* Gives the packet the ids of the receiver. A one-byte block can't carry ids above 14: so it first gets an
- * element that makes it a two-byte one, and that becomes padding with all that has no id there. */
+/* Gives the packet the ids of the receiver. A one-byte block can't carry ids above 14: so it becomes a two-byte one
+ * first. */
 static bool renumber(header *header, const sfu_route *route, uint8_t form) {
-    return (!route->wide || form != RTPW_ONE_BYTE_FORM || put(header, route->spare_id, NULL, 0)) &&
+    return (!route->wide || form != RTPW_ONE_BYTE_FORM ||
+            rtpw_change_form(header->bytes, SFU_HEADER, &header->len, RTPW_TWO_BYTE_FORM) == RTPW_OK) &&
            rtpw_renumber(header->bytes, header->len, &route->ids) == RTPW_OK;
 }
 

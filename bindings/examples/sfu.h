@@ -30,7 +30,6 @@ typedef struct {
     uint8_t mid_id;            /* the receiver's, of these extensions; 0 where it has none */
     uint8_t transport_number_id;
     uint8_t send_time_id;
-    uint8_t spare_id;          /* an id of the two-byte form that means nothing on this way */
     bool wide;                 /* whether the receiver's ids or mids need the two-byte form */
     uint16_t transport_number; /* of the next packet */
 } sfu_route;

@@ -91,9 +91,9 @@ func RemovePadding(datagram []byte) ([]byte, error) {
 // bytes of the buffer, whose other bytes are the room for it, and returns the packet's bytes. It then has exactly one
 // element of the id, in place of the last one of the id or as the last of all; the other elements stay, in order, but
 // those of the id 0, behind which a receiver that follows RFC 8285, 4.2, reads nothing, and all other parts stay too.
-// Without a block the packet gets one. Where the element is the only one of its id and has as many bytes, and none is
-// of the id 0, only these bytes change. Else the block is made anew: its padding is used up, and then the payload moves
-// by whole words; a body never becomes shorter ([Compact]). What stands where reading ends, an element that is cut
+// Without a block the packet gets one. Where the element is the only one of its id and has as many bytes, none is of the
+// id 0, and the block keeps its form, only these bytes change. Else the block is made anew: its padding is used up, and
+// then the payload moves by whole words; a body never becomes shorter ([Compact]). What stands where reading ends, an element that is cut
 // short or what follows the id 15, is no element, and goes where the block is made anew. A header alone is enough. Data
 // that overlap the buffer are copied first.
 //
@@ -103,9 +103,10 @@ func RemovePadding(datagram []byte) ([]byte, error) {
 //
 // It returns ErrBadField where the length isn't one of the buffer, allowed is none of the three, or there are more than
 // 255 bytes of data; [ErrBadID] where the id is 0; ErrOtherForm where the block has another form, and so carries no
-// elements; [ErrFormNotAllowed] where it has, or the element needs, a form that isn't allowed; [ErrLongBlock] where it
-// would have more than 65,535 words; and ErrShortBuffer where the buffer has no room. Where it returns an error nothing
-// changes.
+// elements; [ErrFormNotAllowed] where it has, or the element needs, a form that isn't allowed (OneByteForm alone: it has
+// TwoByteForm, or else the element doesn't fit, by an id above 14, no data or more than 16 bytes of them);
+// [ErrLongBlock] where it would have more than 65,535 words; and ErrShortBuffer where the buffer has no room. Where it
+// returns an error nothing changes.
 func PutElement(buf []byte, length int, id uint8, data []byte, allowed Form) ([]byte, error) {
 	if length < 0 {
 		return nil, ErrBadField

@@ -64,14 +64,16 @@ func ExampleReceiver_CheckPacket() {
 	// a replay, too old, or forged
 }
 
-func ExampleHeader_Write() {
+func ExampleHeader_WriteAll() {
 	m := rtpwire.StandardMap()
-	header := rtpwire.Header{PayloadType: 111, SequenceNumber: 47000, SSRC: 44, HasExtension: true}
-	if err := header.Values.SetMID("audio"); err != nil {
+	var values rtpwire.Values
+	if err := values.SetMID("audio"); err != nil {
 		log.Fatal(err)
 	}
+	header := rtpwire.NewHeader(values) // a block is written, as there is a value
+	header.PayloadType, header.SequenceNumber, header.SSRC = 111, 47000, 44
 	buf := make([]byte, 1500)
-	n, err := header.Write(buf, m)
+	n, err := header.WriteAll(buf, m) // refused where m has no mid
 	if err != nil {
 		log.Fatal(err)
 	}

@@ -58,7 +58,8 @@ func (h *Header) WireLen(m *Map) (int, error) {
 // Write writes the header to the front of the buffer, and returns how many bytes it took: the payload follows there.
 // Those after them stay. Where there is a block it has an element for each mapped id whose value is there, by rising
 // id, in the one-byte form where no id above 14 and no KindLayers is mapped, and no text that is written is empty. A
-// layer allocation isn't written ([Header.WriteLayers]).
+// layer allocation isn't written ([Header.WriteLayers]). A value without an id, or without a block, is left out, and no
+// error says so: [Header.LeftOut] tells these, and [Header.WriteAll] refuses them.
 //
 // It returns ErrBadField where the payload type is above 127, or the orientation none of the four, and else
 // ErrShortBuffer where the buffer has too few bytes; nothing is written then.

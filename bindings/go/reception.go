@@ -47,6 +47,17 @@ func (s *ReceptionStatistics) Received() uint64 {
 	return s.received
 }
 
+// Expected is how many packets were expected, from the first one's number to the highest; 0 where none came.
+func (s *ReceptionStatistics) Expected() uint64 {
+	if s.received == 0 {
+		return 0
+	}
+	if s.highest-s.firstNumber == 1<<64-1 {
+		return 1<<64 - 1
+	}
+	return s.highest - s.firstNumber + 1
+}
+
 // Report reports on the packets that were recorded, and begins the interval of the next report. It is not ok where none
 // was recorded since the last report, since no report on the source is owed then (6.4).
 func (s *ReceptionStatistics) Report() (report ReceptionReport, ok bool) {

@@ -298,14 +298,12 @@ END
 # Each is counted as what it is: 128 below the highest number is too late.
 printf '%s\n' 806F00CD000000A00000002C{,,} 806F004D000000A00000002C{,,} 80C900010000002C{,,,} 80{,,,,} >"$scratch/counted.lines"
 echo 'taken 1 replays 2 late 3 rtcp 4 unreadable 5 strangers 0 sent 3 unsent 0' >"$scratch/counted.expected"
-# The ids to spare are those that the sender's have no part in: 254 is the level's, which the packet doesn't have.
-printf '%s\n' 'map 254 urn:ietf:params:rtp-hdrext:ssrc-audio-level' 806F0005000000A00000002C >"$scratch/spare.lines"
-echo "2 906F9C45000000A0000007D0100000081415${second}30C8020000FF03000000" >"$scratch/spare.expected"
-# And where each id from 16 on has a part in them, it is 15.
+# The block becomes a two-byte one also where the sender has all ids.
 {
-    printf 'map %s urn:ietf:params:rtp-hdrext:ssrc-audio-level\n' {16..255}
-    echo 806F0005000000A00000002C
-} >"$scratch/last.lines"
+    printf 'map %s urn:ietf:params:rtp-hdrext:ssrc-audio-level\n' {1..255}
+    echo 906F0005000000A00000002CBEDE0001F0000000
+} >"$scratch/all.lines"
+echo "2 906F9C45000000A0000007D0100000081415${second}30C8020000FF03000000" >"$scratch/all.expected"
 # 119 levels of 16 bytes and one of 4 fill a block of 2,032 bytes up to 4: the first receiver's mid has room there, and
 # the number of its transport hasn't, which is used up; the ids of the second one need more, and the third one has no
 # levels. Then one that is sent to all: the first receiver gets the number 1, 20 ms later.
@@ -359,9 +357,7 @@ sends_on() {
     for it in full before counted sources; do
         "$@" <"$scratch/$it.lines" | tail -n 1 | diff "$scratch/$it.expected" - >&2 || fail "$*, what is counted, $it"
     done
-    for it in spare last; do
-        "$@" <"$scratch/$it.lines" | grep '^2 ' | diff "$scratch/spare.expected" - >&2 || fail "$*, the id to spare, $it"
-    done
+    "$@" <"$scratch/all.lines" | grep '^2 ' | diff "$scratch/all.expected" - >&2 || fail "$*, a sender with all ids"
     "$@" <"$scratch/unsent.lines" | grep -v '^[23] ' | cmp "$scratch/unsent.expected" - >&2 || fail "$*, one that isn't sent"
     # The mids of the sixteen streams end in their hexadecimal digits.
     "$@" <"$scratch/full.lines" | sed -n 's/^1 .\{24\}BEDE0003216D\(..\).*/\1/p' | diff <(printf '%s\n' 3{0..9} 4{1..6}) - >&2 ||

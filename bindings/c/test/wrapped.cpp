@@ -57,6 +57,7 @@ void reads() {
     const auto data = rtpw::data_of_element(datagram, *packet, 3);
     CHECK(data && same(*data, {0x8a}));
     CHECK(!rtpw::data_of_element(datagram, *packet, 4));
+    CHECK(!rtpw::token(datagram, *packet, 3) && !rtpw::token(datagram, *packet, 4));
     CHECK(rtpw::last_element(rtpw::body(datagram, *packet), RTPW_ONE_BYTE_FORM, 3)->data_at == 1);
     CHECK(rtpw::next_element(rtpw::body(datagram, *packet), RTPW_ONE_BYTE_FORM, 2).status() == status::none);
 
@@ -185,6 +186,7 @@ void writes() {
     CHECK(rtpw::mid(header.values) == "audio");
     std::uint8_t buf[128];
     const auto len = rtpw::write(map, header, buf);
+    CHECK(rtpw::token({buf, *len}, *rtpw::packet_parse({buf, *len}), 4) == "audio");
     CHECK(len && *len == 24 && *rtpw::wire_len(map, header) == 24);
     CHECK(same({buf + 12, 12}, {0xbe, 0xde, 0, 2, 0x44, 'a', 'u', 'd', 'i', 'o', 0, 0}));
     CHECK(rtpw::write(map, header, {buf, 23}).status() == status::short_buffer);
@@ -229,7 +231,8 @@ void receives() {
     CHECK(rtpw::receiver_standing_of(receiver, 65414) == rtpw::standing::unseen);
     CHECK(rtpw::receiver_standing_of(receiver, 65413) == rtpw::standing::too_old);
 
-    rtpw::wide_receiver<16> wide;
+    auto wide = *rtpw::wide_receiver<16>::starting_at(7);
+    CHECK(wide.number_of(5) == 7 * 65536 + 5 && wide.words[15] == 0);
     CHECK(wide.start(1) == status::ok && *wide.receive(5) == 65541 && wide.number_of(4) == 65540);
     CHECK(wide.record(65541 - 1023) == status::ok && !wide.accepts(65541 - 1023) && !wide.accepts(65541 - 1024));
     CHECK(wide.accepts(65541 - 1022));

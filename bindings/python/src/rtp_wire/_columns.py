@@ -272,7 +272,8 @@ class Columns:
 
     def receive(self, receivers: MutableMapping[int, Receiver], rollover_count: int = 1) -> Verdicts:
         """Has each packet judged by the receiver of its SSRC, one after the other, as `Receiver.receive` does; where
-        there is none yet one is put there, which begins at the rollover count. RTCP isn't judged.
+        there is none yet one is put there, which begins at the rollover count: at 1, where nothing is authenticated, a
+        packet from before the first one has a number too. RTCP isn't judged.
 
         >>> import rtp_wire
         >>> buffer = bytes.fromhex("8021FFFF 00002710 0000002C" + "80210000 00002710 0000002C")

@@ -101,7 +101,8 @@ class BadId(BadField):
 
 class FormNotAllowed(BadField):
     """The block has, or an element needs, a form that isn't allowed; or an element can't be in the form that the block
-    is to get."""
+    is to get. Where the one-byte form alone is allowed, `Packet.form` tells which: the two-byte form, or else the
+    element doesn't fit, by an id above 14, no data or more than 16 bytes of them."""
 
 
 class LongBlock(BadField):
@@ -155,9 +156,29 @@ def check(status: int) -> None:
         raise error_of(status)
 
 
+# Why a packet isn't changed, where all that was given is in its range.
+LONG_PADDING = "the padding is longer than the payload"
+HIGH_ID = "a new id is above 14, and the block in the one-byte form"
+
+
+def checked(status: int, reason: str) -> None:
+    """As `check`, where this alone may be wrong with what was given."""
+    if status == Status.BAD_FIELD:
+        raise BadField(Status.BAD_FIELD, reason)
+    check(status)
+
+
+def whole(name: str, value: int) -> int:
+    """The value; TypeError where it is no whole number."""
+    try:
+        return index(value)
+    except TypeError:
+        raise TypeError(f"{name} is {type(value).__name__}, and no whole number") from None
+
+
 def within(name: str, value: int, low: int, high: int) -> int:
     """The value, where it is in this range; TypeError where it is no whole number."""
-    value = index(value)
+    value = whole(name, value)
     if not low <= value <= high:
         raise BadField(Status.BAD_FIELD, f"{name} is {value}, and not {low} to {high}")
     return value

@@ -8,7 +8,7 @@ from typing import TYPE_CHECKING, FrozenSet, Iterable, Optional, Tuple, cast
 
 from . import _library
 from ._buffers import address_of, place_of, view_of, writable_view_of
-from ._errors import BadField, LeftOut, Status, check, unsigned, within
+from ._errors import BadField, LeftOut, Status, check, checked, unsigned, within
 from ._layers import Layers, layers_of, raw_layers_of
 from ._map import Kind, Map, raw_map
 from ._values import Values, put_values, values_of
@@ -30,7 +30,7 @@ def read_layers(address: Address, length: int, map: Map) -> Layers:
 
 @dataclass
 class Header:
-    """The header of a packet, with the values of its block: read by `parse`, or filled and written by `write`.
+    """The header of a packet, with the values of its block: read by `parse`, or filled and written by `write_all`.
 
     >>> from rtp_wire import Kind
     >>> header = Header(payload_type=33, sequence_number=47000, values=Values(mid="1"))
@@ -115,20 +115,22 @@ class Header:
         """How many bytes `write` writes: a multiple of 4. BadField as `write`."""
         wire_len, _, given = self._calls(map)
         length = c_size_t()
-        check(wire_len(*given, length))
+        checked(wire_len(*given, length), NO_LAYERS)
         return length.value
 
     def write(self, map: Map) -> bytes:
         """The bytes of the header. Where has_extension is set there is a block, by rising id an element for each
         mapped id whose value is there: in the one-byte form unless an id above 14 or Kind.LAYERS is mapped or a text
-        that is written is empty. Spatial layers at the end of a stream that aren't active are left out. BadField where
-        a field or a value is out of its range, or no element can carry the layers, as those of more than 255 bytes.
+        that is written is empty. Spatial layers at the end of a stream that aren't active are left out. So is a value
+        without an id, or without a block, and nothing says so: `left_out` tells these, and `write_all` refuses them.
+        BadField where a field or a value is out of its range, or no element can carry the layers, as those of more than
+        255 bytes.
         """
         wire_len, write, given = self._calls(map)
         length = c_size_t()
-        check(wire_len(*given, length))
+        checked(wire_len(*given, length), NO_LAYERS)
         buf = bytearray(length.value)
-        check(write(*given, address_of(memoryview(buf)), len(buf), length))
+        checked(write(*given, address_of(memoryview(buf)), len(buf), length), NO_LAYERS)
         return bytes(buf)
 
     def write_to(self, buf: WritableBuffer, map: Map) -> int:
@@ -136,7 +138,7 @@ class Header:
         BadField as `write`, and else ShortBuffer; nothing is written then."""
         view, length = writable_view_of(buf), c_size_t()
         _, write, given = self._calls(map)
-        check(write(*given, address_of(view), len(view), length))
+        checked(write(*given, address_of(view), len(view), length), NO_LAYERS)
         return length.value
 
     def left_out(self, map: Map) -> FrozenSet[Kind]:
@@ -153,9 +155,9 @@ class Header:
         """
         kinds, given = c_uint32(), (raw_map(map), self._raw())
         if self.values.layers is None:
-            check(_library.left_out(*given, kinds))
+            checked(_library.left_out(*given, kinds), NO_LAYERS)
         else:
-            check(_library.left_out_layers(*given, raw_layers_of(self.values.layers), kinds))
+            checked(_library.left_out_layers(*given, raw_layers_of(self.values.layers), kinds), NO_LAYERS)
         return frozenset(kind for kind in Kind if kind < Kind.OWN and kinds.value >> kind & 1)
 
     def _all_is_written(self, map: Map) -> None:
@@ -181,24 +183,36 @@ class Header:
         for a peer that hasn't agreed to both in one stream. BadField where a field is out of its range, an id isn't 1
         to 255, data have more than 255 bytes, a block can't have as many bytes, or the form can't carry an element.
         """
-        data, places = _gather(elements)
+        allowed = 0 if form is None else within("a form", form, 0, 2)
+        data, places = _gather(elements, allowed)
         room = _room(data, places) + BLOCK_HEADER + 12 + 4 * len(self.csrc)
         buf, length = bytearray(room), c_size_t()
         given = (self._raw(with_values=False), data, len(data), places, len(places))
         into = (address_of(memoryview(buf)), len(buf), length)
         if form is None:
-            check(_library.write_with(*given, *into))
+            checked(_library.write_with(*given, *into), LONG)
         else:
-            check(_library.write_with_form(*given, within("a form", form, 0, 2), *into))
+            checked(_library.write_with_form(*given, allowed, *into), LONG)
         return bytes(memoryview(buf)[: length.value])
 
 
-def _gather(elements: Iterable[Tuple[int, Buffer]]) -> Tuple[bytes, _library.Places]:
-    """The data of all elements, one after the other, and where those of each lie."""
+# Why a header isn't written, all of whose fields are in their ranges.
+NO_LAYERS = "no element can carry the layers"
+LONG = "the elements have more bytes than a block can"
+
+
+# By form the highest id, and the least and the most bytes, that elements have.
+_BOUNDS = {0: (255, 0, 255), 1: (14, 1, 16), 2: (255, 0, 255)}
+
+
+def _gather(elements: Iterable[Tuple[int, Buffer]], form: int) -> Tuple[bytes, _library.Places]:
+    """The data of all elements, one after the other, and where those of each lie; 0 stands for each form. BadField
+    where the form can't carry one."""
     data, places = bytearray(), []
+    highest, least, most = _BOUNDS[form]
     for id, part in elements:
-        view = view_of(part)
-        places.append(_library.RawElement(len(data), len(view), 0, within("an id", id, 1, 255)))
+        view, number = view_of(part), within("an id", id, 1, highest)
+        places.append(_library.RawElement(len(data), within("the length of data", len(view), least, most), 0, number))
         data += view
     return bytes(data), (_library.RawElement * len(places))(*places)
 
@@ -211,9 +225,9 @@ def _room(data: bytes, places: _library.Places) -> int:
 def write_elements(elements: Iterable[Tuple[int, Buffer]], form: int) -> bytes:
     """The elements, pairs of an id and its data, one after the other as the body of a block has them. BadField where
     the form is none of the two, or can't carry one of them."""
-    data, places = _gather(elements)
-    buf, length = bytearray(_room(data, places)), c_size_t()
     form = within("a form", form, 1, 2)
+    data, places = _gather(elements, form)
+    buf, length = bytearray(_room(data, places)), c_size_t()
     view = memoryview(buf)
     check(
         _library.write_elements(

@@ -6,7 +6,7 @@ from dataclasses import dataclass
 from typing import NamedTuple, Optional, Sized, Tuple
 
 from . import _library
-from ._errors import BadField, Status, unsigned
+from ._errors import BadField, Status, unsigned, within
 
 
 class Resolution(NamedTuple):
@@ -58,15 +58,18 @@ def _put_layer(raw: _library.RawLayer, layer: Layer) -> None:
     raw.kbps[: raw.rates] = [unsigned("a rate", rate, 63) for rate in layer.kbps]
     if layer.resolution is not None:
         raw.has_resolution = 1
-        raw.width = unsigned("width", layer.resolution.width, 16)
-        raw.height = unsigned("height", layer.resolution.height, 16)
+        raw.width = within("width", layer.resolution.width, 1, 0xFFFF)
+        raw.height = within("height", layer.resolution.height, 1, 0xFFFF)
         raw.framerate = unsigned("framerate", layer.resolution.framerate, 8)
 
 
 def raw_layers_of(layers: Layers) -> _library.RawLayers:
-    """The layers for the library. BadField where one is out of the range that the struct can hold."""
+    """The layers for the library. BadField where one is out of its range; TypeError where they are none."""
+    if not isinstance(layers, Layers):
+        raise TypeError(f"layers are {type(layers).__name__}, and not Layers")
     raw = _library.RawLayers()
-    raw.count, raw.current = _few("streams", layers.streams), unsigned("current", layers.current, 2)
+    raw.count = _few("streams", layers.streams)
+    raw.current = within("current", layers.current, 0, 3 if raw.count else 0)
     for raw_stream, stream in zip(raw.streams, layers.streams):
         raw_stream.count = _few("layers", stream)
         for raw_layer, layer in zip(raw_stream.layers, stream):

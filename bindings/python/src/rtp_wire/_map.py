@@ -9,7 +9,7 @@ from typing import Any, Iterable, Iterator, Mapping, MutableMapping, Optional, T
 
 from . import _library
 from ._buffers import address_of
-from ._errors import BadField, Status, check, unsigned, within
+from ._errors import BadField, Status, check, unsigned, whole, within
 
 
 class Kind(IntEnum):
@@ -82,6 +82,14 @@ _LONGEST_URI = 73
 _MOST = {Kind.MID: 16, Kind.RID: 8, Kind.REPAIRED_RID: 8}
 
 
+def kind_number(kind: int, least: int) -> int:
+    """The number of a kind, from this one on. BadField where it is none."""
+    number = whole("a kind", kind)
+    if not (least <= number <= Kind.LAYERS or Kind.OWN <= number <= 255):
+        raise BadField(Status.BAD_FIELD, f"a kind is {number}, and not {least} to 15 or 128 to 255")
+    return number
+
+
 Entry = TypeVar("Entry", bound=int)
 
 
@@ -152,10 +160,7 @@ class Map(_Table[Kind]):
     def __setitem__(self, id: int, kind: Kind) -> None:
         """The id means the kind from now on, or nothing with Kind.NONE. BadField where the id isn't 1 to 255, or the
         kind is one of 16 to 127."""
-        id, number = within("an id", id, 1, 255), unsigned("a kind", kind, 8)
-        if Kind.LAYERS < number < Kind.OWN:
-            raise BadField(Status.BAD_FIELD, f"a kind is {number}, and not 0 to 15 or 128 to 255")
-        check(_library.map_set(self._raw, id, number))
+        check(_library.map_set(self._raw, within("an id", id, 1, 255), kind_number(kind, 0)))
 
     def _remove(self, id: int) -> None:
         self[id] = Kind.NONE
@@ -185,7 +190,7 @@ class NewIds(_Table[int]):
         whose URI has no kind goes on where both maps give it one kind of your own, or its new id is set by hand.
         """
         made = cls()
-        _library.new_ids_between(sender._raw, receiver._raw, made._raw)
+        _library.new_ids_between(raw_map(sender), raw_map(receiver), made._raw)
         return made
 
     @classmethod
@@ -194,7 +199,7 @@ class NewIds(_Table[int]):
         Kind.REPAIRED_RID, an id of the first becomes the lowest id of the second, and the ids of the second get none.
         Every other id keeps itself, and so does each where the map hasn't both."""
         made = cls()
-        _library.new_ids_to_retransmission(map._raw, made._raw)
+        _library.new_ids_to_retransmission(raw_map(map), made._raw)
         return made
 
     @classmethod
@@ -202,7 +207,7 @@ class NewIds(_Table[int]):
         """The same on the way back: an id of Kind.REPAIRED_RID becomes the lowest id of Kind.RID, and the ids of that
         get none."""
         made = cls()
-        _library.new_ids_from_retransmission(map._raw, made._raw)
+        _library.new_ids_from_retransmission(raw_map(map), made._raw)
         return made
 
     def __getitem__(self, id: int) -> int:
@@ -216,3 +221,11 @@ class NewIds(_Table[int]):
 
     def _remove(self, id: int) -> None:
         self._raw.id[id] = 0
+
+
+def raw_new_ids(ids: NewIds) -> _library.RawNewIds:
+    """The new ids as the library has them; TypeError where they are none."""
+    if not isinstance(ids, NewIds):
+        raise TypeError(f"new ids are {type(ids).__name__}, and not NewIds")
+    raw: _library.RawNewIds = ids._raw
+    return raw

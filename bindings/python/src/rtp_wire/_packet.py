@@ -9,10 +9,10 @@ from typing import TYPE_CHECKING, Iterator, NamedTuple, Optional, Tuple, Union
 
 from . import _library
 from ._buffers import address_of, copy_of, place_of, view_of, writable_view_of
-from ._errors import Status, check, error_of, unsigned
+from ._errors import HIGH_ID, LONG_PADDING, Status, check, checked, error_of, unsigned, within
 from ._header import read_layers
 from ._library import whole_packet_parse
-from ._map import Map, NewIds, raw_map
+from ._map import Map, NewIds, raw_map, raw_new_ids
 from ._standard import token_of
 from ._values import Values, values_of
 
@@ -49,7 +49,7 @@ def elements(body: Buffer, form: int) -> Iterator[Element]:
     """The elements of a block's body in order, up to one that is cut short, or in the one-byte form has the id 15.
     BadField where the form is none of the two."""
     view, raw = view_of(body), _library.RawElement()
-    at, length, form = address_of(view), len(view), unsigned("a form", form, 8)
+    at, length, form = address_of(view), len(view), within("a form", form, 1, 2)
     while True:
         status = _library.next_element(at, length, form, raw.end, raw)
         if status == Status.NONE:
@@ -206,11 +206,14 @@ class Packet:
                 setattr(fields, f"has_{name}", 1)
         self._set(_library.set_fields, fields)
 
-    def _set(self, change: _library.Function, *arguments: object) -> None:
-        """Changes the packet, and reads it again."""
+    def _set(self, change: _library.Function, *arguments: object, reason: Optional[str] = None) -> None:
+        """Changes the packet, and reads it again. The reason is that of a BadField."""
         data = writable_view_of(memoryview(self._data))
         at = address_of(data)
-        check(change(at, self._len, *arguments))
+        status = change(at, self._len, *arguments)
+        if reason is not None:
+            checked(status, reason)
+        check(status)
         self._read(at)
 
     def _view(self) -> memoryview:
@@ -244,7 +247,7 @@ class Packet:
         """Clears P, and returns how many bytes the packet then has, which are its first ones. BadField where the
         padding is longer than the payload."""
         length = c_size_t()
-        self._set(_library.remove_padding, length)
+        self._set(_library.remove_padding, length, reason=LONG_PADDING)
         return length.value
 
     # ---- The elements of its block ----
@@ -312,4 +315,4 @@ class Packet:
         """Gives each element its new id, and makes one that gets none padding. BadField where the form of the block
         can't carry a new id, one above 14 in the one-byte form, of which `change_form` makes the other; then nothing
         changes. To read the values under the receiver's map parse the packet again."""
-        self._set(_library.renumber, ids._raw)
+        self._set(_library.renumber, raw_new_ids(ids), reason=HIGH_ID)

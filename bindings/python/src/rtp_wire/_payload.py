@@ -7,7 +7,8 @@ from typing import TYPE_CHECKING
 
 from . import _library
 from ._buffers import address_of, place_of, writable_view_of
-from ._errors import check, unsigned
+from ._errors import HIGH_ID, LONG_PADDING, check, checked, unsigned, within
+from ._map import raw_new_ids
 
 if TYPE_CHECKING:
     from ._buffers import Buffer, WritableBuffer
@@ -25,7 +26,7 @@ def pad(datagram: WritableBuffer, header_len: int, pad_len: int, block_size: int
     sizes = (
         unsigned("header_len", header_len, 64),
         unsigned("pad_len", pad_len, 8),
-        unsigned("block_size", block_size, 64),
+        within("block_size", block_size, 1, (1 << 64) - 1),
     )
     check(_library.pad(address_of(view), len(view), *sizes, count))
     return count.value
@@ -57,9 +58,11 @@ def to_retransmission(buf: WritableBuffer, length: int, ssrc: int, payload_type:
     counts more bytes than the payload has, or the packet's form can't carry a new id; NotAPacket; ShortBuffer where
     there is no room for the two bytes. Nothing changes then.
     """
-    view, end = writable_view_of(buf), c_size_t(unsigned("length", length, 64))
+    view = writable_view_of(buf)
+    end = c_size_t(within("length", length, 0, len(view)))
     fields = (unsigned("ssrc", ssrc, 32), unsigned("payload_type", payload_type, 7), unsigned("number", number, 16))
-    check(_library.to_retransmission(address_of(view), len(view), end, *fields, ids._raw))
+    status = _library.to_retransmission(address_of(view), len(view), end, *fields, raw_new_ids(ids))
+    checked(status, f"{LONG_PADDING}, or {HIGH_ID}")
     return end.value
 
 
@@ -71,7 +74,9 @@ def from_retransmission(buf: WritableBuffer, length: int, ssrc: int, payload_typ
     BadField as `to_retransmission`; NotAPacket; NoElement where the payload has fewer than the two bytes of a number.
     Nothing changes then.
     """
-    view, end = writable_view_of(buf), c_size_t(unsigned("length", length, 64))
+    view = writable_view_of(buf)
+    end = c_size_t(within("length", length, 0, len(view)))
     fields = (unsigned("ssrc", ssrc, 32), unsigned("payload_type", payload_type, 7))
-    check(_library.from_retransmission(address_of(view), len(view), end, *fields, ids._raw))
+    status = _library.from_retransmission(address_of(view), len(view), end, *fields, raw_new_ids(ids))
+    checked(status, f"{LONG_PADDING}, or {HIGH_ID}")
     return end.value

@@ -68,7 +68,7 @@ class Receiver(_State):
     def __init__(self, rollover_count: int) -> None:
         """The first packet has this rollover count, below 2^48; BadField otherwise."""
         self._raw = _library.RawReceiver()
-        check(_library.receiver_start(self._raw, unsigned("rollover_count", rollover_count, 64)))
+        check(_library.receiver_start(self._raw, unsigned("rollover_count", rollover_count, 48)))
 
     def number_of(self, sequence_number: int) -> int:
         """The number nearest to the highest taken that ends in these 16 bits; of the first packet the one with the
@@ -128,7 +128,7 @@ class WideReceiver(_State):
         isn't 1 to 512."""
         self._words = (c_uint64 * within("words", words, 1, MOST_WORDS))()
         self._raw = _library.RawWideReceiver()
-        check(_library.wide_receiver_start(self._raw, unsigned("rollover_count", rollover_count, 64)))
+        check(_library.wide_receiver_start(self._raw, unsigned("rollover_count", rollover_count, 48)))
 
     def number_of(self, sequence_number: int) -> int:
         """As `Receiver.number_of`."""

@@ -70,6 +70,12 @@ class ReceptionStatistics:
         """How many packets came."""
         return int(self._raw.received)
 
+    @property
+    def expected(self) -> int:
+        """How many packets were expected, from the first one's number to the highest; 0 where none came."""
+        raw = self._raw
+        return int(min(raw.highest - raw.first + 1, (1 << 64) - 1)) if raw.received else 0
+
     def record(self, number: int, timestamp: int, arrival: int) -> None:
         """Records a packet that came, by its extended sequence number, its timestamp and the time of its arrival: in
         ticks of the timestamp's clock, from any moment on, modulo 2^32. BadField where one doesn't fit."""

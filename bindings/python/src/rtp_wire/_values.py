@@ -6,14 +6,14 @@ import re
 from ctypes import c_size_t
 from dataclasses import dataclass, fields
 from functools import lru_cache
-from operator import attrgetter, index
+from operator import attrgetter
 from typing import TYPE_CHECKING, Any, Callable, Dict, NamedTuple, Optional, Tuple
 
 from . import _library
 from ._buffers import address_of, place_of
-from ._errors import BadField, Status, check, unsigned, within
+from ._errors import BadField, Status, check, unsigned, whole, within
 from ._layers import Layers
-from ._map import Kind, Map, raw_map
+from ._map import Kind, Map, kind_number, raw_map
 
 if TYPE_CHECKING:
     from ._buffers import Buffer
@@ -96,7 +96,7 @@ class Values:
         a whole packet. BadField where the form is none of the two."""
         data, at = place_of(body)
         raw = _library.RawValues()
-        check(_library.values_read(at, len(data), unsigned("a form", form, 8), raw_map(map), raw))
+        check(_library.values_read(at, len(data), within("a form", form, 1, 2), raw_map(map), raw))
         return values_of(raw)
 
     def data_of(self, kind: Kind) -> bytes:
@@ -107,7 +107,7 @@ class Values:
         raw, data, length = _library.RawValues(), bytearray(MOST_DATA), c_size_t()
         put_values(raw, self)
         view = memoryview(data)
-        check(_library.data_of(unsigned("a kind", kind, 8), raw, address_of(view), len(data), length))
+        check(_library.data_of(kind_number(kind, 1), raw, address_of(view), len(data), length))
         return bytes(view[: length.value])
 
     def __repr__(self) -> str:
@@ -157,6 +157,8 @@ def values_of(raw: Raw) -> Values:
 
 
 def _text(name: str, text: str, most: int) -> bytes:
+    if not isinstance(text, str):
+        raise TypeError(f"{name} is {type(text).__name__}, and not str")
     data = text.encode("ascii", "replace")
     if len(data) > most or re.fullmatch(b"[A-Za-z0-9_]*", data) is None:
         raise BadField(
@@ -166,11 +168,15 @@ def _text(name: str, text: str, most: int) -> bytes:
 
 
 def _raw_time(name: str, time: Time) -> _library.RawTime:
-    ticks, hertz = time
+    try:
+        ticks, hertz = time
+    except (TypeError, ValueError):
+        raise TypeError(f"{name} is {type(time).__name__}, and not Time") from None
     return _library.RawTime(unsigned(name, ticks, 64), within(f"hertz of {name}", hertz, 1, (1 << 32) - 1))
 
 
 def _degrees(value: int) -> int:
+    value = whole("video_orientation", value)
     if value not in (0, 90, 180, 270):
         raise BadField(Status.BAD_FIELD, f"video_orientation is {value}, and not 0, 90, 180 or 270")
     return value
@@ -192,20 +198,24 @@ _WRITERS: Dict[str, Callable[[Any], Any]] = {
     "repaired_rid": lambda value: _text("repaired_rid", value, 8),
     "audio_level": lambda value: within("audio_level", value, -127, 0),
     "capture_offset": lambda value: within("capture_offset", value, -(1 << 63), (1 << 63) - 1),
-    "video_orientation": lambda value: _degrees(index(value)),
+    "video_orientation": _degrees,
     "playout_delay_min": lambda value: _raw_time("playout_delay_min", value),
     "playout_delay_max": lambda value: _raw_time("playout_delay_max", value),
 }
 
 
 def _put_timing(raw: Raw, timing: VideoTiming) -> None:
+    if not isinstance(timing, VideoTiming):
+        raise TypeError(f"video_timing is {type(timing).__name__}, and not VideoTiming")
     for name in ("encode_start", "encode_finish", "packetize_complete", "last_left_pacer"):
         setattr(raw, name, unsigned(name, getattr(timing, name), 16))
     raw.timing_flags = unsigned("flags of video_timing", timing.flags, 8)
 
 
 def put_values(raw: Raw, values: Values) -> None:
-    """Puts the values into an empty struct. BadField where one is out of the range that the struct can hold."""
+    """Puts the values into an empty struct. BadField where one is out of its range; TypeError where they are none."""
+    if not isinstance(values, Values):
+        raise TypeError(f"values are {type(values).__name__}, and not Values")
     for at, name in enumerate(_library.VALUES):
         value = getattr(values, name)
         if value is None or name == "layers":

@@ -12,7 +12,7 @@ use std::io::{self, BufRead, Write};
 use std::process::ExitCode;
 
 use rtp_wire::{
-    is_rtcp, put_element, Fields, Form, Kind, Map, NewIds, Packet, PacketMut, Receiver,
+    change_form, is_rtcp, put_element, Fields, Form, Kind, Map, NewIds, Packet, PacketMut, Receiver,
 };
 
 /// So many numbers up to the highest one a receiver keeps.
@@ -46,8 +46,6 @@ struct Route {
     mid_id: Option<u8>,
     transport_number_id: Option<u8>,
     send_time_id: Option<u8>,
-    /// An id of the two-byte form that means nothing on this way.
-    spare_id: u8,
     /// Whether the receiver's ids or mids need the two-byte form.
     wide: bool,
     /// Of the next packet.
@@ -139,17 +137,16 @@ impl Route {
             mid_id,
             transport_number_id: peer.map.id_of(Kind::TransportNumber),
             send_time_id: peer.map.id_of(Kind::AbsSendTime),
-            spare_id: (15..=255).rfind(|id| ids.get(*id).is_none()).unwrap_or(0),
             wide: long_mid || peer.map.iter().any(|(id, _)| id > 14),
             transport_number: 0,
         }
     }
 
-    /// Gives the packet the ids of the receiver. A one-byte block can't carry ids above 14: so it first gets an
-    /// element that makes it a two-byte one, and that becomes padding with all that has no id there.
+    /// Gives the packet the ids of the receiver. A one-byte block can't carry ids above 14: so it becomes a two-byte
+    /// one first.
     fn renumber(&self, header: &mut Header, form: Option<Form>) -> Option<()> {
         if self.wide && form == Some(Form::OneByte) {
-            header.put(Some(self.spare_id), &[])?;
+            header.len = change_form(&mut header.buf, header.len, Form::TwoByte).ok()?;
         }
         let mut packet = PacketMut::parse(header.bytes()).ok()?;
         packet.renumber(&self.ids).ok()

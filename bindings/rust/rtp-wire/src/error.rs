@@ -288,7 +288,8 @@ pub enum NotPut {
     /// The id is 0, which no element has.
     BadId,
     /// The block has, or an element needs, a form that isn't allowed; or an element can't be in the form that the
-    /// block is to get.
+    /// block is to get. Where the one-byte form alone is allowed, [`Packet::form`](crate::Packet::form) tells which:
+    /// the two-byte form, or else the element doesn't fit, by an id above 14, no data or more than 16 bytes of them.
     FormNotAllowed,
     /// The block would have more than 65,535 words.
     LongBlock,

@@ -6,11 +6,11 @@ use crate::sys;
 /// of the buffer, and returns how many bytes the packet then has. It then has exactly one element of the id, in
 /// place of the last one of the id or as the last of all. The other elements stay, in order, but those of the
 /// id 0, behind which a receiver that follows RFC 8285, 4.2, reads nothing, and all other parts stay too;
-/// without a block the packet gets one. Where the element is the only one of its id and has as many bytes, and
-/// none is of the id 0, only these bytes change. Else the block is made anew: its padding is used up, and then
-/// the payload moves by whole words; a body never becomes shorter ([`compact`]). What stands where reading ends,
-/// an element that is cut short or what follows the id 15, goes where the block is made anew. A header alone is
-/// enough.
+/// without a block the packet gets one. Where the element is the only one of its id and has as many bytes, none
+/// is of the id 0, and the block keeps its form, only these bytes change. Else the block is made anew: its padding
+/// is used up, and then the payload moves by whole words; a body never becomes shorter ([`compact`]). What stands
+/// where reading ends, an element that is cut short or what follows the id 15, goes where the block is made anew.
+/// A header alone is enough.
 ///
 /// A one-byte block that can't carry the element becomes a two-byte one, unless the one-byte form alone is
 /// `allowed`, as for a peer that hasn't agreed to both in one stream (RFC 8285, 4.1.2). Where the two-byte form

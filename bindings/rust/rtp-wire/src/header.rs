@@ -13,14 +13,14 @@ use crate::views::HeaderView;
 /// [`write_to`](Header::write_to) where values may be left out.
 ///
 /// ```
-/// use rtp_wire::{Header, Kind, Map};
+/// use rtp_wire::{Header, Kind, Map, Values};
 ///
 /// const MAP: Map = Map::new().with(3, Kind::Mid);
-/// let mut header = Header::default();
+/// let mut values = Values::default();
+/// values.mid = Some("1".parse()?);
+/// let mut header = Header::with_values(values);
 /// header.payload_type = 33;
 /// header.sequence_number = 47_000;
-/// header.has_extension = true;
-/// header.values.mid = Some("1".parse()?);
 ///
 /// let mut datagram = [0; 1500];
 /// let len = header.write_all(&mut datagram, &MAP)?;
@@ -146,7 +146,9 @@ impl Header {
     /// them stay. Where there is a block it has an element for each mapped id whose value is there, by
     /// rising id, in the one-byte form where no id above 14 and no [`Kind::Layers`](crate::Kind::Layers)
     /// is mapped, and no text of a mapped kind is empty. A layer allocation isn't written
-    /// ([`write_with_layers`](Header::write_with_layers)).
+    /// ([`write_with_layers`](Header::write_with_layers)). A value without an id, or without a block, is
+    /// left out, and no error says so: [`left_out`](Header::left_out) tells these, and
+    /// [`write_all`](Header::write_all) refuses them.
     ///
     /// # Errors
     ///

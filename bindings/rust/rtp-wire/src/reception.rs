@@ -48,6 +48,15 @@ impl ReceptionStatistics {
         self.state.received
     }
 
+    /// How many packets were expected, from the first one's number to the highest; 0 where none came.
+    #[must_use]
+    pub fn expected(&self) -> u64 {
+        match self.state.received {
+            0 => 0,
+            _ => (self.state.highest - self.state.first).saturating_add(1),
+        }
+    }
+
     /// Records a packet that came, by its extended sequence number, its timestamp and the time of its arrival: in
     /// ticks of the timestamp's clock, from any moment on, modulo 2^32.
     pub fn record(&mut self, number: u64, timestamp: u32, arrival: u32) {
