@@ -191,3 +191,132 @@ func TestClearedValuesAreNone(t *testing.T) {
 		same(t, "none without "+kind.String(), rtpwire.NewHeader(one).HasExtension, false)
 	}
 }
+
+// A batch that reads another buffer, with or without a Reset, lends parts of that one.
+func TestEachParseHasItsOwnBuffer(t *testing.T) {
+	var headers rtpwire.HeaderBatch
+	var packets rtpwire.PacketBatch
+	headers.Add(0, 37)
+	packets.Add(0, 37)
+	buffers := [][]byte{sample(), append(sample()[:32:32], 7, 8, 9, 0, 2, 0xEE), sample()}
+	for i, buf := range buffers {
+		headers.Parse(buf, nil)
+		packets.Parse(buf)
+		for what, part := range map[string][]byte{
+			"payload": headers.Payload(0), "other payload": packets.Payload(0),
+			"datagram": headers.Datagram(0)[32:], "other datagram": packets.Datagram(0)[32:],
+		} {
+			same(t, fmt.Sprint(what, i), []any{part, &part[0] == &buf[32]}, []any{buf[32:37], true})
+		}
+		_, body := packets.Block(0)
+		same(t, "body", &body[0] == &buf[24], true)
+	}
+	// One that is shorter has the datagram no more.
+	headers.Parse(sample()[:36], nil)
+	packets.Parse(sample()[:36:36])
+	same(t, "shorter", [][]byte{headers.Payload(0), packets.Payload(0), headers.Datagram(0), packets.Datagram(0)}, make([][]byte, 4))
+}
+
+// What lies behind the slices that are given is neither read nor judged: a datagram, a receiver.
+func TestWhatLiesBehindTheSlices(t *testing.T) {
+	var headers rtpwire.HeaderBatch
+	var packets rtpwire.PacketBatch
+	for _, length := range []int{36, 37} {
+		headers.Add(0, length)
+		packets.Add(0, length)
+	}
+	headers.Parse(sample()[:36], nil)
+	packets.Parse(sample()[:36])
+	for i, wanted := range []error{nil, rtpwire.ErrBadField} {
+		_, err := headers.At(i)
+		_, otherErr := packets.At(i)
+		same(t, "datagrams", []error{err, otherErr}, []error{wanted, wanted})
+	}
+	receivers := make([]rtpwire.Receiver, 2)
+	var arrivals rtpwire.ArrivalBatch
+	arrivals.Add(0, 5)
+	arrivals.Add(1, 6)
+	arrivals.Receive(receivers[:1])
+	number, err := arrivals.At(0)
+	same(t, "the first", []any{number, err}, []any{uint64(5), nil})
+	number, err = arrivals.At(1)
+	same(t, "the one behind", []any{number, err, receivers[1]}, []any{uint64(0), rtpwire.ErrBadField, rtpwire.Receiver{}})
+}
+
+// How many are read or judged in one call isn't limited: 65,836 headers, each with its number as timestamp.
+func TestHowManyAreReadAtOnce(t *testing.T) {
+	const many = 1<<16 + 300
+	buf := make([]byte, 0, 12*many)
+	var headers rtpwire.HeaderBatch
+	var packets rtpwire.PacketBatch
+	var arrivals rtpwire.ArrivalBatch
+	for i := 0; i < many; i++ {
+		buf = append(buf, 0x80, 96, byte(i>>8), byte(i), byte(i>>24), byte(i>>16), byte(i>>8), byte(i), 0, 0, 0, 7)
+		headers.Add(12*i, 12)
+		packets.Add(12*i, 12)
+		arrivals.Add(i, uint16(i))
+	}
+	headers.Parse(buf, nil)
+	packets.Parse(buf)
+	arrivals.Receive(make([]rtpwire.Receiver, many))
+	same(t, "how many", []int{headers.Len(), packets.Len(), arrivals.Len()}, []int{many, many, many})
+	for i := 0; i < many; i++ {
+		header, err := headers.At(i)
+		fields, otherErr := packets.At(i)
+		number, refused := arrivals.At(i)
+		if err != nil || otherErr != nil || refused != nil {
+			t.Fatal(i, err, otherErr, refused)
+		}
+		if header.Timestamp != uint32(i) || fields.Timestamp != uint32(i) || number != uint64(uint16(i)) {
+			t.Fatal(i, header.Timestamp, fields.Timestamp, number)
+		}
+	}
+}
+
+// HDR metadata of zeros is there, where it is said to be.
+func TestZerosOfAColorSpaceAreThere(t *testing.T) {
+	space := rtpwire.ColorSpace{HasHDR: true}
+	data, err := space.Append(nil)
+	same(t, "written", []any{data, err}, []any{make([]byte, 28), nil})
+	read, err := rtpwire.ParseColorSpace(data)
+	same(t, "read", []any{read, err}, []any{space, nil})
+	read, err = rtpwire.ParseColorSpace(data[:4])
+	same(t, "without", []any{read, err}, []any{rtpwire.ColorSpace{}, nil})
+}
+
+// What is known of a number hangs on all of its 64 bits.
+func TestStandingOfNumbersOf64Bits(t *testing.T) {
+	const first = 1<<63 | 1<<40 | 5
+	narrow, err := rtpwire.NewReceiver(first >> 16 & (1<<48 - 1))
+	same(t, "made", err, nil)
+	wide, err := rtpwire.NewWideReceiver(2, first>>16)
+	same(t, "made", err, nil)
+	for _, r := range []interface {
+		Receive(uint16) (uint64, bool)
+		NumberOf(uint16) uint64
+		Accepts(uint64) bool
+		StandingOf(uint64) rtpwire.Standing
+	}{narrow, wide} {
+		number, ok := r.Receive(5)
+		same(t, "taken", []any{number, ok, r.NumberOf(5), r.NumberOf(4)}, []any{uint64(first), true, uint64(first), uint64(first - 1)})
+		for number, wanted := range map[uint64]rtpwire.Standing{
+			first: rtpwire.StandingTaken, first - 1: rtpwire.StandingNew, first - 127: rtpwire.StandingNew,
+			first - 128: rtpwire.StandingTooOld, first + 1: rtpwire.StandingNew, first ^ 1<<63: rtpwire.StandingTooOld,
+			first ^ 1<<40: rtpwire.StandingTooOld, 5: rtpwire.StandingTooOld, 1<<64 - 1: rtpwire.StandingNew, 0: rtpwire.StandingTooOld,
+		} {
+			same(t, fmt.Sprintf("%#x", number), []any{r.StandingOf(number), r.Accepts(number)}, []any{wanted, wanted == rtpwire.StandingNew})
+		}
+	}
+	for _, r := range []interface {
+		Receive(uint16) (uint64, rtpwire.Verdict)
+		StandingOf(uint64) rtpwire.Standing
+	}{new(rtpwire.RestartingReceiver), wideRestarting(t, 2, rtpwire.RestartBounds{})} {
+		r.Receive(5) // 65,541
+		for number, wanted := range map[uint64]rtpwire.Standing{
+			65541: rtpwire.StandingTaken, 65541 | 1<<32: rtpwire.StandingNew, 65541 | 1<<63: rtpwire.StandingNew, 1 << 32: rtpwire.StandingNew,
+			5: rtpwire.StandingTooOld, 1<<64 - 1: rtpwire.StandingNew,
+		} {
+			same(t, fmt.Sprintf("%#x of the epoch", number), r.StandingOf(number), wanted)
+		}
+	}
+}

@@ -447,6 +447,9 @@ void elements_at_their_ends() {
     CHECK(empty && empty->size() == 0);
     CHECK(same(*rtpw::data_of_element(packet_of_two, packet, 20), {8}));
     CHECK(!rtpw::data_of_element(packet_of_two, packet, 9));
+    auto longer = packet_of_two;
+    longer[25] = 6; // the first element's data are the six bytes behind its length
+    CHECK(same(*rtpw::data_of_element(longer, *rtpw::packet_parse(longer), 20), {9, 7, 0, 20, 1, 8}));
     std::size_t ids = 0, bytes = 0;
     for (const rtpw::element &it : rtpw::elements(packet_of_two, packet)) {
         ids = 100 * ids + it.id;
@@ -496,6 +499,12 @@ void forms() {
         CHECK(rtpw::compact({buf.data(), 34}, len) == status::bad_field);
         CHECK(rtpw::remove_block({buf.data(), 34}, len) == status::bad_field && len == 35);
     }
+    const rtpw_element chosen[] = {{0, 1, 1, 3}};
+    for (const std::uint8_t form : std::initializer_list<std::uint8_t>{RTPW_NO_BLOCK, RTPW_OTHER_FORM, 4, 255}) {
+        CHECK(rtpw::write_elements(data, chosen, 1, form, buf).status() == status::bad_field);
+    }
+    CHECK(*rtpw::write_elements(data, chosen, 1, RTPW_TWO_BYTE_FORM, buf) == 3 && same({buf.data(), 3}, {3, 1, 0x8b}));
+    CHECK(rtpw::write_with({}, data, chosen, 1, buf, RTPW_OTHER_FORM).status() == status::bad_field);
     // Data that lie in the buffer are refused.
     std::size_t len = datagram.size();
     std::memcpy(buf.data(), datagram.data(), len);

@@ -6,6 +6,8 @@ call keeps. Expected values are worked out by hand."""
 import copy
 import pickle
 import unittest
+from array import array
+from ctypes import c_uint64
 from dataclasses import replace
 from typing import Any, Callable, List, Tuple
 from unittest.mock import patch
@@ -27,6 +29,7 @@ from rtp_wire import (
     HdrMetadata,
     Header,
     Kind,
+    LeftOut,
     Map,
     Orientation,
     Packet,
@@ -36,6 +39,7 @@ from rtp_wire import (
     RestartingReceiver,
     ShortBuffer,
     Standing,
+    Status,
     Taken,
     Timing,
     TransportNumber,
@@ -301,6 +305,26 @@ class Zeros(unittest.TestCase):
         self.assertEqual(TransportNumber.from_data(bytes.fromhex("00008000")), TransportNumber(0))
 
 
+class Places(unittest.TestCase):
+    def test_in_each_order_of_bytes(self) -> None:
+        # where they aren't numbers as the machine has them, they are gone through one by one
+        kinds: List[Any] = [c_uint64, getattr(c_uint64, "__ctype_be__"), getattr(c_uint64, "__ctype_le__")]
+        for at in [array("Q", [0, 21]), *((kind * 2)(0, 21) for kind in kinds)]:
+            columns = Columns.parse(PACKET + PACKET, at, (21 for _ in range(2)))
+            self.assertEqual((list(columns.status), list(columns.payload_at)), ([0, 0], [20, 41]))
+
+    def test_of_a_buffer_that_changes(self) -> None:
+        buffer = bytearray(PACKET)
+        columns = Columns.parse(buffer, [0], [21])
+        buffer[20] = 9
+        for lent in (columns.payload(0), columns.datagram(0)):
+            assert lent is not None
+            self.assertEqual((lent[-1], lent.readonly), (9, False))
+        self.assertRaises(BufferError, buffer.append, 0)
+        del lent, columns
+        buffer.append(0)
+
+
 class Names(unittest.TestCase):
     def test_a_name_that_is_given_twice_is_one(self) -> None:
         # what C writes to has to be kept: the columns of a name are made once
@@ -320,6 +344,10 @@ class Names(unittest.TestCase):
             Header(values=values).write_all(Map())
         told = "ABS_SEND_TIME, TRANSPORT_NUMBER, VIDEO_CONTENT_TYPE, RID, REPAIRED_RID, MID"
         self.assertEqual(str(raised.exception), f"values that no element carries: {told}")
+        for error in (raised.exception, pickle.loads(pickle.dumps(raised.exception))):
+            self.assertIs(type(error), LeftOut)
+            self.assertIs(error.status, Status.BAD_FIELD)
+            self.assertEqual(sorted(error.kinds), [1, 6, 8, 10, 11, 12])
         buffer = bytearray(b"\xee" * 4)
         self.assertRaises(BadField, Header(values=values).write_all_to, buffer, Map())
         self.assertRaises(ShortBuffer, Header(values=values).write_to, buffer, Map({1: Kind.MID}))
