@@ -320,3 +320,32 @@ func TestStandingOfNumbersOf64Bits(t *testing.T) {
 		}
 	}
 }
+
+// A value of 0, of false or without a character is there: a header has a block for each alone.
+func TestEachZeroMakesABlock(t *testing.T) {
+	set := map[rtpwire.Kind]func(*rtpwire.Values){
+		rtpwire.KindAbsSendTime:        func(v *rtpwire.Values) { v.SetSendTime(0) },
+		rtpwire.KindAbsCaptureTime:     func(v *rtpwire.Values) { v.SetCaptureTime(0) },
+		rtpwire.KindAudioLevel:         func(v *rtpwire.Values) { v.SetAudioLevel(0, false) },
+		rtpwire.KindTransmissionOffset: func(v *rtpwire.Values) { v.SetTransmissionOffset(0) },
+		rtpwire.KindVideoOrientation:   func(v *rtpwire.Values) { v.SetVideoOrientation(0) },
+		rtpwire.KindTransportNumber:    func(v *rtpwire.Values) { v.SetTransportNumber(0) },
+		rtpwire.KindPlayoutDelay:       func(v *rtpwire.Values) { v.SetPlayoutDelay(0, 0) },
+		rtpwire.KindVideoContentType:   func(v *rtpwire.Values) { v.SetVideoContentType(0) },
+		rtpwire.KindVideoTiming:        func(v *rtpwire.Values) { v.SetVideoTiming(rtpwire.VideoTiming{}) },
+		rtpwire.KindRID:                func(v *rtpwire.Values) { same(t, "rid", v.SetRID(""), nil) },
+		rtpwire.KindRepairedRID:        func(v *rtpwire.Values) { same(t, "repaired", v.SetRepairedRID(""), nil) },
+		rtpwire.KindMID:                func(v *rtpwire.Values) { same(t, "mid", v.SetMID(""), nil) },
+		rtpwire.KindFrameMarking:       func(v *rtpwire.Values) { v.SetFrameMarking(0) },
+	}
+	for kind, set := range set {
+		var v rtpwire.Values
+		set(&v)
+		h := rtpwire.NewHeader(v)
+		kinds, err := h.LeftOut(nil)
+		same(t, kind.String(), []any{h.HasExtension, kinds.Kinds(), err}, []any{true, []rtpwire.Kind{kind}, nil})
+	}
+	var v rtpwire.Values
+	v.SetCaptureOffset(0)
+	same(t, "an offset alone", rtpwire.NewHeader(v).HasExtension, true)
+}

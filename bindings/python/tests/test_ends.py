@@ -8,7 +8,7 @@ import pickle
 import unittest
 from array import array
 from ctypes import c_uint64
-from dataclasses import replace
+from dataclasses import fields, replace
 from typing import Any, Callable, List, Tuple
 from unittest.mock import patch
 
@@ -29,6 +29,7 @@ from rtp_wire import (
     HdrMetadata,
     Header,
     Kind,
+    Layers,
     LeftOut,
     Map,
     Orientation,
@@ -41,9 +42,11 @@ from rtp_wire import (
     Standing,
     Status,
     Taken,
+    Time,
     Timing,
     TransportNumber,
     Values,
+    VideoTiming,
     WideReceiver,
     add_element,
     change_form,
@@ -297,6 +300,23 @@ class Zeros(unittest.TestCase):
         without = replace(marking, layers=replace(layers, tl0_pic_idx=None))
         self.assertEqual((without.to_data(), FrameMarking.from_data(bytes(2))), (bytes(2), without))
         self.assertEqual(FrameMarking.from_data(bytes(1)), replace(marking, layers=None))
+
+    def test_headers_with_zeros(self) -> None:
+        # a value of 0, of False or without a character is there: a header has a block for each alone
+        rows: List[Tuple[str, Any]] = [(name, 0) for name in ("send_time", "capture_time", "capture_offset")]
+        rows += [(name, 0) for name in ("transmission_offset", "frame_marking", "transport_number")]
+        rows += [(name, 0) for name in ("video_orientation", "video_content_type", "audio_level")]
+        rows += [(name, "") for name in ("mid", "rid", "repaired_rid")]
+        rows += [("voice_activity", False), ("video_timing", VideoTiming(0, 0, 0, 0, 0)), ("layers", Layers((), 0))]
+        rows += [("playout_delay_min", Time(0, 1)), ("playout_delay_max", Time(0, 1))]
+        self.assertEqual({name for name, _ in rows}, {it.name for it in fields(Values)})
+        for name, zero in rows:
+            header = Header(values=Values(**{name: zero}))
+            self.assertIs(header.has_extension, True, name)
+            self.assertEqual(header.write(Map())[0], 0x90, name)
+            self.assertEqual(len(header.left_out(Map())), 1, name)
+            self.assertEqual(Header(values=Values(**{name: zero}), has_extension=False).write(Map())[0], 0x80, name)
+        self.assertIs(Header().has_extension, False)
 
     def test_flags_and_requests(self) -> None:
         self.assertEqual(Timing.from_data(bytes(13)), Timing(0, 0, 0, 0, 0, 0, flags=0))

@@ -6,9 +6,11 @@ use rtp_wire::standard::{
     FrameLayers, FrameMarking, HdrMetadata, Timing, TransportNumber,
 };
 use rtp_wire::{
-    parse_headers, parse_packets, receive_many, ArrivalSlot, HeaderSlot, Kind, KindSet, Map,
-    NotTaken, NotWritten, OutOfRange, PacketSlot, Receiver, ReceptionStatistics,
+    parse_headers, parse_packets, receive_many, Arrival, ArrivalSlot, Header, HeaderSlot, Kind,
+    KindSet, Map, Mid, NotTaken, NotWritten, OutOfRange, PacketSlot, Receiver, ReceptionStatistics,
+    Rid, Standing, Values, VideoTiming, WideReceiver, WideRestartingReceiver,
 };
+use std::time::Duration;
 
 /// As many datagrams as a count of 16 bits can't tell: each is a header alone, with its number as timestamp.
 const MANY: u32 = 65_536 + 300;
@@ -72,6 +74,79 @@ fn received_is_of_all_reports() {
     assert_eq!(statistics.received(), 4);
     assert_eq!(statistics.report().unwrap().cumulative_lost, 0);
     assert_eq!(statistics.received(), 4);
+}
+
+#[test]
+fn what_is_known_of_a_number_hangs_on_64_bits() {
+    const FIRST: u64 = 1 << 63 | 1 << 40 | 5;
+    let mut narrow = Receiver::starting_at(FIRST >> 16).unwrap();
+    let mut wide = WideReceiver::<2>::starting_at(FIRST >> 16).unwrap();
+    assert_eq!(
+        (narrow.receive(5), wide.receive(5)),
+        (Some(FIRST), Some(FIRST))
+    );
+    assert_eq!(
+        (narrow.number_of(4), wide.number_of(4)),
+        (FIRST - 1, FIRST - 1)
+    );
+    for (number, standing) in [
+        (FIRST, Standing::Taken),
+        (FIRST - 1, Standing::New),
+        (FIRST - 127, Standing::New),
+        (FIRST - 128, Standing::TooOld),
+        (FIRST + 1, Standing::New),
+        (FIRST ^ 1 << 63, Standing::TooOld),
+        (FIRST ^ 1 << 40, Standing::TooOld),
+        (5, Standing::TooOld),
+        (u64::MAX, Standing::New),
+    ] {
+        let told = (narrow.standing_of(number), wide.standing_of(number));
+        assert_eq!(told, (standing, standing), "{number:#x}");
+        let is_new = standing == Standing::New;
+        assert_eq!(
+            (narrow.accepts(number), wide.accepts(number)),
+            (is_new, is_new)
+        );
+    }
+    let mut restarting = WideRestartingReceiver::<2>::new();
+    assert_eq!(restarting.receive(5), Arrival::Taken(65_541));
+    for (number, standing) in [
+        (65_541, Standing::Taken),
+        (65_541 | 1 << 32, Standing::New),
+        (65_541 | 1 << 63, Standing::New),
+        (1 << 32, Standing::New),
+        (5, Standing::TooOld),
+    ] {
+        assert_eq!(restarting.standing_of(number), standing, "{number:#x}");
+    }
+}
+
+#[test]
+fn each_zero_alone_makes_a_block() {
+    let mut all = [Values::default(); 14];
+    all[0].send_time = Some(0);
+    all[1].capture_time = Some(0);
+    all[2].capture_offset = Some(0);
+    all[3].playout_delay_min = Some(Duration::ZERO);
+    all[4].transmission_offset = Some(0);
+    all[5].frame_marking = Some(0);
+    all[6].transport_number = Some(0);
+    all[7].video_orientation = Some(0);
+    all[8].video_timing = Some(VideoTiming::default());
+    all[9].video_content_type = Some(0);
+    all[10].audio_level = Some(0);
+    all[11].voice_activity = Some(false);
+    all[12].mid = Some("".parse::<Mid>().unwrap());
+    all[13].repaired_rid = Some("".parse::<Rid>().unwrap());
+    for values in all {
+        let header = Header::with_values(values);
+        assert!(header.has_extension);
+        assert_eq!(
+            header.left_out(&Map::new()).unwrap().iter().count(),
+            1,
+            "{values:?}"
+        );
+    }
 }
 
 #[test]
