@@ -112,8 +112,8 @@ fn what_is_known_of_a_number_hangs_on_64_bits() {
     assert_eq!(restarting.receive(5), Arrival::Taken(65_541));
     for (number, standing) in [
         (65_541, Standing::Taken),
-        (65_541 | 1 << 32, Standing::New),
-        (65_541 | 1 << 63, Standing::New),
+        (0x1_0005 | 1 << 32, Standing::New),
+        (0x1_0005 | 1 << 63, Standing::New),
         (1 << 32, Standing::New),
         (5, Standing::TooOld),
     ] {
