@@ -585,6 +585,63 @@ void windows() {
     CHECK(rtpw::extend_u16(65536, 65535) == 65535 && rtpw::extend_u32(std::uint64_t{1} << 32, 0xffffffff) == 0xffffffff);
 }
 
+// No bit of a number is lost on the way to C.
+void bits_of_numbers() {
+    std::array<std::uint8_t, 700> buf{};
+    CHECK(rtpw::write_original(buf, 0x12345) == status::ok && same({buf.data(), 2}, {0x23, 0x45}));
+    CHECK(*rtpw::read_original(buf) == 0x2345);
+    const std::array<std::int8_t, 2> levels = {-10, -5};
+    CHECK(*rtpw::write_mixer_levels(levels, buf) == 2);
+    for (const std::size_t index : {std::size_t{2}, std::size_t{256}, std::size_t{1} << 16, std::size_t{1} << 32}) {
+        CHECK(rtpw::read_mixer_level(buf, 2, index).status() == status::bad_field);
+        CHECK(*rtpw::read_mixer_level(buf, index, 1) == -5);
+    }
+    // Behind 600 bytes, 43 of padding in blocks of 50.
+    buf = {0x80};
+    CHECK(*rtpw::pad(buf, 600, 43, 50) == 50 && buf[649] == 50 && buf[600] == 0 && buf[0] == 0xa0);
+    CHECK(rtpw::pad(buf, std::size_t{1} << 32, 1, 1).status() == status::short_buffer);
+    CHECK(*rtpw::pad(buf, 600, 0, std::size_t{1} << 32) == 0);
+
+    // The element 3 of the two-byte form: in the other form these bytes are one of the id 0.
+    const std::uint8_t body[] = {3, 1, 0x8a, 0};
+    const auto values = rtpw::values_read(body, RTPW_TWO_BYTE_FORM, level_is_3());
+    CHECK(values && values->has_audio_level && values->audio_level == -10);
+    CHECK(!rtpw::values_read(body, RTPW_ONE_BYTE_FORM, level_is_3())->has_audio_level);
+    CHECK(rtpw::values_read(body, RTPW_OTHER_FORM, level_is_3()).status() == status::bad_field);
+    CHECK(rtpw::next_element(body, RTPW_TWO_BYTE_FORM, 0)->end == 3);
+    CHECK(rtpw::next_element(body, RTPW_TWO_BYTE_FORM, 3).status() == status::none);
+    CHECK(rtpw::last_element(body, RTPW_TWO_BYTE_FORM, 3)->data_at == 2);
+
+    const std::uint64_t count = 0x8765'4321'0fed;
+    rtpw_receiver receiver = *rtpw::receiver_start(count);
+    const std::uint64_t first = count << 16 | 0xcba9;
+    CHECK(rtpw::receiver_number_of(receiver, 0xcba9) == first && *rtpw::receiver_receive(receiver, 0xcba9) == first);
+    CHECK(!rtpw::receiver_accepts(receiver, first) && rtpw::receiver_accepts(receiver, first - 1));
+    CHECK(!rtpw::receiver_accepts(receiver, first ^ std::uint64_t{1} << 63));
+    CHECK(rtpw::receiver_standing_of(receiver, first ^ std::uint64_t{1} << 63) == rtpw::standing::too_old);
+    rtpw::receiver_record(receiver, first + 1);
+    CHECK(receiver.highest == first + 1);
+
+    // Transit times of 2^31 and 2^31 + 16 ticks; 2^32 packets were due.
+    rtpw_reception reception{};
+    rtpw::reception_record(reception, first, 0x80000000, 0);
+    rtpw::reception_record(reception, first + 0xffffffff, 0x80010000, 0x10010);
+    const auto report = rtpw::reception_report(reception);
+    CHECK(report->jitter == 1 && report->cumulative_lost == 8388607 && report->fraction_lost == 255);
+    std::uint8_t block[24];
+    CHECK(*rtpw::write_report({1, -8388608, 0x81828384, 0x91929394}, 0xa1a2a3a4, 0xb1b2b3b4, 0xc1c2c3c4, block) == 24);
+    CHECK(same({block, 12}, {0xa1, 0xa2, 0xa3, 0xa4, 1, 0x80, 0, 0, 0x81, 0x82, 0x83, 0x84}));
+    CHECK(same({block + 12, 12}, {0x91, 0x92, 0x93, 0x94, 0xb1, 0xb2, 0xb3, 0xb4, 0xc1, 0xc2, 0xc3, 0xc4}));
+
+    std::size_t len = datagram.size();
+    std::memcpy(buf.data(), datagram.data(), len);
+    const rtpw_new_ids none{};
+    CHECK(rtpw::to_retransmission(buf, len, 0xd1d2d3d4, 127, 0xe1e2, none) == status::ok);
+    CHECK(same({buf.data(), 12}, {0x91, 127, 0xe1, 0xe2, 0, 0, 3, 4, 0xd1, 0xd2, 0xd3, 0xd4}));
+    CHECK(rtpw::from_retransmission(buf, len, 0xf1f2f3f4, 126, none) == status::ok);
+    CHECK(same({buf.data(), 12}, {0x91, 126, 1, 2, 0, 0, 3, 4, 0xf1, 0xf2, 0xf3, 0xf4}));
+}
+
 // Spans are made of what has values, and of none.
 void spans() {
     const std::vector<std::uint8_t> values = {1, 2, 3};
@@ -616,5 +673,6 @@ int main() {
     ids();
     headers_with_values();
     windows();
+    bits_of_numbers();
     spans();
 }

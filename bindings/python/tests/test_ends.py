@@ -345,6 +345,61 @@ class Places(unittest.TestCase):
         buffer.append(0)
 
 
+class Judges(unittest.TestCase):
+    def setUp(self) -> None:
+        # of the sources 7, 9, 7 and 9 the numbers 5, 6, 7 and 7
+        rows = ((5, 7), (6, 9), (7, 7), (7, 9))
+        headers = [Header(sequence_number=number, ssrc=ssrc).write(Map()) for number, ssrc in rows]
+        self.columns = Columns.parse(b"".join(headers), range(0, 48, 12), [12] * 4)
+
+    def test_one_of_several_sources(self) -> None:
+        # each packet is judged by it, one after the other: the second 7 is a replay
+        receiver, alone = Receiver(1), Receiver(1)
+        verdicts = self.columns.receive({7: receiver, 9: receiver})
+        numbers = [alone.receive(number) for number in (5, 6, 7, 7)]
+        self.assertEqual(numbers, [65541, 65542, 65543, None])
+        self.assertEqual((list(verdicts.number), list(verdicts.verdict)), ([65541, 65542, 65543, 0], [1, 1, 1, 2]))
+        self.assertEqual(receiver, alone)
+
+    def test_each_row_of_many(self) -> None:
+        # each third datagram is a packet, each third RTCP, and each third none; each packet has a number of its own
+        packet, report = Header(ssrc=7).write(Map()), bytes.fromhex("80C90002 00000007 00000000")
+        for first in range(3):
+            data = bytearray()
+            for row in range(100):
+                it = bytearray((packet, report, bytes(12))[(row + first) % 3])
+                it[2:4] = row.to_bytes(2, "big") if (row + first) % 3 == 0 else it[2:4]
+                data += it
+            columns = Columns.parse(data, range(0, 1200, 12), [12] * 100)
+            verdicts = columns.receive({})
+            is_rtp = [int((row + first) % 3 == 0) for row in range(100)]
+            self.assertEqual((list(columns.is_rtp), list(verdicts.verdict)), (is_rtp, is_rtp))
+            numbers = [65536 + row if is_one else 0 for row, is_one in enumerate(is_rtp)]
+            self.assertEqual(list(verdicts.number), numbers)
+            again = columns.receive({7: Receiver(2)})
+            self.assertEqual(list(again.number), [it and it + 65536 for it in numbers])
+
+    def test_what_is_refused_changes_nothing(self) -> None:
+        receivers: Any = {7: Receiver(1)}
+        with self.assertRaises(BadField) as raised:
+            self.columns.receive(receivers, 1 << 64)
+        self.assertEqual(str(raised.exception), f"rollover_count is {1 << 64}, and not 0 to {(1 << 64) - 1}")
+        self.assertRaises(BadField, self.columns.receive, receivers, 1 << 48)
+        self.assertRaises(TypeError, self.columns.receive, receivers, 1.0)
+        self.assertEqual(receivers, {7: Receiver(1)})
+        receivers[9] = WideReceiver(1, 1)
+        self.assertRaises(TypeError, self.columns.receive, receivers)
+        self.assertEqual(receivers, {7: Receiver(1), 9: WideReceiver(1, 1)})
+
+    def test_places_are_copied(self) -> None:
+        at, lengths = array("Q", [0, 12]), array("Q", [12, 12])
+        columns = Columns.parse(bytes(self.columns._data), at, lengths)
+        at[0], lengths[1] = 99, 99
+        datagrams = [columns.datagram(row) for row in range(2)]
+        self.assertEqual([it and len(it) for it in datagrams], [12, 12])
+        self.assertEqual(list(columns.payload_at), [12, 24])
+
+
 class Names(unittest.TestCase):
     def test_a_name_that_is_given_twice_is_one(self) -> None:
         # what C writes to has to be kept: the columns of a name are made once
