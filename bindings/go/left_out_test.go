@@ -82,8 +82,14 @@ func TestLayersAreLeftOutWithoutAnID(t *testing.T) {
 		t.Fatal(kinds, err)
 	}
 	var left *LeftOutError
-	if _, err := h.WriteAllLayers(buf, m, layers); !errors.As(err, &left) || left.Kinds != kinds {
-		t.Fatal(err)
+	if n, err := h.WriteAllLayers(buf, m, layers); n != 0 || !errors.As(err, &left) || left.Kinds != kinds {
+		t.Fatal(n, err)
+	}
+	if !bytes.Equal(buf, make([]byte, 24)) {
+		t.Fatal("something is written")
+	}
+	if _, err := h.WriteAllLayers(nil, m, layers); !errors.As(err, &left) {
+		t.Fatal(err) // before ErrShortBuffer
 	}
 	if err := m.Set(5, KindLayers); err != nil {
 		t.Fatal(err)

@@ -260,35 +260,38 @@ func (v *Values) DataOf(kind Kind, buf []byte) ([]byte, error) {
 	return buf[:length], nil
 }
 
-// Clear takes the value of the kind away, and those that an element of it has beside it.
+// Clear takes the value of the kind away, and those that an element of it has beside it: none of them is then left.
 func (v *Values) Clear(kind Kind) {
 	switch kind {
 	case KindAbsSendTime:
-		v.hasSendTime = false
+		v.sendTime, v.hasSendTime = 0, false
 	case KindAbsCaptureTime:
-		v.hasCaptureTime, v.hasCaptureOffset = false, false
+		v.captureTime, v.hasCaptureTime = 0, false
+		v.captureOffset, v.hasCaptureOffset = 0, false
 	case KindAudioLevel:
-		v.hasAudioLevel, v.hasVoiceActivity = false, false
+		v.audioLevel, v.hasAudioLevel = 0, false
+		v.voiceActivity, v.hasVoiceActivity = false, false
 	case KindTransmissionOffset:
-		v.hasTransmissionOffset = false
+		v.transmissionOffset, v.hasTransmissionOffset = 0, false
 	case KindVideoOrientation:
-		v.hasVideoOrientation = false
+		v.videoOrientation, v.hasVideoOrientation = 0, false
 	case KindTransportNumber:
-		v.hasTransportNumber = false
+		v.transportNumber, v.hasTransportNumber = 0, false
 	case KindPlayoutDelay:
-		v.hasPlayoutMin, v.hasPlayoutMax = false, false
+		v.playoutMin, v.hasPlayoutMin = ticks{}, false
+		v.playoutMax, v.hasPlayoutMax = ticks{}, false
 	case KindVideoContentType:
-		v.hasVideoContentType = false
+		v.videoContentType, v.hasVideoContentType = 0, false
 	case KindVideoTiming:
-		v.hasVideoTiming = false
+		v.videoTiming, v.timingFlags, v.hasVideoTiming = times{}, 0, false
 	case KindRID:
-		v.hasRID = false
+		v.rid, v.hasRID = [9]byte{}, false
 	case KindRepairedRID:
-		v.hasRepairedRID = false
+		v.repairedRID, v.hasRepairedRID = [9]byte{}, false
 	case KindMID:
-		v.hasMID = false
+		v.mid, v.hasMID = [17]byte{}, false
 	case KindFrameMarking:
-		v.hasFrameMarking = false
+		v.frameMarking, v.hasFrameMarking = 0, false
 	case KindLayers:
 		v.hasLayers = false
 	}

@@ -144,6 +144,20 @@ static int two_byte(void) {
     return 0;
 }
 
+/* A long mid of a receiver that has no id for mids changes no form: the block stays a one-byte one. */
+static int long_mid_without_an_id(void) {
+    static const uint8_t packet[] = {0x90, 0, 0, 5, 0, 0, 0, 1, 0, 0, 0, 0x2C, 0xBE, 0xDE, 0, 1, 0x10, 0x8A, 0, 0};
+    static sfu sfu;
+    rtpw_map sender = {{0}};
+    sfu_peer peer = {{{0}}, LONGEST, 0, 0};
+    sent it = {0};
+    sender.kind[1] = peer.map.kind[14] = RTPW_KIND_AUDIO_LEVEL;
+    CHECK(sfu_add(&sfu, &sender, &peer));
+    sfu_receive(&sfu, packet, sizeof packet, 0, keep, &it);
+    CHECK(is(&it, "\xBE\xDE\0\1\xE0\x8A\0\0", 8));
+    return 0;
+}
+
 static int room(void) {
     static sfu sfu;
     sfu_peer peer = {{{0}}, "0123456789abcdef0123456789ABCDEF", 1000, 0};
@@ -274,5 +288,6 @@ static int past_32_bits(void) {
 }
 
 int main(void) {
-    return forms() || times() || one_byte() || two_byte() || room() || apart() || numbers() || past_32_bits();
+    return forms() || times() || one_byte() || two_byte() || long_mid_without_an_id() || room() || apart() || numbers()
+        || past_32_bits();
 }

@@ -4,6 +4,7 @@
 #include <array>
 #include <cstdio>
 #include <cstdlib>
+#include <new>
 #include <vector>
 
 #define CHECK(holds) \
@@ -399,6 +400,263 @@ void many() {
     CHECK(receivers[0].highest == 5 && receivers[1].highest == 131078);
 }
 
+// What a call doesn't write is zeros, whatever stood in the memory; and so is what it wrote before it was refused.
+void zeros() {
+    using parsed = rtpw::result<rtpw_packet>;
+    alignas(parsed) unsigned char room[sizeof(parsed)];
+    const rtpw_packet none{};
+    std::memset(room, 0xee, sizeof room);
+    const parsed *it = new (room) parsed(rtpw::packet_parse({datagram.data(), 11}));
+    CHECK(!*it && it->status() == status::cut_fixed_part && std::memcmp(&**it, &none, sizeof none) == 0);
+    std::memset(room, 0xee, sizeof room);
+    it = new (room) parsed([](rtpw_packet *packet) {
+        packet->ssrc = 44;
+        return std::int32_t{RTPW_REFUSED};
+    });
+    CHECK(!*it && it->status() == status::refused && (*it)->ssrc == 0 && (*it)->payload_at == 0);
+    using number = rtpw::result<std::uint64_t>;
+    alignas(number) unsigned char place[sizeof(number)];
+    std::memset(place, 0xee, sizeof place);
+    rtpw_receiver receiver = *rtpw::receiver_start(1);
+    CHECK(*rtpw::receiver_receive(receiver, 7) == 65543);
+    const number *refused = new (place) number(rtpw::receiver_receive(receiver, 7));
+    CHECK(!*refused && refused->status() == status::refused && **refused == 0);
+}
+
+// Each number of a status is that of C, with its text.
+void statuses() {
+    const std::int32_t numbers[] = {0, 1, 2, 3, 4, 5, 6, 8, 9, 10, 11, 12, 13, 14, 15};
+    const status all[] = {status::ok,        status::cut_fixed_part,   status::other_version, status::cut_sources,
+                          status::cut_block_header, status::unknown_form, status::cut_block,  status::short_buffer,
+                          status::bad_field, status::refused,          status::none,          status::restarted,
+                          status::bad_id,    status::form_not_allowed, status::long_block};
+    for (std::size_t i = 0; i < sizeof numbers / sizeof *numbers; i++) {
+        CHECK(static_cast<std::int32_t>(all[i]) == numbers[i]);
+        CHECK(rtpw::status_text(all[i]) == rtpw_status_text(numbers[i]));
+        const rtpw::result<int> it([&](int *value) { return *value = 7, numbers[i]; });
+        const bool is_there = numbers[i] == RTPW_OK || numbers[i] == RTPW_RESTARTED;
+        CHECK(it.status() == all[i] && static_cast<bool>(it) == is_there && *it == (is_there ? 7 : 0));
+    }
+}
+
+// Two bytes of elements: one without data, and the last of two of the id 20, in a packet with two sources.
+void elements_at_their_ends() {
+    const std::vector<std::uint8_t> packet_of_two = {0x92, 0,    0, 5, 0,  0, 0,    1, 0,  0,    0, 44, 1, 2, 3, 4, 0xa5,
+                                                     0xb6, 0xc7, 0xd8, 0x10, 0, 0, 3, 20, 1, 9,    7, 0,  20, 1, 8, 0, 0,
+                                                     0,    0};
+    const auto packet = *rtpw::packet_parse(packet_of_two);
+    CHECK(rtpw::csrc(packet_of_two, 0) == 0x01020304 && rtpw::csrc(packet_of_two, 1) == 0xa5b6c7d8);
+    const auto empty = rtpw::data_of_element(packet_of_two, packet, 7);
+    CHECK(empty && empty->size() == 0);
+    CHECK(same(*rtpw::data_of_element(packet_of_two, packet, 20), {8}));
+    CHECK(!rtpw::data_of_element(packet_of_two, packet, 9));
+    auto longer = packet_of_two;
+    longer[25] = 6; // the first element's data are the six bytes behind its length
+    CHECK(same(*rtpw::data_of_element(longer, *rtpw::packet_parse(longer), 20), {9, 7, 0, 20, 1, 8}));
+    std::size_t ids = 0, bytes = 0;
+    for (const rtpw::element &it : rtpw::elements(packet_of_two, packet)) {
+        ids = 100 * ids + it.id;
+        bytes = 10 * bytes + (it.data.size() == 0 ? 0 : it.data[0]);
+    }
+    CHECK(ids == 200720 && bytes == 908);
+    CHECK(rtpw::payload(packet_of_two, packet).empty() && rtpw::unpadded_payload(packet_of_two, packet).empty());
+    // No element of no block, and of one of another form.
+    auto other = packet_of_two;
+    other[20] = 0xab;
+    std::vector<std::uint8_t> none(packet_of_two.begin(), packet_of_two.begin() + 20);
+    none[0] = 0x82;
+    for (const auto &it : {other, none}) {
+        const auto of = *rtpw::packet_parse(it);
+        CHECK(!rtpw::data_of_element(it, of, 20));
+        for (const rtpw::element &found : rtpw::elements(it, of)) {
+            CHECK(found.id == 0 && false);
+        }
+        CHECK(rtpw::body(it, of).size() == (it.size() == 20 ? 0 : 12));
+    }
+    // Padding that is longer than the payload: none of it is told.
+    auto padded = datagram;
+    padded.back() = 4;
+    const auto of = *rtpw::packet_parse(padded);
+    CHECK(!of.padding_fits && rtpw::unpadded_payload(padded, of).empty() && rtpw::payload(padded, of).size() == 3);
+}
+
+// Where no form is named both are allowed, and where one is, that alone.
+void forms() {
+    std::array<std::uint8_t, 64> buf{};
+    const std::array<std::uint8_t, 1> data = {0x8b};
+    for (const bool adds : {false, true}) {
+        const auto call = adds ? rtpw::add_element : rtpw::put_element;
+        std::size_t len = datagram.size();
+        std::memcpy(buf.data(), datagram.data(), len);
+        CHECK(call(buf, len, 20, data, RTPW_ONE_BYTE_FORM) == status::form_not_allowed && len == 27);
+        CHECK((adds ? rtpw::add_element(buf, len, 20, data) : rtpw::put_element(buf, len, 20, data)) == status::ok);
+        CHECK(len == 31 && same({buf.data() + 16, 12}, {0x10, 0, 0, 2, 3, 1, 0x8a, 20, 1, 0x8b, 0, 0}));
+        len = datagram.size();
+        std::memcpy(buf.data(), datagram.data(), len);
+        CHECK((adds ? rtpw::add_element(buf, len, 5, data) : rtpw::put_element(buf, len, 5, data)) == status::ok);
+        CHECK(len == 27 && same({buf.data() + 16, 8}, {0xbe, 0xde, 0, 1, 0x30, 0x8a, 0x50, 0x8b}));
+        CHECK(call(buf, len, 6, data, RTPW_TWO_BYTE_FORM) == status::ok && len == 35);
+        CHECK(same({buf.data() + 16, 16}, {0x10, 0, 0, 3, 3, 1, 0x8a, 5, 1, 0x8b, 6, 1, 0x8b, 0, 0, 0}));
+        CHECK(rtpw::change_form(buf, len, RTPW_ONE_BYTE_FORM) == status::ok && len == 35);
+        CHECK(same({buf.data() + 16, 16}, {0xbe, 0xde, 0, 3, 0x30, 0x8a, 0x50, 0x8b, 0x60, 0x8b, 0, 0, 0, 0, 0, 0}));
+        CHECK(rtpw::compact({buf.data(), 34}, len) == status::bad_field);
+        CHECK(rtpw::remove_block({buf.data(), 34}, len) == status::bad_field && len == 35);
+    }
+    const rtpw_element chosen[] = {{0, 1, 1, 3}};
+    for (const std::uint8_t form : std::initializer_list<std::uint8_t>{RTPW_NO_BLOCK, RTPW_OTHER_FORM, 4, 255}) {
+        CHECK(rtpw::write_elements(data, chosen, 1, form, buf).status() == status::bad_field);
+    }
+    CHECK(*rtpw::write_elements(data, chosen, 1, RTPW_TWO_BYTE_FORM, buf) == 3 && same({buf.data(), 3}, {3, 1, 0x8b}));
+    CHECK(rtpw::write_with({}, data, chosen, 1, buf, RTPW_OTHER_FORM).status() == status::bad_field);
+    // Data that lie in the buffer are refused.
+    std::size_t len = datagram.size();
+    std::memcpy(buf.data(), datagram.data(), len);
+    const rtpw::bytes inside(buf.data() + 20, 4);
+    CHECK(rtpw::put_element(buf, len, 5, inside) == status::bad_field);
+    CHECK(rtpw::add_element(buf, len, 5, inside) == status::bad_field);
+    CHECK(rtpw::put_block(buf, len, 0xabac, inside) == status::bad_field);
+    CHECK(rtpw::set_element({buf.data(), len}, 3, {buf.data() + 21, 1}) == status::bad_field);
+    CHECK(len == 27 && std::memcmp(buf.data(), datagram.data(), len) == 0);
+}
+
+// Each field alone, as it is set and as it is cleared.
+void each_field() {
+    auto bytes = datagram;
+    CHECK(rtpw::set_marker(bytes, true) == status::ok && bytes[1] == 0xef);
+    CHECK(rtpw::set_marker(bytes, false) == status::ok && bytes[1] == 0x6f);
+    CHECK(rtpw::set_padding(bytes, false) == status::ok && bytes[0] == 0x91);
+    CHECK(rtpw::set_padding(bytes, true) == status::ok && bytes[0] == 0xb1);
+    CHECK(rtpw::set_timestamp(bytes, 0x81828384) == status::ok && same({bytes.data() + 4, 4}, {0x81, 0x82, 0x83, 0x84}));
+    CHECK(rtpw::set_ssrc(bytes, 0x91929394) == status::ok && same({bytes.data() + 8, 4}, {0x91, 0x92, 0x93, 0x94}));
+    CHECK(rtpw::set_csrc(bytes, 0, 0xa1a2a3a4) == status::ok && rtpw::csrc(bytes, 0) == 0xa1a2a3a4);
+    CHECK(rtpw::set_csrc(bytes, std::size_t{1} << 32, 1) == status::none);
+    CHECK(rtpw::remove_element(bytes, 9) == status::none && rtpw::set_ssrc({bytes.data(), 11}, 1) == status::cut_fixed_part);
+}
+
+// From one map to another, both ways: the id of a rid becomes that of a repaired one, and back.
+void ids() {
+    rtpw_map map{};
+    CHECK(rtpw::map_set(map, 5, RTPW_KIND_RID) == status::ok && rtpw::map_set(map, 6, RTPW_KIND_REPAIRED_RID) == status::ok);
+    const rtpw_new_ids there = rtpw::new_ids_to_retransmission(map), back = rtpw::new_ids_from_retransmission(map);
+    CHECK(there.id[5] == 6 && there.id[6] == 0 && there.id[7] == 7);
+    CHECK(back.id[6] == 5 && back.id[5] == 0 && back.id[7] == 7);
+    const rtpw_new_ids between = rtpw::new_ids_between(map, level_is_3());
+    CHECK(between.id[5] == 0 && between.id[3] == 0 && rtpw::new_ids_between(map, map).id[6] == 6);
+    CHECK(rtpw::id_of(map, RTPW_KIND_MID) == 0 && rtpw::id_of(map, RTPW_KIND_REPAIRED_RID) == 6);
+    CHECK(rtpw::map_get(map, 7) == RTPW_KIND_NONE && rtpw::map_set(map, 5, 16) == status::bad_field);
+    CHECK(rtpw::map_set(map, 5, RTPW_KIND_NONE) == status::ok && rtpw::map_get(map, 5) == RTPW_KIND_NONE);
+}
+
+// A header has a block for values that can't be written too, and each text has a place and a length of its own.
+void headers_with_values() {
+    rtpw_values values{};
+    values.has_video_orientation = 1;
+    values.video_orientation = 45;
+    CHECK(rtpw::left_out({}, rtpw::header_with(values)).status() == status::bad_field);
+    CHECK(rtpw::header_with(values).has_extension == 1);
+    values.has_video_orientation = 0;
+    CHECK(rtpw::header_with(values).has_extension == 0);
+    values.has_layers = 1;
+    CHECK(rtpw::header_with(values).has_extension == 1);
+
+    values = {};
+    CHECK(rtpw::set_mid(values, "sixteen_letters_") == status::ok && rtpw::mid(values) == "sixteen_letters_");
+    CHECK(!rtpw::rid(values) && !rtpw::repaired_rid(values));
+    CHECK(rtpw::set_rid(values, "12345678") == status::ok && !rtpw::repaired_rid(values));
+    CHECK(rtpw::set_repaired_rid(values, "ABCDEFGH") == status::ok);
+    CHECK(rtpw::mid(values) == "sixteen_letters_" && rtpw::rid(values) == "12345678" && rtpw::repaired_rid(values) == "ABCDEFGH");
+    CHECK(rtpw::set_repaired_rid(values, "ABCDEFGHI") == status::bad_field && rtpw::repaired_rid(values) == "ABCDEFGH");
+    CHECK(rtpw::set_mid(values, "") == status::ok && rtpw::mid(values) == "" && rtpw::set_mid(values, "b") == status::ok);
+    rtpw_values fresh{};
+    CHECK(rtpw::set_mid(fresh, "b") == status::ok && std::memcmp(fresh.mid, values.mid, sizeof fresh.mid) == 0);
+}
+
+// The room of a window is all of its words, and their count is 1 to 512.
+void windows() {
+    rtpw::wide_receiver<2> two;
+    CHECK(two.start(std::uint64_t{1} << 48) == status::bad_field && two.start(3) == status::ok);
+    CHECK(two.number_of(5) == 3 * 65536 + 5 && *two.receive(5) == 3 * 65536 + 5);
+    CHECK(two.record(3 * 65536 + 5 - 127) == status::ok && two.record(3 * 65536 + 5 - 128) == status::refused);
+    CHECK(two.receive(5).status() == status::refused);
+    rtpw_wide_restarting_receiver receiver{};
+    std::uint64_t words[513]{};
+    CHECK(rtpw::wide_restarting_receive(receiver, {words, 0}, 5).status() == status::bad_field);
+    CHECK(rtpw::wide_restarting_receive(receiver, words, 5).status() == status::bad_field);
+    CHECK(*rtpw::wide_restarting_receive(receiver, {words, 512}, 40000) == 105536);
+    CHECK(*rtpw::wide_restarting_receive(receiver, {words, 512}, 7233) == 72769); // 32,767 below
+    CHECK(rtpw::extend_u8(256, 255) == 255 && rtpw::extend_u15(32768, 0xffff) == 32767);
+    CHECK(rtpw::extend_u16(65536, 65535) == 65535 && rtpw::extend_u32(std::uint64_t{1} << 32, 0xffffffff) == 0xffffffff);
+}
+
+// No bit of a number is lost on the way to C.
+void bits_of_numbers() {
+    std::array<std::uint8_t, 700> buf{};
+    CHECK(rtpw::write_original(buf, 0x12345) == status::ok && same({buf.data(), 2}, {0x23, 0x45}));
+    CHECK(*rtpw::read_original(buf) == 0x2345);
+    const std::array<std::int8_t, 2> levels = {-10, -5};
+    CHECK(*rtpw::write_mixer_levels(levels, buf) == 2);
+    for (const std::size_t index : {std::size_t{2}, std::size_t{256}, std::size_t{1} << 16, std::size_t{1} << 32}) {
+        CHECK(rtpw::read_mixer_level(buf, 2, index).status() == status::bad_field);
+        CHECK(*rtpw::read_mixer_level(buf, index, 1) == -5);
+    }
+    // Behind 600 bytes, 43 of padding in blocks of 50.
+    buf = {0x80};
+    CHECK(*rtpw::pad(buf, 600, 43, 50) == 50 && buf[649] == 50 && buf[600] == 0 && buf[0] == 0xa0);
+    CHECK(rtpw::pad(buf, std::size_t{1} << 32, 1, 1).status() == status::short_buffer);
+    CHECK(*rtpw::pad(buf, 600, 0, std::size_t{1} << 32) == 0);
+
+    // The element 3 of the two-byte form: in the other form these bytes are one of the id 0.
+    const std::uint8_t body[] = {3, 1, 0x8a, 0};
+    const auto values = rtpw::values_read(body, RTPW_TWO_BYTE_FORM, level_is_3());
+    CHECK(values && values->has_audio_level && values->audio_level == -10);
+    CHECK(!rtpw::values_read(body, RTPW_ONE_BYTE_FORM, level_is_3())->has_audio_level);
+    CHECK(rtpw::values_read(body, RTPW_OTHER_FORM, level_is_3()).status() == status::bad_field);
+    CHECK(rtpw::next_element(body, RTPW_TWO_BYTE_FORM, 0)->end == 3);
+    CHECK(rtpw::next_element(body, RTPW_TWO_BYTE_FORM, 3).status() == status::none);
+    CHECK(rtpw::last_element(body, RTPW_TWO_BYTE_FORM, 3)->data_at == 2);
+
+    const std::uint64_t count = 0x8765'4321'0fed;
+    rtpw_receiver receiver = *rtpw::receiver_start(count);
+    const std::uint64_t first = count << 16 | 0xcba9;
+    CHECK(rtpw::receiver_number_of(receiver, 0xcba9) == first && *rtpw::receiver_receive(receiver, 0xcba9) == first);
+    CHECK(!rtpw::receiver_accepts(receiver, first) && rtpw::receiver_accepts(receiver, first - 1));
+    CHECK(!rtpw::receiver_accepts(receiver, first ^ std::uint64_t{1} << 63));
+    CHECK(rtpw::receiver_standing_of(receiver, first ^ std::uint64_t{1} << 63) == rtpw::standing::too_old);
+    rtpw::receiver_record(receiver, first + 1);
+    CHECK(receiver.highest == first + 1);
+
+    // Transit times of 2^31 and 2^31 + 16 ticks; 2^32 packets were due.
+    rtpw_reception reception{};
+    rtpw::reception_record(reception, first, 0x80000000, 0);
+    rtpw::reception_record(reception, first + 0xffffffff, 0x80010000, 0x10010);
+    const auto report = rtpw::reception_report(reception);
+    CHECK(report->jitter == 1 && report->cumulative_lost == 8388607 && report->fraction_lost == 255);
+    std::uint8_t block[24];
+    CHECK(*rtpw::write_report({1, -8388608, 0x81828384, 0x91929394}, 0xa1a2a3a4, 0xb1b2b3b4, 0xc1c2c3c4, block) == 24);
+    CHECK(same({block, 12}, {0xa1, 0xa2, 0xa3, 0xa4, 1, 0x80, 0, 0, 0x81, 0x82, 0x83, 0x84}));
+    CHECK(same({block + 12, 12}, {0x91, 0x92, 0x93, 0x94, 0xb1, 0xb2, 0xb3, 0xb4, 0xc1, 0xc2, 0xc3, 0xc4}));
+
+    std::size_t len = datagram.size();
+    std::memcpy(buf.data(), datagram.data(), len);
+    const rtpw_new_ids none{};
+    CHECK(rtpw::to_retransmission(buf, len, 0xd1d2d3d4, 127, 0xe1e2, none) == status::ok);
+    CHECK(same({buf.data(), 12}, {0x91, 127, 0xe1, 0xe2, 0, 0, 3, 4, 0xd1, 0xd2, 0xd3, 0xd4}));
+    CHECK(rtpw::from_retransmission(buf, len, 0xf1f2f3f4, 126, none) == status::ok);
+    CHECK(same({buf.data(), 12}, {0x91, 126, 1, 2, 0, 0, 3, 4, 0xf1, 0xf2, 0xf3, 0xf4}));
+}
+
+// Spans are made of what has values, and of none.
+void spans() {
+    const std::vector<std::uint8_t> values = {1, 2, 3};
+    const rtpw::bytes all = values;
+    CHECK(all.size() == 3 && !all.empty() && all[2] == 3 && all.data() == values.data());
+    CHECK(all.end() - all.begin() == 3 && *all.begin() == 1);
+    CHECK(same(all.subspan(1, 2), {2, 3}) && same(all.subspan(0, 1), {1}) && all.subspan(3, 0).empty());
+    const rtpw::bytes none;
+    CHECK(none.empty() && none.size() == 0 && none.data() == nullptr && none.begin() == none.end());
+    CHECK(none.subspan(0, 0).data() == nullptr);
+}
+
 } // namespace
 
 int main() {
@@ -410,4 +668,14 @@ int main() {
     receives();
     standards();
     many();
+    zeros();
+    statuses();
+    elements_at_their_ends();
+    forms();
+    each_field();
+    ids();
+    headers_with_values();
+    windows();
+    bits_of_numbers();
+    spans();
 }

@@ -242,6 +242,15 @@ class Pcap(unittest.TestCase):
         # each source has lost packets, has refused some, and has levels
         self.assertTrue(all(int(row[2]) > 500 and int(row[3]) > 20 and float(row[5]) < -30 for row in rows))
 
+    def test_tags_of_virtual_lans(self) -> None:
+        # none, one and several, as IEEE 802.1Q and 802.1ad have them
+        one, other = b"\x81\0\0\5", b"\x88\xA8\0\7"
+        tags = (b"", one, other, other + one, one + one + one)
+        frames = [(at, 0, tag + ipv4(udp(packet(10 * at, 7)))) for at, tag in enumerate(tags)]
+        frames += [(at, 0, tag + ipv6(udp(packet(10 * at + 1, 9)))) for at, tag in enumerate(tags)]
+        wanted = "         7       5    36        0    4.000      -\n         9       5    36        0    4.000      -\n"
+        self.assertEqual(self.told(pcap("<", 0xA1B2C3D4, frames)), self.HEADING + wanted)
+
     def test_datagrams_that_are_cut(self) -> None:
         # by the length of UDP, or since fewer bytes were captured: what is there is read
         one = ipv4(pack(">HHHH", 1, 2, 20, 0) + packet(5, 7))

@@ -286,12 +286,14 @@ class Columns:
         verdicts = Verdicts(_zeros("Q", count), _zeros("B", count))
         ssrcs = set(compress(self.ssrc, self.is_rtp))
         judges = {ssrc: receivers[ssrc] if ssrc in receivers else Receiver(rollover_count) for ssrc in ssrcs}
-        states = (_library.RawReceiver * len(judges))(*(it._raw for it in judges.values()))
-        index_of = _Indices(zip(judges, range(len(judges))))
+        apart = {id(it): it for it in judges.values()}  # one may be that of several sources
+        states = (_library.RawReceiver * len(apart))(*(it._raw for it in apart.values()))
+        places = dict(zip(apart, range(len(apart))))
+        index_of = _Indices((ssrc, places[id(it)]) for ssrc, it in judges.items())
         indices = array("Q", map(index_of.__getitem__, self.ssrc))
         _library.columns_receive(
             states,
-            len(judges),
+            len(apart),
             indices.buffer_info()[0],
             self.sequence_number.buffer_info()[0],
             self.is_rtp.buffer_info()[0],
@@ -299,7 +301,7 @@ class Columns:
             verdicts.number.buffer_info()[0],
             verdicts.verdict.buffer_info()[0],
         )
-        for judge, state in zip(judges.values(), states):
+        for judge, state in zip(apart.values(), states):
             memmove(byref(judge._raw), byref(state), sizeof(state))
         receivers.update(judges)
         return verdicts

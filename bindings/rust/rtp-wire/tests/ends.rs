@@ -1,0 +1,304 @@
+//! The ends of what the newer calls take: many slots at once, zeros beside what is absent, reports after reports, and
+//! texts in a width. Expected values are worked out by hand.
+
+use rtp_wire::standard::{
+    write_mixer_levels, Chromaticity, ColorSpace, DependencyDescriptor, FeedbackRequest,
+    FrameLayers, FrameMarking, HdrMetadata, Timing, TransportNumber,
+};
+use rtp_wire::{
+    parse_headers, parse_packets, receive_many, Arrival, ArrivalSlot, Header, HeaderSlot, Kind,
+    KindSet, Map, Mid, NotTaken, NotWritten, OutOfRange, PacketSlot, Receiver, ReceptionStatistics,
+    Rid, Standing, Values, VideoTiming, WideReceiver, WideRestartingReceiver,
+};
+use std::time::Duration;
+
+/// As many datagrams as a count of 16 bits can't tell: each is a header alone, with its number as timestamp.
+const MANY: u32 = 65_536 + 300;
+
+fn headers_alone() -> Vec<u8> {
+    let header = |number: u32| {
+        let mut bytes = [0x80, 96, 0, 0, 0, 0, 0, 0, 0, 0, 0, 7];
+        bytes[2..4].copy_from_slice(&(number as u16).to_be_bytes());
+        bytes[4..8].copy_from_slice(&number.to_be_bytes());
+        bytes
+    };
+    (0..MANY).flat_map(header).collect()
+}
+
+#[test]
+fn how_many_are_read_at_once_is_not_limited() {
+    let buf = headers_alone();
+    let places = (0..MANY as usize).map(|it| (12 * it, 12));
+    let mut packets: Vec<_> = places
+        .clone()
+        .map(|it| PacketSlot::new(it.0, it.1))
+        .collect();
+    let mut headers: Vec<_> = places.map(|it| HeaderSlot::new(it.0, it.1)).collect();
+    let read = parse_packets(&buf, &mut packets).map(|it| it.packet().unwrap().timestamp());
+    assert!(read.eq(0..MANY));
+    let read = parse_headers(&buf, &Map::new(), &mut headers);
+    assert!(read.map(|it| it.header().unwrap().timestamp).eq(0..MANY));
+}
+
+#[test]
+fn how_many_are_judged_at_once_is_not_limited() {
+    // a receiver for each: the last one takes its first packet, and then the next one
+    let mut receivers = vec![Receiver::default(); MANY as usize];
+    let mut arrivals: Vec<_> = (0..MANY as usize)
+        .map(|it| ArrivalSlot::new(it, 5))
+        .collect();
+    arrivals.push(ArrivalSlot::new(MANY as usize - 1, 6));
+    arrivals.push(ArrivalSlot::new(MANY as usize, 6));
+    arrivals.push(ArrivalSlot::new(MANY as usize - 1, 6));
+    receive_many(&mut receivers, &mut arrivals);
+    let (each, last) = arrivals.split_at(MANY as usize);
+    assert!(each.iter().all(|it| it.number() == Ok(5)));
+    let last: Vec<_> = last.iter().map(ArrivalSlot::number).collect();
+    assert_eq!(
+        last,
+        [Ok(6), Err(NotTaken::NoReceiver), Err(NotTaken::Refused)]
+    );
+    assert_eq!(receivers[MANY as usize - 1].highest(), Some(6));
+    assert_eq!(receivers[MANY as usize - 2].highest(), Some(5));
+}
+
+#[test]
+fn received_is_of_all_reports() {
+    let mut statistics = ReceptionStatistics::new();
+    for number in 10..13 {
+        statistics.record(number, 0, 0);
+    }
+    assert_eq!(statistics.report().unwrap().extended_highest, 12);
+    assert_eq!(statistics.received(), 3);
+    statistics.record(13, 0, 0);
+    assert_eq!(statistics.received(), 4);
+    assert_eq!(statistics.report().unwrap().cumulative_lost, 0);
+    assert_eq!(statistics.received(), 4);
+}
+
+#[test]
+fn what_is_known_of_a_number_hangs_on_64_bits() {
+    const FIRST: u64 = 1 << 63 | 1 << 40 | 5;
+    let mut narrow = Receiver::starting_at(FIRST >> 16).unwrap();
+    let mut wide = WideReceiver::<2>::starting_at(FIRST >> 16).unwrap();
+    assert_eq!(
+        (narrow.receive(5), wide.receive(5)),
+        (Some(FIRST), Some(FIRST))
+    );
+    assert_eq!(
+        (narrow.number_of(4), wide.number_of(4)),
+        (FIRST - 1, FIRST - 1)
+    );
+    for (number, standing) in [
+        (FIRST, Standing::Taken),
+        (FIRST - 1, Standing::New),
+        (FIRST - 127, Standing::New),
+        (FIRST - 128, Standing::TooOld),
+        (FIRST + 1, Standing::New),
+        (FIRST ^ 1 << 63, Standing::TooOld),
+        (FIRST ^ 1 << 40, Standing::TooOld),
+        (5, Standing::TooOld),
+        (u64::MAX, Standing::New),
+    ] {
+        let told = (narrow.standing_of(number), wide.standing_of(number));
+        assert_eq!(told, (standing, standing), "{number:#x}");
+        let is_new = standing == Standing::New;
+        assert_eq!(
+            (narrow.accepts(number), wide.accepts(number)),
+            (is_new, is_new)
+        );
+    }
+    let mut restarting = WideRestartingReceiver::<2>::new();
+    assert_eq!(restarting.receive(5), Arrival::Taken(65_541));
+    for (number, standing) in [
+        (65_541, Standing::Taken),
+        (0x1_0005 | 1 << 32, Standing::New),
+        (0x1_0005 | 1 << 63, Standing::New),
+        (1 << 32, Standing::New),
+        (5, Standing::TooOld),
+    ] {
+        assert_eq!(restarting.standing_of(number), standing, "{number:#x}");
+    }
+}
+
+#[test]
+fn each_zero_alone_makes_a_block() {
+    let mut all = [Values::default(); 14];
+    all[0].send_time = Some(0);
+    all[1].capture_time = Some(0);
+    all[2].capture_offset = Some(0);
+    all[3].playout_delay_min = Some(Duration::ZERO);
+    all[4].transmission_offset = Some(0);
+    all[5].frame_marking = Some(0);
+    all[6].transport_number = Some(0);
+    all[7].video_orientation = Some(0);
+    all[8].video_timing = Some(VideoTiming::default());
+    all[9].video_content_type = Some(0);
+    all[10].audio_level = Some(0);
+    all[11].voice_activity = Some(false);
+    all[12].mid = Some("".parse::<Mid>().unwrap());
+    all[13].repaired_rid = Some("".parse::<Rid>().unwrap());
+    for values in all {
+        let header = Header::with_values(values);
+        assert!(header.has_extension);
+        assert_eq!(
+            header.left_out(&Map::new()).unwrap().iter().count(),
+            1,
+            "{values:?}"
+        );
+    }
+}
+
+#[test]
+fn zeros_are_no_absence() {
+    let mut data = [0xEE; 28];
+    let space = ColorSpace {
+        hdr: Some(HdrMetadata::default()),
+        ..ColorSpace::default()
+    };
+    assert_eq!(space.write_to(&mut data), Ok(28));
+    assert_eq!(data, [0; 28]);
+    assert_eq!(ColorSpace::parse(&data), Ok(space));
+    assert_eq!(ColorSpace::parse(&data[..4]), Ok(ColorSpace::default()));
+
+    let layers = FrameLayers {
+        tl0_pic_idx: Some(0),
+        ..FrameLayers::default()
+    };
+    let marking = |layers| FrameMarking {
+        layers,
+        ..FrameMarking::default()
+    };
+    for (value, len) in [
+        (marking(Some(layers)), 3),
+        (marking(Some(FrameLayers::default())), 2),
+        (marking(None), 1),
+    ] {
+        data = [0xEE; 28];
+        assert_eq!(value.write_to(&mut data), Ok(len));
+        assert_eq!((&data[..len], data[len]), (&[0; 3][..len], 0xEE));
+        assert_eq!(FrameMarking::parse(&data[..len]), Ok(value));
+    }
+
+    let older = Timing::default();
+    let newer = Timing {
+        flags: Some(0),
+        ..older
+    };
+    for (value, len) in [(newer, 13), (older, 12)] {
+        data = [0xEE; 28];
+        assert_eq!(value.write_to(&mut data), Ok(len));
+        assert_eq!((&data[..len], data[len]), (&[0; 13][..len], 0xEE));
+        assert_eq!(Timing::parse(&data[..len]), Ok(value));
+    }
+}
+
+#[test]
+fn each_field_has_its_own_bytes() {
+    let point = |x| Chromaticity { x, y: x + 1 };
+    let hdr = HdrMetadata {
+        luminance_max: 1,
+        luminance_min: 2,
+        red: point(3),
+        green: point(5),
+        blue: point(7),
+        white: point(9),
+        max_content_light_level: 11,
+        max_frame_average_light_level: 12,
+    };
+    let space = ColorSpace {
+        primaries: 13,
+        transfer: 14,
+        matrix: 15,
+        hdr: Some(hdr),
+        ..ColorSpace::default()
+    };
+    let mut data = [0; 28];
+    assert_eq!(space.write_to(&mut data), Ok(28));
+    assert_eq!(data[..4], [13, 14, 15, 0]);
+    let numbers: Vec<_> = data[4..]
+        .chunks(2)
+        .map(|it| u16::from_be_bytes([it[0], it[1]]))
+        .collect();
+    assert!(numbers.into_iter().eq(1..=12));
+    assert_eq!(ColorSpace::parse(&data), Ok(space));
+
+    for (start, end) in [(true, false), (false, true), (true, true), (false, false)] {
+        let descriptor = DependencyDescriptor {
+            start_of_frame: start,
+            end_of_frame: end,
+            template_id: 63,
+            frame_number: 0xFFFE,
+        };
+        assert_eq!(descriptor.write_to(&mut data), Ok(3));
+        let first = u8::from(start) << 7 | u8::from(end) << 6 | 63;
+        assert_eq!(data[..3], [first, 0xFF, 0xFE]);
+        assert_eq!(DependencyDescriptor::parse(&data[..3]), Ok(descriptor));
+    }
+    for timestamps in [true, false] {
+        let request = Some(FeedbackRequest {
+            timestamps,
+            packets: 0x7FFF,
+        });
+        let number = TransportNumber {
+            number: 0xFFFE,
+            request,
+        };
+        assert_eq!(number.write_to(&mut data), Ok(4));
+        assert_eq!(
+            data[..4],
+            [0xFF, 0xFE, 0x7F | u8::from(timestamps) << 7, 0xFF]
+        );
+        assert_eq!(TransportNumber::parse(&data[..4]), Ok(number));
+    }
+}
+
+#[test]
+fn what_is_refused_writes_nothing() {
+    let level = OutOfRange {
+        field: "a level",
+        value: 1,
+        least: -127,
+        most: 0,
+    };
+    let mut data = [0xEE; 3];
+    assert_eq!(
+        write_mixer_levels(&[-1, 1], &mut data),
+        Err(NotWritten::OutOfRange(level))
+    );
+    assert_eq!(
+        write_mixer_levels(&[-1; 4], &mut data),
+        Err(NotWritten::ShortBuffer)
+    );
+    assert_eq!(level.to_string(), "a level is 1, and not -127 to 0");
+    assert_eq!(NotWritten::OutOfRange(level).to_string(), level.to_string());
+    assert_eq!(
+        Timing::default().write_to(&mut data),
+        Err(NotWritten::ShortBuffer)
+    );
+    assert_eq!(
+        ColorSpace::default().write_to(&mut data),
+        Err(NotWritten::ShortBuffer)
+    );
+    assert_eq!(
+        DependencyDescriptor::default().write_to(&mut data[..2]),
+        Err(NotWritten::ShortBuffer)
+    );
+    assert_eq!(data, [0xEE; 3]);
+}
+
+#[test]
+fn texts_keep_their_width() {
+    let uri = Kind::VideoOrientation.uri().unwrap();
+    assert_eq!(format!("{uri:>28}|"), "  urn:3gpp:video-orientation|");
+    assert_eq!(format!("{uri:-<28}|"), "urn:3gpp:video-orientation--|");
+    assert_eq!(format!("{uri:.8}|"), "urn:3gpp|");
+    assert_eq!(format!("{uri:?}"), "\"urn:3gpp:video-orientation\"");
+    assert_eq!(
+        (uri.as_str(), uri.len()),
+        ("urn:3gpp:video-orientation", 26)
+    );
+    let none = KindSet::default();
+    assert!(none.is_empty() && none.iter().next().is_none() && !none.contains(Kind::Layers));
+    assert_eq!(format!("{none:?}"), "{}");
+}
