@@ -1,10 +1,15 @@
--- The bytes of digits that follow others.
+-- The bytes of digits that follow others, and are decoded by themselves.
 use Rattle.std.proofs.Common.{◌≡◌, ℕ, ◌%◌, ◌+◌, ◌*◌, ◌≤◌, List, [], ◌∷◌, ◌++◌, length, take, drop, Result, Ok, Err, refl, sym, ap, ◌∙◌, arith}
 use Rattle.std.proofs.lemmas.List.{take-append-drop, length-take-le}
 use Rattle.hex.specs.Hex.{decode_of, decode_pairs, pair_value, ◌>>=◌}
 use Rattle.hex.specs.declared.error.FromHexError.{FromHexError}
 use Rattle.hex.proofs.HexLemmas.{decode_of-even, decode_of-ok}
 use Rattle.hex.proofs.Pairs.{prepend, cons_byte, decode_pairs-ok_pair}
+
+-- no digits are no bytes
+pub decoded-nothing : decode_of [] ≡ Ok []
+unfolding decode_pairs
+decoded-nothing = refl
 
 -- the byte of the first two digits, and those of the others
 first_pair : (pair : Result ℕ FromHexError) (rest : Result (List ℕ) FromHexError) (bytes : List ℕ) → (pair >>= (λ byte. cons_byte byte rest)) ≡ Ok bytes
@@ -13,6 +18,7 @@ first_pair (Ok byte) (Ok others) bytes is = (byte, others, refl, refl, cc)
 first_pair (Ok byte) (Err e) bytes is = absurd (cc)
 first_pair (Err e) rest bytes is = absurd (cc)
 
+-- a byte before others
 cons-prepend : (byte : ℕ) (front : List ℕ) (r : Result (List ℕ) FromHexError) → cons_byte byte (prepend front r) ≡ prepend (byte ∷ front) r
 cons-prepend byte front (Ok rest) = refl
 cons-prepend byte front (Err e) = refl
@@ -21,6 +27,7 @@ prepend-nothing : (r : Result (List ℕ) FromHexError) → r ≡ prepend [] r
 prepend-nothing (Ok rest) = refl
 prepend-nothing (Err e) = refl
 
+-- more digits
 decode-append : (i : ℕ) (digits more front : List ℕ) → decode_pairs i digits ≡ Ok front → decode_pairs i (digits ++ more) ≡ prepend front (decode_pairs (i + length digits) more)
 unfolding decode_pairs
 decode-append i [] more front is =
@@ -46,6 +53,7 @@ decoded-behind digits front n within even is =
     ap (decode_pairs 0) (sym (take-append-drop n digits)) ∙ decode-append 0 (take n digits) (drop n digits) front first
     ∙ ap (λ (k : ℕ). prepend front (decode_pairs k (drop n digits))) long
 
+-- what others are put behind is before them
 before : (front bytes : List ℕ) (r : Result (List ℕ) FromHexError) → prepend front r ≡ Ok bytes → (rest : List ℕ) × (bytes ≡ front ++ rest)
 before front bytes (Ok rest) is = (rest, cc)
 before front bytes (Err e) is = absurd (cc)

@@ -2,7 +2,7 @@
 use Rattle.rtp_listing.proofs.Common.{◌≡◌, ℕ, ◌+◌, ◌-◌, ◌*◌, ◌/◌, ◌%◌, ◌<◌, ◌≤◌, List, [], ◌++◌, length, take, drop, get_or, Result, Ok, Err, refl, sym, ap, ◌∙◌, subst, arith, append_assoc, append-nil, length-append, length-drop, length-take-le, take-append-drop, get_or-drop, Bool, true, false, Option, Some, None, if◌then◌else◌, eq-eqb, All, IsOk, IsAsciiHexdigit, decode_of, ExtensionMap, RtpHeader, IsHeader}
 use Rattle.std.specs.Prelude.{min, bit_and, slice_index, slice_range}
 use Rattle.std.specs.Int.{w16, from_be_bytes}
-use Rattle.std.proofs.lemmas.List.{take_at, take-append-le, drop-append-le, get_or_append_left}
+use Rattle.std.proofs.lemmas.List.{take_at, take_all, take-take, get_or-take, take-append-le, drop-append-le, get_or_append_left}
 use Rattle.hex.proofs.HexLemmas.{decode_of-ok, decode_of-same}
 use Rattle.rtp_wire.specs.Block.{word_at}
 use Rattle.rtp_wire.specs.Header.{IsWire}
@@ -67,11 +67,11 @@ header_end-wire exts bytes h wire =
     omega (arith, length-wire exts bytes h wire, ap (λ (p : PacketParts). length p.payload) found.1, length-drop (header_end bytes) bytes)
 
 -- where the first of these bytes says that it ends
-pub header_end-clear : (bytes : List ℕ) → bit_and (slice_index bytes 0) 16 ≡ 0 → sources_end bytes ≡ header_end bytes
+pub header_end-clear : (bytes : List ℕ) (start : ℕ) → bit_and (slice_index bytes 0) 16 ≡ 0 → start ≡ sources_end bytes → start ≡ header_end bytes
 unfolding header_end
-header_end-clear bytes clear =
+header_end-clear bytes start clear start-is =
     let x : has_block bytes ≡ false = x_clear (slice_index bytes 0) clear in
-    rw x (omega arith)
+    rw x (omega (arith, start-is))
 
 pub header_end-set : (bytes : List ℕ) (start : ℕ) → (bit_and (slice_index bytes 0) 16 ≡ 0 → ⊥) → start ≡ sources_end bytes
     → start + 4 + 4 * (slice_index bytes (start + 2) * 256 + slice_index bytes (start + 3)) ≡ header_end bytes
@@ -98,21 +98,71 @@ header_end-front first after long =
 
 -- ---- the bytes that are decoded
 
--- all of them hold the header
-pub HoldsHeader-all : (datagram : List ℕ) → HoldsHeader datagram datagram
-HoldsHeader-all datagram = record {
-  rest = [];
-  in_order = sym (append-nil datagram);
-  within = λ exts h wire. omega (arith, length-wire exts datagram h wire);
-}
+-- a front of an even number of digits decodes
+pub IsOk-front : (line : List ℕ) (n : ℕ) → n ≤ length line → n % 2 ≡ 0 → IsOk (decode_of line) → IsOk (decode_of (take n line))
+IsOk-front line n within even ok =
+    let long : length (take n line) ≡ n = length-take-le n line within in
+    let digits = (digits_from_ok line ok).1 in
+    IsOk-digits (take n line) (omega (arith, long))
+    (λ k d below. subst IsAsciiHexdigit (sym (get_or-take n line k d (omega (arith, long)))) (digits k d (omega (arith, long))))
 
--- and so do as many as the first of them say, or all
-HoldsHeader-told : (datagram first after front rest : List ℕ) → datagram ≡ first ++ after → 76 ≤ length first → datagram ≡ front ++ rest
+-- its bytes, two digits a byte
+decoded-half : (line items : List ℕ) (n : ℕ) → 2 * n ≤ length line → decode_of (take (2 * n) line) ≡ Ok (take (length (take (2 * n) line) / 2) items)
+    → decode_of (take (2 * n) line) ≡ Ok (take n items)
+decoded-half line items n within is = is ∙ ap (λ (k : ℕ). Ok (take k items)) (omega (arith, length-take-le (2 * n) line within))
+
+-- where all digits are decoded, the header is
+pub HoldsHeader-all : (line datagram items : List ℕ) (n : ℕ) → decode_of line ≡ Ok datagram → n ≡ length line / 2
+    → decode_of (take (2 * n) line) ≡ Ok (take (length (take (2 * n) line) / 2) items) → HoldsHeader datagram (take (length line / 2) items)
+HoldsHeader-all line datagram items n all n-is first =
+    let even = (decode_of-ok line datagram all).0 in
+    let whole : take (2 * n) line ≡ line = take_all (2 * n) line (omega (arith, even, n-is)) in
+    let same : decode_of line ≡ Ok (take (length line / 2) items) = subst (λ (digits : List ℕ). decode_of digits ≡ Ok (take (length digits / 2) items)) whole first in
+    let front-is : datagram ≡ take (length line / 2) items = decode_of-same line datagram (take (length line / 2) items) all same in
+    record {
+      rest = [];
+      in_order = front-is ∙ sym (append-nil (take (length line / 2) items));
+      within = λ exts h wire. omega (arith, length-wire exts datagram h wire, ap length front-is);
+    }
+
+-- and where as many are as the first of them say, or all
+told : (datagram first after front rest : List ℕ) → datagram ≡ first ++ after → 76 ≤ length first → datagram ≡ front ++ rest
     → length front ≡ min (header_end first) (length datagram) → HoldsHeader datagram front
-HoldsHeader-told datagram first after front rest first-is long front-is len-is = record {
+told datagram first after front rest first-is long front-is len-is = record {
   rest = rest;
   in_order = front-is;
   within = λ exts h wire.
       let end : h.header_len ≡ header_end first = header_end-wire exts datagram h wire ∙ ap header_end first-is ∙ header_end-front first after long in
       omega (arith, end, len-is, length-wire exts datagram h wire);
 }
+
+module _ (line datagram items : List ℕ) (n len : ℕ) (all : decode_of line ≡ Ok datagram) (long : 76 ≤ n) (within : 2 * n ≤ length line) (room : n ≤ length items)
+    (first : decode_of (take (2 * n) line) ≡ Ok (take (length (take (2 * n) line) / 2) items)) (len-is : len ≡ min (header_end (take n items)) (length line / 2)) where
+  bytes_are : length line ≡ 2 * length datagram
+  bytes_are = (decode_of-ok line datagram all).2
+
+  first_is : (after : List ℕ) × (datagram ≡ take n items ++ after)
+  first_is = decoded-first line datagram (take n items) (2 * n) within (omega arith) all (decoded-half line items n within first)
+
+  first_long : length (take n items) ≡ n
+  first_long = length-take-le n items room
+
+  -- they are among the first ones
+  pub HoldsHeader-within : len ≤ n → HoldsHeader datagram (take len items)
+  HoldsHeader-within few =
+      let after = first_is.0 in
+      let front : take len (take n items) ≡ take len items = take-take len n items few in
+      let split : datagram ≡ take len items ++ (drop len (take n items) ++ after) =
+      first_is.1 ∙ ap (λ (xs : List ℕ). xs ++ after) (sym (take-append-drop len (take n items)))
+      ∙ append_assoc (take len (take n items)) (drop len (take n items)) after ∙ ap (λ (xs : List ℕ). xs ++ (drop len (take n items) ++ after)) front in
+      told datagram (take n items) after (take len items) _ first_is.1 (omega (arith, first_long)) split
+      (omega (arith, length-take-le len items (omega (arith, few, room)), len-is, bytes_are))
+
+  -- or are decoded behind these
+  pub HoldsHeader-longer : (more : List ℕ) → len ≤ length more → decode_of (take (2 * len) line) ≡ Ok (take (length (take (2 * len) line) / 2) more)
+      → HoldsHeader datagram (take len more)
+  HoldsHeader-longer more fits second =
+      let short : 2 * len ≤ length line = omega (arith, len-is) in
+      let front = decoded-first line datagram (take len more) (2 * len) short (omega arith) all (decoded-half line more len short second) in
+      told datagram (take n items) first_is.0 (take len more) front.0 first_is.1 (omega (arith, first_long)) front.1
+      (omega (arith, length-take-le len more fits, len-is, bytes_are))

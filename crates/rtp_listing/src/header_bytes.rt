@@ -45,7 +45,7 @@ pub(super) fn decode_header(line: &[u8], bytes: &mut Vec<u8>) -> Result<usize, A
     if front == all {
         return Ok(all);
     }
-    let len = header_len(bytes.as_slice()).min(all);
+    let len = header_len(&bytes[..front]).min(all);
     if len > front {
         decode_into(&line[..2 * len], front, bytes)?;
     }
