@@ -107,21 +107,17 @@ IsOk-front line n within even ok =
     (λ k d below. subst IsAsciiHexdigit (sym (get_or-take n line k d (omega (arith, long)))) (digits k d (omega (arith, long))))
 
 -- its bytes, two digits a byte
-decoded-half : (line items : List ℕ) (n : ℕ) → 2 * n ≤ length line → decode_of (take (2 * n) line) ≡ Ok (take (length (take (2 * n) line) / 2) items)
+pub decoded-half : (line items : List ℕ) (n : ℕ) → 2 * n ≤ length line → decode_of (take (2 * n) line) ≡ Ok (take (length (take (2 * n) line) / 2) items)
     → decode_of (take (2 * n) line) ≡ Ok (take n items)
 decoded-half line items n within is = is ∙ ap (λ (k : ℕ). Ok (take k items)) (omega (arith, length-take-le (2 * n) line within))
 
 -- where all digits are decoded, the header is
-pub HoldsHeader-all : (line datagram items : List ℕ) (n : ℕ) → decode_of line ≡ Ok datagram → n ≡ length line / 2
-    → decode_of (take (2 * n) line) ≡ Ok (take (length (take (2 * n) line) / 2) items) → HoldsHeader datagram (take (length line / 2) items)
-HoldsHeader-all line datagram items n all n-is first =
-    let even = (decode_of-ok line datagram all).0 in
-    let whole : take (2 * n) line ≡ line = take_all (2 * n) line (omega (arith, even, n-is)) in
-    let same : decode_of line ≡ Ok (take (length line / 2) items) = subst (λ (digits : List ℕ). decode_of digits ≡ Ok (take (length digits / 2) items)) whole first in
-    let front-is : datagram ≡ take (length line / 2) items = decode_of-same line datagram (take (length line / 2) items) all same in
+pub HoldsHeader-all : (line datagram bytes : List ℕ) → decode_of line ≡ Ok datagram → decode_of line ≡ Ok bytes → HoldsHeader datagram bytes
+HoldsHeader-all line datagram bytes all same =
+    let front-is : datagram ≡ bytes = decode_of-same line datagram bytes all same in
     record {
       rest = [];
-      in_order = front-is ∙ sym (append-nil (take (length line / 2) items));
+      in_order = front-is ∙ sym (append-nil bytes);
       within = λ exts h wire. omega (arith, length-wire exts datagram h wire, ap length front-is);
     }
 

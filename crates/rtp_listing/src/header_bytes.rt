@@ -40,14 +40,14 @@ pub(super) fn decode_header(line: &[u8], bytes: &mut Vec<u8>) -> Result<usize, A
         IfOk result (λ len. HoldsHeader datagram (take len bytes.new.items)) }
 {
     let all = line.len() / 2;
-    let front = all.min(FRONT);
-    decode_into(&line[..2 * front], 0, bytes)?;
-    if front == all {
+    if all <= FRONT {
+        decode_into(line, 0, bytes)?;
         return Ok(all);
     }
-    let len = header_len(&bytes[..front]).min(all);
-    if len > front {
-        decode_into(&line[..2 * len], front, bytes)?;
+    decode_into(&line[..2 * FRONT], 0, bytes)?;
+    let len = header_len(&bytes[..FRONT]).min(all);
+    if len > FRONT {
+        decode_into(&line[..2 * len], FRONT, bytes)?;
     }
     Ok(len)
 }

@@ -11,7 +11,8 @@ use std::alloc::{AllocError, Global};
 
 // The byte of two hexadecimal digits. The low four bits of `0` to `9` are a digit's value, those
 // of letters of either case count from 1. Both are valued in one word of 16 bits, the first in
-// its low byte, so that eight such words make a vector. Requires digits.
+// its low byte, so that eight such words make a vector; sixteen times the first is added to the
+// second in the high byte. Requires digits.
 #[inline(always)]
 fn byte_of(high: u8, low: u8) -> u8
     requires high { IsAsciiHexdigit high }
@@ -20,7 +21,7 @@ fn byte_of(high: u8, low: u8) -> u8
 {
     let digits = high as u16 + low as u16 * 256;
     let values = (digits & 0x0F0F) + (digits / 64 & 0x0101) * 9;
-    ((values * 16 + values / 256) % 256) as u8
+    (values.wrapping_mul(0x1001) / 256) as u8
 }
 
 // Writes the bytes of the digits at the front, two digits a byte, where the first `from` of them
