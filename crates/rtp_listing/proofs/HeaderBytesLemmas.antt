@@ -1,8 +1,8 @@
 -- A header is read from the front of a datagram as from all of it.
-use Rattle.rtp_listing.proofs.Common.{◌≡◌, ℕ, ◌+◌, ◌-◌, ◌*◌, ◌/◌, ◌%◌, ◌<◌, ◌≤◌, List, [], ◌++◌, length, take, drop, get_or, Result, Ok, Err, refl, sym, ap, ◌∙◌, subst, arith, append_assoc, append-nil, length-append, length-drop, length-take-le, take-append-drop, get_or-drop, Bool, true, false, Option, Some, None, if◌then◌else◌, eq-eqb, All, IsOk, IsAsciiHexdigit, decode_of, ExtensionMap, RtpHeader, IsHeader}
+use Rattle.rtp_listing.proofs.Common.{◌≡◌, ℕ, ◌+◌, ◌-◌, ◌*◌, ◌/◌, ◌%◌, ◌≤◌, List, [], ◌++◌, length, take, drop, Ok, refl, sym, ap, ◌∙◌, subst, arith, append_assoc, append-nil, length-append, length-drop, length-take-le, take-append-drop, get_or-drop, true, false, Option, Some, None, eq-eqb, IsOk, IsAsciiHexdigit, decode_of, ExtensionMap, RtpHeader, IsHeader}
 use Rattle.std.specs.Prelude.{min, bit_and, slice_index, slice_range}
 use Rattle.std.specs.Int.{w16, from_be_bytes}
-use Rattle.std.proofs.lemmas.List.{take_at, take_all, take-take, get_or-take, take-append-le, drop-append-le, get_or_append_left}
+use Rattle.std.proofs.lemmas.List.{take_at, take-take, get_or-take, take-append-le, drop-append-le, get_or_append_left}
 use Rattle.hex.proofs.HexLemmas.{decode_of-ok, decode_of-same}
 use Rattle.rtp_wire.specs.Block.{word_at}
 use Rattle.rtp_wire.specs.Header.{IsWire}

@@ -137,11 +137,7 @@ pub fn datagram(alloc: Global, line: &[u8]) -> Result<Option<Vec<u8>>, AllocErro
 ///
 /// Returns `AllocError` only when memory for a longer buffer is refused. Requires that the digits
 /// are hexadecimal.
-pub(super) fn decode_into(
-    digits: &[u8],
-    from: usize,
-    bytes: &mut Vec<u8>,
-) -> Result<(), AllocError>
+pub(super) fn decode_into(digits: &[u8], from: usize, bytes: &mut Vec<u8>) -> Result<(), AllocError>
     requires hex { IsOk (decode_of digits.now) }
     requires within { 2 * from ≤ length digits.now }
     requires held { from ≤ vec_len bytes.old }

@@ -1,4 +1,4 @@
-use Rattle.rtp_listing.proofs.Common.{ℕ, List, take, refl, sym, ap, subst, packet_id_of, IsHeader, read_header}
+use Rattle.rtp_listing.proofs.Common.{ℕ, List, take, refl, sym, ap, subst, packet_id_of}
 use Rattle.rtp_receive.proofs.SourceLemmas.{HoldsEach-after}
 use Rattle.rtp_listing.specs.HeaderBytes.{HoldsHeader}
 use Rattle.rtp_listing.proofs.HeaderBytesLemmas.{IsHeader-front}
