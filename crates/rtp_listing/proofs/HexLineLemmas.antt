@@ -58,14 +58,14 @@ pair_of high low i h l first second = rw (first, second) refl
 
 -- the byte of two digits
 pub byte_is : (high low : ℕ) → IsAsciiHexdigit high → IsAsciiHexdigit low → (values : ℕ) → values ≡ bit_and (high + low * 256) 3855 + bit_and ((high + low * 256) / 64) 257 * 9
-    → (values * 16 + values / 256 < 2 ^ 16) × ((index : ℕ) → pair_value high low index ≡ Ok ((values * 16 + values / 256) % 256))
+    → (values < 2 ^ 16) × ((index : ℕ) → pair_value high low index ≡ Ok (values * 4097 % 2 ^ 16 / 256))
 byte_is high low first second values are =
     let h = digit_value high first in
     let l = digit_value low second in
     let both : values ≡ (low % 16 + low / 64 * 9) * 256 + (high % 16 + high / 64 * 9) =
     are ∙ ap (λ (n : ℕ). n + bit_and ((high + low * 256) / 64) 257 * 9) (low_bits high low (omega arith))
     ∙ ap (λ (n : ℕ). low % 16 * 256 + high % 16 + n * 9) (sixth_bits high low h.2 l.2) ∙ omega arith in
-    let byte : (values * 16 + values / 256) % 256 ≡ (high % 16 + high / 64 * 9) * 16 + (low % 16 + low / 64 * 9) = omega arith in
+    let byte : values * 4097 % 2 ^ 16 / 256 ≡ (high % 16 + high / 64 * 9) * 16 + (low % 16 + low / 64 * 9) = omega arith in
     (omega arith, λ index. pair_of high low index (high % 16 + high / 64 * 9) (low % 16 + low / 64 * 9) h.0 l.0 ∙ ap Ok (sym byte))
 
 -- the bytes of all digits, at the front of a longer list

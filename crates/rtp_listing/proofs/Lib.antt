@@ -1,5 +1,7 @@
 mod Common
 mod HexLineLemmas
+mod DecodedLemmas
+mod HeaderBytesLemmas
 mod LineLemmas
 mod MapLineLemmas
 mod InputLemmas

@@ -5,5 +5,6 @@ pub mod Listing
 pub mod Output
 -- What the inside promises itself.
 pub mod Front
+pub mod HeaderBytes
 pub mod Stopping
 pub mod Digits

@@ -11,7 +11,8 @@ use std::alloc::{AllocError, Global};
 
 // The byte of two hexadecimal digits. The low four bits of `0` to `9` are a digit's value, those
 // of letters of either case count from 1. Both are valued in one word of 16 bits, the first in
-// its low byte, so that eight such words make a vector. Requires digits.
+// its low byte, so that eight such words make a vector; sixteen times the first is added to the
+// second in the high byte. Requires digits.
 #[inline(always)]
 fn byte_of(high: u8, low: u8) -> u8
     requires high { IsAsciiHexdigit high }
@@ -20,18 +21,20 @@ fn byte_of(high: u8, low: u8) -> u8
 {
     let digits = high as u16 + low as u16 * 256;
     let values = (digits & 0x0F0F) + (digits / 64 & 0x0101) * 9;
-    ((values * 16 + values / 256) % 256) as u8
+    (values.wrapping_mul(0x1001) / 256) as u8
 }
 
-// Writes the bytes of the digits at the front, two digits a byte. Requires an even number of them
-// and room for their bytes.
-fn write_bytes(digits: &[u8], bytes: &mut [u8])
+// Writes the bytes of the digits at the front, two digits a byte, where the first `from` of them
+// are already. Requires an even number of digits and room for their bytes.
+fn write_bytes(digits: &[u8], from: usize, bytes: &mut [u8])
     requires digits { All IsAsciiHexdigit digits.now }
     requires even { length digits.now % 2 ≡ 0 }
     requires room { length digits.now ≤ 2 * length bytes.old }
+    requires within { 2 * from ≤ length digits.now }
+    requires before { decode_of (take (2 * from) digits.now) ≡ Ok (take from bytes.old) }
     ensures { decode_of digits.now ≡ Ok (take (length digits.now / 2) bytes.new) }
 {
-    for i in 0..digits.len() / 2 {
+    for i in from..digits.len() / 2 {
         bytes[i] = byte_of(digits[2 * i], digits[2 * i + 1]);
     }
 }
@@ -125,24 +128,28 @@ pub fn datagram(alloc: Global, line: &[u8]) -> Result<Option<Vec<u8>>, AllocErro
     }
     let mut bytes = Vec::new(alloc);
     bytes.resize(line.len() / 2, 0)?;
-    write_bytes(line, bytes.as_mut_slice());
+    write_bytes(line, 0, bytes.as_mut_slice());
     Ok(Some(bytes))
 }
 
-/// Puts the bytes of a line of hexadecimal at the front of the buffer, whatever it held.
+/// Puts the bytes of the digits at the front of the buffer, which begins with the first `from` of
+/// them.
 ///
-/// Returns `AllocError` only when memory for a longer buffer is refused. Requires that the line is
-/// hexadecimal.
-pub(super) fn decode_into(line: &[u8], bytes: &mut Vec<u8>) -> Result<(), AllocError>
-    requires { IsOk (decode_of line.now) }
-    ensures within { OnOk result (length line.now / 2 ≤ vec_len bytes.new) }
+/// Returns `AllocError` only when memory for a longer buffer is refused. Requires that the digits
+/// are hexadecimal.
+pub(super) fn decode_into(digits: &[u8], from: usize, bytes: &mut Vec<u8>) -> Result<(), AllocError>
+    requires hex { IsOk (decode_of digits.now) }
+    requires within { 2 * from ≤ length digits.now }
+    requires held { from ≤ vec_len bytes.old }
+    requires before { decode_of (take (2 * from) digits.now) ≡ Ok (take from bytes.old.items) }
+    ensures within { OnOk result (length digits.now / 2 ≤ vec_len bytes.new) }
     ensures decoded { OnOk result
-        (decode_of line.now ≡ Ok (take (length line.now / 2) bytes.new.items)) }
+        (decode_of digits.now ≡ Ok (take (length digits.now / 2) bytes.new.items)) }
 {
-    let len = line.len() / 2;
+    let len = digits.len() / 2;
     if bytes.len() < len {
         bytes.resize(len, 0)?;
     }
-    write_bytes(line, bytes.as_mut_slice());
+    write_bytes(digits, from, bytes.as_mut_slice());
     Ok(())
 }

@@ -2,6 +2,7 @@
 //! it or refuses it as a replay.
 #![tactic(auto)]
 
+mod header_bytes;
 mod hex_line;
 mod input;
 mod line;

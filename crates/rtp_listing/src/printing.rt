@@ -15,7 +15,7 @@ ghost use Rattle.rtp_listing.specs.Front.{IsHexText};
 ghost use Rattle.rtp_listing.specs.Output.{IsHeader, packet_lines, IsListing, Prints};
 ghost use Rattle.rtp_listing.specs.Stopping.{IsPartialListing, read_header};
 
-use super::hex_line::decode_into;
+use super::header_bytes::decode_header;
 use super::input::Input;
 use super::line::first_line;
 use super::listing::put_lines;
@@ -28,8 +28,8 @@ use std::io::{ErrorKind, Write};
 const WRITTEN_AT_ONCE: usize = 8192;
 
 // Reads the header that the datagram of this line begins with into the one that is given, and
-// returns whether it begins with one, and the verdict on it. The datagram is put into the buffer,
-// whatever that held. Requires that the line is hexadecimal.
+// returns whether it begins with one, and the verdict on it. The bytes of the header are put into
+// the buffer, whatever that held. Requires that the line is hexadecimal.
 fn judged(
     alloc: Global,
     line: &[u8],
@@ -49,8 +49,8 @@ fn judged(
         IfOk result (λ listing. HoldsEach receivers.new 0 (taken_after_each taken
         (option_map packet_id_of (read_header listing.0 header.new)) listing.1)) }
 {
-    decode_into(line, datagram)?;
-    let found = header.parse_into(alloc, &datagram[..line.len() / 2], exts)?;
+    let len = decode_header(line, datagram)?;
+    let found = header.parse_into(alloc, &datagram[..len], exts)?;
     let verdict = if found {
         receivers.receive(header.ssrc, header.sequence_number)?
     } else {

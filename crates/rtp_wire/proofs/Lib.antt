@@ -2,7 +2,7 @@ mod Common
 mod FlagLemmas
 mod FixedLemmas
 mod GroupLemmas
-mod BlockLemmas
+pub mod BlockLemmas
 pub mod PacketLemmas
 pub mod HeaderFound
 pub mod PartsLemmas
@@ -11,7 +11,7 @@ mod PacketChanges
 pub mod PacketBufLemmas
 mod AddedPaddingLemmas
 mod PacketParts
-mod PaddingChanges
+pub mod PaddingChanges
 mod ChangedPackets
 mod AnyBlockLemmas
 pub mod NotAPacketLemmas

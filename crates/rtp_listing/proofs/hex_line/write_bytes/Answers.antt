@@ -1,12 +1,13 @@
 use Rattle.std.proofs.Common.{ℕ, ◌*◌, take, ap, arith, ◌∙◌}
 use Rattle.std.specs.Prelude.{Ok}
 use Rattle.rtp_listing.proofs.HexLineLemmas.{decoded_front}
-use Rattle.hex.proofs.Pairs.{decode_start, decode_step}
+use Rattle.rtp_listing.proofs.DecodedLemmas.{decoded-behind}
+use Rattle.hex.proofs.Pairs.{decode_step}
 use Rattle.hex.proofs.HexLemmas.{decode_of-even}
 use Rattle.rtp_listing.proofs.hex_line.write_bytes.Goals as goal
 
 pub loop-i-init : goal.loop-i-init
-loop-i-init c = decode_start c.args.digits.now c.args.bytes.now
+loop-i-init c = decoded-behind c.args.digits.now _ (2 * c.args.from) c.requires.within (omega arith) c.requires.before
 
 pub loop-i-preserved : goal.loop-i-preserved
 loop-i-preserved c =

@@ -1,14 +1,16 @@
-use Rattle.rtp_listing.proofs.Common.{ℕ, ◌/◌, List, length, take, refl, ap, subst, ◌∙◌, packet_id_of, IsHeader, read_header}
-use Rattle.hex.proofs.HexLemmas.{decode_of-same}
+use Rattle.rtp_listing.proofs.Common.{ℕ, List, take, refl, sym, ap, subst, packet_id_of}
 use Rattle.rtp_receive.proofs.SourceLemmas.{HoldsEach-after}
+use Rattle.rtp_listing.specs.HeaderBytes.{HoldsHeader}
+use Rattle.rtp_listing.proofs.HeaderBytesLemmas.{IsHeader-front}
 use Rattle.rtp_listing.proofs.PrintLemmas.{IsHeader-read}
 use Rattle.rtp_listing.proofs.printing.judged.Goals as goal
 use Rattle.rtp_listing.proofs.printing.judged.Goals.{then-found+in_ok-verdict, else-found}
 
 pub returns-clause-header : goal.returns-clause-header
 returns-clause-header c bytes decoded =
-    let same = ap (λ (read : List ℕ). take (length c.args.line.now / 2) read) c.deref.ensures.value ∙ decode_of-same c.args.line.now _ bytes c.in_ok-decode_into.ensures.decoded decoded in
-    subst (λ (datagram : List ℕ). IsHeader c.args.exts.now datagram (read_header c.in_ok-found.found c.parse_into.new.self)) same
+    let read = ap (λ (all : List ℕ). take c.in_ok-len.len all) c.deref.ensures.value in
+    let front = subst (λ (front : List ℕ). HoldsHeader bytes front) (sym read) (c.in_ok-len.ensures.header bytes decoded) in
+    IsHeader-front c.args.exts.now bytes _ _ front
     (IsHeader-read c.args.exts.now _ c.in_ok-found.found c.parse_into.new.self c.in_ok-found.ensures.found c.in_ok-found.ensures.only)
 
 pub returns-clause-verdict : goal.returns-clause-verdict
