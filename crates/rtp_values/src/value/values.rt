@@ -11,7 +11,8 @@ use std::marker::Model;
 
 /// The values of a header's extensions (RFC 8285, 4). A field is `None` where the header carries no
 /// value of it. An extension without a field, as the color space and every unknown one, is dropped
-/// when a header is read, and is not written.
+/// when a header is read, and is not written. Some values are not read as their standards have
+/// them: their documents name what of [`standard`](crate::standard) does.
 #[derive(Debug, PartialEq, Eq, Drop)]
 pub struct ExtensionValues {
     /// The audio level in decibels relative to the overload point, -127 (silence) to 0 (loudest)
@@ -21,13 +22,14 @@ pub struct ExtensionValues {
     /// Whether the packet's audio has voice (RFC 6464, 3).
     pub voice_activity: Option<bool>,
     /// How the receiver has to turn the picture, counter-clockwise. The bits of camera and flip are
-    /// not kept as read, and are written as 0.
+    /// not kept as read, and are written as 0: [`Orientation`](crate::standard::Orientation) has
+    /// them.
     pub video_orientation: Option<VideoOrientation>,
     /// What the video shows: 0 is unspecified, 1 a screen.
     pub video_content_type: Option<u8>,
     /// How long after the time of its RTP timestamp the packet was sent, in ticks of the stream's
     /// clock. It has four bytes here, unsigned; an element of RFC 5450 has three, signed, and sets
-    /// no value.
+    /// no value: [`parse_transmission_offset`](crate::standard::parse_transmission_offset).
     pub tx_time_offs: Option<u32>,
     /// When the packet left its sender, in microseconds since the Unix epoch. As read it is known
     /// modulo 64 seconds only, from 0 to 63,999,996;
@@ -36,22 +38,27 @@ pub struct ExtensionValues {
     pub abs_send_time: Option<u64>,
     /// When the first frame in the packet was captured.
     pub abs_capture_time: Option<AbsCaptureTime>,
-    /// The packet's number on its transport, over all streams.
+    /// The packet's number on its transport, over all streams, without a request for feedback:
+    /// [`TransportNumber`](crate::standard::TransportNumber).
     pub transport_cc: Option<u16>,
     /// The least time for which the receiver may hold the frame before it shows it.
     pub play_delay_min: Option<MediaTime>,
     /// The greatest such time.
     pub play_delay_max: Option<MediaTime>,
-    /// When the frame was encoded, packetized and sent.
+    /// When the frame was encoded, packetized and sent. Of the form without flags, of 12 bytes, the
+    /// first is taken for flags: [`Timing`](crate::standard::Timing) has both forms.
     pub video_timing: Option<VideoTiming>,
-    /// The RTP stream id (RFC 8852).
+    /// The RTP stream id (RFC 8852), changed as `mid` is, and cut after 8 characters.
     pub rid: Option<Rid>,
-    /// The id of the stream that this one repairs (RFC 8852).
+    /// The id of the stream that this one repairs (RFC 8852), changed and cut as `rid` is.
     pub rid_repair: Option<Rid>,
-    /// The media section's identification tag (RFC 9143).
+    /// The media section's identification tag (RFC 9143). Each character but an ASCII letter or
+    /// digit is an underscore, and what follows the first 16 is cut off:
+    /// [`parse_token`](crate::standard::parse_token) has the text as it lies.
     pub mid: Option<Mid>,
     /// The frame marking: its first four bytes, the first in the high bits. An element as the draft
-    /// describes it has one to three bytes, and sets no value.
+    /// describes it, and RFC 9626, has one to three bytes, and sets no value:
+    /// [`FrameMarking`](crate::standard::FrameMarking).
     pub frame_mark: Option<u32>,
     /// Which simulcast streams and layers of the video the sender keeps active.
     pub video_layers_allocation: Option<VideoLayersAllocation>,
