@@ -559,10 +559,10 @@ RTPW_CHECKED int32_t rtpw_wire_len(const rtpw_map *map, const rtpw_header *heade
  * a block: by rising id an element for each mapped id whose value is there (its has_ isn't 0), in the
  * one-byte form unless an id above 14 or RTPW_KIND_LAYERS is mapped or a text that it writes is empty.
  * An audio level takes has_voice_activity too, a playout delay both its times, and a capture offset
- * a capture time; a layer allocation isn't written (rtpw_write_layers). Where a value is there and isn't written, as one
- * without an id or all without has_extension, the status doesn't say so: rtpw_left_out tells it. Of a time the whole ticks are written of 2^-18
- * seconds (send time, modulo 64 seconds) or of 1/100 second (playout delay, modulo 4,096); of a level
- * its magnitude modulo 128. Flags count as set where they aren't 0.
+ * a capture time; a layer allocation isn't written (rtpw_write_layers). Where a value is there and isn't written, as
+ * one without an id or all without has_extension, the status doesn't say so: rtpw_left_out tells it. Of a time the
+ * whole ticks are written of 2^-18 seconds (send time, modulo 64 seconds) or of 1/100 second (playout delay, modulo
+ * 4,096); of a level its magnitude modulo 128. Flags count as set where they aren't 0.
  *
  * RTPW_OK; RTPW_BAD_FIELD where payload_type is above 127, csrc_count above 15, or of the values that are
  * there, mapped or not and also where has_extension is 0, a text has another character than letters, digits

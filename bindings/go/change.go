@@ -91,11 +91,11 @@ func RemovePadding(datagram []byte) ([]byte, error) {
 // bytes of the buffer, whose other bytes are the room for it, and returns the packet's bytes. It then has exactly one
 // element of the id, in place of the last one of the id or as the last of all; the other elements stay, in order, but
 // those of the id 0, behind which a receiver that follows RFC 8285, 4.2, reads nothing, and all other parts stay too.
-// Without a block the packet gets one. Where the element is the only one of its id and has as many bytes, none is of the
-// id 0, and the block keeps its form, only these bytes change. Else the block is made anew: its padding is used up, and
-// then the payload moves by whole words; a body never becomes shorter ([Compact]). What stands where reading ends, an element that is cut
-// short or what follows the id 15, is no element, and goes where the block is made anew. A header alone is enough. Data
-// that overlap the buffer are copied first.
+// Without a block the packet gets one. Where the element is the only one of its id and has as many bytes, none is of
+// the id 0, and the block keeps its form, only these bytes change. Else the block is made anew: its padding is used up,
+// and then the payload moves by whole words; a body never becomes shorter ([Compact]). What stands where reading ends,
+// an element that is cut short or what follows the id 15, is no element, and goes where the block is made anew. A
+// header alone is enough. Data that overlap the buffer are copied first.
 //
 // A one-byte block that can't carry the element becomes a two-byte one, where the forms that are allowed let it:
 // AnyForm; OneByteForm alone, as for a peer that hasn't agreed to both in one stream (RFC 8285, 4.1.2); or TwoByteForm

@@ -1,8 +1,8 @@
 package rtpwire
 
 // A Packet is a packet in the bytes of its datagram, of which nothing is copied but the header: its fields and
-// values are those of the Header, and its methods lend parts of the datagram: an append to one writes over nothing of
-// the packet. Use one again for the next packet: what it lent stays as it is.
+// values are those of the Header, and its methods lend parts of the datagram: an append to one copies, so that nothing of
+// the packet or behind it changes. Use one again for the next packet: what it lent stays as it is.
 type Packet struct {
 	Header
 	parts    PacketFields
@@ -57,7 +57,8 @@ func (p *Packet) HeaderLen() int {
 
 // Payload is the payload with any padding.
 func (p *Packet) Payload() []byte {
-	return p.datagram[p.parts.payloadAt:]
+	size := len(p.datagram)
+	return p.datagram[p.parts.payloadAt:size:size]
 }
 
 // UnpaddedPayload is the payload without its padding. It is not ok where the padding's last byte counts more bytes

@@ -112,6 +112,17 @@ func TestElementsOfTheStandards(t *testing.T) {
 	same(t, "whole", buf[17], uint8(0x0D))
 }
 
+// What lies behind a datagram stays, whatever is appended to a part of its packet.
+func TestAppendsToAPacket(t *testing.T) {
+	buf := append(sample(), 0xEE, 0xEE)
+	packet := parsed(t, buf[:37], nil)
+	payload := append(packet.Payload(), 0x77)
+	same(t, "appended", []any{payload[5], len(payload), buf}, []any{byte(0x77), 6, append(sample(), 0xEE, 0xEE)})
+	packet.Payload()[4] = 0x66
+	same(t, "shared, but for the copy", []byte{buf[36], payload[4]}, []byte{0x66, 2})
+	same(t, "of no packet", len(new(rtpwire.Packet).Payload()), 0)
+}
+
 // Expected are those from the first one's number to the highest, whatever else came.
 func TestExpected(t *testing.T) {
 	var s rtpwire.ReceptionStatistics

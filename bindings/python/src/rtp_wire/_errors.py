@@ -178,7 +178,10 @@ def whole(name: str, value: int) -> int:
 
 def within(name: str, value: int, low: int, high: int) -> int:
     """The value, where it is in this range; TypeError where it is no whole number."""
-    value = whole(name, value)
+    try:
+        value = index(value)
+    except TypeError:
+        whole(name, value)  # which says what it is
     if not low <= value <= high:
         raise BadField(Status.BAD_FIELD, f"{name} is {value}, and not {low} to {high}")
     return value
