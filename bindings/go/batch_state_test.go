@@ -349,3 +349,15 @@ func TestEachZeroMakesABlock(t *testing.T) {
 	v.SetCaptureOffset(0)
 	same(t, "an offset alone", rtpwire.NewHeader(v).HasExtension, true)
 }
+
+// Each of the levels is judged, whatever their count.
+func TestManyLevels(t *testing.T) {
+	for _, count := range []int{15, 16, 255, 1000} {
+		levels := make([]int8, count)
+		data, err := rtpwire.AppendMixerLevels([]byte{7}, levels)
+		same(t, "written", []any{len(data), data[0], err}, []any{count + 1, byte(7), nil})
+		levels[count-1] = 1
+		data, err = rtpwire.AppendMixerLevels([]byte{7}, levels)
+		same(t, "refused", []any{data, err.Error()}, []any{[]byte{7}, fmt.Sprintf("rtpwire: the level %d is 1, and not -127 to 0", count-1)})
+	}
+}

@@ -7,8 +7,8 @@ use rtp_wire::standard::{
 };
 use rtp_wire::{
     parse_headers, parse_packets, receive_many, Arrival, ArrivalSlot, Header, HeaderSlot, Kind,
-    KindSet, Map, Mid, NotTaken, NotWritten, OutOfRange, PacketSlot, Receiver, ReceptionStatistics,
-    Rid, Standing, Values, VideoTiming, WideReceiver, WideRestartingReceiver,
+    KindSet, Layers, Map, Mid, NotTaken, NotWritten, OutOfRange, PacketSlot, Receiver,
+    ReceptionStatistics, Rid, Standing, Values, VideoTiming, WideReceiver, WideRestartingReceiver,
 };
 use std::time::Duration;
 
@@ -266,6 +266,15 @@ fn what_is_refused_writes_nothing() {
         write_mixer_levels(&[-1, 1], &mut data),
         Err(NotWritten::OutOfRange(level))
     );
+    for count in [15, 16, 255, 1000] {
+        let mut levels = vec![-1; count];
+        assert_eq!(write_mixer_levels(&levels, &mut vec![0; count]), Ok(count));
+        levels[count - 1] = 1;
+        assert_eq!(
+            write_mixer_levels(&levels, &mut []),
+            Err(NotWritten::OutOfRange(level))
+        );
+    }
     assert_eq!(
         write_mixer_levels(&[-1; 4], &mut data),
         Err(NotWritten::ShortBuffer)
@@ -285,6 +294,30 @@ fn what_is_refused_writes_nothing() {
         Err(NotWritten::ShortBuffer)
     );
     assert_eq!(data, [0xEE; 3]);
+}
+
+#[test]
+fn what_is_left_out_is_refused_before_a_short_buffer() {
+    let mut header = Header::default();
+    header.has_extension = true;
+    let layers = Layers::new(0, &[]).unwrap();
+    let mut buf = [0xEE; 24];
+    for room in [0, 24] {
+        let refused = header.write_all_with_layers(&mut buf[..room], &Map::new(), &layers);
+        let Err(NotWritten::LeftOut(kinds)) = refused else {
+            panic!("{refused:?}");
+        };
+        assert!(kinds.iter().eq([Kind::Layers]));
+    }
+    header.values.mid = Some("a".parse().unwrap());
+    for room in [0, 24] {
+        let refused = header.write_all(&mut buf[..room], &Map::new());
+        let Err(NotWritten::LeftOut(kinds)) = refused else {
+            panic!("{refused:?}");
+        };
+        assert!(kinds.iter().eq([Kind::Mid]));
+    }
+    assert_eq!(buf, [0xEE; 24]);
 }
 
 #[test]
