@@ -977,6 +977,10 @@ void alike_many() {
     const auto parsed = rtpw::packet_parse(packet);
     CHECK(parsed && parsed->body_len == body.size() && rtpw::payload(packet, *parsed).empty());
     CHECK(rtpw::remove_block(packet, len) == status::ok && len == 12);
+    for (const std::size_t size : {std::size_t{4} << 16, std::size_t{1} << 20, std::size_t{1} << 24}) {
+        body.resize(size);
+        CHECK(rtpw::put_block(packet, len, 0xabac, body) == status::long_block && len == 12);
+    }
 }
 
 } // namespace
