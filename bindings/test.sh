@@ -281,6 +281,11 @@ told_by_sanitizers() { # those of -fsanitize=
     "$scratch/call_C" | cmp - "$scratch/said_C" >&2 || fail "-fsanitize=$1, the program in C of docs/CALLING.md"
     clang "${built[@]}" bindings/c/test/sanitized.c "$library" -o "$scratch/of_blocks"
     "$scratch/of_blocks" >"$scratch/told" || { cat "$scratch/told" >&2; fail "-fsanitize=$1 tells nothing"; }
+    if [ "$1" = memory ]; then
+        clang "${built[@]}" bindings/c/test/sanitized_fields.c "$library" -o "$scratch/of_fields"
+        "$scratch/of_fields" >"$scratch/said" || { cat "$scratch/said" >&2; fail "-fsanitize=memory, the fields of structs"; }
+        sed -i "s/\$/ and $(cat "$scratch/said")/" "$scratch/told"
+    fi
     clang++ "${built[@]/-std=c99/-std=c++11}" -x c++ -fsyntax-only "$scratch/header.c"
     for program in wrapped wrapped_peers; do
         clang++ "${built[@]/-std=c99/-std=c++17}" bindings/c/test/$program.cpp "$library" -o "$scratch/by_hand"

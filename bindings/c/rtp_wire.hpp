@@ -156,6 +156,8 @@ inline std::uint32_t csrc(bytes datagram, std::size_t index) noexcept {
 
 /* ---- A packet, changed where it lies, one that grows, and one that is made short ---- */
 
+/* Data and a body of which a byte lies in the buffer that is written are refused: bad_field. Copy them first. */
+
 inline status set_marker(buffer datagram, bool marker) noexcept {
     return status(::rtpw_set_marker(datagram.data(), datagram.size(), marker));
 }

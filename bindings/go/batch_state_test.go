@@ -349,3 +349,61 @@ func TestEachZeroMakesABlock(t *testing.T) {
 	v.SetCaptureOffset(0)
 	same(t, "an offset alone", rtpwire.NewHeader(v).HasExtension, true)
 }
+
+// Each of the levels is judged, whatever their count.
+func TestManyLevels(t *testing.T) {
+	for _, count := range []int{15, 16, 255, 1000} {
+		levels := make([]int8, count)
+		data, err := rtpwire.AppendMixerLevels([]byte{7}, levels)
+		same(t, "written", []any{len(data), data[0], err}, []any{count + 1, byte(7), nil})
+		levels[count-1] = 1
+		data, err = rtpwire.AppendMixerLevels([]byte{7}, levels)
+		same(t, "refused", []any{data, err.Error()}, []any{[]byte{7}, fmt.Sprintf("rtpwire: the level %d is 1, and not -127 to 0", count-1)})
+	}
+}
+
+// No bit of a number is lost on the way to the library: those of a report and of its block, and of a level's place.
+func TestBitsOfReports(t *testing.T) {
+	report := rtpwire.ReceptionReport{FractionLost: 0x81, CumulativeLost: -8388608, ExtendedHighest: 0x82838485, Jitter: 0x92939495}
+	block := report.AppendBlock(nil, 0xA2A3A4A5, 0xB2B3B4B5, 0xC2C3C4C5)
+	same(t, "a block", fmt.Sprintf("%X", block), "A2A3A4A5"+"81800000"+"82838485"+"92939495"+"B2B3B4B5"+"C2C3C4C5")
+	// Three were due and two came, whatever the rollovers; transit times of 2^31 and 2^31 + 32 ticks.
+	for _, first := range []uint64{0, 1<<32 - 1, 1<<48 - 1, 1<<63 - 1} {
+		var s rtpwire.ReceptionStatistics
+		s.Record(first, 1<<31, 0)
+		s.Record(first+2, 1<<31|1<<16, 1<<16|32)
+		report, ok := s.Report()
+		same(t, fmt.Sprintf("%#x", first), []any{report.CumulativeLost, report.FractionLost, report.Jitter, ok}, []any{int32(1), uint8(85), uint32(2), true})
+	}
+	for _, index := range []int{2, 256, 1 << 16, 1 << 32} {
+		_, err := rtpwire.ParseMixerLevel([]byte{1, 2}, 2, index)
+		level, found := rtpwire.ParseMixerLevel([]byte{1, 2}, index, 1)
+		same(t, fmt.Sprint(index), []any{err, level, found}, []any{rtpwire.ErrBadField, int8(-2), nil})
+	}
+}
+
+// Each number but those of the forms is none, where a form is asked for or allowed.
+func TestEachNumberOfAForm(t *testing.T) {
+	for number := 0; number < 256; number++ {
+		form := rtpwire.Form(number)
+		buf := append(sample(), make([]byte, 40)...)
+		_, err := rtpwire.ChangeForm(buf, 37, form)
+		same(t, "changed to "+form.String(), err == nil, number == 1 || number == 2)
+		_, err = rtpwire.AddElement(append(sample(), make([]byte, 40)...), 37, 3, []byte{1}, form)
+		same(t, "added in "+form.String(), err == nil, number <= 2)
+		_, err = rtpwire.PutElement(append(sample(), make([]byte, 40)...), 37, 3, []byte{1}, form)
+		same(t, "put in "+form.String(), err == nil, number <= 2)
+	}
+}
+
+// A set may have each kind at once.
+func TestASetOfAllKinds(t *testing.T) {
+	all := rtpwire.KindSet(1<<(rtpwire.KindLayers+1) - 2)
+	var kinds []rtpwire.Kind
+	for kind := rtpwire.KindAbsSendTime; kind <= rtpwire.KindLayers; kind++ {
+		kinds = append(kinds, kind)
+		same(t, kind.String(), all.Contains(kind), true)
+		same(t, kind.String()+" alone", rtpwire.KindSet(1<<kind).Kinds(), []rtpwire.Kind{kind})
+	}
+	same(t, "all", all.Kinds(), kinds)
+}

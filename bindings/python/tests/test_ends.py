@@ -163,6 +163,8 @@ class Ends(unittest.TestCase):
                     grown(call, 21, id, b"1")
                 self.assertIs(type(raised.exception), BadId)
                 self.assertEqual(str(raised.exception), f"id is {id}, and not 1 to 255")
+            for other in (1.0, "1", b"1", None):
+                self.assertRaises(TypeError, grown, call, 21, other, b"1")
             room = bytearray(PACKET + bytes(300))
             self.assertEqual(call(room, 21, 255, bytes(255)), 277)
             with self.assertRaises(BadField) as raised:
@@ -211,6 +213,11 @@ class Ends(unittest.TestCase):
                 bits(lambda low: extend_ntp_56(0, low), "low", 64),
             ]
         )
+        for many in (16, 255, 1000):
+            self.assertEqual(mixer_levels_data([-1] * many), bytes([1]) * many)
+            with self.assertRaises(BadField) as raised:
+                mixer_levels_data([-1] * (many - 1) + [1])
+            self.assertEqual(str(raised.exception), "a level is 1, and not -127 to 0")
         for count in (1 << 64, -1):
             with self.assertRaises(BadField) as raised:
                 read_mixer_level(b"\x01", count, 0)
@@ -272,6 +279,19 @@ class Ends(unittest.TestCase):
         self.assertEqual((receiver.in_row, receiver.standing_of(66436)), (0, Standing.TOO_OLD))
         self.assertIsNone(receiver.receive(899))
         self.assertEqual(receiver.in_row, 1)
+
+    def test_statistics_are_compared_by_all_that_they_hold(self) -> None:
+        # as many came, with other numbers, timestamps or arrivals, or in an interval that has begun since
+        made = []
+        for rows in (((5, 0, 0), (6, 0, 0)), ((4, 0, 0), (6, 0, 0)), ((5, 0, 0), (7, 0, 0)), ((5, 0, 0), (6, 0, 16))):
+            made.append(ReceptionStatistics())
+            for row in rows:
+                made[-1].record(*row)
+        made += [copy.copy(made[0]), copy.copy(made[0])]
+        self.assertIsNotNone(made[4].report())
+        for at, one in enumerate(made):
+            for place, other in enumerate(made):
+                self.assertEqual(one == other, at == place or {at, place} == {0, 5}, (at, place))
 
     def test_received_is_of_all_reports(self) -> None:
         statistics = ReceptionStatistics()

@@ -2,13 +2,14 @@
 //! texts in a width. Expected values are worked out by hand.
 
 use rtp_wire::standard::{
-    write_mixer_levels, Chromaticity, ColorSpace, DependencyDescriptor, FeedbackRequest,
-    FrameLayers, FrameMarking, HdrMetadata, Timing, TransportNumber,
+    parse_mixer_level, write_mixer_levels, Chromaticity, ColorSpace, DependencyDescriptor,
+    FeedbackRequest, FrameLayers, FrameMarking, HdrMetadata, Timing, TransportNumber,
 };
 use rtp_wire::{
-    parse_headers, parse_packets, receive_many, Arrival, ArrivalSlot, Header, HeaderSlot, Kind,
-    KindSet, Map, Mid, NotTaken, NotWritten, OutOfRange, PacketSlot, Receiver, ReceptionStatistics,
-    Rid, Standing, Values, VideoTiming, WideReceiver, WideRestartingReceiver,
+    change_form, compact, parse_headers, parse_packets, receive_many, remove_block, Arrival,
+    ArrivalSlot, Form, Header, HeaderSlot, Kind, KindSet, Layers, Map, Mid, NotTaken, NotWritten,
+    OutOfRange, PacketSlot, Receiver, ReceptionReport, ReceptionStatistics, Rid, Standing, Values,
+    VideoTiming, WideReceiver, WideRestartingReceiver,
 };
 use std::time::Duration;
 
@@ -266,6 +267,15 @@ fn what_is_refused_writes_nothing() {
         write_mixer_levels(&[-1, 1], &mut data),
         Err(NotWritten::OutOfRange(level))
     );
+    for count in [15, 16, 255, 1000] {
+        let mut levels = vec![-1; count];
+        assert_eq!(write_mixer_levels(&levels, &mut vec![0; count]), Ok(count));
+        levels[count - 1] = 1;
+        assert_eq!(
+            write_mixer_levels(&levels, &mut []),
+            Err(NotWritten::OutOfRange(level))
+        );
+    }
     assert_eq!(
         write_mixer_levels(&[-1; 4], &mut data),
         Err(NotWritten::ShortBuffer)
@@ -288,6 +298,30 @@ fn what_is_refused_writes_nothing() {
 }
 
 #[test]
+fn what_is_left_out_is_refused_before_a_short_buffer() {
+    let mut header = Header::default();
+    header.has_extension = true;
+    let layers = Layers::new(0, &[]).unwrap();
+    let mut buf = [0xEE; 24];
+    for room in [0, 24] {
+        let refused = header.write_all_with_layers(&mut buf[..room], &Map::new(), &layers);
+        let Err(NotWritten::LeftOut(kinds)) = refused else {
+            panic!("{refused:?}");
+        };
+        assert!(kinds.iter().eq([Kind::Layers]));
+    }
+    header.values.mid = Some("a".parse().unwrap());
+    for room in [0, 24] {
+        let refused = header.write_all(&mut buf[..room], &Map::new());
+        let Err(NotWritten::LeftOut(kinds)) = refused else {
+            panic!("{refused:?}");
+        };
+        assert!(kinds.iter().eq([Kind::Mid]));
+    }
+    assert_eq!(buf, [0xEE; 24]);
+}
+
+#[test]
 fn texts_keep_their_width() {
     let uri = Kind::VideoOrientation.uri().unwrap();
     assert_eq!(format!("{uri:>28}|"), "  urn:3gpp:video-orientation|");
@@ -301,4 +335,74 @@ fn texts_keep_their_width() {
     let none = KindSet::default();
     assert!(none.is_empty() && none.iter().next().is_none() && !none.contains(Kind::Layers));
     assert_eq!(format!("{none:?}"), "{}");
+}
+
+#[test]
+fn no_bit_of_a_report_is_lost() {
+    let report = ReceptionReport {
+        fraction_lost: 0x81,
+        cumulative_lost: -0x80_0000,
+        extended_highest: 0x8283_8485,
+        jitter: 0x9293_9495,
+    };
+    let block = report.to_block(0xA2A3_A4A5, 0xB2B3_B4B5, 0xC2C3_C4C5);
+    let words = block
+        .chunks(4)
+        .map(|it| u32::from_be_bytes(it.try_into().unwrap()));
+    let wanted = [
+        0xA2A3_A4A5,
+        0x8180_0000,
+        0x8283_8485,
+        0x9293_9495,
+        0xB2B3_B4B5,
+        0xC2C3_C4C5,
+    ];
+    assert!(words.eq(wanted));
+    // three were due and two came, whatever the rollovers; transit times of 2^31 and 2^31 + 32 ticks
+    for first in [0, (1 << 32) - 1, (1 << 48) - 1, (1 << 63) - 1] {
+        let mut statistics = ReceptionStatistics::new();
+        statistics.record(first, 1 << 31, 0);
+        statistics.record(first + 2, 1 << 31 | 1 << 16, 1 << 16 | 32);
+        let report = statistics.report().unwrap();
+        let told = (report.cumulative_lost, report.fraction_lost, report.jitter);
+        assert_eq!(told, (1, 85, 2), "{first:#x}");
+    }
+    for index in [2, 256, 1 << 16, 1 << 32] {
+        assert!(parse_mixer_level(&[1, 2], 2, index).is_err());
+        assert_eq!(parse_mixer_level(&[1, 2], index, 1), Ok(-2));
+    }
+}
+
+#[test]
+fn the_shortest_packets_are_as_long_as_they_are() {
+    // a header alone and with a payload, without a block, with one of no words, and with one of padding
+    for len in 12..18 {
+        let mut plain = [0; 18];
+        plain[0] = 0x80;
+        let before = plain;
+        assert_eq!(compact(&mut plain[..len]), Ok(len));
+        assert_eq!(remove_block(&mut plain[..len]), Ok(len));
+        assert_eq!(change_form(&mut plain, len, Form::TwoByte), Ok(len));
+        assert_eq!(plain, before);
+    }
+    for words in 0..3 {
+        for payload in 0..4 {
+            let mut packet = vec![0; 16 + 4 * words];
+            packet[0] = 0x90;
+            packet[12..16].copy_from_slice(&[0xBE, 0xDE, 0, words as u8]);
+            packet.extend(vec![7; payload]);
+            let mut copy = packet.clone();
+            assert_eq!(compact(&mut copy), Ok(16 + payload));
+            assert_eq!(
+                (&copy[14..16], &copy[16..16 + payload]),
+                (&[0, 0][..], &[7; 3][..payload])
+            );
+            copy.clone_from(&packet);
+            assert_eq!(remove_block(&mut copy), Ok(12 + payload));
+            assert_eq!(
+                (copy[0], &copy[12..12 + payload]),
+                (0x80, &[7; 3][..payload])
+            );
+        }
+    }
 }
