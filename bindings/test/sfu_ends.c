@@ -288,6 +288,6 @@ static int past_32_bits(void) {
 }
 
 int main(void) {
-    return forms() || times() || one_byte() || two_byte() || long_mid_without_an_id() || room() || apart() || numbers()
-        || past_32_bits();
+    return forms() || times() || one_byte() || two_byte() || long_mid_without_an_id() || room() || apart() || numbers() ||
+           past_32_bits();
 }

@@ -76,27 +76,52 @@ static uint64_t words[2];
 static rtpw_report report;
 static size_t len;
 
-static void set_fields(void) { ignore(rtpw_set_fields(buf, LEN, &fields)); }
-static void parse(void) { rtpw_header to; ignore(rtpw_parse(datagram, LEN, &map, &to)); }
-static void renumber(void) { ignore(rtpw_renumber(buf, LEN, &ids)); }
-static void write_header(void) { size_t to; ignore(rtpw_wire_len(&map, &header, &to)); }
-static void write_layers(void) { size_t to; ignore(rtpw_wire_len_layers(&map, &header, &layers, &to)); }
+static void set_fields(void) {
+    ignore(rtpw_set_fields(buf, LEN, &fields));
+}
+static void parse(void) {
+    rtpw_header to;
+    ignore(rtpw_parse(datagram, LEN, &map, &to));
+}
+static void renumber(void) {
+    ignore(rtpw_renumber(buf, LEN, &ids));
+}
+static void write_header(void) {
+    size_t to;
+    ignore(rtpw_wire_len(&map, &header, &to));
+}
+static void write_layers(void) {
+    size_t to;
+    ignore(rtpw_wire_len_layers(&map, &header, &layers, &to));
+}
 static void write_elements(void) {
     size_t to;
     ignore(rtpw_write_elements(datagram, LEN, &element, 1, RTPW_ONE_BYTE_FORM, buf, sizeof buf, &to));
 }
 #define WRITES(value, name) \
-    static void write_##name(void) { size_t to; ignore(rtpw_write_##name(&value, buf, sizeof buf, &to)); }
+    static void write_##name(void) { \
+        size_t to; \
+        ignore(rtpw_write_##name(&value, buf, sizeof buf, &to)); \
+    }
 WRITES(marking, frame_marking)
 WRITES(timing, timing)
 WRITES(number, transport_number)
 WRITES(space, color_space)
 WRITES(orientation, orientation)
 WRITES(descriptor, dependency_descriptor)
-static void accepts(void) { (void)rtpw_receiver_accepts(&receiver, 5); }
-static void wide_accepts(void) { (void)rtpw_wide_receiver_accepts(&wide, words, 2, 5); }
-static void write_report(void) { size_t to; ignore(rtpw_write_report(&report, 1, 2, 3, buf, sizeof buf, &to)); }
-static void from_retransmission(void) { ignore(rtpw_from_retransmission(buf, LEN, &len, 1, 2, &ids)); }
+static void accepts(void) {
+    (void)rtpw_receiver_accepts(&receiver, 5);
+}
+static void wide_accepts(void) {
+    (void)rtpw_wide_receiver_accepts(&wide, words, 2, 5);
+}
+static void write_report(void) {
+    size_t to;
+    ignore(rtpw_write_report(&report, 1, 2, 3, buf, sizeof buf, &to));
+}
+static void from_retransmission(void) {
+    ignore(rtpw_from_retransmission(buf, LEN, &len, 1, 2, &ids));
+}
 
 static void fields_of_a_packet(void) {
     memcpy(buf, datagram, LEN);
@@ -125,7 +150,12 @@ static void entries(void) {
 
 static void values(void) {
     rtpw_values *it = &header.values;
-    const struct { const char *name; void *at; size_t size; uint8_t *has; } rows[] = {
+    const struct {
+        const char *name;
+        void *at;
+        size_t size;
+        uint8_t *has;
+    } rows[] = {
         {"send_time", &it->send_time, 8, &it->has_send_time},
         {"capture_time", &it->capture_time, 8, &it->has_capture_time},
         {"capture_offset", &it->capture_offset, 8, &it->has_capture_offset},

@@ -426,10 +426,21 @@ void zeros() {
 // Each number of a status is that of C, with its text.
 void statuses() {
     const std::int32_t numbers[] = {0, 1, 2, 3, 4, 5, 6, 8, 9, 10, 11, 12, 13, 14, 15};
-    const status all[] = {status::ok,        status::cut_fixed_part,   status::other_version, status::cut_sources,
-                          status::cut_block_header, status::unknown_form, status::cut_block,  status::short_buffer,
-                          status::bad_field, status::refused,          status::none,          status::restarted,
-                          status::bad_id,    status::form_not_allowed, status::long_block};
+    const status all[] = {status::ok,
+                          status::cut_fixed_part,
+                          status::other_version,
+                          status::cut_sources,
+                          status::cut_block_header,
+                          status::unknown_form,
+                          status::cut_block,
+                          status::short_buffer,
+                          status::bad_field,
+                          status::refused,
+                          status::none,
+                          status::restarted,
+                          status::bad_id,
+                          status::form_not_allowed,
+                          status::long_block};
     for (std::size_t i = 0; i < sizeof numbers / sizeof *numbers; i++) {
         CHECK(static_cast<std::int32_t>(all[i]) == numbers[i]);
         CHECK(rtpw::status_text(all[i]) == rtpw_status_text(numbers[i]));
@@ -441,9 +452,9 @@ void statuses() {
 
 // Two bytes of elements: one without data, and the last of two of the id 20, in a packet with two sources.
 void elements_at_their_ends() {
-    const std::vector<std::uint8_t> packet_of_two = {0x92, 0,    0, 5, 0,  0, 0,    1, 0,  0,    0, 44, 1, 2, 3, 4, 0xa5,
-                                                     0xb6, 0xc7, 0xd8, 0x10, 0, 0, 3, 20, 1, 9,    7, 0,  20, 1, 8, 0, 0,
-                                                     0,    0};
+    const std::vector<std::uint8_t> packet_of_two = {0x92, 0, 0, 5, 0,    0,    0,    1,    0,    0, 0, 44,
+                                                     1,    2, 3, 4, 0xa5, 0xb6, 0xc7, 0xd8, 0x10, 0, 0, 3,
+                                                     20,   1, 9, 7, 0,    20,   1,    8,    0,    0, 0, 0};
     const auto packet = *rtpw::packet_parse(packet_of_two);
     CHECK(rtpw::csrc(packet_of_two, 0) == 0x01020304 && rtpw::csrc(packet_of_two, 1) == 0xa5b6c7d8);
     const auto empty = rtpw::data_of_element(packet_of_two, packet, 7);
@@ -526,17 +537,20 @@ void each_field() {
     CHECK(rtpw::set_marker(bytes, false) == status::ok && bytes[1] == 0x6f);
     CHECK(rtpw::set_padding(bytes, false) == status::ok && bytes[0] == 0x91);
     CHECK(rtpw::set_padding(bytes, true) == status::ok && bytes[0] == 0xb1);
-    CHECK(rtpw::set_timestamp(bytes, 0x81828384) == status::ok && same({bytes.data() + 4, 4}, {0x81, 0x82, 0x83, 0x84}));
+    CHECK(rtpw::set_timestamp(bytes, 0x81828384) == status::ok &&
+          same({bytes.data() + 4, 4}, {0x81, 0x82, 0x83, 0x84}));
     CHECK(rtpw::set_ssrc(bytes, 0x91929394) == status::ok && same({bytes.data() + 8, 4}, {0x91, 0x92, 0x93, 0x94}));
     CHECK(rtpw::set_csrc(bytes, 0, 0xa1a2a3a4) == status::ok && rtpw::csrc(bytes, 0) == 0xa1a2a3a4);
     CHECK(rtpw::set_csrc(bytes, std::size_t{1} << 32, 1) == status::none);
-    CHECK(rtpw::remove_element(bytes, 9) == status::none && rtpw::set_ssrc({bytes.data(), 11}, 1) == status::cut_fixed_part);
+    CHECK(rtpw::remove_element(bytes, 9) == status::none &&
+          rtpw::set_ssrc({bytes.data(), 11}, 1) == status::cut_fixed_part);
 }
 
 // From one map to another, both ways: the id of a rid becomes that of a repaired one, and back.
 void ids() {
     rtpw_map map{};
-    CHECK(rtpw::map_set(map, 5, RTPW_KIND_RID) == status::ok && rtpw::map_set(map, 6, RTPW_KIND_REPAIRED_RID) == status::ok);
+    CHECK(rtpw::map_set(map, 5, RTPW_KIND_RID) == status::ok &&
+          rtpw::map_set(map, 6, RTPW_KIND_REPAIRED_RID) == status::ok);
     const rtpw_new_ids there = rtpw::new_ids_to_retransmission(map), back = rtpw::new_ids_from_retransmission(map);
     CHECK(there.id[5] == 6 && there.id[6] == 0 && there.id[7] == 7);
     CHECK(back.id[6] == 5 && back.id[5] == 0 && back.id[7] == 7);
@@ -564,9 +578,11 @@ void headers_with_values() {
     CHECK(!rtpw::rid(values) && !rtpw::repaired_rid(values));
     CHECK(rtpw::set_rid(values, "12345678") == status::ok && !rtpw::repaired_rid(values));
     CHECK(rtpw::set_repaired_rid(values, "ABCDEFGH") == status::ok);
-    CHECK(rtpw::mid(values) == "sixteen_letters_" && rtpw::rid(values) == "12345678" && rtpw::repaired_rid(values) == "ABCDEFGH");
+    CHECK(rtpw::mid(values) == "sixteen_letters_" && rtpw::rid(values) == "12345678" &&
+          rtpw::repaired_rid(values) == "ABCDEFGH");
     CHECK(rtpw::set_repaired_rid(values, "ABCDEFGHI") == status::bad_field && rtpw::repaired_rid(values) == "ABCDEFGH");
-    CHECK(rtpw::set_mid(values, "") == status::ok && rtpw::mid(values) == "" && rtpw::set_mid(values, "b") == status::ok);
+    CHECK(rtpw::set_mid(values, "") == status::ok && rtpw::mid(values) == "" &&
+          rtpw::set_mid(values, "b") == status::ok);
     rtpw_values fresh{};
     CHECK(rtpw::set_mid(fresh, "b") == status::ok && std::memcmp(fresh.mid, values.mid, sizeof fresh.mid) == 0);
 }
@@ -585,7 +601,8 @@ void windows() {
     CHECK(*rtpw::wide_restarting_receive(receiver, {words, 512}, 40000) == 105536);
     CHECK(*rtpw::wide_restarting_receive(receiver, {words, 512}, 7233) == 72769); // 32,767 below
     CHECK(rtpw::extend_u8(256, 255) == 255 && rtpw::extend_u15(32768, 0xffff) == 32767);
-    CHECK(rtpw::extend_u16(65536, 65535) == 65535 && rtpw::extend_u32(std::uint64_t{1} << 32, 0xffffffff) == 0xffffffff);
+    CHECK(rtpw::extend_u16(65536, 65535) == 65535 &&
+          rtpw::extend_u32(std::uint64_t{1} << 32, 0xffffffff) == 0xffffffff);
 }
 
 // No bit of a number is lost on the way to C.
@@ -657,8 +674,8 @@ void spans() {
     CHECK(none.subspan(0, 0).data() == nullptr);
 }
 
-// What follows compares each call with that of C which it is for, of numbers at the ends of their types, of rooms of each
-// size and of random bytes.
+// What follows compares each call with that of C which it is for, of numbers at the ends of their types, of rooms of
+// each size and of random bytes.
 std::uint64_t drawn = 88172645463325252;
 std::uint64_t draw() {
     drawn ^= drawn << 13;
@@ -680,7 +697,8 @@ template <class Value> void alike(const rtpw::result<Value> &it, std::int32_t st
 }
 // Both change a copy of the packet and its length, and of how many bytes of the room there are is told.
 template <class One, class Other>
-void alike_in(const std::vector<std::uint8_t> &packet, std::size_t room, std::size_t len, const One &one, const Other &other) {
+void alike_in(const std::vector<std::uint8_t> &packet, std::size_t room, std::size_t len, const One &one,
+              const Other &other) {
     std::vector<std::uint8_t> its = packet, others = packet;
     its.resize(room);
     others.resize(room);
@@ -722,7 +740,8 @@ void alike_packets() {
     const auto it = any_packet();
     const std::size_t size = it.size(), room = size + (below(2) == 0 ? 300 : below(12));
     const std::size_t len = below(8) == 0 ? static_cast<std::size_t>(number()) : below(8) == 0 ? below(size) : size;
-    const auto id = static_cast<std::uint8_t>(draw()), form = static_cast<std::uint8_t>(below(8) == 0 ? draw() : below(4));
+    const auto id = static_cast<std::uint8_t>(draw()),
+               form = static_cast<std::uint8_t>(below(8) == 0 ? draw() : below(4));
     const std::vector<std::uint8_t> data(below(4) == 0 ? 250 + below(8) : below(20), 7);
     const auto u8 = static_cast<std::uint8_t>(number());
     const auto u16 = static_cast<std::uint16_t>(number());
@@ -733,23 +752,42 @@ void alike_packets() {
         id_of = static_cast<std::uint8_t>(below(3) == 0 ? draw() : below(15));
     }
     using rtpw::buffer;
-    alike_in(it, room, len, [&](buffer to, std::size_t &of) { return rtpw::put_element(to, of, id, data, form); },
-             [&](std::uint8_t *to, std::size_t n, std::size_t *of) { return rtpw_put_element(to, n, of, id, data.data(), data.size(), form); });
-    alike_in(it, room, len, [&](buffer to, std::size_t &of) { return rtpw::add_element(to, of, id, data, form); },
-             [&](std::uint8_t *to, std::size_t n, std::size_t *of) { return rtpw_add_element(to, n, of, id, data.data(), data.size(), form); });
-    alike_in(it, room, len, [&](buffer to, std::size_t &of) { return rtpw::change_form(to, of, form); },
-             [&](std::uint8_t *to, std::size_t n, std::size_t *of) { return rtpw_change_form(to, n, of, form); });
-    alike_in(it, room, len, [&](buffer to, std::size_t &of) { return rtpw::put_block(to, of, u16, data); },
-             [&](std::uint8_t *to, std::size_t n, std::size_t *of) { return rtpw_put_block(to, n, of, u16, data.data(), data.size()); });
-    alike_in(it, room, len, [&](buffer to, std::size_t &of) { return rtpw::remove_block(to, of); }, rtpw_remove_block);
-    alike_in(it, room, len, [&](buffer to, std::size_t &of) { return rtpw::compact(to, of); }, rtpw_compact);
-    alike_in(it, room, len, [&](buffer to, std::size_t &of) { return rtpw::to_retransmission(to, of, u32, u8, u16, ids); },
-             [&](std::uint8_t *to, std::size_t n, std::size_t *of) { return rtpw_to_retransmission(to, n, of, u32, u8, u16, &ids); });
-    alike_in(it, room, len, [&](buffer to, std::size_t &of) { return rtpw::from_retransmission(to, of, u32, u8, ids); },
-             [&](std::uint8_t *to, std::size_t n, std::size_t *of) { return rtpw_from_retransmission(to, n, of, u32, u8, &ids); });
+    alike_in(
+        it, room, len, [&](buffer to, std::size_t &of) { return rtpw::put_element(to, of, id, data, form); },
+        [&](std::uint8_t *to, std::size_t n, std::size_t *of) {
+            return rtpw_put_element(to, n, of, id, data.data(), data.size(), form);
+        });
+    alike_in(
+        it, room, len, [&](buffer to, std::size_t &of) { return rtpw::add_element(to, of, id, data, form); },
+        [&](std::uint8_t *to, std::size_t n, std::size_t *of) {
+            return rtpw_add_element(to, n, of, id, data.data(), data.size(), form);
+        });
+    alike_in(
+        it, room, len, [&](buffer to, std::size_t &of) { return rtpw::change_form(to, of, form); },
+        [&](std::uint8_t *to, std::size_t n, std::size_t *of) { return rtpw_change_form(to, n, of, form); });
+    alike_in(
+        it, room, len, [&](buffer to, std::size_t &of) { return rtpw::put_block(to, of, u16, data); },
+        [&](std::uint8_t *to, std::size_t n, std::size_t *of) {
+            return rtpw_put_block(to, n, of, u16, data.data(), data.size());
+        });
+    alike_in(
+        it, room, len, [&](buffer to, std::size_t &of) { return rtpw::remove_block(to, of); }, rtpw_remove_block);
+    alike_in(
+        it, room, len, [&](buffer to, std::size_t &of) { return rtpw::compact(to, of); }, rtpw_compact);
+    alike_in(
+        it, room, len, [&](buffer to, std::size_t &of) { return rtpw::to_retransmission(to, of, u32, u8, u16, ids); },
+        [&](std::uint8_t *to, std::size_t n, std::size_t *of) {
+            return rtpw_to_retransmission(to, n, of, u32, u8, u16, &ids);
+        });
+    alike_in(
+        it, room, len, [&](buffer to, std::size_t &of) { return rtpw::from_retransmission(to, of, u32, u8, ids); },
+        [&](std::uint8_t *to, std::size_t n, std::size_t *of) {
+            return rtpw_from_retransmission(to, n, of, u32, u8, &ids);
+        });
 #define ALIKE(cpp, c) \
-    alike_in(it, size, 0, [&](buffer to, std::size_t &) { return rtpw::cpp; }, \
-             [&](std::uint8_t *to_data, std::size_t to_size, std::size_t *) { return ::c; })
+    alike_in( \
+        it, size, 0, [&](buffer to, std::size_t &) { return rtpw::cpp; }, \
+        [&](std::uint8_t *to_data, std::size_t to_size, std::size_t *) { return ::c; })
     ALIKE(set_marker(to, u8 & 1), rtpw_set_marker(to_data, to_size, u8 & 1));
     ALIKE(set_padding(to, u8 & 1), rtpw_set_padding(to_data, to_size, u8 & 1));
     ALIKE(set_payload_type(to, u8), rtpw_set_payload_type(to_data, to_size, u8));
@@ -764,10 +802,12 @@ void alike_packets() {
     ALIKE(renumber(to, ids), rtpw_renumber(to_data, to_size, &ids));
     ALIKE(write_original(to, at), rtpw_write_original(to_data, to_size, at));
 #undef ALIKE
-    alike_written(room, [&](buffer to) { return rtpw::pad(to, at, u8, other32); },
-                  [&](std::uint8_t *to, std::size_t n, std::size_t *count) { return rtpw_pad(to, n, at, u8, other32, count); });
-    alike_written(room, [&](buffer to) { return rtpw::pad(to, 0, u8, at); },
-                  [&](std::uint8_t *to, std::size_t n, std::size_t *count) { return rtpw_pad(to, n, 0, u8, at, count); });
+    alike_written(
+        room, [&](buffer to) { return rtpw::pad(to, at, u8, other32); },
+        [&](std::uint8_t *to, std::size_t n, std::size_t *count) { return rtpw_pad(to, n, at, u8, other32, count); });
+    alike_written(
+        room, [&](buffer to) { return rtpw::pad(to, 0, u8, at); },
+        [&](std::uint8_t *to, std::size_t n, std::size_t *count) { return rtpw_pad(to, n, 0, u8, at, count); });
     // Elements from an offset on, and the last ones of an id.
     const auto packet = rtpw::packet_parse(it);
     rtpw_packet parts{};
@@ -777,11 +817,13 @@ void alike_packets() {
         rtpw_element found{};
         for (const std::size_t from : {below(body.size() + 2), at}) {
             const auto next = rtpw::next_element(body, form, from);
-            CHECK(static_cast<std::int32_t>(next.status()) == rtpw_next_element(body.data(), body.size(), form, from, &found));
+            CHECK(static_cast<std::int32_t>(next.status()) ==
+                  rtpw_next_element(body.data(), body.size(), form, from, &found));
             CHECK(!next || (next->data_at == found.data_at && next->end == found.end && next->id == found.id));
         }
         const auto last = rtpw::last_element(body, form, id);
-        CHECK(static_cast<std::int32_t>(last.status()) == rtpw_last_element(body.data(), body.size(), form, id, &found));
+        CHECK(static_cast<std::int32_t>(last.status()) ==
+              rtpw_last_element(body.data(), body.size(), form, id, &found));
         CHECK(!last || (last->data_at == found.data_at && last->data_len == found.data_len && last->end == found.end));
     }
 }
@@ -791,8 +833,10 @@ void alike_numbers() {
     const auto u8 = static_cast<std::uint8_t>(other);
     const auto u16 = static_cast<std::uint16_t>(other);
     const auto u32 = static_cast<std::uint32_t>(other), time = static_cast<std::uint32_t>(number());
-    CHECK(rtpw::extend_u8(one, u8) == rtpw_extend_u8(one, u8) && rtpw::extend_u15(one, u16) == rtpw_extend_u15(one, u16));
-    CHECK(rtpw::extend_u16(one, u16) == rtpw_extend_u16(one, u16) && rtpw::extend_u32(one, u32) == rtpw_extend_u32(one, u32));
+    CHECK(rtpw::extend_u8(one, u8) == rtpw_extend_u8(one, u8) &&
+          rtpw::extend_u15(one, u16) == rtpw_extend_u15(one, u16));
+    CHECK(rtpw::extend_u16(one, u16) == rtpw_extend_u16(one, u16) &&
+          rtpw::extend_u32(one, u32) == rtpw_extend_u32(one, u32));
     CHECK(rtpw::extend_ntp_56(one, other) == rtpw_extend_ntp_56(one, other));
     rtpw_receiver receiver{}, its;
     alike(rtpw::result<std::int32_t>([&](std::int32_t *it) { return *it = 1, rtpw_receiver_start(&receiver, one); }),
@@ -813,10 +857,12 @@ void alike_numbers() {
         const std::uint64_t asked = below(2) == 0 ? state.highest - below(1400) : other;
         CHECK(rtpw::receiver_number_of(its, low) == rtpw_receiver_number_of(&receiver, low));
         CHECK(rtpw::receiver_accepts(its, asked) == rtpw_receiver_accepts(&receiver, asked));
-        CHECK(static_cast<std::uint8_t>(rtpw::receiver_standing_of(its, asked)) == rtpw_receiver_standing_of(&receiver, asked));
+        CHECK(static_cast<std::uint8_t>(rtpw::receiver_standing_of(its, asked)) ==
+              rtpw_receiver_standing_of(&receiver, asked));
         CHECK(wide.number_of(low) == rtpw_wide_receiver_number_of(&state, low));
         CHECK(wide.accepts(asked) == rtpw_wide_receiver_accepts(&state, words, 20, asked));
-        CHECK(static_cast<std::uint8_t>(wide.standing_of(asked)) == rtpw_wide_receiver_standing_of(&state, words, 20, asked));
+        CHECK(static_cast<std::uint8_t>(wide.standing_of(asked)) ==
+              rtpw_wide_receiver_standing_of(&state, words, 20, asked));
         if (asked < state.highest + 2000) {
             CHECK(static_cast<std::int32_t>(wide.record(asked)) == rtpw_wide_receiver_record(&state, words, 20, asked));
             rtpw::receiver_record(its, asked);
@@ -835,8 +881,11 @@ void alike_numbers() {
         CHECK(reception.highest == others.highest && reception.first == others.first);
     }
     rtpw_report report{u8, static_cast<std::int32_t>(time), u32, static_cast<std::uint32_t>(one)};
-    alike_written(20 + below(8), [&](rtpw::buffer to) { return rtpw::write_report(report, time, u32, u16, to); },
-                  [&](std::uint8_t *to, std::size_t n, std::size_t *len) { return rtpw_write_report(&report, time, u32, u16, to, n, len); });
+    alike_written(
+        20 + below(8), [&](rtpw::buffer to) { return rtpw::write_report(report, time, u32, u16, to); },
+        [&](std::uint8_t *to, std::size_t n, std::size_t *len) {
+            return rtpw_write_report(&report, time, u32, u16, to, n, len);
+        });
 }
 
 void alike_values() {
@@ -852,8 +901,9 @@ void alike_values() {
     const std::size_t size = data.size();
     using rtpw::buffer;
 #define WRITTEN(name, value, passed) \
-    alike_written(below(32), [&](buffer to) { return rtpw::write_##name(value, to); }, \
-                  [&](std::uint8_t *to, std::size_t n, std::size_t *len) { return rtpw_write_##name(passed, to, n, len); })
+    alike_written( \
+        below(32), [&](buffer to) { return rtpw::write_##name(value, to); }, \
+        [&](std::uint8_t *to, std::size_t n, std::size_t *len) { return rtpw_write_##name(passed, to, n, len); })
     WRITTEN(transmission_offset, static_cast<std::int32_t>(time), static_cast<std::int32_t>(time));
     WRITTEN(ntp_64, time, time);
     WRITTEN(ntp_56, time, time);
@@ -871,13 +921,17 @@ void alike_values() {
     WRITTEN(dependency_descriptor, descriptor, &descriptor);
 #undef WRITTEN
     const std::vector<std::int8_t> levels(below(20), static_cast<std::int8_t>(-below(128)));
-    alike_written(below(24), [&](buffer to) { return rtpw::write_mixer_levels(levels, to); },
-                  [&](std::uint8_t *to, std::size_t n, std::size_t *len) { return rtpw_write_mixer_levels(levels.data(), levels.size(), to, n, len); });
+    alike_written(
+        below(24), [&](buffer to) { return rtpw::write_mixer_levels(levels, to); },
+        [&](std::uint8_t *to, std::size_t n, std::size_t *len) {
+            return rtpw_write_mixer_levels(levels.data(), levels.size(), to, n, len);
+        });
     std::int32_t offset = 0;
     std::uint64_t read = 0;
     std::int8_t level = 0;
     std::uint16_t original = 0;
-    const std::size_t count = static_cast<std::size_t>(number()), index = below(3) == 0 ? static_cast<std::size_t>(number()) : below(16);
+    const std::size_t count = static_cast<std::size_t>(number()),
+                      index = below(3) == 0 ? static_cast<std::size_t>(number()) : below(16);
     std::int32_t is = rtpw_read_transmission_offset(bytes, size, &offset);
     alike(rtpw::read_transmission_offset(data), is, offset);
     is = rtpw_read_ntp_64(bytes, size, &read);
@@ -888,7 +942,8 @@ void alike_values() {
     alike(rtpw::read_mixer_level(data, count, index), is, level);
     is = rtpw_read_original(bytes, size, &original);
     alike(rtpw::read_original(data), is, original);
-    CHECK(rtpw::is_token(data) == rtpw_is_token(bytes, size) && rtpw::has_structure(data) == rtpw_has_structure(bytes, size));
+    CHECK(rtpw::is_token(data) == rtpw_is_token(bytes, size) &&
+          rtpw::has_structure(data) == rtpw_has_structure(bytes, size));
     CHECK(rtpw::is_rtcp(data) == rtpw_is_rtcp(bytes, size));
 
     // A header with some values, under a map of some kinds; and the URI of each, whole, cut and too long.
@@ -906,22 +961,40 @@ void alike_values() {
     layers.streams[0].layers[0].kbps[0] = time;
     const std::size_t room = below(300);
     const auto kind = static_cast<std::uint8_t>(below(18));
-    alike_written(room, [&](buffer to) { return rtpw::write(map, header, to); },
-                  [&](std::uint8_t *to, std::size_t n, std::size_t *len) { return rtpw_write(&map, &header, to, n, len); });
-    alike_written(room, [&](buffer to) { return rtpw::write_layers(map, header, layers, to); },
-                  [&](std::uint8_t *to, std::size_t n, std::size_t *len) { return rtpw_write_layers(&map, &header, &layers, to, n, len); });
-    alike_written(0, [&](buffer) { return rtpw::wire_len(map, header); },
-                  [&](std::uint8_t *, std::size_t, std::size_t *len) { return rtpw_wire_len(&map, &header, len); });
-    alike_written(0, [&](buffer) { return rtpw::wire_len_layers(map, header, layers); },
-                  [&](std::uint8_t *, std::size_t, std::size_t *len) { return rtpw_wire_len_layers(&map, &header, &layers, len); });
-    alike_written(below(20), [&](buffer to) { return rtpw::data_of(kind, header.values, to); },
-                  [&](std::uint8_t *to, std::size_t n, std::size_t *len) { return rtpw_data_of(kind, &header.values, to, n, len); });
-    const rtpw_element chosen[] = {{0, below(20), 0, u8}, {1, 2, 0, 9}, {number() & 3, 1, 0, static_cast<std::uint8_t>(draw())}};
+    alike_written(
+        room, [&](buffer to) { return rtpw::write(map, header, to); },
+        [&](std::uint8_t *to, std::size_t n, std::size_t *len) { return rtpw_write(&map, &header, to, n, len); });
+    alike_written(
+        room, [&](buffer to) { return rtpw::write_layers(map, header, layers, to); },
+        [&](std::uint8_t *to, std::size_t n, std::size_t *len) {
+            return rtpw_write_layers(&map, &header, &layers, to, n, len);
+        });
+    alike_written(
+        0, [&](buffer) { return rtpw::wire_len(map, header); },
+        [&](std::uint8_t *, std::size_t, std::size_t *len) { return rtpw_wire_len(&map, &header, len); });
+    alike_written(
+        0, [&](buffer) { return rtpw::wire_len_layers(map, header, layers); },
+        [&](std::uint8_t *, std::size_t, std::size_t *len) {
+            return rtpw_wire_len_layers(&map, &header, &layers, len);
+        });
+    alike_written(
+        below(20), [&](buffer to) { return rtpw::data_of(kind, header.values, to); },
+        [&](std::uint8_t *to, std::size_t n, std::size_t *len) {
+            return rtpw_data_of(kind, &header.values, to, n, len);
+        });
+    const rtpw_element chosen[] = {
+        {0, below(20), 0, u8}, {1, 2, 0, 9}, {number() & 3, 1, 0, static_cast<std::uint8_t>(draw())}};
     const std::size_t some = below(4);
-    alike_written(room, [&](buffer to) { return rtpw::write_with(header, data, chosen, some, to, u8); },
-                  [&](std::uint8_t *to, std::size_t n, std::size_t *len) { return rtpw_write_with_form(&header, bytes, size, chosen, some, u8, to, n, len); });
-    alike_written(room, [&](buffer to) { return rtpw::write_elements(data, chosen, some, u8, to); },
-                  [&](std::uint8_t *to, std::size_t n, std::size_t *len) { return rtpw_write_elements(bytes, size, chosen, some, u8, to, n, len); });
+    alike_written(
+        room, [&](buffer to) { return rtpw::write_with(header, data, chosen, some, to, u8); },
+        [&](std::uint8_t *to, std::size_t n, std::size_t *len) {
+            return rtpw_write_with_form(&header, bytes, size, chosen, some, u8, to, n, len);
+        });
+    alike_written(
+        room, [&](buffer to) { return rtpw::write_elements(data, chosen, some, u8, to); },
+        [&](std::uint8_t *to, std::size_t n, std::size_t *len) {
+            return rtpw_write_elements(bytes, size, chosen, some, u8, to, n, len);
+        });
     std::uint32_t kinds = 0;
     is = rtpw_left_out(&map, &header, &kinds);
     alike(rtpw::left_out(map, header), is, kinds);
@@ -941,7 +1014,8 @@ void alike_values() {
     CHECK(static_cast<std::int32_t>(rtpw::map_set(one, id, any)) == rtpw_map_set(&other, id, any));
     CHECK(std::memcmp(&one, &other, sizeof one) == 0 && rtpw::map_get(one, id) == rtpw_map_get(&other, id));
     CHECK(rtpw::id_of(one, any) == rtpw_id_of(&other, any));
-    const rtpw_new_ids ids[] = {rtpw::new_ids_between(map, one), rtpw::new_ids_to_retransmission(one), rtpw::new_ids_from_retransmission(one)};
+    const rtpw_new_ids ids[] = {rtpw::new_ids_between(map, one), rtpw::new_ids_to_retransmission(one),
+                                rtpw::new_ids_from_retransmission(one)};
     rtpw_new_ids others[3];
     rtpw_new_ids_between(&map, &one, &others[0]);
     rtpw_new_ids_to_retransmission(&one, &others[1]);
@@ -968,9 +1042,12 @@ void alike_many() {
     rtpw::parse_many(buf, level_is_3(), headers);
     rtpw::receive_many(receivers, arrivals);
     for (std::size_t i = 0; i < count; i++) {
-        const auto alone = i % 2 == 0 ? status::cut_fixed_part : 2 * i + 12 <= buf.size() ? status::ok : status::bad_field;
+        const auto alone = i % 2 == 0                 ? status::cut_fixed_part
+                           : 2 * i + 12 <= buf.size() ? status::ok
+                                                      : status::bad_field;
         CHECK(status(packets[i].status) == alone && status(headers[i].status) == alone);
-        CHECK(arrivals[i].status == RTPW_OK && arrivals[i].number == (i & 0xffff) && receivers[i].highest == (i & 0xffff));
+        CHECK(arrivals[i].status == RTPW_OK && arrivals[i].number == (i & 0xffff) &&
+              receivers[i].highest == (i & 0xffff));
     }
     std::vector<std::uint8_t> packet(12 + 4 + 4 * 65535), body(4 * 65535, 5);
     packet[0] = 0x80;

@@ -32,6 +32,7 @@ from rtp_wire import (
     Layers,
     LeftOut,
     Map,
+    NotAPacket,
     Orientation,
     Packet,
     Receiver,
@@ -157,6 +158,8 @@ class Ends(unittest.TestCase):
                     grown(call, length, *others)
                 self.assertEqual(str(raised.exception), f"length is {length}, and not 0 to 61")
             self.assertRaises(TypeError, grown, call, 21.0, *others)
+            for length in (0, 11):  # and not the whole buffer
+                self.assertRaises(NotAPacket, grown, call, length, *others)
         for call in (put_element, add_element):
             for id in (-1, 0, 256, 257, 1 << 64):
                 with self.assertRaises(BadField) as raised:
@@ -418,6 +421,19 @@ class Judges(unittest.TestCase):
         datagrams = [columns.datagram(row) for row in range(2)]
         self.assertEqual([it and len(it) for it in datagrams], [12, 12])
         self.assertEqual(list(columns.payload_at), [12, 24])
+
+
+class Types(unittest.TestCase):
+    def test_each_column_has_the_bits_of_its_field(self) -> None:
+        names = ["send_time", "capture_offset", "audio_level", "transport_number", "encode_start", "frame_marking"]
+        columns = Columns.parse(PACKET, [0], [21], Map(), names)
+        bytes_of = {"status": 4, "is_rtcp": 1, "is_rtp": 1, "sequence_number": 2, "timestamp": 4, "ssrc": 4}
+        bytes_of.update(payload_type=1, marker=1, payload_at=8, payload_len=8, unpadded_len=8, padding_fits=1)
+        for name, size in bytes_of.items():
+            column = getattr(columns, name)
+            self.assertEqual((column.itemsize, column.typecode.isupper()), (size, name != "status"), name)
+        types = [(columns.values[name].data.itemsize, columns.values[name].data.typecode.isupper()) for name in names]
+        self.assertEqual(types, [(8, True), (8, False), (1, False), (2, True), (2, True), (4, True)])
 
 
 class Names(unittest.TestCase):

@@ -248,7 +248,7 @@ class Pcap(unittest.TestCase):
         tags = (b"", one, other, other + one, one + one + one)
         frames = [(at, 0, tag + ipv4(udp(packet(10 * at, 7)))) for at, tag in enumerate(tags)]
         frames += [(at, 0, tag + ipv6(udp(packet(10 * at + 1, 9)))) for at, tag in enumerate(tags)]
-        wanted = "         7       5    36        0    4.000      -\n         9       5    36        0    4.000      -\n"
+        wanted = "".join(f"         {ssrc}       5    36        0    4.000      -\n" for ssrc in (7, 9))
         self.assertEqual(self.told(pcap("<", 0xA1B2C3D4, frames)), self.HEADING + wanted)
 
     def test_datagrams_that_are_cut(self) -> None:
