@@ -1,7 +1,10 @@
 mod LentLemmas
 mod ByCallsLemmas
 mod WordLemmas
+mod NoZeroLemmas
 mod RoutingLemmas
+mod SameElementsLemmas
+mod NotPutLemmas
 mod SetDataLemmas
 mod SlotLemmas
 mod BodyLemmas
