@@ -11,3 +11,4 @@ mod BodyLemmas
 mod OnlyLemmas
 mod SlotsFound
 mod TemplateLemmas
+mod OneHeaderLemmas

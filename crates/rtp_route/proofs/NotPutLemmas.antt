@@ -6,20 +6,54 @@ use Rattle.rtp_ext.specs.Elements.{Element}
 use Rattle.rtp_ext.specs.ElementsInARow.{elements_of}
 use Rattle.rtp_wire.specs.declared.packet.fields.Fields.{Fields}
 use Rattle.rtp_wire.specs.declared.packet.not_put.NotPut.{NotPut}
+use Rattle.rtp_wire.specs.declared.packet.not_put.NotPut.TheVariants.{CutPacket, ZeroId, LongData, NotAPacket, OtherForm, OneByteOnly, LongBlock, NoRoom}
 use Rattle.rtp_wire.specs.Packet.{PacketParts, IsPacket}
-use Rattle.rtp_wire.specs.PutIntoPacket.{PutsElement, AppliesToPut}
+use Rattle.rtp_wire.specs.PutIntoPacket.{PutsElement, IsGrowth, AppliesToPacket, AppliesToPut, IsFirstNotPut}
 use Rattle.rtp_route.specs.declared.not_routed.NotRouted.{NotRouted}
 use Rattle.rtp_route.specs.declared.not_routed.NotRouted.TheVariants.{ManyElements, RepeatedId, LongId, NotPut as NotRouted-NotPut}
 use Rattle.rtp_route.specs.Calls.{ArePut, IsSetAndRenumbered, no_fields}
-use Rattle.rtp_route.specs.NotPutAmong.{IsNotPutAmong, HasSameElements}
+use Rattle.rtp_route.specs.NotPutAmong.{AppliesInRoom, ArePutInRoom, IsNotPutAmong, HasSameElements}
 use Rattle.rtp_route.specs.NotRouted.{HasLongId, KeepsFromRouting, AreForTemplate, KeepsFromTemplate}
 use Rattle.rtp_route.proofs.LentLemmas.{Lent, element_of, elements-at}
 use Rattle.rtp_route.proofs.SameElementsLemmas.{applies-other, put_all-other, start-other}
 
-pub ArePut-more : (news : List Element) (new : Element) (allowed : Option ExtensionsForm) (old middle buf : List ℕ) (len : ℕ) → ArePut old news allowed middle
-    → PutsElement middle new allowed buf len → ArePut old (news ++ new ∷ []) allowed (take len buf)
-ArePut-more [] new allowed old middle buf len are puts = (buf, len, subst (λ (m : List ℕ). PutsElement m new allowed buf len) are puts, refl)
-ArePut-more (first ∷ news) new allowed old middle buf len are puts = (are.0, are.1, are.2, ArePut-more news new allowed (take are.1 are.0) middle buf len are.3 puts)
+-- what applies hangs on the packet and the room alone
+pub applies-same : (one_buf other_buf : List ℕ) (one_len other_len : ℕ) (element : Element) (allowed : Option ExtensionsForm) (cause : NotPut) → take one_len one_buf ≡ take other_len other_buf
+    → length one_buf ≡ length other_buf → one_len ≤ length one_buf → AppliesToPut one_buf one_len element allowed cause → AppliesToPut other_buf other_len element allowed cause
+applies-same one_buf other_buf one_len other_len element allowed CutPacket same room within fact = absurd (omega (arith, within, fact))
+applies-same one_buf other_buf one_len other_len element allowed ZeroId same room within fact = fact
+applies-same one_buf other_buf one_len other_len element allowed LongData same room within fact = fact
+applies-same one_buf other_buf one_len other_len element allowed (NotAPacket cause) same room within fact = subst (λ (b : List ℕ). AppliesToPacket b element allowed (NotAPacket cause)) same fact
+applies-same one_buf other_buf one_len other_len element allowed OtherForm same room within fact = subst (λ (b : List ℕ). AppliesToPacket b element allowed OtherForm) same fact
+applies-same one_buf other_buf one_len other_len element allowed OneByteOnly same room within fact = subst (λ (b : List ℕ). AppliesToPacket b element allowed OneByteOnly) same fact
+applies-same one_buf other_buf one_len other_len element allowed LongBlock same room within fact = subst (λ (b : List ℕ). AppliesToPacket b element allowed LongBlock) same fact
+applies-same one_buf other_buf one_len other_len element allowed (NoRoom needed) same room within fact =
+    subst (λ (b : List ℕ). (growth : IsGrowth b element allowed) × (needed ≡ growth.len) × (length other_buf < needed)) same
+    (subst (λ (k : ℕ). (growth : IsGrowth (take one_len one_buf) element allowed) × (needed ≡ growth.len) × (k < needed)) room fact)
+
+-- in this buffer
+pub applies-here : (buf : List ℕ) (len room : ℕ) (element : Element) (allowed : Option ExtensionsForm) (cause : NotPut) → length buf ≡ room → AppliesInRoom room (take len buf) element allowed cause
+    → AppliesToPut buf len element allowed cause
+applies-here buf len room element allowed cause long is =
+    applies-same is.0 buf is.1 len element allowed cause is.4 (is.2 ∙ sym long) (subst (λ (k : ℕ). is.1 ≤ k) (sym is.2) is.3) is.5
+
+pub first-here : (buf : List ℕ) (len room : ℕ) (element : Element) (allowed : Option ExtensionsForm) (cause : NotPut) → length buf ≡ room → len ≤ room
+    → IsFirstNotPut (AppliesToPut buf len element allowed) cause → IsFirstNotPut (AppliesInRoom room (take len buf) element allowed) cause
+first-here buf len room element allowed cause long within is = record {
+  applies = (buf, len, long, within, refl, is.applies);
+  none_before = λ earlier lower fact. is.none_before earlier lower (applies-here buf len room element allowed earlier long fact);
+}
+
+pub ArePutInRoom-puts : (news : List Element) (allowed : Option ExtensionsForm) (room : ℕ) (old new : List ℕ) → ArePutInRoom room old news allowed new → ArePut old news allowed new
+ArePutInRoom-puts [] allowed room old new are = are
+ArePutInRoom-puts (first ∷ news) allowed room old new are = (are.0, are.1, are.2, ArePutInRoom-puts news allowed room (take are.1 are.0) new are.4)
+
+pub ArePutInRoom-more : (news : List Element) (new : Element) (allowed : Option ExtensionsForm) (room : ℕ) (old middle buf : List ℕ) (len : ℕ) → ArePutInRoom room old news allowed middle
+    → PutsElement middle new allowed buf len → ((cause : NotPut) → AppliesInRoom room middle new allowed cause → ⊥) → ArePutInRoom room old (news ++ new ∷ []) allowed (take len buf)
+ArePutInRoom-more [] new allowed room old middle buf len are puts none =
+    (buf, len, subst (λ (m : List ℕ). PutsElement m new allowed buf len) are puts, subst (λ (m : List ℕ). (cause : NotPut) → AppliesInRoom room m new allowed cause → ⊥) are none, refl)
+ArePutInRoom-more (first ∷ news) new allowed room old middle buf len are puts none =
+    (are.0, are.1, are.2, are.3, ArePutInRoom-more news new allowed room (take are.1 are.0) middle buf len are.4 puts none)
 
 -- what they are put into is a packet, and it still is one
 pub ArePut-packet : (news : List Element) (allowed : Option ExtensionsForm) (old new : List ℕ) (parts : PacketParts) → IsPacket old parts → ArePut old news allowed new
@@ -52,19 +86,17 @@ none-refused start now news new allowed buf len room cause same are long none pu
   where
     by_place : ((is.before ≡ news) × (is.element ≡ new)) ⊎ ((rest : List Element) × (news ≡ is.before ++ is.element ∷ rest)) → ⊥
     by_place (inl last) =
-        put cause (applies-other is.buf buf is.len len new allowed cause
-        (put_all-other news allowed start now (take is.len is.buf) (take len buf) same (subst (λ (es : List Element). ArePut start es allowed (take is.len is.buf)) last.0 is.are_put) are)
-        (is.room_is ∙ sym long) (subst (λ (k : ℕ). is.len ≤ k) (sym is.room_is) is.within)
-        (subst (λ (e : Element). AppliesToPut is.buf is.len e allowed cause) last.1 is.cause_is.applies))
+        let fact : AppliesInRoom room is.packet new allowed cause = subst (λ (e : Element). AppliesInRoom room is.packet e allowed cause) last.1 is.cause_is.applies in
+        let there : ArePut start news allowed is.packet = subst (λ (es : List Element). ArePut start es allowed is.packet) last.0 (ArePutInRoom-puts is.before allowed room start is.packet is.are_put) in
+        put cause (applies-other fact.0 buf fact.1 len new allowed cause
+        (subst (λ (b : List ℕ). HasSameElements b (take len buf)) (sym fact.4) (put_all-other news allowed start now is.packet (take len buf) same there are)) (fact.2 ∙ sym long)
+        (subst (λ (k : ℕ). fact.1 ≤ k) (sym fact.2) fact.3) fact.5)
     by_place (inr earlier) = none cause (record {
       before = is.before;
       element = is.element;
       after = earlier.0;
       in_order = earlier.1;
-      buf = is.buf;
-      len = is.len;
-      room_is = is.room_is;
-      within = is.within;
+      packet = is.packet;
       are_put = is.are_put;
       cause_is = is.cause_is;
     })

@@ -1,6 +1,6 @@
 //! The header of a group of receivers, made by the calls for one packet.
 
-ghost use Rattle.std.specs.Prelude.{◌≡◌, ◌↔◌, ◌≤◌, ℕ, List, Option, ◌++◌, length, take, IsErr, IfOk, IfErr, IfSome};
+ghost use Rattle.std.specs.Prelude.{◌≡◌, ◌↔◌, ◌<◌, ◌≤◌, ℕ, List, Option, ◌++◌, length, take, slice_index, IsErr, IfOk, IfErr, IfSome};
 ghost use Rattle.rtp_ext.specs.declared.form.ExtensionsForm.{ExtensionsForm};
 ghost use Rattle.rtp_ext.specs.Elements.{Element};
 ghost use Rattle.rtp_ext.specs.ElementsInARow.{elements_of};
@@ -45,7 +45,8 @@ fn put_each(buf: &mut [u8], len: usize, group: &Group<'_>) -> Result<usize, NotP
         (elements_of group.now.elements.now) group.now.allowed (length buf.old)) }
 
     // So it is where a packet that says the same would be refused one of them.
-    ensures refused { (packet : List ℕ) (cause : NotPut) → HasSameElements packet (take len buf.old) →
+    ensures refused { (packet : List ℕ) (cause : NotPut) →
+        HasSameElements packet (take len buf.old) →
         IsNotPutAmong packet (elements_of group.now.elements.now) group.now.allowed
         (length buf.old) cause → IsErr result }
 {
@@ -120,6 +121,12 @@ pub fn route_header(
     ensures routed { IfOk result (λ len. IsRouted (datagram_of packet.now) fields.now
         (new_id group.now.ids.now) (elements_of group.now.elements.now) group.now.allowed
         (take len buf.new)) }
+
+    // There is no other such header.
+    ensures only { IfOk result (λ len. (header : List ℕ) →
+        ((k : ℕ) → slice_index header k < 256) → IsRouted (datagram_of packet.now) fields.now
+        (new_id group.now.ids.now) (elements_of group.now.elements.now) group.now.allowed header →
+        header ≡ take len buf.new) }
     ensures within { IfOk result (λ len. len ≤ length buf.new) }
     ensures cause { IfErr result (KeepsFromRouting (header_in packet.now) fields.now
         (new_id group.now.ids.now) (elements_of group.now.elements.now) group.now.allowed

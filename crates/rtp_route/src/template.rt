@@ -1,6 +1,6 @@
 //! A header that is made once for a group of receivers.
 
-ghost use Rattle.std.specs.Prelude.{◌≡◌, ◌↔◌, ◌+◌, ◌<◌, ◌≤◌, ℕ, List, Option, Some, length, map, take, drop, true, All, IsErr, IfOk, IfErr, IfSome, OnErr};
+ghost use Rattle.std.specs.Prelude.{◌≡◌, ◌↔◌, ◌+◌, ◌<◌, ◌≤◌, ℕ, List, Option, Some, length, map, take, drop, slice_index, true, All, IsErr, IfOk, IfErr, IfSome, OnErr};
 ghost use Rattle.rtp_ext.specs.declared.form.ExtensionsForm.{ExtensionsForm};
 ghost use Rattle.rtp_route.specs.declared.not_written.NotWritten.{NotWritten};
 ghost use Rattle.rtp_ext.specs.Elements.{Element};
@@ -98,6 +98,14 @@ impl<'a> HeaderTemplate<'a> {
             (allowed : Option ExtensionsForm) → IsTemplate old ids news allowed self.now →
             IfOk result (λ len. IsRouted old fields.now ids
             (with_data news (map (λ bytes. bytes.now) contents.now)) allowed (take len buf.new)) }
+
+        // There is no other such header.
+        ensures only { (old : List ℕ) (ids : ℕ → Option ℕ) (news : List Element)
+            (allowed : Option ExtensionsForm) → IsTemplate old ids news allowed self.now →
+            IfOk result (λ len. (header : List ℕ) → ((k : ℕ) → slice_index header k < 256) →
+            IsRouted old fields.now ids
+            (with_data news (map (λ bytes. bytes.now) contents.now)) allowed header →
+            header ≡ take len buf.new) }
         ensures length { IfOk result (λ len. len ≡ header_len_in self.now) }
         ensures behind { IfOk result (λ len. drop len buf.new ≡ drop len buf.old) }
         ensures cause { IfErr result (KeepsFromWriting self.now
