@@ -1,23 +1,27 @@
 -- The steps of the calls for one packet.
-use Rattle.std.proofs.Common.{◌≡◌, ℕ, ◌<◌, Bool, true, false, List, length, take, drop, Option, Some, None, IfSome, slice_index, refl, sym, ap, subst, ◌∙◌, take_at}
+use Rattle.std.proofs.Common.{◌≡◌, ◌↔◌, ℕ, ◌<◌, Bool, true, false, IsTrue, All, List, [], ◌++◌, length, take, drop, Option, Some, None, IfSome, slice_index, refl, sym, ap, subst, ◌∙◌, arith, take_at}
 use Rattle.std.specs.Bool.{OnTrue}
+use Rattle.std.proofs.lemmas.Bool.{false≢true}
 use Rattle.std.specs.Option.{IfNone}
 use Rattle.std.specs.List.{filter_map}
 use Rattle.rtp_base.specs.Overwriting.{overwritten}
 use Rattle.rtp_base.proofs.OverwritingLemmas.{overwritten-front}
 use Rattle.rtp_ext.specs.declared.form.ExtensionsForm.{ExtensionsForm}
 use Rattle.rtp_ext.specs.Elements.{Element}
-use Rattle.rtp_ext.specs.ElementsInPlace.{renumbered, ChangesIds}
+use Rattle.rtp_ext.specs.ElementsInPlace.{renumbered, ChangesIds, CanRenumber}
 use Rattle.rtp_wire.specs.declared.packet.rtp_packet_mut.RtpPacketMut.{RtpPacketMut}
 use Rattle.rtp_wire.specs.ChangedPacket.{ChangesBlock, ChangesOnly, ChangesOnlyBody}
 use Rattle.rtp_wire.specs.declared.packet.fields.Fields.{Fields}
 use Rattle.rtp_wire.specs.GivenFields.{with_header_fields}
-use Rattle.rtp_wire.specs.Packet.{PacketParts, IsPacket}
+use Rattle.rtp_wire.specs.declared.packet.rtp_packet.RtpPacket.{RtpPacket}
+use Rattle.rtp_wire.specs.Packet.{PacketParts, IsPacket, header_len_of}
 use Rattle.rtp_wire.specs.PacketElements.{AreElementsOf}
 use Rattle.rtp_wire.specs.PartsAt.{HasLayout, parts_at}
-use Rattle.rtp_wire.specs.PartsOf.{parts_in}
-use Rattle.rtp_wire.proofs.RetransmissionHeaders.{IsPacket-in, parts-of_bytes}
-use Rattle.rtp_route.specs.Calls.{IsRenumbered, IsUnderNewIds}
+use Rattle.rtp_wire.specs.PartsOf.{parts_of, datagram_of, parts_in}
+use Rattle.rtp_wire.proofs.PartsLemmas.{length-packet, IsPacket-found}
+use Rattle.rtp_wire.proofs.RetransmissionHeaders.{IsPacket-in, elements_there, parts-of_bytes}
+use Rattle.rtp_route.specs.Calls.{IsRenumbered, IsUnderNewIds, IsSetAndRenumbered, header_in}
+use Rattle.rtp_route.specs.NotRouted.{HasLongId}
 
 -- bytes that were put at the front are the first ones
 pub front-put : (buf new front : List ℕ) → new ≡ overwritten buf 0 front → take (length front) new ≡ front
@@ -66,3 +70,88 @@ layout-in fields old new header buf header_len form fits old-is new-is held set 
   form_is = held.form_is;
   len_is = held.len_is ∙ sym (ap length old-is) ∙ sym only.length_is ∙ ap length new-is;
 }
+
+-- ---- a packet's header once its fields are set and its elements have their new ids
+
+-- its header alone
+abbrev pub alone_parts : RtpPacket → PacketParts
+alone_parts packet = record (parts_of packet) { payload = [] }
+
+pub header-is : (packet : RtpPacket) (header : List ℕ) → datagram_of packet ≡ header ++ (parts_of packet).payload → IsPacket header (alone_parts packet) → header ≡ header_in packet
+header-is packet header front alone =
+    let long : header_len_of (parts_of packet) ≡ length header = omega (arith, length-packet header (alone_parts packet) alone) in
+    sym (ap (take (header_len_of (parts_of packet))) front ∙ take_at header (parts_of packet).payload (header_len_of (parts_of packet)) (sym long))
+
+-- the header is put into the buffer, and its fields are set there
+pub record IsBegun (packet : RtpPacket) (fields : Fields) (header put set : List ℕ) : Type 0 where
+  pub alone : IsPacket header (alone_parts packet)
+  pub same : header ≡ header_in packet
+  pub put_is : take (length header) put ≡ header
+  pub set_packet : (parts : PacketParts) → IsPacket header parts → IsPacket set (with_header_fields fields parts)
+  pub now_is : take (length header) (set ++ drop (length header) put) ≡ set
+
+pub begun : (packet : RtpPacket) (fields : Fields) (header buf put set : List ℕ) → datagram_of packet ≡ header ++ (parts_of packet).payload → IsPacket header (alone_parts packet)
+    → put ≡ overwritten buf 0 header → ((parts : PacketParts) → IsPacket (take (length header) put) parts → IsPacket set (with_header_fields fields parts))
+    → length set ≡ length (take (length header) put) → IsBegun packet fields header put set
+begun packet fields header buf put set front alone written sets long =
+    let put_is : take (length header) put ≡ header = front-put buf put header written in
+    record {
+      alone = alone;
+      same = header-is packet header front alone;
+      put_is = put_is;
+      set_packet = λ parts is. sets parts (subst (λ (b : List ℕ). IsPacket b parts) (sym put_is) is);
+      now_is = take_at set (drop (length header) put) (length header) (long ∙ ap length put_is);
+    }
+
+module _ (packet : RtpPacket) (fields : Fields) (ids : ℕ → Option ℕ) (header put set : List ℕ) (is_begun : IsBegun packet fields header put set) where
+  abbrev now : List ℕ
+  now = take (length header) (set ++ drop (length header) put)
+
+  set_now : (parts : PacketParts) → IsPacket header parts → IsPacket now (with_header_fields fields parts)
+  set_now parts is = subst (λ (b : List ℕ). IsPacket b (with_header_fields fields parts)) (sym is_begun.now_is) (is_begun.set_packet parts is)
+
+  there : (elements : List Element) × AreElementsOf (alone_parts packet).block elements
+  there = elements_there packet.datagram.now (parts_of packet) packet.bytes (IsPacket-found packet)
+
+  pub set-and-renumbered : (new : List ℕ) → ChangesOnly 1 12 (take (length header) put) set
+      → ((parts : PacketParts) (elements : List Element) → IsPacket now parts → AreElementsOf parts.block elements → IsUnderNewIds ids elements now parts new) → IsSetAndRenumbered (header_in packet) fields ids new
+  set-and-renumbered new only renumbers = record {
+    parts = alone_parts packet;
+    elements = there.0;
+    was_packet = subst (λ (b : List ℕ). IsPacket b (alone_parts packet)) is_begun.same is_begun.alone;
+    were_elements = there.1;
+    set_bytes = set;
+    set_packet = is_begun.set_packet (alone_parts packet) is_begun.alone;
+    set_only = subst (λ (b : List ℕ). ChangesOnly 1 12 b set) (is_begun.put_is ∙ is_begun.same) only;
+    renumbered = subst (λ (b : List ℕ). IsUnderNewIds ids there.0 b (with_header_fields fields (alone_parts packet)) new) is_begun.now_is
+        (renumbers (with_header_fields fields (alone_parts packet)) there.0 (set_now (alone_parts packet) is_begun.alone) there.1);
+  }
+
+  -- the bytes that it then is
+  pub header-after : (new : List ℕ) → length new ≡ length now → take (length header) (new ++ drop (length header) (set ++ drop (length header) put)) ≡ new
+  header-after new long = take_at new _ (length header) (long ∙ ap length is_begun.now_is ∙ long_set)
+    where
+      long_set : length set ≡ length header
+      long_set =
+          let set_is = is_begun.set_packet (alone_parts packet) is_begun.alone in
+          omega (arith, length-packet set (with_header_fields fields (alone_parts packet)) set_is, length-packet header (alone_parts packet) is_begun.alone)
+
+  module _ (answer : Bool)
+      (answers : (parts : PacketParts) (elements : List Element) → IsPacket now parts → AreElementsOf parts.block elements
+      → IsTrue answer ↔ IfSome parts.block (λ block. All (CanRenumber block.0 ids) elements)) where
+    -- an id can't be carried where the answer is no
+    pub ids-long : answer ≡ false → HasLongId (header_in packet) ids
+    ids-long is_no = record {
+      parts = alone_parts packet;
+      elements = there.0;
+      is_packet = subst (λ (b : List ℕ). IsPacket b (alone_parts packet)) is_begun.same is_begun.alone;
+      are_elements = there.1;
+      not_carried = λ carried.
+          false≢true (sym is_no ∙ (answers (with_header_fields fields (alone_parts packet)) there.0 (set_now (alone_parts packet) is_begun.alone) there.1).1 carried);
+    }
+
+    -- and each can where it is yes
+    pub ids-short : answer ≡ true → HasLongId (header_in packet) ids → ⊥
+    ids-short is_yes long =
+        let is : IsPacket header long.parts = subst (λ (b : List ℕ). IsPacket b long.parts) (sym is_begun.same) long.is_packet in
+        long.not_carried ((answers (with_header_fields fields long.parts) long.elements (set_now long.parts is) long.are_elements).0 is_yes)

@@ -1,10 +1,14 @@
 mod LentLemmas
 mod ByCallsLemmas
 mod WordLemmas
+mod NoZeroLemmas
 mod RoutingLemmas
+mod SameElementsLemmas
+mod NotPutLemmas
 mod SetDataLemmas
 mod SlotLemmas
 mod BodyLemmas
 mod OnlyLemmas
 mod SlotsFound
 mod TemplateLemmas
+mod OneHeaderLemmas

@@ -1,5 +1,7 @@
 -- What public contracts cite.
 pub mod Routing
 pub mod Calls
+pub mod NotPutAmong
+pub mod NotRouted
 pub mod Template
 pub mod TemplateOf
