@@ -1294,8 +1294,8 @@ typedef struct {
  * elements have one id; and then what the first of those calls returns that refuses: RTPW_SHORT_BUFFER where the
  * packet's header has no room; RTPW_BAD_FIELD where the packet's form can't carry a new id that an element gets (one
  * above 14 in the one-byte form); and of the elements in turn, as rtpw_put_element, RTPW_BAD_ID, RTPW_BAD_FIELD of more
- * than 255 bytes of data, RTPW_UNKNOWN_FORM, RTPW_FORM_NOT_ALLOWED, RTPW_LONG_BLOCK or RTPW_SHORT_BUFFER. Where it isn't
- * RTPW_OK *made is as it was, but the buffer may hold anything; so may what lies behind the header where it is. */
+ * than 255 bytes of data, RTPW_UNKNOWN_FORM, RTPW_FORM_NOT_ALLOWED, RTPW_LONG_BLOCK or RTPW_SHORT_BUFFER. Where it
+ * isn't RTPW_OK *made is as it was, but the buffer may hold anything; so may what lies behind the header where it is. */
 RTPW_CHECKED int32_t rtpw_make_template(const uint8_t *datagram, size_t len, const rtpw_new_ids *ids,
                                         const uint8_t *data, size_t data_len, const rtpw_element *elements,
                                         size_t count, uint8_t allowed, uint8_t *buf, size_t size,
@@ -1317,10 +1317,10 @@ typedef struct {
  * other. They are written in the order of the array: where two of them overlap, the bytes of the later one stand. How
  * many there are isn't limited, and a count of 0 writes nothing.
  *
- * RTPW_OK, whatever the statuses of the receivers are. RTPW_BAD_FIELD where *made is none that rtpw_make_template makes:
- * its count is above 16, header_len above header_size, the data of an element reach past header_len, or data_total isn't
- * how many they are; then the first cause for which the first header_len bytes are no packet; then RTPW_BAD_FIELD where
- * they have a payload. Where it isn't RTPW_OK nothing is written, and no status either. */
+ * RTPW_OK, whatever the statuses of the receivers are. RTPW_BAD_FIELD where *made is none that rtpw_make_template
+ * makes: its count is above 16, header_len above header_size, the data of an element reach past header_len, or
+ * data_total isn't how many they are; then the first cause for which the first header_len bytes are no packet; then
+ * RTPW_BAD_FIELD where they have a payload. Where it isn't RTPW_OK nothing is written, and no status either. */
 RTPW_CHECKED int32_t rtpw_write_headers(const rtpw_template *made, const uint8_t *header, size_t header_size,
                                         const uint8_t *data, size_t data_len, rtpw_routed_header *receivers,
                                         size_t count, uint8_t *buf, size_t size);
