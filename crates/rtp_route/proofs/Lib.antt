@@ -4,6 +4,7 @@ mod WordLemmas
 mod RoutingLemmas
 mod SetDataLemmas
 mod SlotLemmas
+mod LengthLemmas
 mod BodyLemmas
 mod OnlyLemmas
 mod SlotsFound

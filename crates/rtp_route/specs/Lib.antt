@@ -2,4 +2,5 @@
 pub mod Routing
 pub mod Calls
 pub mod Template
+pub mod GroupHeader
 pub mod TemplateOf
