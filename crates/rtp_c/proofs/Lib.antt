@@ -1,5 +1,6 @@
 mod Common
 mod InTurnLemmas
+mod TemplateLemmas
 mod StatusLemmas
 mod HeaderStatusLemmas
 mod PacketLemmas

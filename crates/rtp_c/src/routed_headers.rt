@@ -1,15 +1,18 @@
 //! One packet to all its receivers: a header for each, in one call.
 
-ghost use Rattle.std.specs.Prelude.{◌≡◌, ◌≢◌, ◌↔◌, ◌⊎◌, length, IfOk, IfErr, IsErr};
-ghost use Rattle.rtp_wire.specs.NotAHeader.{IsNoPacket};
-ghost use Rattle.rtp_c.specs.RoutedHeaders.{header_in, IsWholeTemplate, IsHeaderWritten, AreHeadersWritten};
-ghost use Rattle.rtp_c.specs.Status.{ok, bad_field, IsCauseStatus};
-ghost use Rattle.rtp_c.specs.StoredTemplate.{slots_of, IsInRange};
+ghost use Rattle.std.specs.Prelude.{◌≡◌, ◌≢◌, ◌↔◌, IsOk, IfOk, IfErr};
+ghost use Rattle.rtp_route.specs.Calls as calls;
+ghost use Rattle.rtp_route.specs.Template.{total_of};
+ghost use Rattle.rtp_route.specs.TemplateOf.{slots_in};
+ghost use Rattle.rtp_c.specs.RoutedHeaders.{header_in, IsWholeTemplate, IsTemplateStatus, IsHeaderWritten, AreHeadersWritten};
+ghost use Rattle.rtp_c.specs.Status.{ok};
+ghost use Rattle.rtp_c.specs.StoredTemplate.{slots_of};
 
 use super::changing::{FieldsView, given_fields};
+use super::datagrams::slice_in;
 use super::status::{BAD_FIELD, OK, SHORT_BUFFER, status_of};
 use super::template::StoredTemplate;
-use rtp_route::{HeaderTemplate, MAX_ELEMENTS, Slot};
+use rtp_route::HeaderTemplate;
 use rtp_wire::RtpPacket;
 
 /// One of the receivers of a group, and the header that it gets: `rtpw_routed_header` in C, 40
@@ -32,9 +35,9 @@ pub struct RoutedHeader {
 // they are none.
 fn template_in<'a>(made: &StoredTemplate, bytes: &'a [u8]) -> Result<HeaderTemplate<'a>, i32>
     ensures header { IfOk result (λ template.
-        datagram_of template.header ≡ header_in made.now bytes.now) }
-    ensures len { IfOk result (λ template. header_len_in template ≡ made.now.header_len) }
+        calls.header_in template.header ≡ header_in made.now bytes.now) }
     ensures slots { IfOk result (λ template. slots_in template ≡ slots_of made.now) }
+    ensures total { IfOk result (λ template. made.now.data_total ≡ total_of (slots_in template)) }
     ensures whole { IsOk result ↔ IsWholeTemplate made.now bytes.now }
     ensures status { IfErr result (IsTemplateStatus made.now bytes.now) }
 {
@@ -62,7 +65,7 @@ fn write_one(
     buf: &mut [u8],
 )
     requires { data_len ≡ total_of (slots_in template.now) }
-    ensures { IsHeaderWritten (header_in template.now.header) (slots_in template.now) bytes.now
+    ensures { IsHeaderWritten (calls.header_in template.now.header) (slots_in template.now) bytes.now
         receiver.old receiver.new buf.old buf.new }
 {
     if receiver.fields.has_payload_type != 0 && receiver.fields.payload_type > 127 {

@@ -4,8 +4,8 @@ mod WordLemmas
 mod RoutingLemmas
 mod SetDataLemmas
 mod SlotLemmas
-mod LengthLemmas
+pub mod LengthLemmas
 mod BodyLemmas
 mod OnlyLemmas
 mod SlotsFound
-mod TemplateLemmas
+pub mod TemplateLemmas
