@@ -6,11 +6,10 @@ use Rattle.rtp_route.specs.declared.slots.Slot.{Slot}
 use Rattle.rtp_ext.specs.declared.form.ExtensionsForm.{ExtensionsForm}
 use Rattle.rtp_ext.specs.Elements.{Element}
 use Rattle.rtp_ext.specs.ElementsInARow.{elements_of}
-use Rattle.rtp_ext.specs.NewIds.{new_id, id_in_byte, ids_in_bytes}
+use Rattle.rtp_ext.specs.NewIds.{new_id}
 use Rattle.rtp_route.specs.declared.not_routed.NotRouted.{NotRouted}
 use Rattle.rtp_route.specs.declared.not_routed.NotRouted.TheVariants.{ManyElements, RepeatedId, LongId, NotPut}
 use Rattle.rtp_route.specs.GroupHeader.{IsGroupHeader}
-use Rattle.rtp_route.specs.Routing.{GivesIds}
 use Rattle.rtp_c.specs.declared.packet.ElementView.{ElementView}
 use Rattle.rtp_c.specs.ElementView.{element_in}
 use Rattle.rtp_c.specs.RoutedStatus.{not_routed_status}
@@ -65,21 +64,6 @@ pub all-taken : (xs ys : List Slot) (n : ℕ) → length xs ≤ n → length ys 
 all-taken xs ys n long longer same = sym (take_all n xs long) ∙ same ∙ take_all n ys longer
 
 -- ---- what is made for a group
-
--- no byte of a table gives the id 0
-given-id : (byte new : ℕ) → id_in_byte byte ≡ Some new → new ≢ 0
-given-id zero new is = cc
-given-id (suc k) new is = λ no. let same : suc k ≡ new = cc in omega (arith, same, no)
-
-given-in : (bytes : List ℕ) (id new : ℕ) → get_or (map id_in_byte bytes) id None ≡ Some new → new ≢ 0
-given-in [] id new is = cc
-given-in (byte ∷ bytes) zero new is = given-id byte new is
-given-in (byte ∷ bytes) (suc id) new is = given-in bytes id new is
-
-pub gives-ids : (bytes : List ℕ) → GivesIds (new_id (ids_in_bytes bytes))
-gives-ids [] id new is = cc
-gives-ids (first ∷ bytes) zero new is = cc
-gives-ids (first ∷ bytes) (suc id) new is = given-in bytes id new is
 
 -- as many elements are named as there are views
 pub named-length : (bytes others : List ℕ) (views all : List ElementView) → elements_in others views ≡ elements_in bytes all → length views ≡ length all

@@ -1,14 +1,17 @@
 //! A packet's header, made once for a group of receivers.
 
-ghost use Rattle.std.specs.Prelude.{◌≡◌, ◌≢◌, ◌<◌, ◌≤◌, length, take, Option};
+ghost use Rattle.std.specs.Prelude.{◌≡◌, ◌≢◌, ◌↔◌, ◌<◌, ◌≤◌, length, take, Option};
 ghost use Rattle.rtp_ext.specs.declared.form.ExtensionsForm.{ExtensionsForm};
 ghost use Rattle.rtp_ext.specs.NewIds.{new_id, ids_in_bytes};
 ghost use Rattle.rtp_wire.specs.NotAHeader.{IsNoPacket};
+ghost use Rattle.rtp_wire.specs.Packet.{PacketParts, IsPacket, header_len_of};
+ghost use Rattle.rtp_route.specs.declared.not_routed.NotRouted.{NotRouted};
+ghost use Rattle.rtp_route.specs.NotRouted.{KeepsFromTemplate};
 ghost use Rattle.rtp_route.specs.GroupHeader.{IsGroupHeader};
 ghost use Rattle.rtp_route.specs.Template.{total_of};
 ghost use Rattle.rtp_c.specs.PacketView.{form_number};
 ghost use Rattle.rtp_c.specs.Status.{ok, bad_field, IsCauseStatus};
-ghost use Rattle.rtp_c.specs.RoutedStatus.{not_routed_status};
+ghost use Rattle.rtp_c.specs.RoutedStatus.{not_routed_status, IsNotRoutedStatus};
 ghost use Rattle.rtp_c.specs.StoredTemplate.{slots_at, slots_of, IsInRange};
 ghost use Rattle.rtp_c.specs.WrittenElements.{LieIn, elements_in};
 
@@ -132,6 +135,18 @@ pub extern "C" fn rtpw_make_template(
     ensures cause { (form : Option ExtensionsForm) → form_number form ≡ allowed →
         LieIn bytes.now elements.now → length elements.now ≤ 16 → IsNoPacket datagram.now →
         IsCauseStatus datagram.now result }
+    ensures refusal { (form : Option ExtensionsForm) → form_number form ≡ allowed →
+        LieIn bytes.now elements.now → length elements.now ≤ 16 → result ≢ ok →
+        (parts : PacketParts) → IsPacket datagram.now parts →
+        IsNotRoutedStatus (KeepsFromTemplate (take (header_len_of parts) datagram.now)
+        (new_id (ids_in_bytes ids.now.id)) (elements_in bytes.now elements.now) form
+        (length buf.old)) result }
+    ensures refused { (form : Option ExtensionsForm) → form_number form ≡ allowed →
+        LieIn bytes.now elements.now → length elements.now ≤ 16 →
+        (parts : PacketParts) → IsPacket datagram.now parts → result ≢ ok
+        ↔ ((cause : NotRouted) × KeepsFromTemplate (take (header_len_of parts) datagram.now)
+        (new_id (ids_in_bytes ids.now.id)) (elements_in bytes.now elements.now) form
+        (length buf.old) cause) }
     ensures unchanged { result ≢ ok → made.new ≡ made.old }
 {
     let Some(allowed) = allowed_of(allowed) else {

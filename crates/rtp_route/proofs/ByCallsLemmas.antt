@@ -1,23 +1,27 @@
 -- The steps of the calls for one packet.
-use Rattle.std.proofs.Common.{◌≡◌, ℕ, ◌<◌, Bool, true, false, List, length, take, drop, Option, Some, None, IfSome, slice_index, refl, sym, ap, subst, ◌∙◌, take_at}
+use Rattle.std.proofs.Common.{◌≡◌, ◌↔◌, ℕ, ◌<◌, Bool, true, false, IsTrue, All, List, [], ◌++◌, length, take, drop, Option, Some, None, IfSome, slice_index, refl, sym, ap, subst, ◌∙◌, arith, take_at}
 use Rattle.std.specs.Bool.{OnTrue}
+use Rattle.std.proofs.lemmas.Bool.{false≢true}
 use Rattle.std.specs.Option.{IfNone}
 use Rattle.std.specs.List.{filter_map}
 use Rattle.rtp_base.specs.Overwriting.{overwritten}
 use Rattle.rtp_base.proofs.OverwritingLemmas.{overwritten-front}
 use Rattle.rtp_ext.specs.declared.form.ExtensionsForm.{ExtensionsForm}
 use Rattle.rtp_ext.specs.Elements.{Element}
-use Rattle.rtp_ext.specs.ElementsInPlace.{renumbered, ChangesIds}
+use Rattle.rtp_ext.specs.ElementsInPlace.{renumbered, ChangesIds, CanRenumber}
 use Rattle.rtp_wire.specs.declared.packet.rtp_packet_mut.RtpPacketMut.{RtpPacketMut}
 use Rattle.rtp_wire.specs.ChangedPacket.{ChangesBlock, ChangesOnly, ChangesOnlyBody}
 use Rattle.rtp_wire.specs.declared.packet.fields.Fields.{Fields}
 use Rattle.rtp_wire.specs.GivenFields.{with_header_fields}
-use Rattle.rtp_wire.specs.Packet.{PacketParts, IsPacket}
+use Rattle.rtp_wire.specs.declared.packet.rtp_packet.RtpPacket.{RtpPacket}
+use Rattle.rtp_wire.specs.Packet.{PacketParts, IsPacket, header_len_of}
 use Rattle.rtp_wire.specs.PacketElements.{AreElementsOf}
 use Rattle.rtp_wire.specs.PartsAt.{HasLayout, parts_at}
-use Rattle.rtp_wire.specs.PartsOf.{parts_in}
-use Rattle.rtp_wire.proofs.RetransmissionHeaders.{IsPacket-in, parts-of_bytes}
-use Rattle.rtp_route.specs.Calls.{IsRenumbered, IsUnderNewIds}
+use Rattle.rtp_wire.specs.PartsOf.{parts_of, datagram_of, parts_in}
+use Rattle.rtp_wire.proofs.PartsLemmas.{length-packet, IsPacket-found}
+use Rattle.rtp_wire.proofs.RetransmissionHeaders.{IsPacket-in, elements_there, parts-of_bytes}
+use Rattle.rtp_route.specs.Calls.{IsRenumbered, IsUnderNewIds, IsSetAndRenumbered, header_in}
+use Rattle.rtp_route.specs.NotRouted.{HasLongId}
 
 -- bytes that were put at the front are the first ones
 pub front-put : (buf new front : List ℕ) → new ≡ overwritten buf 0 front → take (length front) new ≡ front
@@ -66,3 +70,61 @@ layout-in fields old new header buf header_len form fits old-is new-is held set 
   form_is = held.form_is;
   len_is = held.len_is ∙ sym (ap length old-is) ∙ sym only.length_is ∙ ap length new-is;
 }
+
+-- ---- a packet's header once its fields are set and its elements have their new ids
+
+-- its header alone
+abbrev pub alone_parts : RtpPacket → PacketParts
+alone_parts packet = record (parts_of packet) { payload = [] }
+
+pub header-is : (packet : RtpPacket) (header : List ℕ) → datagram_of packet ≡ header ++ (parts_of packet).payload → IsPacket header (alone_parts packet) → header ≡ header_in packet
+header-is packet header front alone =
+    let long : header_len_of (parts_of packet) ≡ length header = omega (arith, length-packet header (alone_parts packet) alone) in
+    sym (ap (take (header_len_of (parts_of packet))) front ∙ take_at header (parts_of packet).payload (header_len_of (parts_of packet)) (sym long))
+
+-- the bytes where the fields are set and where the ids are changed are the same ones
+module _ (packet : RtpPacket) (fields : Fields) (ids : ℕ → Option ℕ) (header put set now : List ℕ) (front : datagram_of packet ≡ header ++ (parts_of packet).payload)
+    (alone : IsPacket header (alone_parts packet)) (put_is : put ≡ header) (sets : (parts : PacketParts) → IsPacket put parts → IsPacket set (with_header_fields fields parts)) (now_is : now ≡ set) where
+  set_packet : (parts : PacketParts) → IsPacket header parts → IsPacket set (with_header_fields fields parts)
+  set_packet parts is = sets parts (subst (λ (b : List ℕ). IsPacket b parts) (sym put_is) is)
+
+  set_now : (parts : PacketParts) → IsPacket header parts → IsPacket now (with_header_fields fields parts)
+  set_now parts is = subst (λ (b : List ℕ). IsPacket b (with_header_fields fields parts)) (sym now_is) (set_packet parts is)
+
+  pub set-and-renumbered : (new : List ℕ) → ChangesOnly 1 12 put set
+      → ((parts : PacketParts) (elements : List Element) → IsPacket now parts → AreElementsOf parts.block elements → IsUnderNewIds ids elements now parts new) → IsSetAndRenumbered (header_in packet) fields ids new
+  set-and-renumbered new only renumbers =
+      let there = elements_there packet.datagram.now (parts_of packet) packet.bytes (IsPacket-found packet) in
+      let same : header ≡ header_in packet = header-is packet header front alone in
+      record {
+        parts = alone_parts packet;
+        elements = there.0;
+        was_packet = subst (λ (b : List ℕ). IsPacket b (alone_parts packet)) same alone;
+        were_elements = there.1;
+        set_bytes = set;
+        set_packet = set_packet (alone_parts packet) alone;
+        set_only = subst (λ (b : List ℕ). ChangesOnly 1 12 b set) (put_is ∙ same) only;
+        renumbered = subst (λ (b : List ℕ). IsUnderNewIds ids there.0 b (with_header_fields fields (alone_parts packet)) new) now_is
+            (renumbers (with_header_fields fields (alone_parts packet)) there.0 (set_now (alone_parts packet) alone) there.1);
+      }
+
+  module _ (answer : Bool)
+      (answers : (parts : PacketParts) (elements : List Element) → IsPacket now parts → AreElementsOf parts.block elements
+      → IsTrue answer ↔ IfSome parts.block (λ block. All (CanRenumber block.0 ids) elements)) where
+    -- an id can't be carried where the answer is no
+    pub ids-long : answer ≡ false → HasLongId (header_in packet) ids
+    ids-long is_no =
+        let there = elements_there packet.datagram.now (parts_of packet) packet.bytes (IsPacket-found packet) in
+        record {
+          parts = alone_parts packet;
+          elements = there.0;
+          is_packet = subst (λ (b : List ℕ). IsPacket b (alone_parts packet)) (header-is packet header front alone) alone;
+          are_elements = there.1;
+          not_carried = λ carried. false≢true (sym is_no ∙ (answers (with_header_fields fields (alone_parts packet)) there.0 (set_now (alone_parts packet) alone) there.1).1 carried);
+        }
+
+    -- and each can where it is yes
+    pub ids-short : answer ≡ true → HasLongId (header_in packet) ids → ⊥
+    ids-short is_yes long =
+        let is : IsPacket header long.parts = subst (λ (b : List ℕ). IsPacket b long.parts) (sym (header-is packet header front alone)) long.is_packet in
+        long.not_carried ((answers (with_header_fields fields long.parts) long.elements (set_now long.parts is) long.are_elements).0 is_yes)

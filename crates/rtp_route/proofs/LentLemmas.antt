@@ -1,9 +1,9 @@
 -- The elements that are lent, one after another.
-use Rattle.std.proofs.Common.{◌≡◌, ◌≢◌, ℕ, suc, ◌+◌, ◌<◌, List, [], ◌∷◌, ◌++◌, length, take, drop, get_or, map, sym, ap, ◌∙◌, subst, arith}
+use Rattle.std.proofs.Common.{◌≡◌, ◌≢◌, ℕ, zero, suc, ◌+◌, ◌<◌, List, [], ◌∷◌, ◌++◌, length, take, drop, get_or, map, sym, ap, ◌∙◌, subst, arith}
 use Rattle.std.specs.Borrow.{Bor}
 use Rattle.std.proofs.Math.Seq.{take-suc}
 use Rattle.std.proofs.lemmas.List.{drop_more, map-append}
-use Rattle.std.proofs.lemmas.List.Elements.{All-push}
+use Rattle.std.proofs.lemmas.List.Elements.{All-head, All-tail, All-push}
 use Rattle.rtp_ext.specs.Elements.{Element}
 use Rattle.rtp_ext.specs.ElementsInARow.{elements_of}
 use Rattle.rtp_ext.specs.ElementsInPlace.{HasNone}
@@ -26,3 +26,8 @@ none-more lents place id lent within none other =
     let more : elements_of (take (place + 1) lents) ≡ elements_of (take place lents) ++ element_of (get_or lents place lent) ∷ [] =
     ap (λ (k : ℕ). elements_of (take k lents)) next ∙ ap (map element_of) (take-suc lents place lent within) ∙ map-append element_of (take place lents) (get_or lents place lent ∷ []) in
     subst (λ (es : List Element). HasNone es id) (sym more) (All-push (λ (e : Element). e.0 ≢ id) (elements_of (take place lents)) (element_of (get_or lents place lent)) none other)
+
+pub none-at : (lents : List Lent) (place id : ℕ) (lent : Lent) → place < length lents → HasNone (elements_of lents) id → (get_or lents place lent).0 ≢ id
+none-at [] place id lent within none = absurd (omega (arith, within))
+none-at (first ∷ lents) zero id lent within none = All-head (λ (e : Element). e.0 ≢ id) (element_of first) (elements_of lents) none
+none-at (first ∷ lents) (suc place) id lent within none = none-at lents place id lent (omega (arith, within)) (All-tail (λ (e : Element). e.0 ≢ id) (element_of first) (elements_of lents) none)

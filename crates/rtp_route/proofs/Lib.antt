@@ -1,7 +1,10 @@
 mod LentLemmas
 mod ByCallsLemmas
 mod WordLemmas
+mod NoZeroLemmas
 mod RoutingLemmas
+mod SameElementsLemmas
+mod NotPutLemmas
 mod SetDataLemmas
 mod SlotLemmas
 pub mod LengthLemmas
@@ -9,3 +12,4 @@ mod BodyLemmas
 mod OnlyLemmas
 mod SlotsFound
 pub mod TemplateLemmas
+mod OneHeaderLemmas

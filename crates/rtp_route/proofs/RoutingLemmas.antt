@@ -1,11 +1,11 @@
 -- The calls one after another make the header that the route makes.
-use Rattle.std.proofs.Common.{◌≡◌, ◌≢◌, ℕ, ◌+◌, ◌-◌, ◌*◌, ◌≤◌, Bool, true, false, cond, List, [], ◌∷◌, ◌++◌, length, take, drop, Option, Some, None, option_map, refl, sym, ap, subst, ◌∙◌, arith, append_assoc, append-nil, take_at, Result, Ok, Err, IfOk}
-use Rattle.std.specs.List.{concat, filter_map, list_any, cons_option}
-use Rattle.std.proofs.lemmas.List.Elements.{All-nil, All-cons, All-head, All-tail}
+use Rattle.std.proofs.Common.{◌≡◌, ◌≢◌, ℕ, ◌+◌, ◌-◌, ◌*◌, ◌≤◌, Bool, true, List, [], ◌∷◌, ◌++◌, length, take, drop, Option, Some, None, refl, sym, ap, subst, ◌∙◌, arith, append_assoc, append-nil, take_at, Result, Ok, Err, IfOk}
+use Rattle.std.specs.List.{concat, filter_map}
+use Rattle.std.proofs.lemmas.List.Elements.{All-head, All-tail}
 use Rattle.rtp_ext.specs.declared.form.ExtensionsForm.{ExtensionsForm}
 use Rattle.rtp_ext.specs.Elements.{Element, AreElements, elements_bytes}
 use Rattle.rtp_ext.specs.ElementsInPlace.{HasNone, renumbered}
-use Rattle.rtp_ext.specs.PutElement.{has_id, without, put_element, needed_form, allowed_form}
+use Rattle.rtp_ext.specs.PutElement.{without, needed_form, allowed_form}
 use Rattle.rtp_ext.specs.WrittenBlock.{filled}
 use Rattle.rtp_ext.proofs.LastPlaceLemmas.{AreElements-same}
 use Rattle.rtp_ext.proofs.PutLemmas.{without-none}
@@ -21,7 +21,8 @@ use Rattle.rtp_wire.proofs.PacketLemmas.{one_packet}
 use Rattle.rtp_wire.proofs.PartsLemmas.{length-packet, IsPacket-found}
 use Rattle.rtp_wire.proofs.ResizedLemmas.{sources_end-is}
 use Rattle.rtp_route.specs.Calls.{ArePut, IsRenumbered, IsRoutedByCalls, header_in}
-use Rattle.rtp_route.specs.Routing.{GivesIds, put_all, IsFormAfter, extension_after, row_in, routed_parts, word_bytes, KeepsWord, IsRouted}
+use Rattle.rtp_route.specs.Routing.{put_all, IsFormAfter, extension_after, row_in, routed_parts, word_bytes, KeepsWord, IsRouted}
+use Rattle.rtp_route.proofs.NoZeroLemmas.{none_zero-put, none_zero-without}
 use Rattle.rtp_route.proofs.WordLemmas.{word_at_end, word_before, word_in_front, word_in_take, word_within, from_twelve, word_of, KeepsWord-then, KeepsWord-put}
 
 -- ---- one packet has one list of elements
@@ -33,86 +34,57 @@ pub same_elements : (block : Option (ExtensionsForm × List ℕ)) (xs ys : List 
 same_elements None xs ys are_xs are_ys = are_xs ∙ sym are_ys
 same_elements (Some block) xs ys are_xs are_ys = AreElements-same block.0 block.1 xs ys are_xs are_ys
 
--- ---- none of the id 0
-
-abbrev SomeId : Element → Type 0
-SomeId element = element.0 ≢ 0
-
-none_zero-with : (ids : ℕ → Option ℕ) (element : Element) (rest : List Element) → GivesIds ids → HasNone rest 0 → (id : Option ℕ) → ids element.0 ≡ id
-    → HasNone (cons_option (option_map (λ (k : ℕ). (k, element.1)) (ids element.0)) rest) 0
-none_zero-with ids element rest gives none None is =
-    subst (λ (o : Option ℕ). HasNone (cons_option (option_map (λ (k : ℕ). (k, element.1)) o) rest) 0) (sym is) none
-none_zero-with ids element rest gives none (Some id) is =
-    subst (λ (o : Option ℕ). HasNone (cons_option (option_map (λ (k : ℕ). (k, element.1)) o) rest) 0) (sym is)
-    (All-cons SomeId (id, element.1) rest (gives element.0 id is) none)
-
-none_zero-renumbered : (ids : ℕ → Option ℕ) (elements : List Element) → GivesIds ids → HasNone (filter_map (renumbered ids) elements) 0
-none_zero-renumbered ids [] gives = All-nil SomeId
-none_zero-renumbered ids (element ∷ elements) gives =
-    none_zero-with ids element (filter_map (renumbered ids) elements) gives (none_zero-renumbered ids elements gives) (ids element.0) refl
-
-none_zero-either : (new element : Element) (elements put : List Element) → new.0 ≢ 0 → HasNone (element ∷ elements) 0 → HasNone put 0 → (here later : Bool)
-    → HasNone (cond here (cond later put (new ∷ elements)) (element ∷ put)) 0
-none_zero-either new element elements put some none put_none true true = put_none
-none_zero-either new element elements put some none put_none true false = All-cons SomeId new elements some (All-tail SomeId element elements none)
-none_zero-either new element elements put some none put_none false later = All-cons SomeId element put (All-head SomeId element elements none) put_none
-
-none_zero-put : (new : Element) (elements : List Element) → new.0 ≢ 0 → HasNone elements 0 → HasNone (put_element new elements) 0
-none_zero-put new [] some none = All-cons SomeId new [] some (All-nil SomeId)
-none_zero-put new (element ∷ elements) some none =
-    none_zero-either new element elements (put_element new elements) some none (none_zero-put new elements some (All-tail SomeId element elements none)) (has_id new.0 element)
-    (list_any (has_id new.0) elements)
-
-none_zero-put_all : (news elements : List Element) → HasNone news 0 → HasNone elements 0 → HasNone (put_all news elements) 0
-none_zero-put_all [] elements some none = none
-none_zero-put_all (new ∷ news) elements some none =
-    none_zero-put_all news (put_element new elements) (All-tail SomeId new news some) (none_zero-put new elements (All-head SomeId new news some) none)
-
 -- ---- the elements that are put one after another
 
 -- what the packet of these parts and elements becomes
 pub record IsPutTo (was : List ℕ) (parts : PacketParts) (elements news : List Element) (allowed : Option ExtensionsForm) (bytes : List ℕ) : Type 0 where
   pub form : Option ExtensionsForm
   pub block : Option (ExtensionsForm × List ℕ)
+  pub all : List Element
   pub form_is : form_of_block block ≡ form
   pub is_after : IsFormAfter allowed (form_of_block parts.block) news form
   pub is_packet : IsPacket bytes (record parts { has_extension = extension_after news parts.has_extension; block = block })
-  pub are_elements : AreElementsOf block (put_all news elements)
+  pub are_elements : AreElementsOf block all
+  pub all_are : without 0 all ≡ put_all news (without 0 elements)
   pub word_is : KeepsWord (form_of_block parts.block) was form bytes
 
 put-each : (news : List Element) (allowed : Option ExtensionsForm) (bytes final : List ℕ) (parts : PacketParts) (elements : List Element) → IsPacket bytes parts
-    → AreElementsOf parts.block elements → HasNone elements 0 → HasNone news 0 → ArePut bytes news allowed final → IsPutTo bytes parts elements news allowed final
-put-each [] allowed bytes final parts elements is are none ids put = record {
+    → AreElementsOf parts.block elements → HasNone news 0 → ArePut bytes news allowed final → IsPutTo bytes parts elements news allowed final
+put-each [] allowed bytes final parts elements is are ids put = record {
   form = form_of_block parts.block;
   block = parts.block;
+  all = elements;
   form_is = refl;
   is_after = refl;
   is_packet = subst (λ (b : List ℕ). IsPacket b parts) (sym put) is;
   are_elements = are;
+  all_are = refl;
   word_is = record { word_is = λ f is same. ap word_bytes put; new_word_is = λ f is other. absurd (other is) };
 }
-put-each (new ∷ news) allowed bytes final parts elements is are none ids put =
+put-each (new ∷ news) allowed bytes final parts elements is are ids put =
     let puts : PutsElement bytes new allowed put.0 put.1 = put.2 in
     let growth = puts.growth in
     let p_is : growth.parts ≡ parts = same_parts bytes growth.parts parts growth.is_packet is in
     let es_is : growth.elements ≡ elements =
     same_elements parts.block growth.elements elements (subst (λ (p : PacketParts). AreElementsOf p.block growth.elements) p_is growth.are_elements) are in
-    let with_all : elements_with new growth.elements ≡ put_element new elements =
-    ap (λ (es : List Element). put_element new (without 0 es)) es_is ∙ ap (put_element new) (without-none 0 elements none) in
+    let with_all : elements_with new growth.elements ≡ elements_with new elements = ap (elements_with new) es_is in
     let next : PacketParts = record parts { has_extension = true; block = Some (growth.form, puts.body) } in
     let next_is : IsPacket (take put.1 put.0) next =
     subst (λ (p : PacketParts). IsPacket (take put.1 put.0) (record p { has_extension = true; block = Some (growth.form, puts.body) })) p_is puts.is_packet in
-    let next_are : AreElementsOf next.block (put_element new elements) = subst (AreElements growth.form puts.body) with_all puts.are_elements in
+    let next_are : AreElementsOf next.block (elements_with new elements) = subst (AreElements growth.form puts.body) with_all puts.are_elements in
     let some : new.0 ≢ 0 = All-head (λ (e : Element). e.0 ≢ 0) new news ids in
-    let rest = put-each news allowed (take put.1 put.0) final next (put_element new elements) next_is next_are (none_zero-put new elements some none)
-    (All-tail (λ (e : Element). e.0 ≢ 0) new news ids) put.3 in
+    let no_zero : without 0 (elements_with new elements) ≡ elements_with new elements =
+    without-none 0 (elements_with new elements) (none_zero-put new (without 0 elements) some (none_zero-without elements)) in
+    let rest = put-each news allowed (take put.1 put.0) final next (elements_with new elements) next_is next_are (All-tail (λ (e : Element). e.0 ≢ 0) new news ids) put.3 in
     record {
       form = rest.form;
       block = rest.block;
+      all = rest.all;
       form_is = rest.form_is;
       is_after = (growth.form, subst (λ (p : PacketParts). allowed_form allowed (needed_form (form_of_block p.block) new) ≡ Some growth.form) p_is growth.form_is, rest.is_after);
       is_packet = subst (λ (x : Bool). IsPacket final (record parts { has_extension = x; block = rest.block })) (still_set news) rest.is_packet;
       are_elements = rest.are_elements;
+      all_are = rest.all_are ∙ ap (put_all news) no_zero;
       word_is = KeepsWord-then (form_of_block parts.block) rest.form growth.form allowed new news bytes (take put.1 put.0) final
           (subst (λ (p : PacketParts). allowed_form allowed (needed_form (form_of_block p.block) new) ≡ Some growth.form) p_is growth.form_is) rest.is_after
           (KeepsWord-put bytes put.0 put.1 new allowed parts (growth.form, puts.body) is next_is puts p_is) rest.word_is;
@@ -124,15 +96,13 @@ put-each (new ∷ news) allowed bytes final parts elements is are none ids put =
 
 -- ---- the whole
 
-row-compact : (block : Option (ExtensionsForm × List ℕ)) (form : Option ExtensionsForm) (elements : List Element) → HasNone elements 0 → form_of_block block ≡ form
-    → compact_block elements block ≡ row_in form elements
-row-compact None None elements none is = refl
-row-compact None (Some form) elements none is = absurd cc
-row-compact (Some block) None elements none is = absurd cc
-row-compact (Some block) (Some form) elements none is =
+row-compact : (block : Option (ExtensionsForm × List ℕ)) (form : Option ExtensionsForm) (elements : List Element) → form_of_block block ≡ form → compact_block elements block ≡ row_in form (without 0 elements)
+row-compact None None elements is = refl
+row-compact None (Some form) elements is = absurd cc
+row-compact (Some block) None elements is = absurd cc
+row-compact (Some block) (Some form) elements is =
     let same : block.0 ≡ form = cc in
     ap (λ (f : ExtensionsForm). Some (f, filled (elements_bytes f (without 0 elements)))) same
-    ∙ ap (λ (es : List Element). Some (form, filled (elements_bytes form es))) (without-none 0 elements none)
 
 -- the packet under its new ids
 pub record HasNewIds (ids : ℕ → Option ℕ) (elements : List Element) (was new : PacketParts) : Type 0 where
@@ -141,7 +111,7 @@ pub record HasNewIds (ids : ℕ → Option ℕ) (elements : List Element) (was n
   pub same_form : form_of_block block ≡ form_of_block was.block
   pub are_elements : AreElementsOf block (filter_map (renumbered ids) elements)
 
-new_ids : (ids : ℕ → Option ℕ) (elements : List Element) (was new : PacketParts) (block : Option (ExtensionsForm × List ℕ)) → was.block ≡ block → AreElementsOf block elements
+pub new_ids : (ids : ℕ → Option ℕ) (elements : List Element) (was new : PacketParts) (block : Option (ExtensionsForm × List ℕ)) → was.block ≡ block → AreElementsOf block elements
     → IsRenumbered ids elements block was new → HasNewIds ids elements was new
 new_ids ids elements was new None none are same = record {
   block = None;
@@ -187,66 +157,66 @@ header-split bytes parts is =
     behind a b c d =
         append_assoc a (b ++ (c ++ [])) d ∙ ap (λ (xs : List ℕ). a ++ xs) (append_assoc b (c ++ []) d) ∙ ap (λ (xs : List ℕ). a ++ (b ++ (xs ++ d))) (append-nil c)
 
-pub routed-by_calls : (old new : List ℕ) (len : ℕ) (fields : Fields) (ids : ℕ → Option ℕ) (news : List Element) (allowed : Option ExtensionsForm) → GivesIds ids → HasNone news 0
+pub routed-by_calls : (old new : List ℕ) (len : ℕ) (fields : Fields) (ids : ℕ → Option ℕ) (news : List Element) (allowed : Option ExtensionsForm) → HasNone news 0
     → (calls : IsRoutedByCalls old fields ids news allowed new len)
-    → (header : List ℕ) × (take len new ≡ header ++ calls.parts.payload) × IsRouted old fields ids news allowed header
-routed-by_calls old new len fields ids news allowed gives no_zero calls =
-    let was : PacketParts = with_header_fields fields calls.parts in
-    let es : List Element = filter_map (renumbered ids) calls.elements in
-    let has : HasNewIds ids calls.elements was calls.renumbered.parts =
-    new_ids ids calls.elements was calls.renumbered.parts calls.parts.block refl calls.were_elements calls.renumbered.is_renumbered in
+    → (header : List ℕ) × (take len new ≡ header ++ calls.start.parts.payload) × IsRouted old fields ids news allowed header
+routed-by_calls old new len fields ids news allowed no_zero calls =
+    let start = calls.start in
+    let was : PacketParts = with_header_fields fields start.parts in
+    let es : List Element = filter_map (renumbered ids) start.elements in
+    let row : List Element = put_all news (without 0 es) in
+    let has : HasNewIds ids start.elements was start.renumbered.parts =
+    new_ids ids start.elements was start.renumbered.parts start.parts.block refl start.were_elements start.renumbered.is_renumbered in
     let here : PacketParts = record was { block = has.block } in
-    let is_here : IsPacket calls.renumbered_bytes here = subst (IsPacket calls.renumbered_bytes) has.parts_are calls.renumbered.is_packet in
-    let none : HasNone es 0 = none_zero-renumbered ids calls.elements gives in
-    let all_none : HasNone (put_all news es) 0 = none_zero-put_all news es no_zero none in
-    let put : IsPutTo calls.renumbered_bytes here es news allowed calls.put_bytes =
-    put-each news allowed calls.renumbered_bytes calls.put_bytes here es is_here has.are_elements none no_zero calls.are_put in
+    let is_here : IsPacket calls.start_bytes here = subst (IsPacket calls.start_bytes) has.parts_are start.renumbered.is_packet in
+    let put : IsPutTo calls.start_bytes here es news allowed calls.put_bytes =
+    put-each news allowed calls.start_bytes calls.put_bytes here es is_here has.are_elements no_zero calls.are_put in
     let there : PacketParts = record here { has_extension = extension_after news here.has_extension; block = put.block } in
     let compacts : Compacts calls.put_bytes new len = calls.compacted in
     let p_is : compacts.parts ≡ there = same_parts calls.put_bytes compacts.parts there compacts.was_packet put.is_packet in
-    let es_is : compacts.elements ≡ put_all news es =
-    same_elements put.block compacts.elements (put_all news es) (subst (λ (p : PacketParts). AreElementsOf p.block compacts.elements) p_is compacts.were_elements) put.are_elements in
+    let es_is : compacts.elements ≡ put.all =
+    same_elements put.block compacts.elements put.all (subst (λ (p : PacketParts). AreElementsOf p.block compacts.elements) p_is compacts.were_elements) put.are_elements in
     let with_parts : IsPacket (take len new) (record there { block = compact_block compacts.elements put.block }) =
     subst (λ (p : PacketParts). IsPacket (take len new) (record p { block = compact_block compacts.elements p.block })) p_is compacts.is_packet in
-    let block_is : compact_block compacts.elements put.block ≡ row_in put.form (put_all news es) =
-    ap (λ (xs : List Element). compact_block xs put.block) es_is ∙ row-compact put.block put.form (put_all news es) all_none put.form_is in
-    let whole : IsPacket (take len new) (record there { block = row_in put.form (put_all news es) }) =
+    let row_is : without 0 compacts.elements ≡ row = ap (without 0) es_is ∙ put.all_are in
+    let block_is : compact_block compacts.elements put.block ≡ row_in put.form row = row-compact put.block put.form compacts.elements put.form_is ∙ ap (row_in put.form) row_is in
+    let whole : IsPacket (take len new) (record there { block = row_in put.form row }) =
     subst (λ (b : Option (ExtensionsForm × List ℕ)). IsPacket (take len new) (record there { block = b })) block_is with_parts in
-    let split = header-split (take len new) (record there { block = row_in put.form (put_all news es) }) whole in
-    let s : ℕ = 12 + 4 * length calls.parts.sources in
-    let set_word : take 2 (drop s calls.set_bytes) ≡ take 2 (drop s old) =
-    ap (take 2) (from_twelve s calls.set_bytes (omega arith) ∙ ap (drop (s - 12)) calls.set_only.after_is ∙ sym (from_twelve s old (omega arith))) in
-    let renumbered_word : take 2 (drop s calls.renumbered_bytes) ≡ take 2 (drop s calls.set_bytes) =
-    word_before s (sources_end calls.set_bytes + 4) calls.renumbered_bytes calls.set_bytes (omega (arith, sources_end-is calls.set_bytes was calls.set_packet)) calls.renumbered.only_body.before_is in
-    let first_word : word_bytes calls.renumbered_bytes ≡ word_bytes old =
-    word_of calls.renumbered_bytes here is_here ∙ renumbered_word ∙ set_word ∙ sym (word_of old calls.parts calls.was_packet) in
-    let same_form : form_of_block has.block ≡ form_of_block calls.parts.block = has.same_form in
+    let split = header-split (take len new) (record there { block = row_in put.form row }) whole in
+    let s : ℕ = 12 + 4 * length start.parts.sources in
+    let set_word : take 2 (drop s start.set_bytes) ≡ take 2 (drop s old) =
+    ap (take 2) (from_twelve s start.set_bytes (omega arith) ∙ ap (drop (s - 12)) start.set_only.after_is ∙ sym (from_twelve s old (omega arith))) in
+    let renumbered_word : take 2 (drop s calls.start_bytes) ≡ take 2 (drop s start.set_bytes) =
+    word_before s (sources_end start.set_bytes + 4) calls.start_bytes start.set_bytes (omega (arith, sources_end-is start.set_bytes was start.set_packet)) start.renumbered.only_body.before_is in
+    let first_word : word_bytes calls.start_bytes ≡ word_bytes old =
+    word_of calls.start_bytes here is_here ∙ renumbered_word ∙ set_word ∙ sym (word_of old start.parts start.was_packet) in
+    let same_form : form_of_block has.block ≡ form_of_block start.parts.block = has.same_form in
     let last_word : (f : ExtensionsForm) → put.form ≡ Some f → word_bytes split.0 ≡ word_bytes calls.put_bytes =
     λ f is.
-    let row : List ℕ = filled (elements_bytes f (put_all news es)) in
-    let some : row_in put.form (put_all news es) ≡ Some (f, row) = ap (λ (g : Option ExtensionsForm). row_in g (put_all news es)) is in
-    let in_front : s + 2 ≤ length split.0 = word_within split.0 _ (f, row) split.2 some in
+    let body : List ℕ = filled (elements_bytes f row) in
+    let some : row_in put.form row ≡ Some (f, body) = ap (λ (g : Option ExtensionsForm). row_in g row) is in
+    let in_front : s + 2 ≤ length split.0 = word_within split.0 _ (f, body) split.2 some in
     let whole_word : take 2 (drop s (take len new)) ≡ take 2 (drop s split.0) =
-    ap (λ (xs : List ℕ). take 2 (drop s xs)) split.1 ∙ word_in_front s split.0 calls.parts.payload in_front in
+    ap (λ (xs : List ℕ). take 2 (drop s xs)) split.1 ∙ word_in_front s split.0 start.parts.payload in_front in
     let end : sources_end calls.put_bytes ≡ s = sources_end-is calls.put_bytes there put.is_packet in
     let kept : take (sources_end calls.put_bytes + 2) new ≡ take (sources_end calls.put_bytes + 2) calls.put_bytes =
     compacts.word_is f (ap (λ (p : PacketParts). form_of_block p.block) p_is ∙ put.form_is ∙ is) in
     word_of split.0 _ split.2 ∙ sym whole_word
-    ∙ word_in_take s len new (word_within (take len new) _ (f, row) whole some)
+    ∙ word_in_take s len new (word_within (take len new) _ (f, body) whole some)
     ∙ word_at_end s new calls.put_bytes (subst (λ (k : ℕ). take (k + 2) new ≡ take (k + 2) calls.put_bytes) end kept)
     ∙ sym (word_of calls.put_bytes there put.is_packet) in (
       split.0,
       split.1,
       record {
-        parts = calls.parts;
-        elements = calls.elements;
+        parts = start.parts;
+        elements = start.elements;
         form = put.form;
-        was_packet = calls.was_packet;
-        were_elements = calls.were_elements;
+        was_packet = start.was_packet;
+        were_elements = start.were_elements;
         form_is = subst (λ (f : Option ExtensionsForm). IsFormAfter allowed f news put.form) has.same_form put.is_after;
         is_packet = split.2;
-        are_elements = subst (λ (b : Option (ExtensionsForm × List ℕ)). AreElementsOf b (put_all news es)) block_is
-            (subst (λ (xs : List Element). AreElementsOf (compact_block compacts.elements put.block) xs) (ap (without 0) es_is ∙ without-none 0 (put_all news es) all_none)
+        are_elements = subst (λ (b : Option (ExtensionsForm × List ℕ)). AreElementsOf b row) block_is
+            (subst (λ (xs : List Element). AreElementsOf (compact_block compacts.elements put.block) xs) row_is
             (subst (λ (p : PacketParts). AreElementsOf (compact_block compacts.elements p.block) (without 0 compacts.elements)) p_is compacts.are_elements));
         word_is = record {
           word_is = λ f is same. last_word f is ∙ put.word_is.word_is f is (same_form ∙ same) ∙ first_word;
@@ -263,11 +233,11 @@ block-there (Some block) f is = let here : block.0 ≡ f = cc in ap (λ (g : Ext
 
 -- a header that is made of the packet's header is made of the packet
 pub routed-whole : (whole header : List ℕ) (parts : PacketParts) (new : List ℕ) (len : ℕ) (fields : Fields) (ids : ℕ → Option ℕ) (news : List Element) (allowed : Option ExtensionsForm)
-    → IsPacket whole parts → IsPacket header (record parts { payload = [] }) → whole ≡ header ++ parts.payload → GivesIds ids → HasNone news 0 → IsRoutedByCalls header fields ids news allowed new len
+    → IsPacket whole parts → IsPacket header (record parts { payload = [] }) → whole ≡ header ++ parts.payload → HasNone news 0 → IsRoutedByCalls header fields ids news allowed new len
     → IsRouted whole fields ids news allowed (take len new)
-routed-whole whole header parts new len fields ids news allowed is alone front gives no_zero calls =
-    let made = routed-by_calls header new len fields ids news allowed gives no_zero calls in
-    let same : calls.parts ≡ record parts { payload = [] } = same_parts header calls.parts (record parts { payload = [] }) calls.was_packet alone in
+routed-whole whole header parts new len fields ids news allowed is alone front no_zero calls =
+    let made = routed-by_calls header new len fields ids news allowed no_zero calls in
+    let same : calls.start.parts ≡ record parts { payload = [] } = same_parts header calls.start.parts (record parts { payload = [] }) calls.start.was_packet alone in
     let all : take len new ≡ made.0 = made.1 ∙ ap (λ (p : PacketParts). made.0 ++ p.payload) same ∙ append-nil made.0 in
     subst (IsRouted whole fields ids news allowed) (sym all) (of_whole made.0 made.2)
   where
@@ -302,11 +272,11 @@ on-ok (Ok a) P Q R gives p q = gives a p q
 on-ok (Err e) P Q R gives p q = p
 
 -- the header that is made of a packet's header
-pub routed-of : (packet : RtpPacket) (new : List ℕ) (len : ℕ) (fields : Fields) (ids : ℕ → Option ℕ) (news : List Element) (allowed : Option ExtensionsForm) → GivesIds ids → HasNone news 0
+pub routed-of : (packet : RtpPacket) (new : List ℕ) (len : ℕ) (fields : Fields) (ids : ℕ → Option ℕ) (news : List Element) (allowed : Option ExtensionsForm) → HasNone news 0
     → IsRoutedByCalls (header_in packet) fields ids news allowed new len → IsRouted (datagram_of packet) fields ids news allowed (take len new)
-routed-of packet new len fields ids news allowed gives no_zero calls =
+routed-of packet new len fields ids news allowed no_zero calls =
     let split = header-split packet.datagram.now (parts_of packet) (IsPacket-found packet) in
     let long : length split.0 ≡ header_len_of (parts_of packet) = omega (arith, length-packet split.0 (record (parts_of packet) { payload = [] }) split.2) in
     let here : header_in packet ≡ split.0 = ap (take (header_len_of (parts_of packet))) split.1 ∙ take_at split.0 (parts_of packet).payload (header_len_of (parts_of packet)) long in
-    routed-whole packet.datagram.now split.0 (parts_of packet) new len fields ids news allowed (IsPacket-found packet) split.2 split.1 gives no_zero
+    routed-whole packet.datagram.now split.0 (parts_of packet) new len fields ids news allowed (IsPacket-found packet) split.2 split.1 no_zero
     (subst (λ (h : List ℕ). IsRoutedByCalls h fields ids news allowed new len) here calls)

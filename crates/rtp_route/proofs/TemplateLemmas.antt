@@ -1,5 +1,5 @@
 -- A header that is made once, and what other fields and data make of it.
-use Rattle.std.proofs.Common.{◌≡◌, ℕ, ◌+◌, ◌-◌, ◌*◌, Bool, true, false, ◌&&◌, nat_le, cond, List, [], ◌∷◌, ◌++◌, length, take, drop, map, Option, Some, None, refl, sym, ap, subst, ◌∙◌, arith, append-nil, take_at}
+use Rattle.std.proofs.Common.{◌≡◌, ℕ, ◌+◌, ◌-◌, ◌*◌, Bool, true, false, ◌&&◌, nat_le, cond, List, [], ◌∷◌, ◌++◌, length, take, drop, map, Option, Some, None, IsSome, refl, sym, ap, subst, ◌∙◌, arith, append-nil, take_at}
 use Rattle.std.specs.List.{AllByRecursion, filter_map}
 use Rattle.std.proofs.lemmas.List.{length-map, take_all}
 use Rattle.std.proofs.lemmas.Option.{none-some}
@@ -9,7 +9,7 @@ use Rattle.rtp_ext.specs.declared.form.ExtensionsForm.{ExtensionsForm}
 use Rattle.rtp_ext.specs.declared.form.ExtensionsForm.TheVariants.{OneByte, TwoByte}
 use Rattle.rtp_ext.specs.Elements.{Element, IsElement, elements_bytes, AreElements}
 use Rattle.rtp_ext.specs.ElementsInPlace.{renumbered}
-use Rattle.rtp_ext.specs.PutElement.{has_id, needed_form, allowed_form}
+use Rattle.rtp_ext.specs.PutElement.{has_id, without, needed_form, allowed_form}
 use Rattle.rtp_ext.specs.WrittenBlock.{filled}
 use Rattle.rtp_ext.proofs.NewIdLemmas.{All-IsElement}
 use Rattle.rtp_wire.specs.declared.packet.fields.Fields.{Fields}
@@ -21,10 +21,10 @@ use Rattle.rtp_wire.specs.PutIntoPacket.{form_of_block}
 use Rattle.rtp_route.specs.declared.slots.Slot.{Slot}
 use Rattle.rtp_route.specs.Calls.{no_fields, header_in}
 use Rattle.rtp_route.specs.Routing.{put_all, IsFormAfter, extension_after, row_in, routed_elements, routed_parts, word_bytes, IsRouted}
-use Rattle.rtp_wire.specs.PartsOf.{parts_of, datagram_of}
 use Rattle.rtp_wire.specs.declared.packet.rtp_packet.RtpPacket.{RtpPacket}
-use Rattle.rtp_wire.proofs.PartsLemmas.{length-packet, IsPacket-found}
+use Rattle.rtp_wire.specs.PartsOf.{parts_of, datagram_of}
 use Rattle.rtp_wire.proofs.PacketLemmas.{one_packet}
+use Rattle.rtp_wire.proofs.PartsLemmas.{length-packet, IsPacket-found}
 use Rattle.rtp_route.specs.declared.template.HeaderTemplate.{HeaderTemplate}
 use Rattle.rtp_route.specs.Template.{with_data, HaveOwnIds, HasOnly, HasRow, data_lengths, slot_lengths, filled_in, AreSlots, body_start_of}
 use Rattle.rtp_route.specs.GroupHeader.{IsGroupHeader, IsFilledIn}
@@ -136,7 +136,7 @@ filled-with old ids (new ∷ news) allowed header slots fields contents set is N
 filled-with old ids news allowed header slots fields contents set is (Some form) some same packet only =
     let routed = is.routed in
     let parts = routed.parts in
-    let es : List Element = filter_map (renumbered ids) routed.elements in
+    let es : List Element = without 0 (filter_map (renumbered ids) routed.elements) in
     let xs : List Element = put_all news es in
     let now : List Element = sets news contents xs in
     let old_parts : PacketParts = set_parts fields ids news routed.form routed.elements parts in
@@ -235,24 +235,45 @@ written-with old ids news allowed template fields contents new is same filled =
     routed-filled old ids news allowed (header_of template) (slots_in template) fields contents new is same
     (subst (λ (b : List ℕ). IsFilledIn b (slots_in template) fields contents new) (whole-header old ids news allowed template is) filled)
 
--- the header that is made of a packet, with these places in it
-pub group-made : (old : List ℕ) (ids : ℕ → Option ℕ) (news : List Element) (allowed : Option ExtensionsForm) (header : RtpPacket) (all : List Slot) (number : ℕ)
-    → IsRouted old no_fields ids news allowed (datagram_of header) → HaveOwnIds news → number ≡ length news
-    → ((form : ExtensionsForm) (row : List Element) → HasRow (parts_of header) form row → AllByRecursion (HasOnly row) news
-    → (slots : List Slot) × (Some all ≡ Some slots) × AreSlots form (body_start_of (parts_of header)) row news (take number slots))
-    → IsGroupHeader old ids news allowed (datagram_of header) (take number all)
-group-made old ids news allowed header all number routed own count found =
-    let es : List Element = filter_map (renumbered ids) routed.elements in
-    let xs : List Element = put_all news es in
-    let parts : PacketParts = set_parts no_fields ids news routed.form routed.elements routed.parts in
-    let parts_is : parts_of header ≡ parts = one_packet (datagram_of header) parts routed.is_packet in
-    let there : (form : ExtensionsForm) → routed.form ≡ Some form → AreSlots form (body_start_of routed.parts) xs news (take number all) =
-    λ form some.
+-- what is found of places
+abbrev Finds : RtpPacket → List Element → ℕ → Option (List Slot) → Type 0
+Finds header news count result = (form : ExtensionsForm) (row : List Element) → HasRow (parts_of header) form row → AllByRecursion (HasOnly row) news
+    → (slots : List Slot) × (result ≡ Some slots) × AreSlots form (body_start_of (parts_of header)) row news (take count slots)
+
+row-there : (old : List ℕ) (ids : ℕ → Option ℕ) (news : List Element) (allowed : Option ExtensionsForm) (header : RtpPacket) (routed : IsRouted old no_fields ids news allowed (datagram_of header))
+    (form : ExtensionsForm) → routed.form ≡ Some form → HasRow (parts_of header) form (routed_elements ids news routed.elements)
+row-there old ids news allowed header routed form some =
+    let xs : List Element = routed_elements ids news routed.elements in
+    let parts_is : parts_of header ≡ set_parts no_fields ids news routed.form routed.elements routed.parts = one_packet (datagram_of header) _ routed.is_packet in
     let block : row_in routed.form xs ≡ Some (form, filled (elements_bytes form xs)) = ap (λ (f : Option ExtensionsForm). row_in f xs) some in
-    let found_slots = found form xs (record {
+    record {
       block_is = ap (λ (p : PacketParts). p.block) parts_is ∙ block;
       are_elements = subst (λ (b : Option (ExtensionsForm × List ℕ)). AreElementsOf b xs) block routed.are_elements;
-    }) (only-put_all news es own) in
+    }
+
+-- places are found
+pub slots-there : (old : List ℕ) (ids : ℕ → Option ℕ) (news : List Element) (allowed : Option ExtensionsForm) (header : RtpPacket) (count : ℕ) (result : Option (List Slot))
+    → IsRouted old no_fields ids news allowed (datagram_of header) → HaveOwnIds news → Finds header news count result → (news ≡ [] → IsSome result) → IsSome result
+slots-there old ids news allowed header count result routed own found none = by_form routed.form refl
+  where
+    by_form : (form : Option ExtensionsForm) → routed.form ≡ form → IsSome result
+    by_form None is = none (no_news allowed (form_of_block routed.parts.block) news (subst (IsFormAfter allowed (form_of_block routed.parts.block) news) is routed.form_is))
+    by_form (Some form) is =
+        let es : List Element = without 0 (filter_map (renumbered ids) routed.elements) in
+        let slots = found form (put_all news es) (row-there old ids news allowed header routed form is) (only-put_all news es own) in
+        subst IsSome (sym slots.1) refl
+
+-- the header that is made of a packet, with these places in it
+pub group-made : (old : List ℕ) (ids : ℕ → Option ℕ) (news : List Element) (allowed : Option ExtensionsForm) (header : RtpPacket) (all : List Slot) (number : ℕ)
+    → IsRouted old no_fields ids news allowed (datagram_of header) → HaveOwnIds news → number ≡ length news → Finds header news number (Some all)
+    → IsGroupHeader old ids news allowed (datagram_of header) (take number all)
+group-made old ids news allowed header all number routed own count found =
+    let es : List Element = without 0 (filter_map (renumbered ids) routed.elements) in
+    let xs : List Element = put_all news es in
+    let parts_is : parts_of header ≡ set_parts no_fields ids news routed.form routed.elements routed.parts = one_packet (datagram_of header) _ routed.is_packet in
+    let there : (form : ExtensionsForm) → routed.form ≡ Some form → AreSlots form (body_start_of routed.parts) xs news (take number all) =
+    λ form some.
+    let found_slots = found form xs (row-there old ids news allowed header routed form some) (only-put_all news es own) in
     let same : all ≡ found_slots.0 = some_list all found_slots.0 found_slots.1 in
     subst (λ (p : PacketParts). AreSlots form (body_start_of p) xs news (take number all)) parts_is
     (subst (λ (slots : List Slot). AreSlots form (body_start_of (parts_of header)) xs news (take number slots)) (sym same) found_slots.2) in
@@ -272,7 +293,7 @@ group-made old ids news allowed header all number routed own count found =
     none_put form (new ∷ more) is none count zero_is = absurd (form-some allowed (form_of_block routed.parts.block) new more (subst (IsFormAfter allowed (form_of_block routed.parts.block) (new ∷ more)) none is))
 
     lengths : (form : Option ExtensionsForm) → routed.form ≡ form
-        → ((f : ExtensionsForm) → routed.form ≡ Some f → AreSlots f (body_start_of routed.parts) (put_all news (filter_map (renumbered ids) routed.elements)) news (take number all))
+        → ((f : ExtensionsForm) → routed.form ≡ Some f → AreSlots f (body_start_of routed.parts) (put_all news (without 0 (filter_map (renumbered ids) routed.elements))) news (take number all))
         → slot_lengths (take number all) ≡ data_lengths news
     lengths None none there = none_put routed.form news routed.form_is none number count
-    lengths (Some f) some there = slots-lengths f (body_start_of routed.parts) (put_all news (filter_map (renumbered ids) routed.elements)) news (take number all) (there f some)
+    lengths (Some f) some there = slots-lengths f (body_start_of routed.parts) (put_all news (without 0 (filter_map (renumbered ids) routed.elements))) news (take number all) (there f some)

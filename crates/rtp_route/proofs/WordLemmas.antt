@@ -66,7 +66,7 @@ form_stays OneByte TwoByte last allowed new news same first rest =
     one≢two : OneByte ≡ TwoByte → ⊥
     one≢two is = cc
 
-either_form : (a b : ExtensionsForm) → (a ≡ b) ⊎ (a ≢ b)
+pub either_form : (a b : ExtensionsForm) → (a ≡ b) ⊎ (a ≢ b)
 either_form OneByte OneByte = inl refl
 either_form OneByte TwoByte = inr (λ is. cc)
 either_form TwoByte OneByte = inr (λ is. cc)

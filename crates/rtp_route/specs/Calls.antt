@@ -32,8 +32,8 @@ ArePut old [] allowed new = new ≡ old
 ArePut old (element ∷ elements) allowed new =
     (buf : List ℕ) × (len : ℕ) × PutsElement old element allowed buf len × ArePut (take len buf) elements allowed new
 
--- the packet once `set_fields`, `renumber`, `put_element` for each element and `compact` are called, none of which refuses
-pub record IsRoutedByCalls (old : List ℕ) (fields : Fields) (ids : ℕ → Option ℕ) (news : List Element) (allowed : Option ExtensionsForm) (new : List ℕ) (len : ℕ) : Type 0 where
+-- the packet once `set_fields` and `renumber` are called, neither of which refuses
+pub record IsSetAndRenumbered (old : List ℕ) (fields : Fields) (ids : ℕ → Option ℕ) (new : List ℕ) : Type 0 where
   pub parts : PacketParts
   pub elements : List Element
   pub was_packet : IsPacket old parts
@@ -41,10 +41,14 @@ pub record IsRoutedByCalls (old : List ℕ) (fields : Fields) (ids : ℕ → Opt
   pub set_bytes : List ℕ
   pub set_packet : IsPacket set_bytes (with_header_fields fields parts)
   pub set_only : ChangesOnly 1 12 old set_bytes
-  pub renumbered_bytes : List ℕ
-  pub renumbered : IsUnderNewIds ids elements set_bytes (with_header_fields fields parts) renumbered_bytes
+  pub renumbered : IsUnderNewIds ids elements set_bytes (with_header_fields fields parts) new
+
+-- the packet once these, `put_element` for each element and `compact` are called, none of which refuses
+pub record IsRoutedByCalls (old : List ℕ) (fields : Fields) (ids : ℕ → Option ℕ) (news : List Element) (allowed : Option ExtensionsForm) (new : List ℕ) (len : ℕ) : Type 0 where
+  pub start_bytes : List ℕ
+  pub start : IsSetAndRenumbered old fields ids start_bytes
   pub put_bytes : List ℕ
-  pub are_put : ArePut renumbered_bytes news allowed put_bytes
+  pub are_put : ArePut start_bytes news allowed put_bytes
   pub compacted : Compacts put_bytes new len
 
 -- no field is given

@@ -1,6 +1,8 @@
 -- What public contracts cite.
 pub mod Routing
 pub mod Calls
+pub mod NotPutAmong
+pub mod NotRouted
 pub mod Template
 pub mod GroupHeader
 pub mod TemplateOf

@@ -1,6 +1,6 @@
 -- A packet's header as a receiver is to get it: with fields, ids and elements of its own (RFC 7667, 3.7; RFC 8285, 4.1.2 and 5).
 --
--- The elements get the receiver's ids, and those whose id has none go. Then each element that is put takes the place of the last one of its id, or comes last. They stand in a row, in whole words. The block has the form that each of those that are put needs in its turn. The payload stays where it lies.
+-- The elements get the receiver's ids; those whose id has none go, and so would those of the id 0, which is padding's. Then each element that is put takes the place of the last one of its id, or comes last. They stand in a row, in whole words. The block has the form that each of those that are put needs in its turn. The payload stays where it lies.
 use Rattle.std.specs.Prelude.{◌≡◌, ◌≢◌, ℕ, List, [], ◌∷◌, take, drop, Bool, true, Option, Some, option_map}
 use Rattle.std.specs.List.{filter_map}
 use Rattle.std.specs.Int.{w16, to_be_bytes}
@@ -8,7 +8,7 @@ use Rattle.rtp_ext.specs.declared.form.ExtensionsForm.{ExtensionsForm}
 use Rattle.rtp_ext.specs.Form.{form_word}
 use Rattle.rtp_ext.specs.Elements.{Element, elements_bytes}
 use Rattle.rtp_ext.specs.ElementsInPlace.{renumbered}
-use Rattle.rtp_ext.specs.PutElement.{put_element, needed_form, allowed_form}
+use Rattle.rtp_ext.specs.PutElement.{without, put_element, needed_form, allowed_form}
 use Rattle.rtp_ext.specs.WrittenBlock.{filled}
 use Rattle.rtp_wire.specs.declared.packet.fields.Fields.{Fields}
 use Rattle.rtp_wire.specs.GivenFields.{with_header_fields}
@@ -22,9 +22,9 @@ abbrev pub put_all : List Element → List Element → List Element
 put_all [] elements = elements
 put_all (new ∷ news) elements = put_all news (put_element new elements)
 
--- the elements under their new ids, with these put among them
+-- the elements under their new ids, without any of the id 0, and with these put among them
 abbrev pub routed_elements : (ℕ → Option ℕ) → List Element → List Element → List Element
-routed_elements ids news elements = put_all news (filter_map (renumbered ids) elements)
+routed_elements ids news elements = put_all news (without 0 (filter_map (renumbered ids) elements))
 
 -- the form of a block, or of none, once these are put, one after another: each in the form that it needs, where that is allowed
 abbrev pub IsFormAfter : Option ExtensionsForm → Option ExtensionsForm → List Element → Option ExtensionsForm → Type 0
@@ -68,7 +68,3 @@ pub record IsRouted (old : List ℕ) (fields : Fields) (ids : ℕ → Option ℕ
   pub is_packet : IsPacket new (record (routed_parts fields ids news form elements parts) { payload = [] })
   pub are_elements : AreElementsOf (row_in form (routed_elements ids news elements)) (routed_elements ids news elements)
   pub word_is : KeepsWord (form_of_block parts.block) old form new
-
--- each id that the table gives is one that an element can have
-abbrev pub GivesIds : (ℕ → Option ℕ) → Type 0
-GivesIds ids = (id new : ℕ) → ids id ≡ Some new → new ≢ 0

@@ -1,15 +1,19 @@
 //! The header of a group of receivers, made by the calls for one packet.
 
-ghost use Rattle.std.specs.Prelude.{◌≡◌, ◌≤◌, ℕ, List, Option, ◌++◌, length, take, IfOk, IfSome};
+ghost use Rattle.std.specs.Prelude.{◌≡◌, ◌↔◌, ◌<◌, ◌≤◌, ℕ, List, Option, ◌++◌, length, take, slice_index, IsErr, IfOk, IfErr, IfSome};
 ghost use Rattle.rtp_ext.specs.declared.form.ExtensionsForm.{ExtensionsForm};
 ghost use Rattle.rtp_ext.specs.Elements.{Element};
 ghost use Rattle.rtp_ext.specs.ElementsInARow.{elements_of};
 ghost use Rattle.rtp_ext.specs.ElementsInPlace.{HasNone};
 ghost use Rattle.rtp_ext.specs.NewIds.{new_id};
 ghost use Rattle.rtp_wire.specs.declared.packet.fields.Fields.{Fields};
+ghost use Rattle.rtp_wire.specs.declared.packet.not_put.NotPut.{NotPut};
 ghost use Rattle.rtp_wire.specs.PartsOf.{datagram_of};
+ghost use Rattle.rtp_route.specs.declared.not_routed.NotRouted.{NotRouted};
 ghost use Rattle.rtp_route.specs.Calls.{ArePut, IsRoutedByCalls, header_in};
-ghost use Rattle.rtp_route.specs.Routing.{GivesIds, IsRouted};
+ghost use Rattle.rtp_route.specs.NotPutAmong.{IsNotPutAmong, HasSameElements};
+ghost use Rattle.rtp_route.specs.NotRouted.{KeepsFromRouting};
+ghost use Rattle.rtp_route.specs.Routing.{IsRouted};
 
 use super::NotRouted;
 use super::in_place::{renumber, set_fields};
@@ -37,6 +41,14 @@ fn put_each(buf: &mut [u8], len: usize, group: &Group<'_>) -> Result<usize, NotP
     ensures ids { IfOk result (λ _. HasNone (elements_of group.now.elements.now) 0) }
     ensures within { IfOk result (λ new_len. new_len ≤ length buf.old) }
     ensures length { length buf.new ≡ length buf.old }
+    ensures cause { IfErr result (IsNotPutAmong (take len buf.old)
+        (elements_of group.now.elements.now) group.now.allowed (length buf.old)) }
+
+    // So it is where a packet that says the same would be refused one of them.
+    ensures refused { (packet : List ℕ) (cause : NotPut) →
+        HasSameElements packet (take len buf.old) →
+        IsNotPutAmong packet (elements_of group.now.elements.now) group.now.allowed
+        (length buf.old) cause → IsErr result }
 {
     let mut len = len;
     for (id, data) in group.elements {
@@ -59,6 +71,12 @@ pub(super) fn make_header(
         buf.new len) }
     ensures ids { IfOk result (λ _. HasNone (elements_of group.now.elements.now) 0) }
     ensures within { IfOk result (λ len. len ≤ length buf.new) }
+    ensures cause { IfErr result (KeepsFromRouting (header_in packet.now) fields.now
+        (new_id group.now.ids.now) (elements_of group.now.elements.now) group.now.allowed
+        (length buf.old)) }
+    ensures refused { IsErr result ↔ ((cause : NotRouted)
+        × KeepsFromRouting (header_in packet.now) fields.now (new_id group.now.ids.now)
+        (elements_of group.now.elements.now) group.now.allowed (length buf.old) cause) }
 {
     let header = packet.header_bytes();
     let needed = header.len();
@@ -72,10 +90,8 @@ pub(super) fn make_header(
         return Err(NotRouted::LongId);
     }
     let len = put_each(buf, needed, group)?;
-    match compact(&mut buf[..len]) {
-        Ok(len) => Ok(len),
-        Err(cause) => Err(NotRouted::NotPut(NotPut::NotAPacket(cause))),
-    }
+    // It is still a packet.
+    Ok(compact(&mut buf[..len]).unwrap())
 }
 
 /// Writes the header that the packet gets on its way to a receiver with these fields, by the calls
@@ -83,8 +99,14 @@ pub(super) fn make_header(
 /// goes; each of the group's elements is put among them; and the block is as short as they allow
 /// (RFC 7667, 3.7; RFC 8285, 4.1.2 to 4.3 and 5). Requires a payload type of at most 127.
 ///
-/// It is refused where one of the calls is, and the buffer then has any bytes. The contract says
-/// what an `Ok` is, and not exactly when there is one.
+/// The cause is the first of these, and the buffer then has any bytes:
+/// - [`NotRouted::NotPut`] of [`NotPut::NoRoom`], where the buffer is shorter than the packet's own
+///   header, whose length it says.
+/// - [`NotRouted::LongId`], where the new id of one of the packet's elements is above 14 and its
+///   block has the one-byte form.
+/// - [`NotRouted::NotPut`] of the cause for which [`put_element`] refuses one of the group's
+///   elements in this buffer, once those before it are put. The block becomes as short as it can
+///   only then, so that each of them needs room.
 ///
 /// Of the packet `90 60 00 05 00 00 00 64 00 00 00 2C BE DE 00 01 10 AA 00 00` (hexadecimal) the
 /// number 9, the id 3 for 1 and the data `00 07` of the id 4 make
@@ -96,10 +118,22 @@ pub fn route_header(
     buf: &mut [u8],
 ) -> Result<usize, NotRouted>
     requires { IfSome fields.now.payload_type (λ pt. pt ≤ 127) }
-    ensures routed { GivesIds (new_id group.now.ids.now) → IfOk result (λ len.
-        IsRouted (datagram_of packet.now) fields.now (new_id group.now.ids.now)
-        (elements_of group.now.elements.now) group.now.allowed (take len buf.new)) }
+    ensures routed { IfOk result (λ len. IsRouted (datagram_of packet.now) fields.now
+        (new_id group.now.ids.now) (elements_of group.now.elements.now) group.now.allowed
+        (take len buf.new)) }
+
+    // There is no other such header.
+    ensures only { IfOk result (λ len. (header : List ℕ) →
+        ((k : ℕ) → slice_index header k < 256) → IsRouted (datagram_of packet.now) fields.now
+        (new_id group.now.ids.now) (elements_of group.now.elements.now) group.now.allowed header →
+        header ≡ take len buf.new) }
     ensures within { IfOk result (λ len. len ≤ length buf.new) }
+    ensures cause { IfErr result (KeepsFromRouting (header_in packet.now) fields.now
+        (new_id group.now.ids.now) (elements_of group.now.elements.now) group.now.allowed
+        (length buf.old)) }
+    ensures refused { IsErr result ↔ ((cause : NotRouted)
+        × KeepsFromRouting (header_in packet.now) fields.now (new_id group.now.ids.now)
+        (elements_of group.now.elements.now) group.now.allowed (length buf.old) cause) }
 {
     make_header(packet, fields, group, buf)
 }
@@ -109,8 +143,8 @@ pub fn route_header(
 pub fn routes_as_the_calls_do()
     ensures { (old new : List ℕ) (len : ℕ) (fields : Fields) (ids : ℕ → Option ℕ)
         (news : List Element) (allowed : Option ExtensionsForm) →
-        GivesIds ids → HasNone news 0 →
+        HasNone news 0 →
         (calls : IsRoutedByCalls old fields ids news allowed new len) →
-        (header : List ℕ) × (take len new ≡ header ++ calls.parts.payload)
+        (header : List ℕ) × (take len new ≡ header ++ calls.start.parts.payload)
         × IsRouted old fields ids news allowed header }
 {}

@@ -1,8 +1,9 @@
 //! Fields and ids of a header, changed where it lies.
 
-ghost use Rattle.std.specs.Prelude.{◌≡◌, ◌≤◌, List, IfSome};
+ghost use Rattle.std.specs.Prelude.{◌≡◌, ◌↔◌, ◌≤◌, List, IsTrue, IfSome, All};
 ghost use Rattle.std.specs.Bool.{OnTrue};
 ghost use Rattle.rtp_ext.specs.Elements.{Element};
+ghost use Rattle.rtp_ext.specs.ElementsInPlace.{CanRenumber};
 ghost use Rattle.rtp_ext.specs.NewIds.{new_id};
 ghost use Rattle.rtp_wire.specs.ChangedPacket.{ChangesOnly};
 ghost use Rattle.rtp_wire.specs.GivenFields.{with_header_fields};
@@ -42,9 +43,13 @@ pub(super) fn renumber(
     ids: &NewIds,
 ) -> bool
     requires { HasLayout header.old header_len form }
-    ensures { (parts : PacketParts) (elements : List Element) →
+    ensures renumbered { (parts : PacketParts) (elements : List Element) →
         IsPacket header.old parts → AreElementsOf parts.block elements →
         OnTrue result (IsUnderNewIds (new_id ids.now) elements header.old parts header.new) }
+    ensures answer { (parts : PacketParts) (elements : List Element) →
+        IsPacket header.old parts → AreElementsOf parts.block elements →
+        IsTrue result ↔ IfSome parts.block (λ block.
+        All (CanRenumber block.0 (new_id ids.now)) elements) }
 {
     let mut packet = RtpPacketMut::new(header, header_len, form);
     packet.renumber(ids)

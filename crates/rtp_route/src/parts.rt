@@ -1,17 +1,19 @@
 //! A header that is made once for a group of receivers, and kept by the caller.
 
-ghost use Rattle.std.specs.Prelude.{◌≡◌, ◌↔◌, ◌+◌, ◌≤◌, length, take, All, IsTrue, IfOk};
+ghost use Rattle.std.specs.Prelude.{◌≡◌, ◌↔◌, ◌+◌, ◌≤◌, length, take, All, IsTrue, IsErr, IfOk, IfErr};
 ghost use Rattle.rtp_ext.specs.ElementsInARow.{elements_of};
 ghost use Rattle.rtp_ext.specs.NewIds.{new_id};
 ghost use Rattle.rtp_wire.specs.PartsOf.{datagram_of};
+ghost use Rattle.rtp_route.specs.declared.not_routed.NotRouted.{NotRouted};
+ghost use Rattle.rtp_route.specs.Calls.{header_in};
 ghost use Rattle.rtp_route.specs.GroupHeader.{IsGroupHeader};
-ghost use Rattle.rtp_route.specs.Routing.{GivesIds};
+ghost use Rattle.rtp_route.specs.NotRouted.{KeepsFromTemplate};
 ghost use Rattle.rtp_route.specs.Template.{total_of};
 
 use super::by_calls::make_header;
 use super::slots::{MAX_ELEMENTS, Slot, have_own_ids, lie_within, slots_of, total_len};
 use super::{Group, NotRouted};
-use rtp_wire::{Fields, NotPut, RtpPacket};
+use rtp_wire::{Fields, RtpPacket};
 
 /// How long a header is that was made for a group, and where in it the data of the group's elements
 /// lie: what a caller keeps beside the header itself.
@@ -48,21 +50,27 @@ impl TemplateParts {
 }
 
 /// Makes the header that the packet gets for the group at the front of the buffer, and returns
-/// where its parts lie. It is refused as [`HeaderTemplate::new`](super::HeaderTemplate::new) is, and the buffer then has any
-/// bytes.
+/// where its parts lie. It is refused as [`HeaderTemplate::new`](super::HeaderTemplate::new) is,
+/// and the buffer then has any bytes, as it has behind the header.
 pub fn make_template(
     packet: &RtpPacket<'_>,
     group: &Group<'_>,
     buf: &mut [u8],
 ) -> Result<TemplateParts, NotRouted>
-    ensures made { GivesIds (new_id group.now.ids.now) → IfOk result (λ parts. IsGroupHeader
-        (datagram_of packet.now) (new_id group.now.ids.now) (elements_of group.now.elements.now)
-        group.now.allowed (take parts.header_len buf.new) (take parts.count parts.slots)) }
+    ensures made { IfOk result (λ parts. IsGroupHeader (datagram_of packet.now)
+        (new_id group.now.ids.now) (elements_of group.now.elements.now) group.now.allowed
+        (take parts.header_len buf.new) (take parts.count parts.slots)) }
     ensures count { IfOk result (λ parts. parts.count ≡ length group.now.elements.now) }
     ensures few { IfOk result (λ parts. parts.count ≤ 16) }
     ensures room { IfOk result (λ parts. parts.header_len ≤ length buf.new) }
     ensures within { IfOk result (λ parts. All (λ slot. slot.start + slot.len ≤ parts.header_len)
         (take parts.count parts.slots)) }
+    ensures cause { IfErr result (KeepsFromTemplate (header_in packet.now)
+        (new_id group.now.ids.now) (elements_of group.now.elements.now) group.now.allowed
+        (length buf.old)) }
+    ensures refused { IsErr result ↔ ((cause : NotRouted)
+        × KeepsFromTemplate (header_in packet.now) (new_id group.now.ids.now)
+        (elements_of group.now.elements.now) group.now.allowed (length buf.old) cause) }
 {
     if group.elements.len() > MAX_ELEMENTS {
         return Err(NotRouted::ManyElements);
@@ -71,13 +79,9 @@ pub fn make_template(
         return Err(NotRouted::RepeatedId);
     }
     let len = make_header(packet, &Fields::default(), group, buf)?;
-    let header = match RtpPacket::parse(&buf[..len]) {
-        Ok(header) => header,
-        Err(cause) => return Err(NotRouted::NotPut(NotPut::NotAPacket(cause))),
-    };
-    let Some(slots) = slots_of(&header, group.elements) else {
-        return Err(NotRouted::RepeatedId);
-    };
+    // The calls made a packet, in which each element is.
+    let header = RtpPacket::parse(&buf[..len]).unwrap();
+    let slots = slots_of(&header, group.elements).unwrap();
     Ok(TemplateParts {
         header_len: header.header_len() as u32,
         slots,

@@ -29,7 +29,8 @@ pub struct Slot {
 
 // Whether one of the elements has the id.
 fn has_id(elements: &[(u8, &[u8])], id: u8) -> bool
-    ensures { OnFalse result (HasNone (elements_of elements.now) id) }
+    ensures none { OnFalse result (HasNone (elements_of elements.now) id) }
+    ensures some { OnTrue result (HasNone (elements_of elements.now) id → ⊥) }
 {
     for index in 0..elements.len() {
         if elements[index].0 == id {
@@ -41,7 +42,7 @@ fn has_id(elements: &[(u8, &[u8])], id: u8) -> bool
 
 // Whether no two of the elements have one id.
 pub(super) fn have_own_ids(elements: &[(u8, &[u8])]) -> bool
-    ensures { OnTrue result (HaveOwnIds (elements_of elements.now)) }
+    ensures { IsTrue result ↔ HaveOwnIds (elements_of elements.now) }
 {
     for index in 0..elements.len() {
         if has_id(&elements[index + 1..], elements[index].0) {

@@ -1,6 +1,6 @@
 //! A header that is made once for a group of receivers.
 
-ghost use Rattle.std.specs.Prelude.{◌≡◌, ◌↔◌, ◌+◌, ◌<◌, ◌≤◌, ℕ, List, Option, Some, length, map, take, drop, true, All, IsErr, IsSome, IfOk, IfErr, IfSome, OnErr};
+ghost use Rattle.std.specs.Prelude.{◌≡◌, ◌↔◌, ◌+◌, ◌<◌, ◌≤◌, ℕ, List, Option, Some, length, map, take, drop, slice_index, true, All, IsErr, IsSome, IfOk, IfErr, IfSome, OnErr};
 ghost use Rattle.rtp_ext.specs.declared.form.ExtensionsForm.{ExtensionsForm};
 ghost use Rattle.rtp_route.specs.declared.not_written.NotWritten.{NotWritten};
 ghost use Rattle.rtp_ext.specs.Elements.{Element};
@@ -10,19 +10,18 @@ ghost use Rattle.rtp_wire.specs.ChangedPacket.{ChangesOnly};
 ghost use Rattle.rtp_wire.specs.GivenFields.{with_header_fields};
 ghost use Rattle.rtp_wire.specs.Packet.{PacketParts, IsPacket, header_len_of};
 ghost use Rattle.rtp_wire.specs.PartsOf.{parts_of, datagram_of};
+ghost use Rattle.rtp_route.specs.declared.not_routed.NotRouted.{NotRouted};
 ghost use Rattle.rtp_route.specs.Calls.{header_in};
 ghost use Rattle.rtp_route.specs.GroupHeader.{IsFilledIn};
-ghost use Rattle.rtp_route.specs.Routing.{GivesIds, IsRouted};
+ghost use Rattle.rtp_route.specs.NotRouted.{KeepsFromTemplate};
+ghost use Rattle.rtp_route.specs.Routing.{IsRouted};
 ghost use Rattle.rtp_route.specs.Template.{with_data, data_lengths, total_of, pieces, LiesInHeader};
 
-use super::by_calls::make_header;
 use super::in_place::set_fields;
-use super::slots::{
-    MAX_ELEMENTS, Slot, fill, fill_joined, have_lengths, have_own_ids, slots_of,
-};
-use super::{Group, NotRouted, NotWritten, TemplateParts};
+use super::slots::{MAX_ELEMENTS, Slot, fill, fill_joined, have_lengths};
+use super::{Group, NotRouted, NotWritten, TemplateParts, make_template};
 use rtp_base::put;
-use rtp_wire::{Fields, NotPut, RtpPacket};
+use rtp_wire::{Fields, RtpPacket};
 
 /// A packet's header for a group of receivers: what they have in common is made once, and each then
 /// gets a copy with fields and data of its own.
@@ -45,37 +44,30 @@ impl<'a> HeaderTemplate<'a> {
     /// Makes the header that the packet gets for the group in the buffer, which is lent to the
     /// template. One of twice the packet's header and 264 bytes for each element has room.
     ///
-    /// It is refused where a call for one packet is, for more elements than
-    /// [`MAX_ELEMENTS`](super::MAX_ELEMENTS), and for two of one id; the buffer then has any bytes.
-    /// The contract says what an `Ok` is, and not exactly when there is one: tests do.
+    /// The cause is [`NotRouted::ManyElements`] for more than 16 elements, else
+    /// [`NotRouted::RepeatedId`] for two of one id, and else that of
+    /// [`route_header`](super::route_header). The buffer then has any bytes.
     pub fn new(
         packet: &RtpPacket<'_>,
         group: &Group<'_>,
         buf: &'a mut [u8],
     ) -> Result<Self, NotRouted>
-        ensures { GivesIds (new_id group.now.ids.now) → IfOk result (IsTemplate
-            (datagram_of packet.now) (new_id group.now.ids.now)
-            (elements_of group.now.elements.now) group.now.allowed) }
+        ensures made { IfOk result (IsTemplate (datagram_of packet.now)
+            (new_id group.now.ids.now) (elements_of group.now.elements.now) group.now.allowed) }
+        ensures cause { IfErr result (KeepsFromTemplate (header_in packet.now)
+            (new_id group.now.ids.now) (elements_of group.now.elements.now) group.now.allowed
+            (length buf.old)) }
+        ensures refused { IsErr result ↔ ((cause : NotRouted)
+            × KeepsFromTemplate (header_in packet.now) (new_id group.now.ids.now)
+            (elements_of group.now.elements.now) group.now.allowed (length buf.old) cause) }
     {
-        if group.elements.len() > MAX_ELEMENTS {
-            return Err(NotRouted::ManyElements);
-        }
-        if !have_own_ids(group.elements) {
-            return Err(NotRouted::RepeatedId);
-        }
-        let len = make_header(packet, &Fields::default(), group, buf)?;
-        // Neither is refused: the calls made a packet, in which each element is.
-        let header = match RtpPacket::parse(&buf[..len]) {
-            Ok(header) => header,
-            Err(cause) => return Err(NotRouted::NotPut(NotPut::NotAPacket(cause))),
-        };
-        let Some(slots) = slots_of(&header, group.elements) else {
-            return Err(NotRouted::RepeatedId);
-        };
+        let parts = make_template(packet, group, buf)?;
+        let header = RtpPacket::parse(&buf[..parts.header_len as usize]).unwrap();
+        let slots = parts.slots;
         Ok(HeaderTemplate {
             header,
             slots,
-            count: group.elements.len(),
+            count: parts.count,
         })
     }
 
@@ -122,6 +114,14 @@ impl<'a> HeaderTemplate<'a> {
             (allowed : Option ExtensionsForm) → IsTemplate old ids news allowed self.now →
             IfOk result (λ len. IsRouted old fields.now ids
             (with_data news (map (λ bytes. bytes.now) contents.now)) allowed (take len buf.new)) }
+
+        // There is no other such header.
+        ensures only { (old : List ℕ) (ids : ℕ → Option ℕ) (news : List Element)
+            (allowed : Option ExtensionsForm) → IsTemplate old ids news allowed self.now →
+            IfOk result (λ len. (header : List ℕ) → ((k : ℕ) → slice_index header k < 256) →
+            IsRouted old fields.now ids
+            (with_data news (map (λ bytes. bytes.now) contents.now)) allowed header →
+            header ≡ take len buf.new) }
         ensures length { IfOk result (λ len. len ≡ header_len_in self.now) }
         ensures behind { IfOk result (λ len. drop len buf.new ≡ drop len buf.old) }
         ensures cause { IfErr result (KeepsFromWriting self.now

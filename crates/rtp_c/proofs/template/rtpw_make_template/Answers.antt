@@ -3,9 +3,8 @@ use Rattle.std.proofs.Common.{take}
 use Rattle.rtp_ext.specs.ElementsInARow.{elements_of}
 use Rattle.rtp_ext.specs.NewIds.{new_id}
 use Rattle.rtp_route.specs.declared.slots.Slot.{Slot}
-use Rattle.rtp_route.specs.Routing.{GivesIds}
 use Rattle.rtp_route.specs.Template.{total_of}
-use Rattle.rtp_c.proofs.TemplateLemmas.{gives-ids, named-length, group-of, not_routed≢ok}
+use Rattle.rtp_c.proofs.TemplateLemmas.{named-length, group-of, not_routed≢ok}
 use Rattle.rtp_c.proofs.WritingLemmas.{one_allowed}
 use Rattle.rtp_c.proofs.template.rtpw_make_template.Goals as goal
 
@@ -13,10 +12,9 @@ pub returns-in-Ok-make_template-clause-made : goal.returns-in-Ok-make_template-c
 returns-in-Ok-make_template-clause-made c form same is_ok =
     let named = c.in-Some-new.named in
     let number = named-length c.args.bytes.now named.bytes.now named.views.now c.args.elements.now c.in-Some-new.ensures.elements in
-    let gives = subst (λ (ids : List (Option ℕ)). GivesIds (new_id ids)) (sym c.from_ids.ensures) (gives-ids c.args.ids.now.id) in
     group-of c.args.datagram.now _ _ _ _ _ form c.in-Some.allowed c.stored.result.header_len _ c.make_template.new.buf _ _ c.in-Ok.ensures.bytes c.from_ids.ensures
     (ap (λ (n : ℕ). elements_of (take n c.lent-lent.result)) (sym number) ∙ c.lent-lent.ensures.elements ∙ c.in-Some-new.ensures.elements)
-    (one_allowed c.in-Some.allowed form (c.in-Some.ensures.found ∙ sym same)) (sym c.stored.ensures.header_len) (sym c.stored.ensures.slots) (c.in-Ok-make_template.ensures.made gives)
+    (one_allowed c.in-Some.allowed form (c.in-Some.ensures.found ∙ sym same)) (sym c.stored.ensures.header_len) (sym c.stored.ensures.slots) c.in-Ok-make_template.ensures.made
 
 pub returns-in-Ok-make_template-clause-in_range : goal.returns-in-Ok-make_template-clause-in_range
 returns-in-Ok-make_template-clause-in_range c is_ok =

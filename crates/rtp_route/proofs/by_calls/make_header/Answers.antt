@@ -1,16 +1,24 @@
-use Rattle.std.proofs.Common.{◌≡◌, ℕ, List, [], ◌++◌, length, take, drop, sym, ap, subst, ◌∙◌, arith, take_at}
+use Rattle.std.proofs.Common.{rules, ◌≡◌, ◌≤◌, inl, inr, ℕ, false, true, List, ◌++◌, length, take, drop, refl, sym, ap, subst, arith, take_at}
+use Rattle.std.proofs.lemmas.Bool.{false≢true}
+use Rattle.std.proofs.lemmas.Result.{err_from_is_err_and}
 use Rattle.rtp_ext.specs.NewIds.{new_id}
 use Rattle.rtp_ext.specs.ElementsInARow.{elements_of}
-use Rattle.rtp_wire.specs.Packet.{PacketParts, IsPacket, header_len_of}
-use Rattle.rtp_wire.specs.ChangedPacket.{ChangesOnly}
-use Rattle.rtp_wire.specs.GivenFields.{with_header_fields}
+use Rattle.rtp_wire.specs.Packet.{IsPacket}
 use Rattle.rtp_wire.specs.PartsAt.{HasLayout}
-use Rattle.rtp_wire.specs.PartsOf.{parts_of}
+use Rattle.rtp_wire.specs.declared.packet.rtp_packet.RtpPacket.{RtpPacket}
+use Rattle.rtp_wire.specs.declared.packet.not_put.NotPut.TheVariants.{NoRoom}
+use Rattle.rtp_wire.specs.PartsOf.{parts_of, datagram_of}
+use Rattle.rtp_wire.specs.NotAHeader.{IsNoPacket}
+use Rattle.rtp_wire.specs.PutIntoPacket.{Compacts}
 use Rattle.rtp_wire.proofs.CompactLemmas.{Compacts-front}
-use Rattle.rtp_wire.proofs.PartsLemmas.{length-packet, IsPacket-found}
-use Rattle.rtp_wire.proofs.RetransmissionHeaders.{elements_there}
-use Rattle.rtp_route.specs.Calls.{ArePut, IsUnderNewIds, IsRoutedByCalls, header_in}
-use Rattle.rtp_route.proofs.ByCallsLemmas.{front-put}
+use Rattle.rtp_wire.proofs.NotAPacketLemmas.{no_packet-refused}
+use Rattle.rtp_wire.proofs.PartsLemmas.{length-packet}
+use Rattle.rtp_route.specs.declared.not_routed.NotRouted.TheVariants.{LongId, NotPut}
+use Rattle.rtp_route.specs.NotPutAmong.{IsNotPutAmong}
+use Rattle.rtp_route.specs.NotRouted.{KeepsFromRouting}
+use Rattle.rtp_route.specs.Calls.{ArePut, header_in}
+use Rattle.rtp_route.proofs.ByCallsLemmas.{front-put, alone_parts, header-is, set-and-renumbered, ids-long, ids-short}
+use Rattle.rtp_route.proofs.NotPutLemmas.{ArePut-packet, none-kept}
 use Rattle.rtp_route.proofs.by_calls.make_header.Goals as goal
 
 pub set_fields-requires-clause-held : goal.set_fields-requires-clause-held
@@ -19,8 +27,8 @@ set_fields-requires-clause-held c =
     let alone = c.header_bytes-header.ensures.alone in
     let front = front-put c.args.buf.now c.put.new.buf header c.put.ensures.written in
     record {
-      parts = record (parts_of c.args.packet.now) { payload = [] };
-      is_packet = subst (λ (b : List ℕ). IsPacket b (record (parts_of c.args.packet.now) { payload = [] })) (sym front) alone;
+      parts = alone_parts c.args.packet.now;
+      is_packet = subst (λ (b : List ℕ). IsPacket b (alone_parts c.args.packet.now)) (sym front) alone;
       form_is = c.form-form.ensures;
       len_is = omega (arith, c.header_len-header_len.ensures, length-packet header _ alone, ap length front);
     }
@@ -32,35 +40,175 @@ renumber-requires c =
     subst (λ (b : List ℕ). HasLayout b c.header_len-header_len.result c.form-form.result)
     (sym (take_at c.set_fields.new.header _ (length header) (omega (arith, c.set_fields.auto.header, ap length front)))) c.set_fields.ensures.held
 
-pub returns-in-Ok-clause-made : goal.returns-in-Ok-clause-made
-returns-in-Ok-clause-made c =
+-- the room that is tested
+long-header : (packet : RtpPacket) (header : List ℕ) → datagram_of packet ≡ header ++ (parts_of packet).payload → IsPacket header (alone_parts packet) → length header ≡ length (header_in packet)
+long-header packet header front alone = ap length (header-is packet header front alone)
+
+pub returns-then-buf-needed-clause-cause : goal.returns-then-buf-needed-clause-cause
+returns-then-buf-needed-clause-cause c =
+    let long = long-header c.args.packet.now c.header_bytes-header.result.now c.header_bytes-header.ensures.front c.header_bytes-header.ensures.alone in
+    inl (ap NoRoom long, omega (arith, c.if-buf-needed.true, long))
+
+pub returns-then-buf-needed-clause-refused : goal.returns-then-buf-needed-clause-refused
+returns-then-buf-needed-clause-refused c =
+    let long = long-header c.args.packet.now c.header_bytes-header.result.now c.header_bytes-header.ensures.front c.header_bytes-header.ensures.alone in
+    (λ _. (NotPut (NoRoom (length c.header_bytes-header.result.now)), inl (ap NoRoom long, omega (arith, c.if-buf-needed.true, long))), λ _. refl)
+
+pub returns-then-not-renumber-clause-cause : goal.returns-then-not-renumber-clause-cause
+returns-then-not-renumber-clause-cause c =
     let packet = c.args.packet.now in
-    let parts : PacketParts = record (parts_of packet) { payload = [] } in
+    let ids = new_id c.args.group.now.ids.now in
     let header = c.header_bytes-header.result.now in
+    let put_bytes : List ℕ = take (length header) c.put.new.buf in
+    let now : List ℕ = take (length header) (c.set_fields.new.header ++ drop (length header) c.put.new.buf) in
+    let of_packet = c.header_bytes-header.ensures.front in
     let alone = c.header_bytes-header.ensures.alone in
-    let front = front-put c.args.buf.now c.put.new.buf header c.put.ensures.written in
-    let there = elements_there packet.datagram.now (parts_of packet) packet.bytes (IsPacket-found packet) in
-    let set_is : take (length header) (c.set_fields.new.header ++ drop (length header) c.put.new.buf) ≡ c.set_fields.new.header =
-    take_at c.set_fields.new.header _ (length header) (omega (arith, c.set_fields.auto.header, ap length front)) in
-    let set_packet = c.set_fields.ensures.set parts (subst (λ (b : List ℕ). IsPacket b parts) (sym front) alone) in
-    let long : header_len_of (parts_of packet) ≡ length header = omega (arith, length-packet header parts alone) in
-    let same : header ≡ header_in packet =
-    sym (ap (take (header_len_of (parts_of packet))) c.header_bytes-header.ensures.front ∙ take_at header (parts_of packet).payload (header_len_of (parts_of packet)) (sym long)) in
-    subst (λ (b : List ℕ). IsRoutedByCalls b c.args.fields.now (new_id c.args.group.now.ids.now) (elements_of c.args.group.now.elements.now) c.args.group.now.allowed (c.compact.new.datagram ++ drop c.in_ok-len.len c.put_each.new.buf) c.in-Ok.len) same
-    (record {
-      parts = parts;
-      elements = there.0;
-      was_packet = alone;
-      were_elements = there.1;
-      set_bytes = c.set_fields.new.header;
-      set_packet = set_packet;
-      set_only = subst (λ (b : List ℕ). ChangesOnly 1 12 b c.set_fields.new.header) front c.set_fields.ensures.fixed;
-      renumbered_bytes = c.renumber.new.header;
-      renumbered = subst (λ (b : List ℕ). IsUnderNewIds (new_id c.args.group.now.ids.now) there.0 b (with_header_fields c.args.fields.now parts) c.renumber.new.header) set_is
-          (c.if-not-renumber.ensures (with_header_fields c.args.fields.now parts) there.0
-          (subst (λ (b : List ℕ). IsPacket b (with_header_fields c.args.fields.now parts)) (sym set_is) set_packet) there.1);
+    let front : put_bytes ≡ header = front-put c.args.buf.now c.put.new.buf header c.put.ensures.written in
+    let now_is : now ≡ c.set_fields.new.header = take_at c.set_fields.new.header _ (length header) (omega (arith, c.set_fields.auto.header, ap length front)) in
+    let long = ids-long packet c.args.fields.now ids header put_bytes c.set_fields.new.header now of_packet alone front c.set_fields.ensures.set now_is false c.if-not-renumber.ensures.answer refl in
+    (omega (arith, c.if-buf-needed.false, long-header packet header of_packet alone), long)
+
+pub returns-then-not-renumber-clause-refused : goal.returns-then-not-renumber-clause-refused
+returns-then-not-renumber-clause-refused c =
+    let packet = c.args.packet.now in
+    let ids = new_id c.args.group.now.ids.now in
+    let header = c.header_bytes-header.result.now in
+    let put_bytes : List ℕ = take (length header) c.put.new.buf in
+    let now : List ℕ = take (length header) (c.set_fields.new.header ++ drop (length header) c.put.new.buf) in
+    let of_packet = c.header_bytes-header.ensures.front in
+    let alone = c.header_bytes-header.ensures.alone in
+    let front : put_bytes ≡ header = front-put c.args.buf.now c.put.new.buf header c.put.ensures.written in
+    let now_is : now ≡ c.set_fields.new.header = take_at c.set_fields.new.header _ (length header) (omega (arith, c.set_fields.auto.header, ap length front)) in
+    let long = ids-long packet c.args.fields.now ids header put_bytes c.set_fields.new.header now of_packet alone front c.set_fields.ensures.set now_is false c.if-not-renumber.ensures.answer refl in
+    (λ _. (LongId, (omega (arith, c.if-buf-needed.false, long-header packet header of_packet alone), long)), λ _. refl)
+
+pub returns-in_err-len-clause-cause : goal.returns-in_err-len-clause-cause
+returns-in_err-len-clause-cause c =
+    let packet = c.args.packet.now in
+    let ids = new_id c.args.group.now.ids.now in
+    let header = c.header_bytes-header.result.now in
+    let put_bytes : List ℕ = take (length header) c.put.new.buf in
+    let now : List ℕ = take (length header) (c.set_fields.new.header ++ drop (length header) c.put.new.buf) in
+    let of_packet = c.header_bytes-header.ensures.front in
+    let alone = c.header_bytes-header.ensures.alone in
+    let front : put_bytes ≡ header = front-put c.args.buf.now c.put.new.buf header c.put.ensures.written in
+    let now_is : now ≡ c.set_fields.new.header = take_at c.set_fields.new.header _ (length header) (omega (arith, c.set_fields.auto.header, ap length front)) in
+    let start = set-and-renumbered packet c.args.fields.now ids header put_bytes c.set_fields.new.header now of_packet alone front c.set_fields.ensures.set now_is c.renumber.new.header c.set_fields.ensures.fixed
+    c.if-not-renumber.ensures.renumbered in
+    let renumbered : List ℕ = c.renumber.new.header ++ drop (length header) (c.set_fields.new.header ++ drop (length header) c.put.new.buf) in
+    let after : take (length header) renumbered ≡ c.renumber.new.header =
+    take_at c.renumber.new.header _ (length header) (omega (arith, c.renumber.auto.header, ap length now_is, c.set_fields.auto.header, ap length front)) in
+    let news = elements_of c.args.group.now.elements.now in
+    let allowed = c.args.group.now.allowed in
+    let room : ℕ = length c.args.buf.now in
+    let long_now : length renumbered ≡ room = search rules in
+    let p = err_from_is_err_and c.from_residual.result c.from_residual.ensures.1 in
+    let refused : KeepsFromRouting (header_in packet) c.args.fields.now ids news allowed room (NotPut c.in_err-len.field-0.0) =
+    inr (
+      c.renumber.new.header,
+      omega (arith, c.if-buf-needed.false, long-header packet header of_packet alone),
+      start,
+      subst (λ (b : List ℕ). IsNotPutAmong b news allowed room c.in_err-len.field-0.0) after (subst (λ (k : ℕ). IsNotPutAmong (take (length header) renumbered) news allowed k c.in_err-len.field-0.0) long_now c.in_err-len.ensures.cause),
+    ) in
+    rw (p.1, p.2) refused
+
+pub returns-in_err-len-clause-refused : goal.returns-in_err-len-clause-refused
+returns-in_err-len-clause-refused c =
+    let packet = c.args.packet.now in
+    let ids = new_id c.args.group.now.ids.now in
+    let header = c.header_bytes-header.result.now in
+    let put_bytes : List ℕ = take (length header) c.put.new.buf in
+    let now : List ℕ = take (length header) (c.set_fields.new.header ++ drop (length header) c.put.new.buf) in
+    let of_packet = c.header_bytes-header.ensures.front in
+    let alone = c.header_bytes-header.ensures.alone in
+    let front : put_bytes ≡ header = front-put c.args.buf.now c.put.new.buf header c.put.ensures.written in
+    let now_is : now ≡ c.set_fields.new.header = take_at c.set_fields.new.header _ (length header) (omega (arith, c.set_fields.auto.header, ap length front)) in
+    let start = set-and-renumbered packet c.args.fields.now ids header put_bytes c.set_fields.new.header now of_packet alone front c.set_fields.ensures.set now_is c.renumber.new.header c.set_fields.ensures.fixed
+    c.if-not-renumber.ensures.renumbered in
+    let renumbered : List ℕ = c.renumber.new.header ++ drop (length header) (c.set_fields.new.header ++ drop (length header) c.put.new.buf) in
+    let after : take (length header) renumbered ≡ c.renumber.new.header =
+    take_at c.renumber.new.header _ (length header) (omega (arith, c.renumber.auto.header, ap length now_is, c.set_fields.auto.header, ap length front)) in
+    let news = elements_of c.args.group.now.elements.now in
+    let allowed = c.args.group.now.allowed in
+    let room : ℕ = length c.args.buf.now in
+    let long_now : length renumbered ≡ room = search rules in
+    let refused : KeepsFromRouting (header_in packet) c.args.fields.now ids news allowed room (NotPut c.in_err-len.field-0.0) =
+    inr (
+      c.renumber.new.header,
+      omega (arith, c.if-buf-needed.false, long-header packet header of_packet alone),
+      start,
+      subst (λ (b : List ℕ). IsNotPutAmong b news allowed room c.in_err-len.field-0.0) after (subst (λ (k : ℕ). IsNotPutAmong (take (length header) renumbered) news allowed k c.in_err-len.field-0.0) long_now c.in_err-len.ensures.cause),
+    ) in
+    (λ _. (NotPut c.in_err-len.field-0.0, refused), λ _. c.from_residual.ensures.0)
+
+pub unwrap-requires : goal.unwrap-requires
+unwrap-requires c =
+    let packet = c.args.packet.now in
+    let ids = new_id c.args.group.now.ids.now in
+    let header = c.header_bytes-header.result.now in
+    let put_bytes : List ℕ = take (length header) c.put.new.buf in
+    let now : List ℕ = take (length header) (c.set_fields.new.header ++ drop (length header) c.put.new.buf) in
+    let of_packet = c.header_bytes-header.ensures.front in
+    let alone = c.header_bytes-header.ensures.alone in
+    let front : put_bytes ≡ header = front-put c.args.buf.now c.put.new.buf header c.put.ensures.written in
+    let now_is : now ≡ c.set_fields.new.header = take_at c.set_fields.new.header _ (length header) (omega (arith, c.set_fields.auto.header, ap length front)) in
+    let start = set-and-renumbered packet c.args.fields.now ids header put_bytes c.set_fields.new.header now of_packet alone front c.set_fields.ensures.set now_is c.renumber.new.header c.set_fields.ensures.fixed
+    c.if-not-renumber.ensures.renumbered in
+    let renumbered : List ℕ = c.renumber.new.header ++ drop (length header) (c.set_fields.new.header ++ drop (length header) c.put.new.buf) in
+    let after : take (length header) renumbered ≡ c.renumber.new.header =
+    take_at c.renumber.new.header _ (length header) (omega (arith, c.renumber.auto.header, ap length now_is, c.set_fields.auto.header, ap length front)) in
+    let packet_now = ArePut-packet (elements_of c.args.group.now.elements.now) c.args.group.now.allowed c.renumber.new.header (take c.in_ok-len.len c.put_each.new.buf) start.renumbered.parts
+    start.renumbered.is_packet (subst (λ (b : List ℕ). ArePut b (elements_of c.args.group.now.elements.now) c.args.group.now.allowed (take c.in_ok-len.len c.put_each.new.buf)) after c.in_ok-len.ensures.put) in
+    let refused : IsNoPacket (take c.in_ok-len.len c.put_each.new.buf) → ⊥ = λ none. no_packet-refused _ packet_now.0 none packet_now.1 in
+    search rules
+
+pub returns-clause-made : goal.returns-clause-made
+returns-clause-made c =
+    let packet = c.args.packet.now in
+    let ids = new_id c.args.group.now.ids.now in
+    let header = c.header_bytes-header.result.now in
+    let put_bytes : List ℕ = take (length header) c.put.new.buf in
+    let now : List ℕ = take (length header) (c.set_fields.new.header ++ drop (length header) c.put.new.buf) in
+    let of_packet = c.header_bytes-header.ensures.front in
+    let alone = c.header_bytes-header.ensures.alone in
+    let front : put_bytes ≡ header = front-put c.args.buf.now c.put.new.buf header c.put.ensures.written in
+    let now_is : now ≡ c.set_fields.new.header = take_at c.set_fields.new.header _ (length header) (omega (arith, c.set_fields.auto.header, ap length front)) in
+    let start = set-and-renumbered packet c.args.fields.now ids header put_bytes c.set_fields.new.header now of_packet alone front c.set_fields.ensures.set now_is c.renumber.new.header c.set_fields.ensures.fixed
+    c.if-not-renumber.ensures.renumbered in
+    let renumbered : List ℕ = c.renumber.new.header ++ drop (length header) (c.set_fields.new.header ++ drop (length header) c.put.new.buf) in
+    let after : take (length header) renumbered ≡ c.renumber.new.header =
+    take_at c.renumber.new.header _ (length header) (omega (arith, c.renumber.auto.header, ap length now_is, c.set_fields.auto.header, ap length front)) in
+    let is : Compacts (take c.in_ok-len.len c.put_each.new.buf) c.compact.new.datagram c.unwrap.result = rw c.unwrap.ensures at c.compact.ensures.compacted in
+    let within : c.unwrap.result ≤ length (take c.in_ok-len.len c.put_each.new.buf) = rw c.unwrap.ensures at c.compact.ensures.within in
+    record {
+      start_bytes = c.renumber.new.header;
+      start = start;
       put_bytes = take c.in_ok-len.len c.put_each.new.buf;
-      are_put = subst (λ (b : List ℕ). ArePut b (elements_of c.args.group.now.elements.now) c.args.group.now.allowed (take c.in_ok-len.len c.put_each.new.buf))
-          (take_at c.renumber.new.header _ (length header) (omega (arith, c.renumber.auto.header, ap length set_is, c.set_fields.auto.header, ap length front))) c.in_ok-len.ensures.put;
-      compacted = Compacts-front _ c.compact.new.datagram _ c.in-Ok.len (omega (arith, c.in-Ok.ensures.within, c.compact.auto.datagram)) c.in-Ok.ensures.compacted;
-    })
+      are_put = subst (λ (b : List ℕ). ArePut b (elements_of c.args.group.now.elements.now) c.args.group.now.allowed (take c.in_ok-len.len c.put_each.new.buf)) after c.in_ok-len.ensures.put;
+      compacted = Compacts-front _ c.compact.new.datagram _ c.unwrap.result (omega (arith, within, c.compact.auto.datagram)) is;
+    }
+
+pub returns-clause-refused : goal.returns-clause-refused
+returns-clause-refused c =
+    let packet = c.args.packet.now in
+    let ids = new_id c.args.group.now.ids.now in
+    let header = c.header_bytes-header.result.now in
+    let put_bytes : List ℕ = take (length header) c.put.new.buf in
+    let now : List ℕ = take (length header) (c.set_fields.new.header ++ drop (length header) c.put.new.buf) in
+    let of_packet = c.header_bytes-header.ensures.front in
+    let alone = c.header_bytes-header.ensures.alone in
+    let front : put_bytes ≡ header = front-put c.args.buf.now c.put.new.buf header c.put.ensures.written in
+    let now_is : now ≡ c.set_fields.new.header = take_at c.set_fields.new.header _ (length header) (omega (arith, c.set_fields.auto.header, ap length front)) in
+    let start = set-and-renumbered packet c.args.fields.now ids header put_bytes c.set_fields.new.header now of_packet alone front c.set_fields.ensures.set now_is c.renumber.new.header c.set_fields.ensures.fixed
+    c.if-not-renumber.ensures.renumbered in
+    let renumbered : List ℕ = c.renumber.new.header ++ drop (length header) (c.set_fields.new.header ++ drop (length header) c.put.new.buf) in
+    let after : take (length header) renumbered ≡ c.renumber.new.header =
+    take_at c.renumber.new.header _ (length header) (omega (arith, c.renumber.auto.header, ap length now_is, c.set_fields.auto.header, ap length front)) in
+    let news = elements_of c.args.group.now.elements.now in
+    let allowed = c.args.group.now.allowed in
+    let room : ℕ = length c.args.buf.now in
+    let long_now : length renumbered ≡ room = search rules in
+    let short = ids-short packet c.args.fields.now ids header put_bytes c.set_fields.new.header now of_packet alone front c.set_fields.ensures.set now_is true c.if-not-renumber.ensures.answer refl in
+    let none = none-kept (header_in packet) c.args.fields.now ids news allowed room c.renumber.new.header _ (omega (arith, c.if-buf-needed.false, long-header packet header of_packet alone)) start short after
+    (λ other cause same is. false≢true (c.in_ok-len.ensures.refused other cause same (subst (λ (k : ℕ). IsNotPutAmong other news allowed k cause) (sym long_now) is))) in
+    (λ no_error. absurd (false≢true no_error), λ kept. absurd (none kept.0 kept.1))

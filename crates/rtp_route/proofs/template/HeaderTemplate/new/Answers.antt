@@ -1,22 +1,35 @@
-use Rattle.std.proofs.Common.{sym, subst, rules}
-use Rattle.std.proofs.lemmas.List.{length-map}
+use Rattle.std.proofs.Common.{rules, ◌≡◌, ap, ℕ, List, length, take, Result, Ok, Err, IsOk, sym, subst, arith, refl, length-take}
+use Rattle.std.specs.Result.{IsOkAnd}
 use Rattle.rtp_ext.specs.ElementsInARow.{elements_of}
 use Rattle.rtp_ext.specs.NewIds.{new_id}
-use Rattle.rtp_wire.specs.declared.packet.fields.Fields.{Fields}
-use Rattle.rtp_wire.specs.PartsOf.{datagram_of}
-use Rattle.rtp_route.specs.Calls.{IsRoutedByCalls, no_fields, header_in}
-use Rattle.rtp_route.specs.Routing.{IsRouted}
-use Rattle.rtp_route.proofs.LentLemmas.{element_of}
-use Rattle.rtp_route.proofs.RoutingLemmas.{routed-of}
-use Rattle.rtp_route.proofs.TemplateLemmas.{group-made}
+use Rattle.rtp_wire.specs.PartsOf.{datagram_of, parts_of}
+use Rattle.rtp_route.specs.GroupHeader.{IsGroupHeader}
+use Rattle.rtp_route.proofs.TemplateLemmas.{group-length}
 use Rattle.rtp_route.proofs.template.HeaderTemplate.new.Goals as goal
 
-pub returns : goal.returns
-returns c gives =
+is-ok : {A E : Type 0} (result : Result A E) (P : A → Type 0) → IsOkAnd result P → IsOk result
+is-ok (Ok value) P is = refl
+is-ok (Err cause) P is = absurd is
+
+pub unwrap-header-requires : goal.unwrap-header-requires
+unwrap-header-requires c = is-ok c.parse.result _ (c.parse.ensures.only _ c.in_ok-parts.ensures.made.routed.is_packet)
+
+pub invariant_of-result : goal.invariant_of-result
+invariant_of-result c =
+    let packet = c.args.packet.now in
+    let parts = c.in_ok-parts.parts in
+    let header = c.unwrap-header.result in
+    let ids = new_id c.args.group.now.ids.now in
     let news = elements_of c.args.group.now.elements.now in
-    let calls = subst (λ (fields : Fields). IsRoutedByCalls (header_in c.args.packet.now) fields (new_id c.args.group.now.ids.now) news c.args.group.now.allowed c.make_header.new.buf c.in_ok-len.len)
-    (search rules) c.in_ok-len.ensures.made in
-    let routed = routed-of c.args.packet.now c.make_header.new.buf c.in_ok-len.len no_fields (new_id c.args.group.now.ids.now) news c.args.group.now.allowed gives c.in_ok-len.ensures.ids calls in
-    group-made (datagram_of c.args.packet.now) (new_id c.args.group.now.ids.now) news c.args.group.now.allowed c.in-Ok.header c.in-Some.slots _
-    (subst (IsRouted (datagram_of c.args.packet.now) no_fields (new_id c.args.group.now.ids.now) news c.args.group.now.allowed) (sym c.in-Ok.ensures.bytes) routed)
-    c.if-not-have_own_ids.ensures (sym (length-map c.args.group.now.elements.now element_of)) c.in-Some.ensures.found
+    let allowed = c.args.group.now.allowed in
+    let slots = take parts.count parts.slots in
+    let bytes : datagram_of header ≡ take parts.header_len c.make_template.new.buf = rw c.unwrap-header.ensures at c.parse.ensures.bytes in
+    let group : IsGroupHeader (datagram_of packet) ids news allowed (datagram_of header) slots =
+    subst (λ (b : List ℕ). IsGroupHeader (datagram_of packet) ids news allowed b slots) (sym bytes) c.in_ok-parts.ensures.made in
+    let long = group-length (datagram_of packet) ids news allowed header slots group in
+    record {
+      few = c.in_ok-parts.ensures.few;
+      long = parts.long;
+      within = λ k d there.
+          omega (arith, c.in_ok-parts.ensures.within k d there, long, ap length bytes, length-take parts.header_len c.make_template.new.buf, c.in_ok-parts.ensures.room);
+    }
