@@ -9,14 +9,19 @@ use Rattle.rtp_ext.specs.ElementsInARow.{elements_of}
 use Rattle.rtp_ext.specs.NewIds.{new_id}
 use Rattle.rtp_route.specs.declared.not_routed.NotRouted.{NotRouted}
 use Rattle.rtp_route.specs.declared.not_routed.NotRouted.TheVariants.{ManyElements, RepeatedId, LongId, NotPut}
+use Rattle.rtp_route.specs.Calls as calls
 use Rattle.rtp_route.specs.GroupHeader.{IsGroupHeader}
+use Rattle.rtp_route.specs.NotRouted.{KeepsFromTemplate}
+use Rattle.rtp_wire.specs.declared.packet.rtp_packet.RtpPacket.{RtpPacket}
+use Rattle.rtp_wire.specs.Packet.{PacketParts, header_len_of}
+use Rattle.rtp_wire.specs.PartsOf.{parts_of, datagram_of}
 use Rattle.rtp_c.specs.declared.packet.ElementView.{ElementView}
 use Rattle.rtp_c.specs.ElementView.{element_in}
 use Rattle.rtp_c.specs.RoutedStatus.{not_routed_status}
 use Rattle.rtp_c.specs.Status.{ok, bad_field}
 use Rattle.rtp_c.specs.StoredTemplate.{slots_at}
 use Rattle.rtp_c.specs.WrittenElements.{elements_in}
-use Rattle.rtp_c.proofs.PutLemmas.{status≢ok}
+use Rattle.rtp_c.proofs.PutLemmas.{status_is, status≢ok}
 
 pub slots_at-length : (starts lens : List ℕ) → length starts ≡ length lens → length (slots_at starts lens) ≡ length starts
 slots_at-length [] lens same = refl
@@ -86,3 +91,23 @@ not_routed≢ok result ManyElements is is_ok = let no : bad_field ≡ ok = sym (
 not_routed≢ok result RepeatedId is is_ok = let no : bad_field ≡ ok = sym (ap (λ (z : ℤ). to_z w32 (of_z w32 z)) is) ∙ is_ok in cc
 not_routed≢ok result LongId is is_ok = let no : bad_field ≡ ok = sym (ap (λ (z : ℤ). to_z w32 (of_z w32 z)) is) ∙ is_ok in cc
 not_routed≢ok result (NotPut cause) is is_ok = status≢ok result cause is is_ok
+
+-- the status of a cause
+pub not_routed-is : (result : ℤ) (cause : NotRouted) → result ≡ not_routed_status cause → to_z w32 (of_z w32 result) ≡ not_routed_status cause
+not_routed-is result ManyElements is = ap (λ (z : ℤ). to_z w32 (of_z w32 z)) is
+not_routed-is result RepeatedId is = ap (λ (z : ℤ). to_z w32 (of_z w32 z)) is
+not_routed-is result LongId is = ap (λ (z : ℤ). to_z w32 (of_z w32 z)) is
+not_routed-is result (NotPut cause) is = status_is result cause is
+
+-- what keeps a packet's header from a group
+pub kept-of : (old was : List ℕ) (ids were : List (Option ℕ)) (news given : List Element) (form allowed : Option ExtensionsForm) (room : ℕ) (cause : NotRouted)
+    → was ≡ old → were ≡ ids → given ≡ news → allowed ≡ form → KeepsFromTemplate was (new_id were) given allowed room cause → KeepsFromTemplate old (new_id ids) news form room cause
+kept-of old was ids were news given form allowed room cause old_is ids_are news_are form_is kept =
+    subst (λ (b : List ℕ). KeepsFromTemplate b (new_id ids) news form room cause) old_is
+    (subst (λ (t : List (Option ℕ)). KeepsFromTemplate was (new_id t) news form room cause) ids_are
+    (subst (λ (es : List Element). KeepsFromTemplate was (new_id were) es form room cause) news_are
+    (subst (λ (f : Option ExtensionsForm). KeepsFromTemplate was (new_id were) given f room cause) form_is kept)))
+
+pub header-of : (packet : RtpPacket) (bytes : List ℕ) (parts : PacketParts) → datagram_of packet ≡ bytes → parts_of packet ≡ parts → calls.header_in packet ≡ take (header_len_of parts) bytes
+header-of packet bytes parts bytes_are parts_are =
+    ap (λ (p : PacketParts). take (header_len_of p) (datagram_of packet)) parts_are ∙ ap (take (header_len_of parts)) bytes_are
