@@ -165,11 +165,10 @@ static void wide_restarting_receive(void) { status = rtpw_wide_restarting_receiv
 static void receiver_receive(void) { status = rtpw_receiver_receive(&receiver, 99, &number); }
 static void receive_many(void) { rtpw_receive_many(&receiver, 1, arrivals, 3); }
 static void make_template(void) {
-    status = rtpw_make_template(datagram, sizeof datagram, &ids, data, sizeof data, many + 1, 16, RTPW_ANY_FORM, headers,
+    status = rtpw_make_template(datagram, few_elements(), &ids, data, sizeof data, many + 1, 16, RTPW_ANY_FORM, headers,
                                 sizeof headers, &made);
 }
-static void write_headers(void) {
-    make_template();
+static void write_headers(void) { /* from what was made before */
     status = rtpw_write_headers(&made, headers, sizeof headers, zeros, sizeof zeros, routed, 2, written_headers,
                                 sizeof written_headers);
 }

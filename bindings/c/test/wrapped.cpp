@@ -413,6 +413,8 @@ void routes() {
     receivers[1].fields.has_ssrc = 1;
     receivers[1].fields.ssrc = 46;
     std::uint8_t headers[48];
+    CHECK(rtpw::make_template(packet, ids, data, elements, header, RTPW_TWO_BYTE_FORM)->data_at[0] == 21);
+    CHECK(same({header + 12, 12}, {0x10, 0, 0, 2, 3, 1, 0xAA, 4, 2, 0, 7, 0}));
     CHECK(rtpw::make_template(packet, ids, data, elements, header).status() == status::ok);
     CHECK(rtpw::write_headers(*made, header, data, receivers, headers) == status::ok);
     CHECK(same({headers + 24, 24}, {0x90, 96,   0,    5, 0, 0,    0,    100,  0, 0, 0, 46,
