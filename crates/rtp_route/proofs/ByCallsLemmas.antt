@@ -82,49 +82,76 @@ header-is packet header front alone =
     let long : header_len_of (parts_of packet) ≡ length header = omega (arith, length-packet header (alone_parts packet) alone) in
     sym (ap (take (header_len_of (parts_of packet))) front ∙ take_at header (parts_of packet).payload (header_len_of (parts_of packet)) (sym long))
 
--- the bytes where the fields are set and where the ids are changed are the same ones
-module _ (packet : RtpPacket) (fields : Fields) (ids : ℕ → Option ℕ) (header put set now : List ℕ) (front : datagram_of packet ≡ header ++ (parts_of packet).payload)
-    (alone : IsPacket header (alone_parts packet)) (put_is : put ≡ header) (sets : (parts : PacketParts) → IsPacket put parts → IsPacket set (with_header_fields fields parts)) (now_is : now ≡ set) where
-  set_packet : (parts : PacketParts) → IsPacket header parts → IsPacket set (with_header_fields fields parts)
-  set_packet parts is = sets parts (subst (λ (b : List ℕ). IsPacket b parts) (sym put_is) is)
+-- the header is put into the buffer, and its fields are set there
+pub record IsBegun (packet : RtpPacket) (fields : Fields) (header put set : List ℕ) : Type 0 where
+  pub alone : IsPacket header (alone_parts packet)
+  pub same : header ≡ header_in packet
+  pub put_is : take (length header) put ≡ header
+  pub set_packet : (parts : PacketParts) → IsPacket header parts → IsPacket set (with_header_fields fields parts)
+  pub now_is : take (length header) (set ++ drop (length header) put) ≡ set
+
+pub begun : (packet : RtpPacket) (fields : Fields) (header buf put set : List ℕ) → datagram_of packet ≡ header ++ (parts_of packet).payload → IsPacket header (alone_parts packet)
+    → put ≡ overwritten buf 0 header → ((parts : PacketParts) → IsPacket (take (length header) put) parts → IsPacket set (with_header_fields fields parts))
+    → length set ≡ length (take (length header) put) → IsBegun packet fields header put set
+begun packet fields header buf put set front alone written sets long =
+    let put_is : take (length header) put ≡ header = front-put buf put header written in
+    record {
+      alone = alone;
+      same = header-is packet header front alone;
+      put_is = put_is;
+      set_packet = λ parts is. sets parts (subst (λ (b : List ℕ). IsPacket b parts) (sym put_is) is);
+      now_is = take_at set (drop (length header) put) (length header) (long ∙ ap length put_is);
+    }
+
+module _ (packet : RtpPacket) (fields : Fields) (ids : ℕ → Option ℕ) (header put set : List ℕ) (is_begun : IsBegun packet fields header put set) where
+  abbrev now : List ℕ
+  now = take (length header) (set ++ drop (length header) put)
 
   set_now : (parts : PacketParts) → IsPacket header parts → IsPacket now (with_header_fields fields parts)
-  set_now parts is = subst (λ (b : List ℕ). IsPacket b (with_header_fields fields parts)) (sym now_is) (set_packet parts is)
+  set_now parts is = subst (λ (b : List ℕ). IsPacket b (with_header_fields fields parts)) (sym is_begun.now_is) (is_begun.set_packet parts is)
 
-  pub set-and-renumbered : (new : List ℕ) → ChangesOnly 1 12 put set
+  there : (elements : List Element) × AreElementsOf (alone_parts packet).block elements
+  there = elements_there packet.datagram.now (parts_of packet) packet.bytes (IsPacket-found packet)
+
+  pub set-and-renumbered : (new : List ℕ) → ChangesOnly 1 12 (take (length header) put) set
       → ((parts : PacketParts) (elements : List Element) → IsPacket now parts → AreElementsOf parts.block elements → IsUnderNewIds ids elements now parts new) → IsSetAndRenumbered (header_in packet) fields ids new
-  set-and-renumbered new only renumbers =
-      let there = elements_there packet.datagram.now (parts_of packet) packet.bytes (IsPacket-found packet) in
-      let same : header ≡ header_in packet = header-is packet header front alone in
-      record {
-        parts = alone_parts packet;
-        elements = there.0;
-        was_packet = subst (λ (b : List ℕ). IsPacket b (alone_parts packet)) same alone;
-        were_elements = there.1;
-        set_bytes = set;
-        set_packet = set_packet (alone_parts packet) alone;
-        set_only = subst (λ (b : List ℕ). ChangesOnly 1 12 b set) (put_is ∙ same) only;
-        renumbered = subst (λ (b : List ℕ). IsUnderNewIds ids there.0 b (with_header_fields fields (alone_parts packet)) new) now_is
-            (renumbers (with_header_fields fields (alone_parts packet)) there.0 (set_now (alone_parts packet) alone) there.1);
-      }
+  set-and-renumbered new only renumbers = record {
+    parts = alone_parts packet;
+    elements = there.0;
+    was_packet = subst (λ (b : List ℕ). IsPacket b (alone_parts packet)) is_begun.same is_begun.alone;
+    were_elements = there.1;
+    set_bytes = set;
+    set_packet = is_begun.set_packet (alone_parts packet) is_begun.alone;
+    set_only = subst (λ (b : List ℕ). ChangesOnly 1 12 b set) (is_begun.put_is ∙ is_begun.same) only;
+    renumbered = subst (λ (b : List ℕ). IsUnderNewIds ids there.0 b (with_header_fields fields (alone_parts packet)) new) is_begun.now_is
+        (renumbers (with_header_fields fields (alone_parts packet)) there.0 (set_now (alone_parts packet) is_begun.alone) there.1);
+  }
+
+  -- the bytes that it then is
+  pub header-after : (new : List ℕ) → length new ≡ length now → take (length header) (new ++ drop (length header) (set ++ drop (length header) put)) ≡ new
+  header-after new long = take_at new _ (length header) (long ∙ ap length is_begun.now_is ∙ long_set)
+    where
+      long_set : length set ≡ length header
+      long_set =
+          let set_is = is_begun.set_packet (alone_parts packet) is_begun.alone in
+          omega (arith, length-packet set (with_header_fields fields (alone_parts packet)) set_is, length-packet header (alone_parts packet) is_begun.alone)
 
   module _ (answer : Bool)
       (answers : (parts : PacketParts) (elements : List Element) → IsPacket now parts → AreElementsOf parts.block elements
       → IsTrue answer ↔ IfSome parts.block (λ block. All (CanRenumber block.0 ids) elements)) where
     -- an id can't be carried where the answer is no
     pub ids-long : answer ≡ false → HasLongId (header_in packet) ids
-    ids-long is_no =
-        let there = elements_there packet.datagram.now (parts_of packet) packet.bytes (IsPacket-found packet) in
-        record {
-          parts = alone_parts packet;
-          elements = there.0;
-          is_packet = subst (λ (b : List ℕ). IsPacket b (alone_parts packet)) (header-is packet header front alone) alone;
-          are_elements = there.1;
-          not_carried = λ carried. false≢true (sym is_no ∙ (answers (with_header_fields fields (alone_parts packet)) there.0 (set_now (alone_parts packet) alone) there.1).1 carried);
-        }
+    ids-long is_no = record {
+      parts = alone_parts packet;
+      elements = there.0;
+      is_packet = subst (λ (b : List ℕ). IsPacket b (alone_parts packet)) is_begun.same is_begun.alone;
+      are_elements = there.1;
+      not_carried = λ carried.
+          false≢true (sym is_no ∙ (answers (with_header_fields fields (alone_parts packet)) there.0 (set_now (alone_parts packet) is_begun.alone) there.1).1 carried);
+    }
 
     -- and each can where it is yes
     pub ids-short : answer ≡ true → HasLongId (header_in packet) ids → ⊥
     ids-short is_yes long =
-        let is : IsPacket header long.parts = subst (λ (b : List ℕ). IsPacket b long.parts) (sym (header-is packet header front alone)) long.is_packet in
+        let is : IsPacket header long.parts = subst (λ (b : List ℕ). IsPacket b long.parts) (sym is_begun.same) long.is_packet in
         long.not_carried ((answers (with_header_fields fields long.parts) long.elements (set_now long.parts is) long.are_elements).0 is_yes)

@@ -1,5 +1,5 @@
 -- A receiver's header is one list of bytes.
-use Rattle.std.proofs.Common.{◌≡◌, ℕ, ◌+◌, ◌-◌, ◌*◌, ◌≤◌, ◌⊎◌, inl, inr, Bool, true, false, List, [], ◌∷◌, ◌++◌, length, take, drop, map, Option, Some, None, refl, sym, ap, subst, ◌∙◌, arith, append_assoc, drop_at, length-append}
+use Rattle.std.proofs.Common.{◌≡◌, ℕ, ◌+◌, ◌*◌, ◌≤◌, ◌⊎◌, inl, inr, Bool, true, false, List, [], ◌∷◌, ◌++◌, length, take, drop, map, Option, Some, None, refl, sym, ap, subst, ◌∙◌, arith, append_assoc, drop_at, length-append}
 use Rattle.std.specs.Int.{w16, w32, from_be_bytes}
 use Rattle.std.specs.List.{concat, AllByRecursion}
 use Rattle.std.proofs.lemmas.List.{take-append-drop, take-append-le, drop-drop, drop_all, length-drop, length-take-le}
@@ -11,7 +11,7 @@ use Rattle.rtp_ext.proofs.ElementLemmasOfBodies.{AreBytes}
 use Rattle.rtp_ext.proofs.ValuesFound.{AreBytes-front, AreBytes-back}
 use Rattle.rtp_wire.specs.declared.packet.fields.Fields.{Fields}
 use Rattle.rtp_wire.specs.Block.{word_at}
-use Rattle.rtp_wire.specs.Packet.{PacketParts, IsFixedPart, AreSourceNumbers, IsAnnouncedBlock, IsPacket, block_len}
+use Rattle.rtp_wire.specs.Packet.{PacketParts, IsFixedPart, IsAnnouncedBlock, IsPacket, block_len}
 use Rattle.rtp_wire.specs.PacketElements.{AreElementsOf}
 use Rattle.rtp_wire.specs.PutIntoPacket.{form_of_block}
 use Rattle.rtp_wire.proofs.PartsLemmas.{length-packet}
@@ -113,8 +113,18 @@ word_of_part bytes parts block is some =
     let body_len : block_len parts.block ≡ 4 + length block.1 = ap block_len some in
     let words = announced.is_block.words in
     let long : length front ≡ 12 + 4 * length parts.sources =
-    omega (arith, length-packet bytes parts is, body_len, announced.no_other, ap length split, length-append front (is.part ++ parts.payload), length-append is.part parts.payload, words,
-      ap length announced.is_block.body_is, length-drop 4 is.part) in
+    omega (
+      arith,
+      length-packet bytes parts is,
+      body_len,
+      announced.no_other,
+      ap length split,
+      length-append front (is.part ++ parts.payload),
+      length-append is.part parts.payload,
+      words,
+      ap length announced.is_block.body_is,
+      length-drop 4 is.part,
+    ) in
     word_of bytes parts is
     ∙ ap (λ (b : List ℕ). take 2 (drop (12 + 4 * length parts.sources) b)) split
     ∙ ap (take 2) (drop_at front (is.part ++ parts.payload) (12 + 4 * length parts.sources) long)

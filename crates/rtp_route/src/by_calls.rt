@@ -44,7 +44,7 @@ fn put_each(buf: &mut [u8], len: usize, group: &Group<'_>) -> Result<usize, NotP
     ensures cause { IfErr result (IsNotPutAmong (take len buf.old)
         (elements_of group.now.elements.now) group.now.allowed (length buf.old)) }
 
-    // So it is where a packet that says the same would be refused one of them.
+    // What keeps an element from another packet that says the same keeps one from this packet.
     ensures refused { (packet : List ℕ) (cause : NotPut) →
         HasSameElements packet (take len buf.old) →
         IsNotPutAmong packet (elements_of group.now.elements.now) group.now.allowed

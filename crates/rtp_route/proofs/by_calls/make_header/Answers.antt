@@ -17,7 +17,7 @@ use Rattle.rtp_route.specs.declared.not_routed.NotRouted.TheVariants.{LongId, No
 use Rattle.rtp_route.specs.NotPutAmong.{IsNotPutAmong}
 use Rattle.rtp_route.specs.NotRouted.{KeepsFromRouting}
 use Rattle.rtp_route.specs.Calls.{ArePut, header_in}
-use Rattle.rtp_route.proofs.ByCallsLemmas.{front-put, alone_parts, header-is, set-and-renumbered, ids-long, ids-short}
+use Rattle.rtp_route.proofs.ByCallsLemmas.{front-put, alone_parts, header-is, begun, set-and-renumbered, header-after, ids-long, ids-short}
 use Rattle.rtp_route.proofs.NotPutLemmas.{ArePut-packet, none-kept}
 use Rattle.rtp_route.proofs.by_calls.make_header.Goals as goal
 
@@ -59,45 +59,33 @@ returns-then-not-renumber-clause-cause c =
     let packet = c.args.packet.now in
     let ids = new_id c.args.group.now.ids.now in
     let header = c.header_bytes-header.result.now in
-    let put_bytes : List ℕ = take (length header) c.put.new.buf in
-    let now : List ℕ = take (length header) (c.set_fields.new.header ++ drop (length header) c.put.new.buf) in
-    let of_packet = c.header_bytes-header.ensures.front in
-    let alone = c.header_bytes-header.ensures.alone in
-    let front : put_bytes ≡ header = front-put c.args.buf.now c.put.new.buf header c.put.ensures.written in
-    let now_is : now ≡ c.set_fields.new.header = take_at c.set_fields.new.header _ (length header) (omega (arith, c.set_fields.auto.header, ap length front)) in
-    let long = ids-long packet c.args.fields.now ids header put_bytes c.set_fields.new.header now of_packet alone front c.set_fields.ensures.set now_is false c.if-not-renumber.ensures.answer refl in
-    (omega (arith, c.if-buf-needed.false, long-header packet header of_packet alone), long)
+    let is_begun = begun packet c.args.fields.now header c.args.buf.now c.put.new.buf c.set_fields.new.header c.header_bytes-header.ensures.front c.header_bytes-header.ensures.alone c.put.ensures.written
+    c.set_fields.ensures.set c.set_fields.auto.header in
+    let long = ids-long packet c.args.fields.now ids header c.put.new.buf c.set_fields.new.header is_begun false c.if-not-renumber.ensures.answer refl in
+    (omega (arith, c.if-buf-needed.false, ap length is_begun.same), long)
 
 pub returns-then-not-renumber-clause-refused : goal.returns-then-not-renumber-clause-refused
 returns-then-not-renumber-clause-refused c =
     let packet = c.args.packet.now in
     let ids = new_id c.args.group.now.ids.now in
     let header = c.header_bytes-header.result.now in
-    let put_bytes : List ℕ = take (length header) c.put.new.buf in
-    let now : List ℕ = take (length header) (c.set_fields.new.header ++ drop (length header) c.put.new.buf) in
-    let of_packet = c.header_bytes-header.ensures.front in
-    let alone = c.header_bytes-header.ensures.alone in
-    let front : put_bytes ≡ header = front-put c.args.buf.now c.put.new.buf header c.put.ensures.written in
-    let now_is : now ≡ c.set_fields.new.header = take_at c.set_fields.new.header _ (length header) (omega (arith, c.set_fields.auto.header, ap length front)) in
-    let long = ids-long packet c.args.fields.now ids header put_bytes c.set_fields.new.header now of_packet alone front c.set_fields.ensures.set now_is false c.if-not-renumber.ensures.answer refl in
-    (λ _. (LongId, (omega (arith, c.if-buf-needed.false, long-header packet header of_packet alone), long)), λ _. refl)
+    let is_begun = begun packet c.args.fields.now header c.args.buf.now c.put.new.buf c.set_fields.new.header c.header_bytes-header.ensures.front c.header_bytes-header.ensures.alone c.put.ensures.written
+    c.set_fields.ensures.set c.set_fields.auto.header in
+    let long = ids-long packet c.args.fields.now ids header c.put.new.buf c.set_fields.new.header is_begun false c.if-not-renumber.ensures.answer refl in
+    (λ _. (LongId, (omega (arith, c.if-buf-needed.false, ap length is_begun.same), long)), λ _. refl)
 
 pub returns-in_err-len-clause-cause : goal.returns-in_err-len-clause-cause
 returns-in_err-len-clause-cause c =
     let packet = c.args.packet.now in
     let ids = new_id c.args.group.now.ids.now in
     let header = c.header_bytes-header.result.now in
-    let put_bytes : List ℕ = take (length header) c.put.new.buf in
-    let now : List ℕ = take (length header) (c.set_fields.new.header ++ drop (length header) c.put.new.buf) in
-    let of_packet = c.header_bytes-header.ensures.front in
-    let alone = c.header_bytes-header.ensures.alone in
-    let front : put_bytes ≡ header = front-put c.args.buf.now c.put.new.buf header c.put.ensures.written in
-    let now_is : now ≡ c.set_fields.new.header = take_at c.set_fields.new.header _ (length header) (omega (arith, c.set_fields.auto.header, ap length front)) in
-    let start = set-and-renumbered packet c.args.fields.now ids header put_bytes c.set_fields.new.header now of_packet alone front c.set_fields.ensures.set now_is c.renumber.new.header c.set_fields.ensures.fixed
+    let is_begun = begun packet c.args.fields.now header c.args.buf.now c.put.new.buf c.set_fields.new.header c.header_bytes-header.ensures.front c.header_bytes-header.ensures.alone c.put.ensures.written
+    c.set_fields.ensures.set c.set_fields.auto.header in
+    let start = set-and-renumbered packet c.args.fields.now ids header c.put.new.buf c.set_fields.new.header is_begun c.renumber.new.header c.set_fields.ensures.fixed
     c.if-not-renumber.ensures.renumbered in
     let renumbered : List ℕ = c.renumber.new.header ++ drop (length header) (c.set_fields.new.header ++ drop (length header) c.put.new.buf) in
     let after : take (length header) renumbered ≡ c.renumber.new.header =
-    take_at c.renumber.new.header _ (length header) (omega (arith, c.renumber.auto.header, ap length now_is, c.set_fields.auto.header, ap length front)) in
+    header-after packet c.args.fields.now ids header c.put.new.buf c.set_fields.new.header is_begun c.renumber.new.header c.renumber.auto.header in
     let news = elements_of c.args.group.now.elements.now in
     let allowed = c.args.group.now.allowed in
     let room : ℕ = length c.args.buf.now in
@@ -106,7 +94,7 @@ returns-in_err-len-clause-cause c =
     let refused : KeepsFromRouting (header_in packet) c.args.fields.now ids news allowed room (NotPut c.in_err-len.field-0.0) =
     inr (
       c.renumber.new.header,
-      omega (arith, c.if-buf-needed.false, long-header packet header of_packet alone),
+      omega (arith, c.if-buf-needed.false, ap length is_begun.same),
       start,
       subst (λ (b : List ℕ). IsNotPutAmong b news allowed room c.in_err-len.field-0.0) after (subst (λ (k : ℕ). IsNotPutAmong (take (length header) renumbered) news allowed k c.in_err-len.field-0.0) long_now c.in_err-len.ensures.cause),
     ) in
@@ -117,17 +105,13 @@ returns-in_err-len-clause-refused c =
     let packet = c.args.packet.now in
     let ids = new_id c.args.group.now.ids.now in
     let header = c.header_bytes-header.result.now in
-    let put_bytes : List ℕ = take (length header) c.put.new.buf in
-    let now : List ℕ = take (length header) (c.set_fields.new.header ++ drop (length header) c.put.new.buf) in
-    let of_packet = c.header_bytes-header.ensures.front in
-    let alone = c.header_bytes-header.ensures.alone in
-    let front : put_bytes ≡ header = front-put c.args.buf.now c.put.new.buf header c.put.ensures.written in
-    let now_is : now ≡ c.set_fields.new.header = take_at c.set_fields.new.header _ (length header) (omega (arith, c.set_fields.auto.header, ap length front)) in
-    let start = set-and-renumbered packet c.args.fields.now ids header put_bytes c.set_fields.new.header now of_packet alone front c.set_fields.ensures.set now_is c.renumber.new.header c.set_fields.ensures.fixed
+    let is_begun = begun packet c.args.fields.now header c.args.buf.now c.put.new.buf c.set_fields.new.header c.header_bytes-header.ensures.front c.header_bytes-header.ensures.alone c.put.ensures.written
+    c.set_fields.ensures.set c.set_fields.auto.header in
+    let start = set-and-renumbered packet c.args.fields.now ids header c.put.new.buf c.set_fields.new.header is_begun c.renumber.new.header c.set_fields.ensures.fixed
     c.if-not-renumber.ensures.renumbered in
     let renumbered : List ℕ = c.renumber.new.header ++ drop (length header) (c.set_fields.new.header ++ drop (length header) c.put.new.buf) in
     let after : take (length header) renumbered ≡ c.renumber.new.header =
-    take_at c.renumber.new.header _ (length header) (omega (arith, c.renumber.auto.header, ap length now_is, c.set_fields.auto.header, ap length front)) in
+    header-after packet c.args.fields.now ids header c.put.new.buf c.set_fields.new.header is_begun c.renumber.new.header c.renumber.auto.header in
     let news = elements_of c.args.group.now.elements.now in
     let allowed = c.args.group.now.allowed in
     let room : ℕ = length c.args.buf.now in
@@ -135,7 +119,7 @@ returns-in_err-len-clause-refused c =
     let refused : KeepsFromRouting (header_in packet) c.args.fields.now ids news allowed room (NotPut c.in_err-len.field-0.0) =
     inr (
       c.renumber.new.header,
-      omega (arith, c.if-buf-needed.false, long-header packet header of_packet alone),
+      omega (arith, c.if-buf-needed.false, ap length is_begun.same),
       start,
       subst (λ (b : List ℕ). IsNotPutAmong b news allowed room c.in_err-len.field-0.0) after (subst (λ (k : ℕ). IsNotPutAmong (take (length header) renumbered) news allowed k c.in_err-len.field-0.0) long_now c.in_err-len.ensures.cause),
     ) in
@@ -146,17 +130,13 @@ unwrap-requires c =
     let packet = c.args.packet.now in
     let ids = new_id c.args.group.now.ids.now in
     let header = c.header_bytes-header.result.now in
-    let put_bytes : List ℕ = take (length header) c.put.new.buf in
-    let now : List ℕ = take (length header) (c.set_fields.new.header ++ drop (length header) c.put.new.buf) in
-    let of_packet = c.header_bytes-header.ensures.front in
-    let alone = c.header_bytes-header.ensures.alone in
-    let front : put_bytes ≡ header = front-put c.args.buf.now c.put.new.buf header c.put.ensures.written in
-    let now_is : now ≡ c.set_fields.new.header = take_at c.set_fields.new.header _ (length header) (omega (arith, c.set_fields.auto.header, ap length front)) in
-    let start = set-and-renumbered packet c.args.fields.now ids header put_bytes c.set_fields.new.header now of_packet alone front c.set_fields.ensures.set now_is c.renumber.new.header c.set_fields.ensures.fixed
+    let is_begun = begun packet c.args.fields.now header c.args.buf.now c.put.new.buf c.set_fields.new.header c.header_bytes-header.ensures.front c.header_bytes-header.ensures.alone c.put.ensures.written
+    c.set_fields.ensures.set c.set_fields.auto.header in
+    let start = set-and-renumbered packet c.args.fields.now ids header c.put.new.buf c.set_fields.new.header is_begun c.renumber.new.header c.set_fields.ensures.fixed
     c.if-not-renumber.ensures.renumbered in
     let renumbered : List ℕ = c.renumber.new.header ++ drop (length header) (c.set_fields.new.header ++ drop (length header) c.put.new.buf) in
     let after : take (length header) renumbered ≡ c.renumber.new.header =
-    take_at c.renumber.new.header _ (length header) (omega (arith, c.renumber.auto.header, ap length now_is, c.set_fields.auto.header, ap length front)) in
+    header-after packet c.args.fields.now ids header c.put.new.buf c.set_fields.new.header is_begun c.renumber.new.header c.renumber.auto.header in
     let packet_now = ArePut-packet (elements_of c.args.group.now.elements.now) c.args.group.now.allowed c.renumber.new.header (take c.in_ok-len.len c.put_each.new.buf) start.renumbered.parts
     start.renumbered.is_packet (subst (λ (b : List ℕ). ArePut b (elements_of c.args.group.now.elements.now) c.args.group.now.allowed (take c.in_ok-len.len c.put_each.new.buf)) after c.in_ok-len.ensures.put) in
     let refused : IsNoPacket (take c.in_ok-len.len c.put_each.new.buf) → ⊥ = λ none. no_packet-refused _ packet_now.0 none packet_now.1 in
@@ -167,17 +147,13 @@ returns-clause-made c =
     let packet = c.args.packet.now in
     let ids = new_id c.args.group.now.ids.now in
     let header = c.header_bytes-header.result.now in
-    let put_bytes : List ℕ = take (length header) c.put.new.buf in
-    let now : List ℕ = take (length header) (c.set_fields.new.header ++ drop (length header) c.put.new.buf) in
-    let of_packet = c.header_bytes-header.ensures.front in
-    let alone = c.header_bytes-header.ensures.alone in
-    let front : put_bytes ≡ header = front-put c.args.buf.now c.put.new.buf header c.put.ensures.written in
-    let now_is : now ≡ c.set_fields.new.header = take_at c.set_fields.new.header _ (length header) (omega (arith, c.set_fields.auto.header, ap length front)) in
-    let start = set-and-renumbered packet c.args.fields.now ids header put_bytes c.set_fields.new.header now of_packet alone front c.set_fields.ensures.set now_is c.renumber.new.header c.set_fields.ensures.fixed
+    let is_begun = begun packet c.args.fields.now header c.args.buf.now c.put.new.buf c.set_fields.new.header c.header_bytes-header.ensures.front c.header_bytes-header.ensures.alone c.put.ensures.written
+    c.set_fields.ensures.set c.set_fields.auto.header in
+    let start = set-and-renumbered packet c.args.fields.now ids header c.put.new.buf c.set_fields.new.header is_begun c.renumber.new.header c.set_fields.ensures.fixed
     c.if-not-renumber.ensures.renumbered in
     let renumbered : List ℕ = c.renumber.new.header ++ drop (length header) (c.set_fields.new.header ++ drop (length header) c.put.new.buf) in
     let after : take (length header) renumbered ≡ c.renumber.new.header =
-    take_at c.renumber.new.header _ (length header) (omega (arith, c.renumber.auto.header, ap length now_is, c.set_fields.auto.header, ap length front)) in
+    header-after packet c.args.fields.now ids header c.put.new.buf c.set_fields.new.header is_begun c.renumber.new.header c.renumber.auto.header in
     let is : Compacts (take c.in_ok-len.len c.put_each.new.buf) c.compact.new.datagram c.unwrap.result = rw c.unwrap.ensures at c.compact.ensures.compacted in
     let within : c.unwrap.result ≤ length (take c.in_ok-len.len c.put_each.new.buf) = rw c.unwrap.ensures at c.compact.ensures.within in
     record {
@@ -193,22 +169,18 @@ returns-clause-refused c =
     let packet = c.args.packet.now in
     let ids = new_id c.args.group.now.ids.now in
     let header = c.header_bytes-header.result.now in
-    let put_bytes : List ℕ = take (length header) c.put.new.buf in
-    let now : List ℕ = take (length header) (c.set_fields.new.header ++ drop (length header) c.put.new.buf) in
-    let of_packet = c.header_bytes-header.ensures.front in
-    let alone = c.header_bytes-header.ensures.alone in
-    let front : put_bytes ≡ header = front-put c.args.buf.now c.put.new.buf header c.put.ensures.written in
-    let now_is : now ≡ c.set_fields.new.header = take_at c.set_fields.new.header _ (length header) (omega (arith, c.set_fields.auto.header, ap length front)) in
-    let start = set-and-renumbered packet c.args.fields.now ids header put_bytes c.set_fields.new.header now of_packet alone front c.set_fields.ensures.set now_is c.renumber.new.header c.set_fields.ensures.fixed
+    let is_begun = begun packet c.args.fields.now header c.args.buf.now c.put.new.buf c.set_fields.new.header c.header_bytes-header.ensures.front c.header_bytes-header.ensures.alone c.put.ensures.written
+    c.set_fields.ensures.set c.set_fields.auto.header in
+    let start = set-and-renumbered packet c.args.fields.now ids header c.put.new.buf c.set_fields.new.header is_begun c.renumber.new.header c.set_fields.ensures.fixed
     c.if-not-renumber.ensures.renumbered in
     let renumbered : List ℕ = c.renumber.new.header ++ drop (length header) (c.set_fields.new.header ++ drop (length header) c.put.new.buf) in
     let after : take (length header) renumbered ≡ c.renumber.new.header =
-    take_at c.renumber.new.header _ (length header) (omega (arith, c.renumber.auto.header, ap length now_is, c.set_fields.auto.header, ap length front)) in
+    header-after packet c.args.fields.now ids header c.put.new.buf c.set_fields.new.header is_begun c.renumber.new.header c.renumber.auto.header in
     let news = elements_of c.args.group.now.elements.now in
     let allowed = c.args.group.now.allowed in
     let room : ℕ = length c.args.buf.now in
     let long_now : length renumbered ≡ room = search rules in
-    let short = ids-short packet c.args.fields.now ids header put_bytes c.set_fields.new.header now of_packet alone front c.set_fields.ensures.set now_is true c.if-not-renumber.ensures.answer refl in
-    let none = none-kept (header_in packet) c.args.fields.now ids news allowed room c.renumber.new.header _ (omega (arith, c.if-buf-needed.false, long-header packet header of_packet alone)) start short after
+    let short = ids-short packet c.args.fields.now ids header c.put.new.buf c.set_fields.new.header is_begun true c.if-not-renumber.ensures.answer refl in
+    let none = none-kept (header_in packet) c.args.fields.now ids news allowed room c.renumber.new.header _ (omega (arith, c.if-buf-needed.false, ap length is_begun.same)) start short after
     (λ other cause same is. false≢true (c.in_ok-len.ensures.refused other cause same (subst (λ (k : ℕ). IsNotPutAmong other news allowed k cause) (sym long_now) is))) in
     (λ no_error. absurd (false≢true no_error), λ kept. absurd (none kept.0 kept.1))

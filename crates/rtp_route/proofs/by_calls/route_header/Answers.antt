@@ -1,4 +1,4 @@
-use Rattle.std.proofs.Common.{ℕ, List, take, arith}
+use Rattle.std.proofs.Common.{take, arith}
 use Rattle.rtp_ext.specs.ElementsInARow.{elements_of}
 use Rattle.rtp_ext.specs.NewIds.{new_id}
 use Rattle.rtp_wire.specs.PartsOf.{datagram_of}
