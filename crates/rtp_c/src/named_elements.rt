@@ -47,7 +47,10 @@ impl<'a> NamedElements<'a> {
         let mut lent: [(u8, &'a [u8]); MAX_ELEMENTS] = [(0, &[]); MAX_ELEMENTS];
         for index in 0..self.views.len() {
             let view = &self.views[index];
-            lent[index] = (view.id, &self.bytes[view.data_at..view.data_at + view.data_len]);
+            lent[index] = (
+                view.id,
+                &self.bytes[view.data_at..view.data_at + view.data_len],
+            );
         }
         lent
     }

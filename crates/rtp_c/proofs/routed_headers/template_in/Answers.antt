@@ -54,5 +54,5 @@ returns-in-None-clause-status c =
     c.if-len-bytes.false found.0 found.1 c.data_len.ensures c.if-data_len-made.false in
     payload (parts_of header) range c.in-Ok.ensures.found
     (λ (none : (parts_of header).payload ≡ []).
-        false≢true (c.in-None.ensures.some.1 (omega (arith, all, ap length none, c.parts-parts.ensures.header_len), found.0, found.1)))
+    false≢true (c.in-None.ensures.some.1 (omega (arith, all, ap length none, c.parts-parts.ensures.header_len), found.0, found.1)))
     refl

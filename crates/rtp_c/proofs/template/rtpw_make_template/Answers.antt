@@ -68,12 +68,12 @@ returns-in-Ok-make_template-clause-refused c form same within few parts is =
     let number = named-length c.args.bytes.now named.bytes.now named.views.now c.args.elements.now c.in-Some-new.ensures.elements in (
       λ wrong. absurd (wrong refl),
       λ kept _. false≢true (c.in-Ok-make_template.ensures.refused.1 (
-          kept.0,
-          kept-of _ (take (header_len_of parts) c.args.datagram.now) _ _ _ _ c.in-Some.allowed form (length c.args.buf.now) kept.0
-              (sym (header-of c.in-Ok.packet c.args.datagram.now parts c.in-Ok.ensures.bytes (c.in-Ok.ensures.only parts is))) (sym c.from_ids.ensures)
-              (sym (ap (λ (n : ℕ). elements_of (take n c.lent-lent.result)) (sym number) ∙ c.lent-lent.ensures.elements ∙ c.in-Some-new.ensures.elements))
-              (sym (one_allowed c.in-Some.allowed form (c.in-Some.ensures.found ∙ sym same))) kept.1,
-        )),
+        kept.0,
+        kept-of _ (take (header_len_of parts) c.args.datagram.now) _ _ _ _ c.in-Some.allowed form (length c.args.buf.now) kept.0
+            (sym (header-of c.in-Ok.packet c.args.datagram.now parts c.in-Ok.ensures.bytes (c.in-Ok.ensures.only parts is))) (sym c.from_ids.ensures)
+            (sym (ap (λ (n : ℕ). elements_of (take n c.lent-lent.result)) (sym number) ∙ c.lent-lent.ensures.elements ∙ c.in-Some-new.ensures.elements))
+            (sym (one_allowed c.in-Some.allowed form (c.in-Some.ensures.found ∙ sym same))) kept.1,
+      )),
     )
 
 pub returns-in-Ok-make_template-clause-bad_form : goal.returns-in-Ok-make_template-clause-bad_form

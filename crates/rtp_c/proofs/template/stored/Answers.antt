@@ -11,8 +11,7 @@ loop-index-preserved c =
     let at = c.loop-index in
     let slots = c.args.parts.now.slots in
     let there : at.index < length slots = omega (arith, c.args.parts.now.long, c.requires, c.loop-index-test.true) in
-    let more = sum_by_more (λ (s : Slot). s.len) slots at.index none there in
-    (
+    let more = sum_by_more (λ (s : Slot). s.len) slots at.index none there in (
       stored-more slots at.data_at at.data_len at.index none (omega (arith, at.invariant.1, at.invariant.2)) (omega (arith, at.invariant.1, c.args.parts.now.long, there)) there at.invariant.0,
       length-set at.data_at at.index _ ∙ at.invariant.1,
       length-set at.data_len at.index _ ∙ at.invariant.2,
