@@ -589,7 +589,7 @@ void headers_with_values() {
 
 // The room of a window is all of its words, and their count is 1 to 512.
 void windows() {
-    rtpw::wide_receiver<2> two;
+    auto two = *rtpw::wide_receiver<2>::starting_at(0);
     CHECK(two.start(std::uint64_t{1} << 48) == status::bad_field && two.start(3) == status::ok);
     CHECK(two.number_of(5) == 3 * 65536 + 5 && *two.receive(5) == 3 * 65536 + 5);
     CHECK(two.record(3 * 65536 + 5 - 127) == status::ok && two.record(3 * 65536 + 5 - 128) == status::refused);
@@ -841,7 +841,7 @@ void alike_numbers() {
     rtpw_receiver receiver{}, its;
     alike(rtpw::result<std::int32_t>([&](std::int32_t *it) { return *it = 1, rtpw_receiver_start(&receiver, one); }),
           static_cast<std::int32_t>(rtpw::receiver_start(one).status()), std::int32_t{1});
-    rtpw::wide_receiver<20> wide;
+    auto wide = *rtpw::wide_receiver<20>::starting_at(0);
     rtpw_wide_receiver state{};
     std::uint64_t words[20]{};
     CHECK(static_cast<std::int32_t>(wide.start(one >> 16)) == rtpw_wide_receiver_start(&state, one >> 16));
