@@ -1,16 +1,16 @@
 -- The bits of the kinds in a set, and the kinds that are put into it.
-use Rattle.std.proofs.Common.{◌≡◌, ◌≢◌, ◌⊎◌, ◌↔◌, inl, inr, ℕ, Option, Some, None, is_some, ◌+◌, ◌*◌, ◌%◌, ◌^◌, ◌<◌, ◌≤◌, List, Bool, true, false, IsTrue, bit_or, refl, sym, ap, ◌∙◌, subst, arith}
-use Rattle.std.specs.Int.{bit_at, w32}
+use Rattle.std.proofs.Common.{◌≡◌, ◌≢◌, ◌⊎◌, ◌↔◌, inl, inr, ℕ, Some, None, is_some, ◌+◌, ◌<◌, ◌≤◌, List, Bool, true, false, bit_or, refl, sym, ap, ◌∙◌, arith}
+use Rattle.std.specs.Int.{bit_at}
 use Rattle.std.proofs.lemmas.Bool.{cases_lt, cases_eq}
 use Rattle.std.proofs.lemmas.Nat.Bits.{bit_at-zero, bit_at-lt, bit_at_or}
 use Rattle.rtp_values.specs.declared.known_kind.KnownKind.{KnownKind}
 use Rattle.rtp_values.specs.KindSet.{place_of, has}
 use Rattle.rtp_values.proofs.KindSetLemmas.{one_place}
-use Rattle.rtp_c.specs.KindNumbers.{kind_number, kind_numbered, IsKindNumbered}
+use Rattle.rtp_c.specs.KindNumbers.{kind_number}
 use Rattle.std.specs.Prelude.{if◌then◌else◌}
 use Rattle.rtp_c.specs.Given.{given, is_nonzero}
 use Rattle.rtp_c.specs.LeftOut.{AreBitsOf}
-use Rattle.rtp_c.proofs.KindNumberLemmas.{one_kind, kind_low, number_of_kind, numbered_is}
+use Rattle.rtp_c.proofs.KindNumberLemmas.{one_kind, kind_low, number_of_kind}
 
 -- ---- the bits
 

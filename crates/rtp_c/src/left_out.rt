@@ -38,8 +38,8 @@ fn bit_of(kinds: &KindSet, kind: KnownKind) -> u32
     }
 }
 
-// The bits of the kinds in the set, each at the place of its number. They are named one by one,
-// which takes a third of the instructions of a loop over the numbers.
+// The bits of the kinds in the set, each at the place of its number. The kinds are named one by
+// one: a loop over their numbers takes four times as many instructions.
 fn bits_of(kinds: &KindSet) -> u32
     ensures { AreBitsOf (λ kind. has kinds.now kind ≡ true) result }
 {

@@ -1,4 +1,4 @@
-use Rattle.rtp_c.proofs.Common.{subst, ◌≡◌, ℕ, sym, AbsoluteSendTime, AbsoluteCaptureTime, AudioLevel, TransmissionTimeOffset, VideoOrientation, TransportSequenceNumber, PlayoutDelay, VideoContentType, VideoTiming, RtpStreamId, RepairedRtpStreamId, RtpMid, FrameMarking, ColorSpace, VideoLayersAllocation}
+use Rattle.rtp_c.proofs.Common.{subst, AbsoluteSendTime, AbsoluteCaptureTime, AudioLevel, TransmissionTimeOffset, VideoOrientation, TransportSequenceNumber, PlayoutDelay, VideoContentType, VideoTiming, RtpStreamId, RepairedRtpStreamId, RtpMid, FrameMarking, ColorSpace, VideoLayersAllocation}
 use Rattle.std.specs.Int.Bits.{or_zero_l}
 use Rattle.rtp_c.proofs.LeftOutLemmas.{AreBitsBelow, bits-start, bits-next, bits-end}
 use Rattle.rtp_c.proofs.left_out.bits_of.Goals as goal
