@@ -1,16 +1,16 @@
 -- The bits of the kinds in a set, and the kinds that are put into it.
-use Rattle.std.proofs.Common.{◌≡◌, ◌≢◌, ◌⊎◌, ◌↔◌, inl, inr, ℕ, Option, Some, None, is_some, ◌+◌, ◌*◌, ◌%◌, ◌^◌, ◌<◌, ◌≤◌, List, Bool, true, false, IsTrue, bit_or, refl, sym, ap, ◌∙◌, subst, arith}
-use Rattle.std.specs.Int.{bit_at, w32}
+use Rattle.std.proofs.Common.{◌≡◌, ◌≢◌, ◌⊎◌, ◌↔◌, inl, inr, ℕ, Some, None, is_some, ◌+◌, ◌<◌, ◌≤◌, List, Bool, true, false, bit_or, refl, sym, ap, ◌∙◌, arith}
+use Rattle.std.specs.Int.{bit_at}
 use Rattle.std.proofs.lemmas.Bool.{cases_lt, cases_eq}
-use Rattle.std.proofs.lemmas.Nat.Bits.{bit_at-zero, bit_at-lt, bit_at_set_same, bit_at_set_other}
+use Rattle.std.proofs.lemmas.Nat.Bits.{bit_at-zero, bit_at-lt, bit_at_or}
 use Rattle.rtp_values.specs.declared.known_kind.KnownKind.{KnownKind}
 use Rattle.rtp_values.specs.KindSet.{place_of, has}
 use Rattle.rtp_values.proofs.KindSetLemmas.{one_place}
-use Rattle.rtp_c.specs.KindNumbers.{kind_number, kind_numbered, IsKindNumbered}
+use Rattle.rtp_c.specs.KindNumbers.{kind_number}
 use Rattle.std.specs.Prelude.{if◌then◌else◌}
 use Rattle.rtp_c.specs.Given.{given, is_nonzero}
 use Rattle.rtp_c.specs.LeftOut.{AreBitsOf}
-use Rattle.rtp_c.proofs.KindNumberLemmas.{one_kind, kind_low, number_of_kind, numbered_is}
+use Rattle.rtp_c.proofs.KindNumberLemmas.{one_kind, kind_low, number_of_kind}
 
 -- ---- the bits
 
@@ -18,42 +18,44 @@ use Rattle.rtp_c.proofs.KindNumberLemmas.{one_kind, kind_low, number_of_kind, nu
 abbrev pub IsNumberIn : List Bool → ℕ → Type 0
 IsNumberIn flags number = (kind : KnownKind) × (kind_number kind ≡ number) × (has flags kind ≡ true)
 
-pub in-some : (flags : List Bool) (number : ℕ) (kind : KnownKind) (is : Bool) → Some kind ≡ kind_numbered number → is ≡ has flags kind
-    → IsTrue is ↔ IsNumberIn flags number
-in-some flags number kind is found answer =
-    let its_number : kind_number kind ≡ number = subst (IsKindNumbered number) (sym found) (numbered_is number) in (
-      λ holds. (kind, its_number, sym answer ∙ holds),
-      λ inside. answer ∙ ap (has flags) (one_kind kind inside.0 (its_number ∙ sym inside.1)) ∙ inside.2,
-    )
-
-pub in-none : (flags : List Bool) (number : ℕ) → None ≡ kind_numbered number → IsTrue false ↔ IsNumberIn flags number
-in-none flags number found =
-    let no_kind : IsKindNumbered number None = subst (IsKindNumbered number) (sym found) (numbered_is number) in
-    (λ holds. cc, λ inside. absurd (no_kind inside.0 inside.1))
-
 -- the bits below a number are those of the set's kinds, and the others are clear
 pub record AreBitsBelow (flags : List Bool) (number bits : ℕ) : Type 0 where
   pub below : (place : ℕ) → place < number → (bit_at bits place ≡ 1) ↔ IsNumberIn flags place
   pub above : (place : ℕ) → number ≤ place → bit_at bits place ≡ 0
 
-pub bits-start : (flags : List Bool) → AreBitsBelow flags 0 0
+-- no kind has the number 0
+no_number_0 : (flags : List Bool) (place : ℕ) → place < 1 → IsNumberIn flags place → ⊥
+no_number_0 flags place low inside =
+    absurd (omega (arith, low, inside.1, (kind_low (kind_number inside.0) inside.0 (number_of_kind inside.0)).0))
+
+pub bits-start : (flags : List Bool) → AreBitsBelow flags 1 0
 bits-start flags = record {
-  below = λ place low. absurd (omega (arith, low));
+  below = λ place low. (
+    λ set. (let wrong : 0 ≡ 1 = sym (bit_at-zero place) ∙ set in cc),
+    λ inside. absurd (no_number_0 flags place low inside),
+  );
   above = λ place _. bit_at-zero place;
 }
 
-pub bits-set : (flags : List Bool) (number bits : ℕ) → number < 32 → IsNumberIn flags number → AreBitsBelow flags number bits
-    → AreBitsBelow flags (number + 1) (bit_or bits (1 * 2 ^ number % 2 ^ 32))
-bits-set flags number bits few is_in are = record {
-  below = λ place low. elim (cases_eq place number) [
-    | inl same ↦ subst (λ (at : ℕ). (bit_at (bit_or bits (1 * 2 ^ number % 2 ^ 32)) at ≡ 1) ↔ IsNumberIn flags at) (sym same)
-        (λ _. is_in, λ _. bit_at_set_same w32 bits number few)
+pub bits-next : (flags : List Bool) (kind : KnownKind) (bits bit : ℕ) → (bit_at bit (kind_number kind) ≡ 1) ↔ (has flags kind ≡ true)
+    → ((place : ℕ) → place ≢ kind_number kind → bit_at bit place ≡ 0) → AreBitsBelow flags (kind_number kind) bits
+    → AreBitsBelow flags (kind_number kind + 1) (bit_or bits bit)
+bits-next flags kind bits bit own others are = record {
+  below = λ place low. elim (cases_eq place (kind_number kind)) [
+    | inl same ↦
+        let clear = are.above place (omega (arith, same)) in
+        let its : bit_at (bit_or bits bit) place ≡ bit_at bit (kind_number kind) =
+        omega (arith, bit_at_or bits bit place, clear, ap (bit_at bit) same) in (
+          λ set. (kind, sym same, own.0 (sym its ∙ set)),
+          λ inside. its ∙ own.1 (ap (has flags) (sym (one_kind inside.0 kind (inside.1 ∙ same))) ∙ inside.2),
+        )
     | inr other ↦
-        let kept = bit_at_set_other w32 bits number few place other in
-        let before = are.below place (below_or place number low other) in
+        let kept : bit_at (bit_or bits bit) place ≡ bit_at bits place = omega (arith, bit_at_or bits bit place, others place other) in
+        let before = are.below place (below_or place (kind_number kind) low other) in
         (λ set. before.0 (sym kept ∙ set), λ inside. kept ∙ before.1 inside)
   ];
-  above = λ place high. bit_at_set_other w32 bits number few place (λ same. absurd (omega (arith, same, high))) ∙ are.above place (omega (arith, high));
+  above = λ place high.
+      omega (arith, bit_at_or bits bit place, others place (λ same. absurd (omega (arith, same, high))), are.above place (omega (arith, high)));
 }
   where
     below_or : (place number : ℕ) → place < number + 1 → place ≢ number → place < number
@@ -61,19 +63,6 @@ bits-set flags number bits few is_in are = record {
       | inl less ↦ less
       | inr more ↦ absurd (other (omega (arith, low, more)))
     ]
-
-pub bits-clear : (flags : List Bool) (number bits : ℕ) → (IsNumberIn flags number → ⊥) → AreBitsBelow flags number bits
-    → AreBitsBelow flags (number + 1) bits
-bits-clear flags number bits not_in are = record {
-  below = λ place low. elim (cases_lt place number) [
-    | inl less ↦ are.below place less
-    | inr more ↦
-        let same : place ≡ number = omega (arith, low, more) in
-        let clear : bit_at bits place ≡ 0 = are.above place more in
-        (λ set. (let wrong : 0 ≡ 1 = sym clear ∙ set in cc), λ inside. absurd (not_in (subst (IsNumberIn flags) same inside)))
-  ];
-  above = λ place high. are.above place (omega (arith, high));
-}
 
 not_set : (bit : ℕ) → bit < 2 → (bit ≡ 1 → ⊥) → bit ≡ 0
 not_set bit few other = elim (cases_eq bit 1) [

@@ -13,7 +13,7 @@ ghost use Rattle.rtp_c.specs.ElementView.{IsNextElement, IsLastElement, LiesAsLa
 ghost use Rattle.rtp_c.specs.PacketView.{IsViewOf, IsPacketRead, IsUnpaddedLen, form_number, block_number, body_of_any};
 ghost use Rattle.rtp_c.specs.Status.{ok, none, bad_field, IsCauseStatus};
 
-use super::status::{BAD_FIELD, NONE, OK, status_of};
+use super::status::{BAD_FIELD, NONE, OK, refusal_status};
 use super::values::flag_number;
 use rtp_ext::{ExtensionsForm, Place, last_place, next_place};
 use rtp_wire::RtpPacket;
@@ -136,31 +136,30 @@ fn unpadded_len_of(packet: &RtpPacket<'_>) -> (usize, u8)
     }
 }
 
-// What C is told of the packet.
-fn view_of(packet: &RtpPacket<'_>) -> PacketView
+// Tells what the packet is. Each field is put as it is read, so that few registers are needed.
+#[inline(always)]
+fn put_view(packet: &RtpPacket<'_>, view: &mut PacketView)
     requires { IsPacket (datagram_of packet.now) (parts_of packet.now) }
-    ensures { IsViewOf (datagram_of packet.now) (parts_of packet.now) result }
+    ensures { IsViewOf (datagram_of packet.now) (parts_of packet.now) view.new }
 {
     let payload_at = packet.header_len();
     let (block_form, block_profile, body_len) = block_numbers(packet);
+    view.payload_at = payload_at;
+    view.body_at = payload_at - body_len;
+    view.body_len = body_len;
+    view.block_form = block_form;
+    view.block_profile = block_profile;
     let (unpadded_len, padding_fits) = unpadded_len_of(packet);
-    PacketView {
-        payload_at,
-        payload_len: packet.payload().len(),
-        unpadded_len,
-        body_at: payload_at - body_len,
-        body_len,
-        timestamp: packet.timestamp(),
-        ssrc: packet.ssrc().get(),
-        sequence_number: packet.sequence_number(),
-        payload_type: packet.payload_type().get(),
-        csrc_count: csrc_count_of(packet),
-        marker: flag_number(packet.marker()),
-        has_padding: flag_number(packet.has_padding()),
-        padding_fits,
-        block_form,
-        block_profile,
-    }
+    view.payload_len = packet.payload().len();
+    view.unpadded_len = unpadded_len;
+    view.padding_fits = padding_fits;
+    view.timestamp = packet.timestamp();
+    view.ssrc = packet.ssrc().get();
+    view.sequence_number = packet.sequence_number();
+    view.payload_type = packet.payload_type().get();
+    view.csrc_count = csrc_count_of(packet);
+    view.marker = flag_number(packet.marker());
+    view.has_padding = flag_number(packet.has_padding());
 }
 
 // Tells what the packet is that the datagram is, and returns the status.
@@ -170,10 +169,10 @@ pub fn read_packet(datagram: &[u8], packet: &mut PacketView) -> i32
 {
     match RtpPacket::parse(datagram) {
         Ok(found) => {
-            *packet = view_of(&found);
+            put_view(&found, packet);
             OK
         }
-        Err(cause) => status_of(cause),
+        Err(cause) => refusal_status(cause),
     }
 }
 

@@ -1,6 +1,6 @@
 use Rattle.rtp_c.proofs.Common.{◌≡◌, ◌+◌, ◌-◌, ap, ◌∙◌, arith, ℕ, rules, length, header_len_of, parts_of, datagram_of, length-packet, slice_at, body_of_any}
 use Rattle.rtp_c.proofs.PacketLemmas.{body-at, payload-at, body-within}
-use Rattle.rtp_c.proofs.packet.view_of.Goals as goal
+use Rattle.rtp_c.proofs.packet.put_view.Goals as goal
 
 pub returns : goal.returns
 returns c =
