@@ -1,7 +1,5 @@
 mod Common
 mod InTurnLemmas
-mod TemplateLemmas
-mod RoutedLemmas
 mod StatusLemmas
 mod HeaderStatusLemmas
 mod PacketLemmas

@@ -7,9 +7,8 @@ mod SameElementsLemmas
 mod NotPutLemmas
 mod SetDataLemmas
 mod SlotLemmas
-pub mod LengthLemmas
 mod BodyLemmas
 mod OnlyLemmas
 mod SlotsFound
-pub mod TemplateLemmas
+mod TemplateLemmas
 mod OneHeaderLemmas

@@ -4,5 +4,4 @@ pub mod Calls
 pub mod NotPutAmong
 pub mod NotRouted
 pub mod Template
-pub mod GroupHeader
 pub mod TemplateOf
