@@ -140,4 +140,8 @@ func TestExpected(t *testing.T) {
 	same(t, "nearly all", all.Expected(), uint64(math.MaxUint64))
 	all.Record(math.MaxUint64, 0, 0)
 	same(t, "all, and no more than 64 bits have", all.Expected(), uint64(math.MaxUint64))
+	var last rtpwire.ReceptionStatistics
+	last.Record(math.MaxUint64-5, 0, 0)
+	last.Record(math.MaxUint64, 0, 0)
+	same(t, "the last six", last.Expected(), uint64(6))
 }

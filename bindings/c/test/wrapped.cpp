@@ -216,6 +216,9 @@ void writes() {
     CHECK(same({buf + 12, 8}, {0xbe, 0xde, 0, 1, 0x30, 9, 0, 0}));
     CHECK(*rtpw::write_with(header, level, chosen, 1, buf, RTPW_TWO_BYTE_FORM) == 20);
     CHECK(same({buf + 12, 8}, {0x10, 0, 0, 1, 3, 1, 9, 0}));
+    const rtpw_element above[] = {{0, 1, 1, 20}}; // above 14, so the form is chosen where none is named
+    CHECK(*rtpw::write_with(header, level, above, 1, buf) == 20);
+    CHECK(same({buf + 12, 8}, {0x10, 0, 0, 1, 20, 1, 9, 0}));
     CHECK(*rtpw::write_elements(level, chosen, 1, RTPW_ONE_BYTE_FORM, buf) == 2 && same({buf, 2}, {0x30, 9}));
 }
 

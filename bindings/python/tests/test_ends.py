@@ -406,7 +406,7 @@ class Judges(unittest.TestCase):
         receivers: Any = {7: Receiver(1)}
         with self.assertRaises(BadField) as raised:
             self.columns.receive(receivers, 1 << 64)
-        self.assertEqual(str(raised.exception), f"rollover_count is {1 << 64}, and not 0 to {(1 << 64) - 1}")
+        self.assertEqual(str(raised.exception), f"rollover_count is {1 << 64}, and not 0 to {(1 << 48) - 1}")
         self.assertRaises(BadField, self.columns.receive, receivers, 1 << 48)
         self.assertRaises(TypeError, self.columns.receive, receivers, 1.0)
         self.assertEqual(receivers, {7: Receiver(1)})

@@ -487,6 +487,12 @@ fn retransmissions_are_made_and_come_back() {
         from_retransmission(&mut buf, 25, 1, 2, &back),
         Err(NotRetransmitted::NoNumber)
     );
+    // the greatest payload type, both ways
+    let mut buf = PACKET;
+    assert_eq!(to_retransmission(&mut buf, 29, 7, 127, 1, &there), Ok(29));
+    assert_eq!(buf[1], 0xFF);
+    assert_eq!(from_retransmission(&mut buf, 29, 7, 127, &back), Ok(27));
+    assert_eq!(buf[1], 0xFF);
 }
 
 #[test]
