@@ -108,7 +108,7 @@ done
 if grep -hoE '\b(rtp|RTP)_\w+' bindings/c/rtp_wire{,_sanitized}.h | grep -vxE 'rtp_wire(_sanitized)?' >&2; then fail 'names of the header file'; fi
 said "the header file beside ${beside:-no other library}"
 
-for it in packets blocks padding faults headers statuses receivers reception corners peers standard datagrams apart; do
+for it in packets blocks padding faults headers statuses receivers reception corners peers standard datagrams routed apart; do
     cc -std=c99 "${strict[@]}" bindings/c/test/$it.c "$library" -o "$scratch/by_hand"
     "$scratch/by_hand"
     c++ -std=c++11 "${strict[@]}" -Wno-missing-field-initializers -x c++ bindings/c/test/$it.c -x none "$library" -o "$scratch/by_hand"
@@ -322,7 +322,7 @@ if has aarch64-linux-gnu-gcc && has qemu-aarch64; then
     mkdir "$scratch/emulated"
     cp "$scratch/arm" "$scratch/emulated/lines_arm"
     bindings/test/examples.sh "$scratch/emulated" qemu-aarch64
-    for it in packets blocks padding faults headers statuses receivers reception corners peers standard datagrams apart; do
+    for it in packets blocks padding faults headers statuses receivers reception corners peers standard datagrams routed apart; do
         aarch64-linux-gnu-gcc -std=c99 "${strict[@]}" -static bindings/c/test/$it.c "$arm" -o "$scratch/arm"
         qemu-aarch64 "$scratch/arm"
     done

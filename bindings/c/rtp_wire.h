@@ -32,8 +32,8 @@
  * A buffer is a pointer and then its size in bytes. Numbers are in the byte order of the machine:
  * what stands in a packet in network byte order is turned. Outputs are written whole where the
  * status is RTPW_OK, and else not at all; but rtpw_restarting_receive and rtpw_wide_restarting_receive write the number
- * at RTPW_RESTARTED too, and their state also at RTPW_REFUSED. The calls for many at once return nothing, and write a
- * status beside each.
+ * at RTPW_RESTARTED too, and their state also at RTPW_REFUSED, and rtpw_make_template may leave anything in its buffer.
+ * The calls for many at once return nothing, and write a status beside each, as rtpw_write_headers does.
  *
  * Where a call has several faults, the status is that of the first of these:
  *   1. an argument is out of its range whatever the buffers hold, or data lie in the buffer: RTPW_BAD_FIELD, and from
@@ -1247,6 +1247,91 @@ typedef struct {
  * receivers and the arrivals are two arrays that don't overlap. As rtpw_receiver_receive it is for streams that aren't
  * authenticated, or whose packets are known to be authentic. */
 void rtpw_receive_many(rtpw_receiver *receivers, size_t receiver_count, rtpw_arrival *arrivals, size_t count);
+
+/* ---- One packet to all its receivers ---- */
+
+/* Each receiver of a packet gets a header of its own before the one payload, which stays where it lies (writev; RFC
+ * 7667, 3.7). Receivers that have in common the new ids, the elements that are put into the packet, and how many bytes
+ * of data each of these has, are a group: one header is made for the group, and each receiver gets a copy of it with
+ * fields and data of its own. That is what rtpw_set_fields, rtpw_renumber, rtpw_put_element for each element and
+ * rtpw_compact make of a copy of the packet's header, one after another.
+ *
+ *     const uint8_t packet[] = {0x90, 96, 0, 5, 0, 0, 0, 100, 0, 0, 0, 44, 0xBE, 0xDE, 0, 1, 0x10, 0xAA, 0, 0};
+ *     rtpw_new_ids ids = {{0}};
+ *     ids.id[1] = 3;
+ *     const uint8_t numbers[] = {0, 7, 0, 8};         // a transport number for each receiver,
+ *     const rtpw_element element = {0, 2, 0, 4};      // two bytes of the id 4
+ *     uint8_t header[304];
+ *     rtpw_template made;
+ *     int32_t status = rtpw_make_template(packet, sizeof packet, &ids, numbers, sizeof numbers, &element, 1,
+ *                                         RTPW_ANY_FORM, header, sizeof header, &made);
+ *     if (status != RTPW_OK) {
+ *         return drop(status);
+ *     } // made.header_len is 24, and made.data_at[0] is 19
+ *     rtpw_routed_header receivers[2] = {{0}};
+ *     for (size_t i = 0; i < 2; i++) {
+ *         receivers[i].data_at = i * made.data_total;
+ *         receivers[i].at = i * made.header_len;
+ *         receivers[i].fields.has_ssrc = 1;
+ *         receivers[i].fields.ssrc = ssrc[i]; // 45 and 46
+ *     }
+ *     uint8_t headers[48];
+ *     status = rtpw_write_headers(&made, header, sizeof header, numbers, sizeof numbers, receivers, 2, headers,
+ *                                 sizeof headers);
+ *     // the second is 90 60 00 05 00 00 00 64 00 00 00 2E BE DE 00 02 30 AA 41 00 08 00 00 00
+ */
+
+/* A group's header: how long it is, and where in it the data of the group's elements lie, in their order. 88 bytes. */
+typedef struct {
+    uint32_t header_len;  /* of the header that was made, and of each that is written: 12 to 262,216 */
+    uint32_t data_at[16]; /* where the data of each element begin, in bytes from the header's first one; after the last
+                           * as made 0, and as given not looked at */
+    uint16_t data_total;  /* how many bytes of data each receiver brings: the sum of data_len, 0 to 4,080 */
+    uint8_t count;        /* how many elements there are: 0 to 16 */
+    uint8_t data_len[16]; /* how many bytes of data each has, 0 to 255; after the last as data_at */
+} rtpw_template;
+
+/* Makes the header that the packet gets for a group, at the front of the buffer, and tells of it in *made. Each element
+ * of the packet gets its new id, and one that gets none goes (rtpw_renumber); then the elements that are given are put
+ * into it, in their order (rtpw_put_element; `allowed` is as there), each named as in rtpw_write_elements: at most 16,
+ * of ids of their own. Only the packet's header is looked at. A buffer of twice the packet's header and 264 bytes for
+ * each element has room.
+ *
+ * RTPW_OK; RTPW_BAD_FIELD, before all else, where `allowed` is none of the three, count is above 16, or the data of an
+ * element reach past `data`; the first cause for which the bytes are no packet; RTPW_BAD_FIELD where two of the
+ * elements have one id; and then what the first of those calls returns that refuses: RTPW_SHORT_BUFFER where the
+ * packet's header has no room; RTPW_BAD_FIELD where the packet's form can't carry a new id that an element gets (one
+ * above 14 in the one-byte form); and of the elements in turn, as rtpw_put_element, RTPW_BAD_ID, RTPW_BAD_FIELD of more
+ * than 255 bytes of data, RTPW_UNKNOWN_FORM, RTPW_FORM_NOT_ALLOWED, RTPW_LONG_BLOCK or RTPW_SHORT_BUFFER. Where it
+ * isn't RTPW_OK *made is as it was, but the buffer may hold anything; so may what lies behind the header where it is. */
+RTPW_CHECKED int32_t rtpw_make_template(const uint8_t *datagram, size_t len, const rtpw_new_ids *ids,
+                                        const uint8_t *data, size_t data_len, const rtpw_element *elements,
+                                        size_t count, uint8_t allowed, uint8_t *buf, size_t size,
+                                        rtpw_template *made);
+
+/* One of the receivers of a group, and the header that it gets. 40 bytes. */
+typedef struct {
+    size_t data_at;     /* given: where its data begin, in bytes from the first one of the data: made->data_total bytes,
+                         * those of the group's elements one after another in their order */
+    size_t at;          /* given: where its header begins in the buffer, in bytes */
+    rtpw_fields fields; /* given: its fields, as rtpw_set_fields takes them; the others are the packet's */
+    int32_t status;     /* written: RTPW_OK; RTPW_BAD_FIELD where there is a payload type above 127, or its data reach
+                         * past the data; RTPW_SHORT_BUFFER where its header would reach past the buffer */
+} rtpw_routed_header;
+
+/* Writes the headers of receivers of the group, made->header_len bytes each, with what rtpw_make_template has made:
+ * *made, and the header at the front of `header`, of which nothing behind that is looked at. With the payload behind it
+ * each is the packet that goes to the receiver. One that isn't RTPW_OK writes nothing but its status, and spoils no
+ * other. They are written in the order of the array: where two of them overlap, the bytes of the later one stand. How
+ * many there are isn't limited, and a count of 0 writes nothing.
+ *
+ * RTPW_OK, whatever the statuses of the receivers are. RTPW_BAD_FIELD where *made is none that rtpw_make_template
+ * makes: its count is above 16, header_len above header_size, the data of an element reach past header_len, or
+ * data_total isn't how many they are; then the first cause for which the first header_len bytes are no packet; then
+ * RTPW_BAD_FIELD where they have a payload. Where it isn't RTPW_OK nothing is written, and no status either. */
+RTPW_CHECKED int32_t rtpw_write_headers(const rtpw_template *made, const uint8_t *header, size_t header_size,
+                                        const uint8_t *data, size_t data_len, rtpw_routed_header *receivers,
+                                        size_t count, uint8_t *buf, size_t size);
 
 /* In a program that is built with -fsanitize=address or memory the calls test what they are given, and tell what they
  * write, where rtp_wire_sanitized.h lies beside this file: the library itself is built without. */

@@ -681,6 +681,25 @@ inline void receive_many(span<rtpw_receiver> receivers, span<rtpw_arrival> arriv
     ::rtpw_receive_many(receivers.data(), receivers.size(), arrivals.data(), arrivals.size());
 }
 
+/* ---- One packet to all its receivers ---- */
+
+/* The header that a packet gets for a group is made in the buffer, and what is returned tells of it. The data of the
+ * elements lie in `data`. */
+inline result<rtpw_template> make_template(bytes datagram, const rtpw_new_ids &ids, bytes data,
+                                           span<const rtpw_element> elements, buffer buf,
+                                           std::uint8_t allowed = RTPW_ANY_FORM) noexcept {
+    return result<rtpw_template>([&](rtpw_template *it) {
+        return ::rtpw_make_template(datagram.data(), datagram.size(), &ids, data.data(), data.size(), elements.data(),
+                                    elements.size(), allowed, buf.data(), buf.size(), it);
+    });
+}
+/* The status of each receiver stands in its struct: rtpw::status(it.status). */
+inline status write_headers(const rtpw_template &made, bytes header, bytes data, span<rtpw_routed_header> receivers,
+                            buffer buf) noexcept {
+    return status(::rtpw_write_headers(&made, header.data(), header.size(), data.data(), data.size(), receivers.data(),
+                                       receivers.size(), buf.data(), buf.size()));
+}
+
 } // namespace rtpw
 
 #endif

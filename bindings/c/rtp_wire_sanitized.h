@@ -450,6 +450,74 @@ static inline void rtpw_sanitizer_wrote_arrivals(const rtpw_receiver *receivers,
     }
 }
 
+/* The whole header of a packet is read, new ids, and the elements that are put; the buffer is room. */
+static inline void rtpw_sanitizer_group(const uint8_t *datagram, size_t len, const rtpw_new_ids *ids,
+                                        const uint8_t *data, size_t data_len, const rtpw_element *elements,
+                                        size_t count, uint8_t *buf, size_t size) {
+    rtpw_sanitizer_header(datagram, len);
+    rtpw_sanitizer_ids(ids->id);
+    rtpw_sanitizer_elements(data, data_len, elements, count);
+    rtpw_sanitizer_room(buf, size);
+}
+
+/* The template is read up to its last element, and whether it is one: then the header is read. */
+static inline bool rtpw_sanitizer_template(const rtpw_template *made, const uint8_t *header, size_t size) {
+    size_t i, total = 0, count;
+    rtpw_sanitizer_room((void *)made, sizeof *made);
+    rtpw_sanitizer_room((void *)header, size);
+    RTPW_SANITIZER_FIELD(made->header_len);
+    RTPW_SANITIZER_FIELD(made->count);
+    RTPW_SANITIZER_FIELD(made->data_total);
+    count = rtpw_sanitizer_least(made->count, 16);
+    rtpw_sanitizer_reads(made->data_at, count * sizeof *made->data_at);
+    rtpw_sanitizer_reads(made->data_len, count);
+    if (made->count > 16 || made->header_len > size) {
+        return false;
+    }
+    for (i = 0; i < count; i++) {
+        if (made->data_at[i] > made->header_len || made->data_len[i] > made->header_len - made->data_at[i]) {
+            return false;
+        }
+        total += made->data_len[i];
+    }
+    if (total != made->data_total) {
+        return false;
+    }
+    rtpw_sanitizer_header(header, made->header_len);
+    return rtpw_sanitizer_header_len(header, made->header_len) == made->header_len;
+}
+
+/* Of each receiver what is given is read, and its data where they lie in the data. */
+static inline void rtpw_sanitizer_receivers(const rtpw_template *made, const uint8_t *header, size_t header_size,
+                                            const uint8_t *data, size_t data_len,
+                                            const rtpw_routed_header *receivers, size_t count, uint8_t *buf,
+                                            size_t size) {
+    size_t i;
+    rtpw_sanitizer_room((void *)data, data_len);
+    rtpw_sanitizer_room((void *)receivers, count * sizeof *receivers);
+    rtpw_sanitizer_room(buf, size);
+    if (!rtpw_sanitizer_template(made, header, header_size)) {
+        return;
+    }
+    for (i = 0; i < count; i++) {
+        RTPW_SANITIZER_FIELD(receivers[i].data_at);
+        RTPW_SANITIZER_FIELD(receivers[i].at);
+        rtpw_sanitizer_fields(&receivers[i].fields);
+        if (receivers[i].data_at <= data_len && made->data_total <= data_len - receivers[i].data_at) {
+            rtpw_sanitizer_reads(data + receivers[i].data_at, made->data_total);
+        }
+    }
+}
+
+static inline void rtpw_sanitizer_wrote_headers(const rtpw_template *made, const rtpw_routed_header *receivers,
+                                                size_t count, uint8_t *buf) {
+    size_t i;
+    for (i = 0; i < count; i++) {
+        rtpw_sanitizer_wrote(&receivers[i].status, sizeof receivers[i].status);
+        if (receivers[i].status == RTPW_OK) { rtpw_sanitizer_wrote(buf + receivers[i].at, made->header_len); }
+    }
+}
+
 /* ---- The calls ---- */
 
 #define RTPW_SANITIZED_AS(type, name, parameters, arguments, tests, wrote) \
@@ -835,6 +903,18 @@ RTPW_SANITIZED_VOID(receive_many, (rtpw_receiver *receivers, size_t receiver_cou
     rtpw_sanitizer_arrivals(receivers, receiver_count, arrivals, count),
     rtpw_sanitizer_wrote_arrivals(receivers, arrivals, count))
 #define rtpw_receive_many rtpw_sanitized_receive_many
+RTPW_SANITIZED(make_template, (const uint8_t *datagram, size_t len, const rtpw_new_ids *ids, const uint8_t *data,
+    size_t data_len, const rtpw_element *elements, size_t count, uint8_t allowed, uint8_t *buf, size_t size,
+    rtpw_template *made), (datagram, len, ids, data, data_len, elements, count, allowed, buf, size, made),
+    rtpw_sanitizer_group(datagram, len, ids, data, data_len, elements, count, buf, size); RTPW_ROOM(made),
+    RTPW_WROTE(made) RTPW_WROTE_BYTES(buf, made->header_len))
+#define rtpw_make_template rtpw_sanitized_make_template
+RTPW_SANITIZED(write_headers, (const rtpw_template *made, const uint8_t *header, size_t header_size,
+    const uint8_t *data, size_t data_len, rtpw_routed_header *receivers, size_t count, uint8_t *buf, size_t size),
+    (made, header, header_size, data, data_len, receivers, count, buf, size),
+    rtpw_sanitizer_receivers(made, header, header_size, data, data_len, receivers, count, buf, size),
+    if (status == RTPW_OK) { rtpw_sanitizer_wrote_headers(made, receivers, count, buf); })
+#define rtpw_write_headers rtpw_sanitized_write_headers
 
 #undef RTPW_SANITIZED_AS
 #undef RTPW_SANITIZED

@@ -68,6 +68,12 @@ static rtpw_datagram datagrams[MOST];
 static rtpw_datagram_header datagram_headers[MOST];
 static rtpw_arrival arrivals[MOST];
 static rtpw_receiver before, after;
+/* The header of the packet for receivers of a transport number and a send time of their own, and these receivers. */
+static uint8_t group[1024];
+static rtpw_element group_puts[2];
+static rtpw_new_ids group_ids;
+static rtpw_template made;
+static rtpw_routed_header receivers[MOST];
 
 /* The status of a call that is timed may be any. */
 static volatile int64_t sink;
@@ -78,7 +84,9 @@ static uint8_t body[BODY_LEN];
 #define MANY(X)                                                                                                       \
     X(rtpw_packet_parse_many, (rtpw_packet_parse_many(packets[0], sizeof packets, datagrams, at_once), 0))            \
     X(rtpw_parse_many, (rtpw_parse_many(packets[0], sizeof packets, &map, datagram_headers, at_once), 0))             \
-    X(rtpw_receive_many, (after = before, rtpw_receive_many(&after, 1, arrivals, at_once), 0))
+    X(rtpw_receive_many, (after = before, rtpw_receive_many(&after, 1, arrivals, at_once), 0))                        \
+    X(rtpw_write_headers,                                                                                             \
+      rtpw_write_headers(&made, group, sizeof group, data, sizeof data, receivers, at_once, packets[0], sizeof packets))
 
 #define CALLS(X)                                                                                                      \
     X(rtpw_version, rtpw_version())                                                                                   \
@@ -177,6 +185,8 @@ static uint8_t body[BODY_LEN];
     X(rtpw_wide_restarting_receive, rtpw_wide_restarting_receive(&wide_restarting, restarting_words, 16,              \
       (uint16_t)(wide_restarting_number + 1), &wide_restarting_number))                                               \
     MANY(X)                                                                                                           \
+    X(rtpw_make_template, rtpw_make_template(packet, sizeof packet, &group_ids, data, sizeof data, group_puts, 2,           \
+      RTPW_ANY_FORM, group, sizeof group, &made))                                                                     \
     X(rtpw_extend_u8, rtpw_extend_u8(number, 7))                                                                      \
     X(rtpw_extend_u15, rtpw_extend_u15(number, 7))                                                                    \
     X(rtpw_extend_u16, rtpw_extend_u16(number, 7))                                                                    \
@@ -243,9 +253,18 @@ int main(int argc, char **argv) {
         datagrams[i].at = datagram_headers[i].at = (size_t)i * sizeof packet;
         datagrams[i].len = datagram_headers[i].len = sizeof packet;
         arrivals[i].sequence_number = (uint16_t)(100 + i);
+        receivers[i].at = (size_t)i * sizeof packet;
+        receivers[i].fields.has_ssrc = receivers[i].fields.has_sequence_number = 1;
+        receivers[i].fields.has_timestamp = 1;
     }
     element.id = 3;
     element.data_len = 2;
+    group_puts[0].id = 3;
+    group_puts[0].data_len = 2;
+    group_puts[1].id = 2;
+    group_puts[1].data_len = 3;
+    for (i = 0; i < 15; i++) group_ids.id[i] = (uint8_t)i;
+    if (rtpw_make_template(packet, sizeof packet, &group_ids, data, sizeof data, group_puts, 2, RTPW_ANY_FORM, group, sizeof group, &made) != RTPW_OK) return 1;
     nothing = nanoseconds(run_nothing, calls);
 #define PRINT(name, call) printf(#name " %.1f\n", nanoseconds(run_##name, calls) - nothing);
     if (argc == 3) {

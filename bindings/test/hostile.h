@@ -60,6 +60,7 @@ void layers_round(void);
 void written_elements_round(void);
 void payload_round(void);
 void standard_round(void);
+void routed_round(void);
 
 static inline void every_round(void) {
     packets_round();
@@ -81,6 +82,7 @@ static inline void every_round(void) {
     written_elements_round();
     payload_round();
     standard_round();
+    routed_round();
 }
 
 #endif

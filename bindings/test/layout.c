@@ -62,6 +62,19 @@ HOLDS(offsetof(rtpw_arrival, number) == 8);
 HOLDS(offsetof(rtpw_arrival, sequence_number) == 16);
 HOLDS(offsetof(rtpw_arrival, status) == 20);
 
+HOLDS(sizeof(rtpw_template) == 88);
+HOLDS(offsetof(rtpw_template, header_len) == 0);
+HOLDS(offsetof(rtpw_template, data_at) == 4);
+HOLDS(offsetof(rtpw_template, data_total) == 68);
+HOLDS(offsetof(rtpw_template, count) == 70);
+HOLDS(offsetof(rtpw_template, data_len) == 71);
+
+HOLDS(sizeof(rtpw_routed_header) == 40);
+HOLDS(offsetof(rtpw_routed_header, data_at) == 0);
+HOLDS(offsetof(rtpw_routed_header, at) == 8);
+HOLDS(offsetof(rtpw_routed_header, fields) == 16);
+HOLDS(offsetof(rtpw_routed_header, status) == 36);
+
 HOLDS(sizeof(rtpw_receiver) == 32);
 HOLDS(offsetof(rtpw_receiver, highest) == 0);
 HOLDS(offsetof(rtpw_receiver, recorded_low) == 8);

@@ -32,6 +32,9 @@ static rtpw_wide_restarting_receiver wide_restarting;
 static rtpw_datagram datagrams[2] = {{.len = sizeof datagram}, {.at = 1, .len = SIZE_MAX}};
 static rtpw_datagram_header datagram_headers[2] = {{.len = sizeof datagram}, {.at = 1, .len = SIZE_MAX}};
 static rtpw_arrival arrivals[3] = {{.sequence_number = 99}, {.sequence_number = 98}, {.receiver = 1}};
+static rtpw_template made;
+static uint8_t headers[12 + 60 + 4 + 262140 + 16 * 264], written_headers[sizeof headers], zeros[16];
+static rtpw_routed_header routed[2] = {{.at = 0}, {.at = SIZE_MAX}};
 static rtpw_map map;
 static rtpw_values values;
 static rtpw_header header, given;
@@ -161,6 +164,14 @@ static void wide_receiver_standing_of(void) { number = rtpw_wide_receiver_standi
 static void wide_restarting_receive(void) { status = rtpw_wide_restarting_receive(&wide_restarting, words, 512, 99, &number); }
 static void receiver_receive(void) { status = rtpw_receiver_receive(&receiver, 99, &number); }
 static void receive_many(void) { rtpw_receive_many(&receiver, 1, arrivals, 3); }
+static void make_template(void) {
+    status = rtpw_make_template(datagram, few_elements(), &ids, data, sizeof data, many + 1, 16, RTPW_ANY_FORM, headers,
+                                sizeof headers, &made);
+}
+static void write_headers(void) { /* from what was made before */
+    status = rtpw_write_headers(&made, headers, sizeof headers, zeros, sizeof zeros, routed, 2, written_headers,
+                                sizeof written_headers);
+}
 static void packet_parse_many(void) { rtpw_packet_parse_many(datagram, sizeof datagram, datagrams, 2); }
 static void parse_many(void) { rtpw_parse_many(datagram, sizeof datagram, &map, datagram_headers, 2); }
 static void values_read(void) { status = rtpw_values_read(datagram + 76, 262140, RTPW_ONE_BYTE_FORM, &map, &values); }
@@ -284,6 +295,7 @@ int main(void) {
         CALL(new_ids_between), CALL(renumber), CALL(pad), CALL(read_original), CALL(write_original), CALL(version),
         CALL(new_ids_to_retransmission), CALL(new_ids_from_retransmission), CALL(to_retransmission),
         CALL(from_retransmission), CALL(packet_parse_many), CALL(parse_many), CALL(receive_many),
+        CALL(make_template), CALL(write_headers),
         CALL(read_transmission_offset), CALL(write_transmission_offset), CALL(read_frame_marking), CALL(write_frame_marking),
         CALL(read_orientation), CALL(write_orientation), CALL(is_token), CALL(read_timing), CALL(write_timing),
         CALL(read_transport_number), CALL(write_transport_number), CALL(read_mixer_level), CALL(write_mixer_levels),

@@ -746,6 +746,51 @@ static void receive_many(void) { /* the second receiver has taken nothing, and t
     set(&it[2].status, sizeof it[2].status);
     set(receivers, sizeof two);
 }
+static void make_template(void) {
+    rtpw_new_ids ids;
+    rtpw_element element;
+    rtpw_template *made;
+    uint8_t *buf;
+    memset(&ids, 3, sizeof ids);
+    memset(&element, 0, sizeof element);
+    element.data_len = 2;
+    element.id = 4;
+    const uint8_t *datagram = PACKET, *data = in("ab", 2);
+    const rtpw_new_ids *given_ids = in(&ids, sizeof ids);
+    const rtpw_element *elements = in(&element, sizeof element);
+    buf = out(400);
+    made = out(sizeof *made);
+    done(rtpw_make_template(datagram, LEN, given_ids, data, 2, elements, 1, RTPW_ANY_FORM, buf, 400, made));
+    set(made, offsetof(rtpw_template, data_len) + sizeof made->data_len);
+    set(buf, made->header_len);
+}
+static void write_headers(void) { /* of the second one the data aren't there */
+    static const uint8_t header[24] = {0x90, 96,   0, 5, 0,    0,    0,    100, 0, 0, 0, 44,
+                                       0xBE, 0xDE, 0, 2, 0x30, 0xAA, 0x41, 0,   7, 0, 0, 0};
+    rtpw_template it;
+    rtpw_routed_header two[2], *receivers;
+    uint8_t *buf;
+    memset(&it, 0, sizeof it);
+    it.header_len = 24;
+    it.data_at[0] = 19;
+    it.data_len[0] = 2;
+    it.data_total = 2;
+    it.count = 1;
+    memset(two, 0, sizeof two);
+    two[0].fields.has_ssrc = 1;
+    two[1].data_at = 1;
+    const rtpw_template *made = in(&it, sizeof it);
+    const uint8_t *copied = in(header, sizeof header), *data = in("ab", 2);
+    receivers = in(two, sizeof two);
+    buf = out(24);
+    done(rtpw_write_headers(made, copied, sizeof header, data, 2, receivers, 2, buf, 24));
+    done(receivers[0].status);
+    if (receivers[1].status != RTPW_BAD_FIELD) {
+        _exit(3);
+    }
+    set(buf, 24);
+    set(&receivers[0].status, sizeof receivers[0].status);
+}
 static void no_bytes(void) { /* NULL, where the size is 0 */
     size_t len = 0;
     rtpw_packet packet;
@@ -879,6 +924,8 @@ static const struct {
     CASE(packet_parse_many),
     CASE(parse_many),
     CASE(receive_many),
+    CASE(make_template),
+    CASE(write_headers),
     CASE(no_bytes)};
 
 /* The status with which a case ends where this block is wrong. */

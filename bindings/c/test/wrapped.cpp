@@ -1066,9 +1066,38 @@ void alike_many() {
     }
 }
 
+// Two receivers of one group: two bytes of the id 4 for each.
+void routes() {
+    const std::vector<std::uint8_t> packet = {0x90, 96, 0,    5,    0, 0, 0,    100,  0, 0,
+                                              0,    44, 0xBE, 0xDE, 0, 1, 0x10, 0xAA, 0, 0};
+    rtpw_new_ids ids{};
+    ids.id[1] = 3;
+    const std::array<std::uint8_t, 4> data = {0, 7, 0, 8};
+    const rtpw_element elements[] = {{0, 2, 0, 4}};
+    std::uint8_t header[304];
+    const auto made = rtpw::make_template(packet, ids, data, elements, header);
+    CHECK(made && made->header_len == 24 && made->data_at[0] == 19);
+    CHECK(rtpw::make_template(packet, ids, data, elements, {header, 19}).status() == status::short_buffer);
+    std::array<rtpw_routed_header, 2> receivers{};
+    receivers[1].data_at = 2;
+    receivers[1].at = 24;
+    receivers[1].fields.has_ssrc = 1;
+    receivers[1].fields.ssrc = 46;
+    std::uint8_t headers[48];
+    CHECK(rtpw::make_template(packet, ids, data, elements, header, RTPW_TWO_BYTE_FORM)->data_at[0] == 21);
+    CHECK(same({header + 12, 12}, {0x10, 0, 0, 2, 3, 1, 0xAA, 4, 2, 0, 7, 0}));
+    CHECK(rtpw::make_template(packet, ids, data, elements, header).status() == status::ok);
+    CHECK(rtpw::write_headers(*made, header, data, receivers, headers) == status::ok);
+    CHECK(same({headers + 24, 24},
+               {0x90, 96, 0, 5, 0, 0, 0, 100, 0, 0, 0, 46, 0xBE, 0xDE, 0, 2, 0x30, 0xAA, 0x41, 0, 8, 0, 0, 0}));
+    CHECK(status(receivers[0].status) == status::ok);
+    CHECK(rtpw::write_headers(*made, {header, 23}, data, receivers, headers) == status::bad_field);
+}
+
 } // namespace
 
 int main() {
+    routes();
     reads();
     changes();
     grows();

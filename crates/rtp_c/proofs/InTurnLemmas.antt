@@ -3,6 +3,9 @@ use Rattle.rtp_c.proofs.Common.{◌≡◌, ℕ, ◌+◌, ◌-◌, ◌<◌, ◌�
 use Rattle.std.proofs.ResultArms.{subst_both}
 use Rattle.rtp_c.specs.declared.arrivals.Arrival.{Arrival}
 use Rattle.rtp_c.specs.Arrivals.{IsReceived, AreReceived}
+use Rattle.rtp_route.specs.declared.slots.Slot.{Slot}
+use Rattle.rtp_c.specs.declared.routed_headers.RoutedHeader.{RoutedHeader}
+use Rattle.rtp_c.specs.RoutedHeaders.{IsHeaderWritten, AreHeadersWritten}
 
 -- from this index on the elements are as they were
 abbrev pub AreLeft : {X : Type 0} → List X → List X → ℕ → Type 0
@@ -66,5 +69,33 @@ AreReceivedTo-next receivers olds news between index d new after so_far within i
           (sym (take_more_set news index new within))
           (AreReceived-push receivers (take index olds) (take index news) between (get_or olds index d) new after so_far.received
           (subst (λ old. IsReceived between old new after) (AreLeft-at olds news index d so_far.left) is));
+      left = AreLeft-next olds news index new so_far.left;
+    }
+
+-- ---- headers, each written into the buffer as the one before it left that
+
+AreHeadersWritten-push : (header : List ℕ) (slots : List Slot) (bytes : List ℕ) (olds news : List RoutedHeader) (buf between : List ℕ) (old new : RoutedHeader) (after : List ℕ)
+    → AreHeadersWritten header slots bytes olds news buf between → IsHeaderWritten header slots bytes old new between after
+    → AreHeadersWritten header slots bytes (olds ++ old ∷ []) (news ++ new ∷ []) buf after
+AreHeadersWritten-push header slots bytes [] [] buf between old new after so_far is = (after, subst (λ b. IsHeaderWritten header slots bytes old new b after) so_far is, refl)
+AreHeadersWritten-push header slots bytes [] (n ∷ ns) buf between old new after so_far is = absurd so_far
+AreHeadersWritten-push header slots bytes (o ∷ os) [] buf between old new after so_far is = absurd so_far
+AreHeadersWritten-push header slots bytes (o ∷ os) (n ∷ ns) buf between old new after so_far is =
+    (so_far.0, so_far.1, AreHeadersWritten-push header slots bytes os ns so_far.0 between old new after so_far.2 is)
+
+-- before this index the headers are written, and the receivers from it on are as they were
+pub record AreHeadersWrittenTo (header : List ℕ) (slots : List Slot) (bytes : List ℕ) (olds news : List RoutedHeader) (buf after : List ℕ) (index : ℕ) : Type 0 where
+  pub written : AreHeadersWritten header slots bytes (take index olds) (take index news) buf after
+  pub left : AreLeft olds news index
+
+pub AreHeadersWrittenTo-next : (header : List ℕ) (slots : List Slot) (bytes : List ℕ) (olds news : List RoutedHeader) (buf between : List ℕ) (index : ℕ) (d new : RoutedHeader) (after : List ℕ)
+    → AreHeadersWrittenTo header slots bytes olds news buf between index → index < length news → IsHeaderWritten header slots bytes (get_or news index d) new between after
+    → AreHeadersWrittenTo header slots bytes olds (set news index new) buf after (index + 1)
+AreHeadersWrittenTo-next header slots bytes olds news buf between index d new after so_far within is =
+    record {
+      written = subst_both (λ os ns. AreHeadersWritten header slots bytes os ns buf after) (sym (take_more olds index d (AreLeft-within olds news index so_far.left within)))
+          (sym (take_more_set news index new within))
+          (AreHeadersWritten-push header slots bytes (take index olds) (take index news) buf between (get_or olds index d) new after so_far.written
+          (subst (λ old. IsHeaderWritten header slots bytes old new between after) (AreLeft-at olds news index d so_far.left) is));
       left = AreLeft-next olds news index new so_far.left;
     }

@@ -1,5 +1,7 @@
 mod Common
 mod InTurnLemmas
+mod TemplateLemmas
+mod RoutedLemmas
 mod StatusLemmas
 mod HeaderStatusLemmas
 mod PacketLemmas

@@ -37,3 +37,6 @@ pub mod StandardTransport
 pub mod StandardLevels
 pub mod StandardColor
 pub mod StandardDescriptor
+pub mod RoutedStatus
+pub mod StoredTemplate
+pub mod RoutedHeaders

@@ -43,7 +43,7 @@ pub struct FieldsView {
 }
 
 // The fields that are given.
-fn given_fields(view: &FieldsView) -> Fields
+pub(super) fn given_fields(view: &FieldsView) -> Fields
     ensures { result ≡ fields_given view.now }
 {
     Fields {

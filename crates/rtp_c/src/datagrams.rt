@@ -46,10 +46,10 @@ pub struct DatagramHeader {
     pub is_rtcp: u8,
 }
 
-// The bytes of the datagram at this place, of this length, where it is within the buffer.
-fn datagram_in(buf: &[u8], at: usize, len: usize) -> Option<&[u8]>
-    ensures found { IfSome result (λ datagram.
-        IsWithin buf.now at len × (datagram.now ≡ slice_at buf.now at len)) }
+// The bytes at this place, of this length, where they are within the buffer.
+pub(super) fn slice_in(buf: &[u8], at: usize, len: usize) -> Option<&[u8]>
+    ensures found { IfSome result (λ slice.
+        IsWithin buf.now at len × (slice.now ≡ slice_at buf.now at len)) }
     ensures none { IfNone result (IsWithin buf.now at len → ⊥) }
 {
     buf.get(at..)?.get(..len)
@@ -66,7 +66,7 @@ fn rtcp_number(bytes: &[u8]) -> u8
 fn read_datagram(buf: &[u8], datagram: &mut Datagram)
     ensures { IsDatagramRead buf.now datagram.old datagram.new }
 {
-    let Some(bytes) = datagram_in(buf, datagram.at, datagram.len) else {
+    let Some(bytes) = slice_in(buf, datagram.at, datagram.len) else {
         datagram.status = BAD_FIELD;
         datagram.is_rtcp = 0;
         return;
@@ -79,7 +79,7 @@ fn read_datagram(buf: &[u8], datagram: &mut Datagram)
 fn read_datagram_header(buf: &[u8], map: &StoredMap, datagram: &mut DatagramHeader)
     ensures { IsDatagramHeaderRead map.now.kind buf.now datagram.old datagram.new }
 {
-    let Some(bytes) = datagram_in(buf, datagram.at, datagram.len) else {
+    let Some(bytes) = slice_in(buf, datagram.at, datagram.len) else {
         datagram.status = BAD_FIELD;
         datagram.is_rtcp = 0;
         return;

@@ -1,10 +1,12 @@
 //! The elements that C names, read where their data lie.
 
-ghost use Rattle.std.specs.Prelude.{◌≡◌, ◌↔◌, IsTrue, IfSome, IfNone};
+ghost use Rattle.std.specs.Prelude.{◌≡◌, ◌↔◌, ◌≤◌, length, take, IsTrue, IfSome, IfNone};
+ghost use Rattle.rtp_ext.specs.ElementsInARow.{elements_of};
 ghost use Rattle.rtp_c.specs.WrittenElements.{LiesIn, LieIn, elements_in};
 
 use super::packet::ElementView;
 use rtp_ext::ElementList;
+use rtp_route::MAX_ELEMENTS;
 
 /// Elements whose data lie within the bytes.
 #[derive(Clone, Copy)]
@@ -33,6 +35,24 @@ impl<'a> NamedElements<'a> {
             return None;
         }
         Some(NamedElements { bytes, views })
+    }
+
+    /// The elements in a list of fixed size, and behind the last any. Requires at most 16.
+    pub fn lent(&self) -> [(u8, &'a [u8]); MAX_ELEMENTS]
+        requires { length self.now.views.now ≤ 16 }
+        ensures elements { elements_of (take (length self.now.views.now) result)
+            ≡ elements_in self.now.bytes.now self.now.views.now }
+        ensures long { length result ≡ 16 }
+    {
+        let mut lent: [(u8, &'a [u8]); MAX_ELEMENTS] = [(0, &[]); MAX_ELEMENTS];
+        for index in 0..self.views.len() {
+            let view = &self.views[index];
+            lent[index] = (
+                view.id,
+                &self.bytes[view.data_at..view.data_at + view.data_len],
+            );
+        }
+        lent
     }
 }
 

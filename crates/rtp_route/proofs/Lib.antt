@@ -7,8 +7,9 @@ mod SameElementsLemmas
 mod NotPutLemmas
 mod SetDataLemmas
 mod SlotLemmas
+pub mod LengthLemmas
 mod BodyLemmas
 mod OnlyLemmas
 mod SlotsFound
-mod TemplateLemmas
+pub mod TemplateLemmas
 mod OneHeaderLemmas

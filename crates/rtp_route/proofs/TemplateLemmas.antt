@@ -1,5 +1,5 @@
 -- A header that is made once, and what other fields and data make of it.
-use Rattle.std.proofs.Common.{◌≡◌, ℕ, ◌+◌, ◌-◌, ◌*◌, Bool, true, false, ◌&&◌, nat_le, cond, List, [], ◌∷◌, ◌++◌, length, take, drop, map, Option, Some, None, IsSome, refl, sym, ap, subst, ◌∙◌, arith, append-nil}
+use Rattle.std.proofs.Common.{◌≡◌, ℕ, ◌+◌, ◌-◌, ◌*◌, Bool, true, false, ◌&&◌, nat_le, cond, List, [], ◌∷◌, ◌++◌, length, take, drop, map, Option, Some, None, IsSome, refl, sym, ap, subst, ◌∙◌, arith, append-nil, take_at}
 use Rattle.std.specs.List.{AllByRecursion, filter_map}
 use Rattle.std.proofs.lemmas.List.{length-map, take_all}
 use Rattle.std.proofs.lemmas.Option.{none-some}
@@ -15,17 +15,19 @@ use Rattle.rtp_ext.proofs.NewIdLemmas.{All-IsElement}
 use Rattle.rtp_wire.specs.declared.packet.fields.Fields.{Fields}
 use Rattle.rtp_wire.specs.ChangedPacket.{ChangesOnly}
 use Rattle.rtp_wire.specs.GivenFields.{with_header_fields}
-use Rattle.rtp_wire.specs.Packet.{PacketParts, IsPacket}
+use Rattle.rtp_wire.specs.Packet.{PacketParts, IsPacket, header_len_of}
 use Rattle.rtp_wire.specs.PacketElements.{AreElementsOf}
 use Rattle.rtp_wire.specs.PutIntoPacket.{form_of_block}
 use Rattle.rtp_route.specs.declared.slots.Slot.{Slot}
-use Rattle.rtp_route.specs.Calls.{no_fields}
+use Rattle.rtp_route.specs.Calls.{no_fields, header_in}
 use Rattle.rtp_route.specs.Routing.{put_all, IsFormAfter, extension_after, row_in, routed_elements, routed_parts, word_bytes, IsRouted}
 use Rattle.rtp_wire.specs.declared.packet.rtp_packet.RtpPacket.{RtpPacket}
 use Rattle.rtp_wire.specs.PartsOf.{parts_of, datagram_of}
 use Rattle.rtp_wire.proofs.PacketLemmas.{one_packet}
+use Rattle.rtp_wire.proofs.PartsLemmas.{length-packet, IsPacket-found}
 use Rattle.rtp_route.specs.declared.template.HeaderTemplate.{HeaderTemplate}
 use Rattle.rtp_route.specs.Template.{with_data, HaveOwnIds, HasOnly, HasRow, data_lengths, slot_lengths, filled_in, AreSlots, body_start_of}
+use Rattle.rtp_route.specs.GroupHeader.{IsGroupHeader, IsFilledIn}
 use Rattle.rtp_route.specs.TemplateOf.{header_of, slots_in, lengths_of, IsTemplate}
 use Rattle.rtp_route.proofs.ByCallsLemmas.{front-put}
 use Rattle.rtp_route.proofs.BodyLemmas.{has-body}
@@ -106,19 +108,12 @@ word-set old new was parts old_is new_is same only =
     ∙ ap (take 2) (from_twelve s new (omega arith) ∙ ap (drop (s - 12)) only.after_is ∙ sym (from_twelve s old (omega arith)))
     ∙ sym (word_of old was old_is)
 
--- what the template's header is once fields are set, and data put at their places
-pub record IsFilled (old : List ℕ) (ids : ℕ → Option ℕ) (news : List Element) (allowed : Option ExtensionsForm) (header : List ℕ) (slots : List Slot) : Type 0 where
-  pub routed : IsRouted old no_fields ids news allowed header
-  pub own : HaveOwnIds news
-  pub lengths_are : slot_lengths slots ≡ data_lengths news
-  pub slots_are : (form : ExtensionsForm) → routed.form ≡ Some form → AreSlots form (body_start_of routed.parts) (routed_elements ids news routed.elements) news slots
-
 -- the parts of the header with the fields set
 abbrev set_parts : Fields → (ℕ → Option ℕ) → List Element → Option ExtensionsForm → List Element → PacketParts → PacketParts
 set_parts fields ids news form elements parts = record (routed_parts fields ids news form elements parts) { payload = [] }
 
 filled-with : (old : List ℕ) (ids : ℕ → Option ℕ) (news : List Element) (allowed : Option ExtensionsForm) (header : List ℕ) (slots : List Slot) (fields : Fields) (contents : List (List ℕ)) (set : List ℕ)
-    (is : IsFilled old ids news allowed header slots) (form : Option ExtensionsForm) → is.routed.form ≡ form → map length contents ≡ data_lengths news
+    (is : IsGroupHeader old ids news allowed header slots) (form : Option ExtensionsForm) → is.routed.form ≡ form → map length contents ≡ data_lengths news
     → IsPacket set (set_parts fields ids news is.routed.form is.routed.elements is.routed.parts) → ChangesOnly 1 12 header set
     → IsRouted old fields ids (with_data news contents) allowed (filled_in slots contents set)
 filled-with old ids [] allowed header [] fields contents set is None none same packet only = record {
@@ -191,6 +186,15 @@ filled-with old ids news allowed header slots fields contents set is (Some form)
       };
     }
 
+-- the header of a group, filled in, is the packet's for a receiver
+pub routed-filled : (old : List ℕ) (ids : ℕ → Option ℕ) (news : List Element) (allowed : Option ExtensionsForm) (header : List ℕ) (slots : List Slot) (fields : Fields) (contents : List (List ℕ)) (new : List ℕ)
+    → IsGroupHeader old ids news allowed header slots → map length contents ≡ slot_lengths slots → IsFilledIn header slots fields contents new → IsRouted old fields ids (with_data news contents) allowed new
+routed-filled old ids news allowed header slots fields contents new is same filled =
+    let routed = is.routed in
+    let parts : PacketParts = set_parts no_fields ids news routed.form routed.elements routed.parts in
+    subst (IsRouted old fields ids (with_data news contents) allowed) (sym filled.filled)
+    (filled-with old ids news allowed header slots fields contents filled.set is routed.form refl (same ∙ is.lengths_are) (filled.is_packet parts routed.is_packet) filled.only)
+
 -- ---- in the terms of the calls
 
 pub lengths-of : (contents : List (Bor (List ℕ))) → map length (map (λ (b : Bor (List ℕ)). b.now) contents) ≡ map (λ (b : Bor (List ℕ)). length b.now) contents
@@ -200,21 +204,36 @@ lengths-of (bytes ∷ contents) = ap (λ (ks : List ℕ). length bytes.now ∷ k
 pub whole-put : (buf new front : List ℕ) → new ≡ overwritten buf 0 front → length front ≡ length new → new ≡ front
 whole-put buf new front is same = sym (take_all (length front) new (omega (arith, same))) ∙ front-put buf new front is
 
+-- a header that is put at the front of a buffer of its length
+pub copied-header : (packet : RtpPacket) (header buf new : List ℕ) → IsPacket header (record (parts_of packet) { payload = [] }) → datagram_of packet ≡ header ++ (parts_of packet).payload
+    → new ≡ overwritten buf 0 header → length new ≡ header_len_of (parts_of packet) → new ≡ header_in packet
+copied-header packet header buf new alone front put room =
+    let long : header_len_of (parts_of packet) ≡ length header = omega (arith, length-packet header _ alone) in
+    whole-put buf new header put (omega (arith, room, long))
+    ∙ sym (ap (take (header_len_of (parts_of packet))) front ∙ take_at header (parts_of packet).payload (header_len_of (parts_of packet)) (sym long))
+
+-- the header of a group is all of its bytes
+pub group-length : (old : List ℕ) (ids : ℕ → Option ℕ) (news : List Element) (allowed : Option ExtensionsForm) (packet : RtpPacket) (slots : List Slot)
+    → IsGroupHeader old ids news allowed (datagram_of packet) slots → header_len_of (parts_of packet) ≡ length (datagram_of packet)
+group-length old ids news allowed packet slots is =
+    let parts : PacketParts = set_parts no_fields ids news is.routed.form is.routed.elements is.routed.parts in
+    let parts_is : parts_of packet ≡ parts = one_packet (datagram_of packet) parts is.routed.is_packet in
+    let none : length (parts_of packet).payload ≡ 0 = ap (λ (p : PacketParts). length p.payload) parts_is in
+    omega (arith, none, length-packet (datagram_of packet) (parts_of packet) (IsPacket-found packet))
+
+whole-header : (old : List ℕ) (ids : ℕ → Option ℕ) (news : List Element) (allowed : Option ExtensionsForm) (template : HeaderTemplate) → IsTemplate old ids news allowed template
+    → header_in template.header ≡ header_of template
+whole-header old ids news allowed template is =
+    let long : header_len_of (parts_of template.header) ≡ length (header_of template) = group-length old ids news allowed template.header (slots_in template) is in
+    take_all (header_len_of (parts_of template.header)) (header_of template) (omega (arith, long))
+
 -- the header that is written for a receiver
-pub written-with : (old : List ℕ) (ids : ℕ → Option ℕ) (news : List Element) (allowed : Option ExtensionsForm) (template : HeaderTemplate) (fields : Fields) (contents : List (List ℕ)) (header put set : List ℕ)
-    → IsTemplate old ids news allowed template → map length contents ≡ lengths_of template → header_of template ≡ header ++ (parts_of template.header).payload → put ≡ header
-    → ((parts : PacketParts) → IsPacket put parts → IsPacket set (with_header_fields fields parts)) → ChangesOnly 1 12 put set
-    → IsRouted old fields ids (with_data news contents) allowed (filled_in (slots_in template) contents set)
-written-with old ids news allowed template fields contents header put set is same front put-is sets_fields only =
-    let routed = is.routed in
-    let parts : PacketParts = set_parts no_fields ids news routed.form routed.elements routed.parts in
-    let parts_is : parts_of template.header ≡ parts = one_packet (header_of template) parts routed.is_packet in
-    let none : (parts_of template.header).payload ≡ [] = ap (λ (p : PacketParts). p.payload) parts_is in
-    let whole : put ≡ header_of template = put-is ∙ sym (append-nil header) ∙ ap (λ (p : List ℕ). header ++ p) (sym none) ∙ sym front in
-    filled-with old ids news allowed (header_of template) (slots_in template) fields contents set
-    (record { routed = routed; own = is.own; lengths_are = is.lengths_are; slots_are = is.slots_are }) routed.form refl (same ∙ is.lengths_are)
-    (sets_fields parts (subst (λ (b : List ℕ). IsPacket b parts) (sym whole) routed.is_packet))
-    (subst (λ (b : List ℕ). ChangesOnly 1 12 b set) whole only)
+pub written-with : (old : List ℕ) (ids : ℕ → Option ℕ) (news : List Element) (allowed : Option ExtensionsForm) (template : HeaderTemplate) (fields : Fields) (contents : List (List ℕ)) (new : List ℕ)
+    → IsTemplate old ids news allowed template → map length contents ≡ lengths_of template → IsFilledIn (header_in template.header) (slots_in template) fields contents new
+    → IsRouted old fields ids (with_data news contents) allowed new
+written-with old ids news allowed template fields contents new is same filled =
+    routed-filled old ids news allowed (header_of template) (slots_in template) fields contents new is same
+    (subst (λ (b : List ℕ). IsFilledIn b (slots_in template) fields contents new) (whole-header old ids news allowed template is) filled)
 
 -- what is found of places
 abbrev Finds : RtpPacket → List Element → ℕ → Option (List Slot) → Type 0
@@ -244,20 +263,20 @@ slots-there old ids news allowed header count result routed own found none = by_
         let slots = found form (put_all news es) (row-there old ids news allowed header routed form is) (only-put_all news es own) in
         subst IsSome (sym slots.1) refl
 
--- the template that is made of a packet
-pub template-made : (old : List ℕ) (ids : ℕ → Option ℕ) (news : List Element) (allowed : Option ExtensionsForm) (template : HeaderTemplate)
-    → IsRouted old no_fields ids news allowed (header_of template) → HaveOwnIds news → template.count ≡ length news → Finds template.header news template.count (Some template.slots)
-    → IsTemplate old ids news allowed template
-template-made old ids news allowed template routed own count found =
+-- the header that is made of a packet, with these places in it
+pub group-made : (old : List ℕ) (ids : ℕ → Option ℕ) (news : List Element) (allowed : Option ExtensionsForm) (header : RtpPacket) (all : List Slot) (number : ℕ)
+    → IsRouted old no_fields ids news allowed (datagram_of header) → HaveOwnIds news → number ≡ length news → Finds header news number (Some all)
+    → IsGroupHeader old ids news allowed (datagram_of header) (take number all)
+group-made old ids news allowed header all number routed own count found =
     let es : List Element = without 0 (filter_map (renumbered ids) routed.elements) in
     let xs : List Element = put_all news es in
-    let parts_is : parts_of template.header ≡ set_parts no_fields ids news routed.form routed.elements routed.parts = one_packet (header_of template) _ routed.is_packet in
-    let there : (form : ExtensionsForm) → routed.form ≡ Some form → AreSlots form (body_start_of routed.parts) xs news (slots_in template) =
+    let parts_is : parts_of header ≡ set_parts no_fields ids news routed.form routed.elements routed.parts = one_packet (datagram_of header) _ routed.is_packet in
+    let there : (form : ExtensionsForm) → routed.form ≡ Some form → AreSlots form (body_start_of routed.parts) xs news (take number all) =
     λ form some.
-    let found_slots = found form xs (row-there old ids news allowed template.header routed form some) (only-put_all news es own) in
-    let same : template.slots ≡ found_slots.0 = some_list template.slots found_slots.0 found_slots.1 in
-    subst (λ (p : PacketParts). AreSlots form (body_start_of p) xs news (slots_in template)) parts_is
-    (subst (λ (slots : List Slot). AreSlots form (body_start_of (parts_of template.header)) xs news (take template.count slots)) (sym same) found_slots.2) in
+    let found_slots = found form xs (row-there old ids news allowed header routed form some) (only-put_all news es own) in
+    let same : all ≡ found_slots.0 = some_list all found_slots.0 found_slots.1 in
+    subst (λ (p : PacketParts). AreSlots form (body_start_of p) xs news (take number all)) parts_is
+    (subst (λ (slots : List Slot). AreSlots form (body_start_of (parts_of header)) xs news (take number slots)) (sym same) found_slots.2) in
     record {
       routed = routed;
       own = own;
@@ -269,12 +288,12 @@ template-made old ids news allowed template routed own count found =
     some_list a b same = cc
 
     none_put : (form : Option ExtensionsForm) (put : List Element) → IsFormAfter allowed (form_of_block routed.parts.block) put form → form ≡ None → (count : ℕ) → count ≡ length put
-        → slot_lengths (take count template.slots) ≡ data_lengths put
-    none_put form [] is none count zero_is = ap (λ (k : ℕ). slot_lengths (take k template.slots)) zero_is
+        → slot_lengths (take count all) ≡ data_lengths put
+    none_put form [] is none count zero_is = ap (λ (k : ℕ). slot_lengths (take k all)) zero_is
     none_put form (new ∷ more) is none count zero_is = absurd (form-some allowed (form_of_block routed.parts.block) new more (subst (IsFormAfter allowed (form_of_block routed.parts.block) (new ∷ more)) none is))
 
     lengths : (form : Option ExtensionsForm) → routed.form ≡ form
-        → ((f : ExtensionsForm) → routed.form ≡ Some f → AreSlots f (body_start_of routed.parts) (put_all news (without 0 (filter_map (renumbered ids) routed.elements))) news (slots_in template))
-        → lengths_of template ≡ data_lengths news
-    lengths None none there = none_put routed.form news routed.form_is none template.count count
-    lengths (Some f) some there = slots-lengths f (body_start_of routed.parts) (put_all news (without 0 (filter_map (renumbered ids) routed.elements))) news (slots_in template) (there f some)
+        → ((f : ExtensionsForm) → routed.form ≡ Some f → AreSlots f (body_start_of routed.parts) (put_all news (without 0 (filter_map (renumbered ids) routed.elements))) news (take number all))
+        → slot_lengths (take number all) ≡ data_lengths news
+    lengths None none there = none_put routed.form news routed.form_is none number count
+    lengths (Some f) some there = slots-lengths f (body_start_of routed.parts) (put_all news (without 0 (filter_map (renumbered ids) routed.elements))) news (take number all) (there f some)

@@ -4,4 +4,5 @@ pub mod Calls
 pub mod NotPutAmong
 pub mod NotRouted
 pub mod Template
+pub mod GroupHeader
 pub mod TemplateOf

@@ -1,8 +1,8 @@
 -- Where data lie in a header that is made once, and the header once other data stand there (RFC 8285, 4.2 and 4.3).
-use Rattle.std.specs.Prelude.{◌≡◌, ℕ, ◌+◌, ◌*◌, ◌≤◌, List, [], ◌∷◌, ◌++◌, length, map, Some}
+use Rattle.std.specs.Prelude.{◌≡◌, ℕ, ◌+◌, ◌*◌, ◌≤◌, List, [], ◌∷◌, ◌++◌, length, map, take, drop, Some}
 use Rattle.rtp_base.specs.Overwriting.{overwritten}
 use Rattle.rtp_ext.specs.declared.form.ExtensionsForm.{ExtensionsForm}
-use Rattle.std.specs.List.{filter}
+use Rattle.std.specs.List.{filter, sum_by}
 use Rattle.rtp_ext.specs.Elements.{Element, elements_bytes, AreElements}
 use Rattle.rtp_ext.specs.PutElement.{has_id}
 use Rattle.rtp_ext.specs.WrittenBlock.{filled}
@@ -29,6 +29,15 @@ data_lengths elements = map (λ element. length element.1) elements
 -- how many bytes each place has
 abbrev pub slot_lengths : List Slot → List ℕ
 slot_lengths slots = map (λ slot. slot.len) slots
+
+-- how many bytes they have together
+abbrev pub total_of : List Slot → ℕ
+total_of slots = sum_by (λ slot. slot.len) slots
+
+-- the bytes in pieces of these lengths, one after another
+abbrev pub pieces : List ℕ → List ℕ → List (List ℕ)
+pieces [] bytes = []
+pieces (len ∷ lens) bytes = take len bytes ∷ pieces lens (drop len bytes)
 
 -- the buffer with each of these data at its place
 abbrev pub filled_in : List Slot → List (List ℕ) → List ℕ → List ℕ

@@ -1,5 +1,5 @@
 -- A header that is made once for a group of receivers.
-use Rattle.std.specs.Prelude.{◌≡◌, ◌≢◌, ◌<◌, ℕ, List, take, Option, Some}
+use Rattle.std.specs.Prelude.{◌≡◌, ◌≢◌, ◌<◌, ℕ, List, take, Option}
 use Rattle.rtp_ext.specs.declared.form.ExtensionsForm.{ExtensionsForm}
 use Rattle.rtp_ext.specs.Elements.{Element}
 use Rattle.rtp_wire.specs.Packet.{header_len_of}
@@ -8,9 +8,8 @@ use Rattle.rtp_route.specs.declared.slots.Slot.{Slot}
 use Rattle.rtp_route.specs.declared.template.HeaderTemplate.{HeaderTemplate}
 use Rattle.rtp_route.specs.declared.not_written.NotWritten.{NotWritten}
 use Rattle.rtp_route.specs.declared.not_written.NotWritten.TheVariants.{OtherLengths, NoRoom}
-use Rattle.rtp_route.specs.Calls.{no_fields}
-use Rattle.rtp_route.specs.Routing.{IsRouted, routed_elements}
-use Rattle.rtp_route.specs.Template.{HaveOwnIds, data_lengths, slot_lengths, AreSlots, body_start_of}
+use Rattle.rtp_route.specs.GroupHeader.{IsGroupHeader}
+use Rattle.rtp_route.specs.Template.{slot_lengths}
 
 -- its bytes
 abbrev pub header_of : HeaderTemplate → List ℕ
@@ -29,12 +28,8 @@ abbrev pub lengths_of : HeaderTemplate → List ℕ
 lengths_of template = slot_lengths (slots_in template)
 
 -- it is the header of the packet for receivers with these ids, with these elements, of which no two have one id
-pub record IsTemplate (old : List ℕ) (ids : ℕ → Option ℕ) (news : List Element) (allowed : Option ExtensionsForm) (template : HeaderTemplate) : Type 0 where
-  pub routed : IsRouted old no_fields ids news allowed (header_of template)
-  pub own : HaveOwnIds news
-  pub lengths_are : lengths_of template ≡ data_lengths news
-  pub slots_are : (form : ExtensionsForm) → routed.form ≡ Some form
-      → AreSlots form (body_start_of routed.parts) (routed_elements ids news routed.elements) news (slots_in template)
+abbrev pub IsTemplate : List ℕ → (ℕ → Option ℕ) → List Element → Option ExtensionsForm → HeaderTemplate → Type 0
+IsTemplate old ids news allowed template = IsGroupHeader old ids news allowed (header_of template) (slots_in template)
 
 -- the cause for which no header is written, by the lengths of the data that are given and the room: other lengths than those of the data that were put, or too little room
 abbrev pub KeepsFromWriting : HeaderTemplate → List ℕ → ℕ → NotWritten → Type 0

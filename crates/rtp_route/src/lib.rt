@@ -20,11 +20,13 @@ mod by_calls;
 mod in_place;
 mod not_routed;
 mod not_written;
+mod parts;
 mod slots;
 mod template;
 
 pub use by_calls::{Group, route_header, routes_as_the_calls_do};
 pub use not_routed::NotRouted;
 pub use not_written::NotWritten;
-pub use slots::MAX_ELEMENTS;
+pub use parts::{TemplateParts, make_template};
+pub use slots::{MAX_ELEMENTS, Slot};
 pub use template::HeaderTemplate;

@@ -9,7 +9,7 @@ ghost use Rattle.rtp_ext.specs.ElementsInARow.{elements_of};
 ghost use Rattle.rtp_ext.specs.ElementsInPlace.{HasNone};
 ghost use Rattle.rtp_wire.specs.PartsOf.{parts_of};
 ghost use Rattle.rtp_route.specs.declared.slots.Slot.{Slot};
-ghost use Rattle.rtp_route.specs.Template.{HaveOwnIds, HasOnly, HasRow, IsSlot, AreSlots, LiesInHeader, body_start_of, slot_lengths, filled_in};
+ghost use Rattle.rtp_route.specs.Template.{HaveOwnIds, HasOnly, HasRow, IsSlot, AreSlots, LiesInHeader, body_start_of, slot_lengths, total_of, pieces, filled_in};
 
 use rtp_base::put;
 use rtp_ext::last_place;
@@ -18,11 +18,13 @@ use rtp_wire::RtpPacket;
 /// The most elements that are put into a header for a group.
 pub const MAX_ELEMENTS: usize = 16;
 
-// Where the data of an element lie.
+/// Where the data of an element lie in a header.
 #[derive(Clone, Copy)]
-pub(super) struct Slot {
-    pub(super) start: usize,
-    pub(super) len: usize,
+pub struct Slot {
+    /// How many bytes are before them, at most 262,216.
+    pub start: u32,
+    /// How many they are.
+    pub len: u8,
 }
 
 // Whether one of the elements has the id.
@@ -61,8 +63,8 @@ fn slot_of(packet: &RtpPacket<'_>, id: u8) -> Option<Slot>
     let (form, body) = packet.block()?;
     let place = last_place(form, body, id)?;
     Some(Slot {
-        start: packet.header_len() - body.len() + place.data_start,
-        len: place.end - place.data_start,
+        start: (packet.header_len() - body.len() + place.data_start) as u32,
+        len: (place.end - place.data_start) as u8,
     })
 }
 
@@ -100,7 +102,7 @@ pub(super) fn have_lengths(slots: &[Slot], contents: &[&[u8]]) -> bool
         return false;
     }
     for index in 0..slots.len() {
-        if contents[index].len() != slots[index].len {
+        if contents[index].len() != slots[index].len as usize {
             return false;
         }
     }
@@ -115,6 +117,42 @@ pub(super) fn fill(buf: &mut [u8], slots: &[Slot], contents: &[&[u8]])
     ensures { buf.new ≡ filled_in slots.now (map (λ bytes. bytes.now) contents.now) buf.old }
 {
     for index in 0..slots.len() {
-        put(buf, slots[index].start, contents[index]);
+        put(buf, slots[index].start as usize, contents[index]);
     }
+}
+
+// How many bytes the data at the places are.
+pub(super) fn total_len(slots: &[Slot]) -> usize
+    requires { length slots.now ≤ 16 }
+    ensures { result ≡ total_of slots.now }
+{
+    let mut total = 0;
+    for slot in slots {
+        total += slot.len as usize;
+    }
+    total
+}
+
+// Puts the data, which lie one after another, at their places.
+#[inline(always)]
+pub(super) fn fill_joined(buf: &mut [u8], slots: &[Slot], bytes: &[u8])
+    requires lengths { length bytes.now ≡ total_of slots.now }
+    requires within { All (λ slot. slot.start + slot.len ≤ length buf.old) slots.now }
+    ensures { buf.new ≡ filled_in slots.now (pieces (slot_lengths slots.now) bytes.now) buf.old }
+{
+    let mut left = bytes;
+    for index in 0..slots.len() {
+        let (first, after) = left.split_at(slots[index].len as usize);
+        put(buf, slots[index].start as usize, first);
+        left = after;
+    }
+}
+
+// Whether each place lies within so many bytes.
+pub(super) fn lie_within(slots: &[Slot], len: usize) -> bool
+    ensures { IsTrue result ↔ All (λ slot. slot.start + slot.len ≤ len) slots.now }
+{
+    slots
+        .iter()
+        .all(|slot| slot.start as usize + slot.len as usize <= len)
 }

@@ -1,23 +1,25 @@
 //! A header that is made once for a group of receivers.
 
-ghost use Rattle.std.specs.Prelude.{◌≡◌, ◌↔◌, ◌+◌, ◌<◌, ◌≤◌, ℕ, List, Option, Some, length, map, take, drop, slice_index, true, All, IsErr, IfOk, IfErr, IfSome, OnErr};
+ghost use Rattle.std.specs.Prelude.{◌≡◌, ◌↔◌, ◌+◌, ◌<◌, ◌≤◌, ℕ, List, Option, Some, length, map, take, drop, slice_index, true, All, IsErr, IsSome, IfOk, IfErr, IfSome, OnErr};
 ghost use Rattle.rtp_ext.specs.declared.form.ExtensionsForm.{ExtensionsForm};
 ghost use Rattle.rtp_route.specs.declared.not_written.NotWritten.{NotWritten};
 ghost use Rattle.rtp_ext.specs.Elements.{Element};
 ghost use Rattle.rtp_ext.specs.ElementsInARow.{elements_of};
 ghost use Rattle.rtp_ext.specs.NewIds.{new_id};
-ghost use Rattle.rtp_wire.specs.Packet.{header_len_of};
+ghost use Rattle.rtp_wire.specs.ChangedPacket.{ChangesOnly};
+ghost use Rattle.rtp_wire.specs.GivenFields.{with_header_fields};
+ghost use Rattle.rtp_wire.specs.Packet.{PacketParts, IsPacket, header_len_of};
 ghost use Rattle.rtp_wire.specs.PartsOf.{parts_of, datagram_of};
 ghost use Rattle.rtp_route.specs.declared.not_routed.NotRouted.{NotRouted};
 ghost use Rattle.rtp_route.specs.Calls.{header_in};
+ghost use Rattle.rtp_route.specs.GroupHeader.{IsFilledIn};
 ghost use Rattle.rtp_route.specs.NotRouted.{KeepsFromTemplate};
 ghost use Rattle.rtp_route.specs.Routing.{IsRouted};
-ghost use Rattle.rtp_route.specs.Template.{with_data, LiesInHeader};
+ghost use Rattle.rtp_route.specs.Template.{with_data, data_lengths, total_of, pieces, LiesInHeader};
 
-use super::by_calls::make_header;
 use super::in_place::set_fields;
-use super::slots::{MAX_ELEMENTS, Slot, fill, have_lengths, have_own_ids, slots_of};
-use super::{Group, NotRouted, NotWritten};
+use super::slots::{MAX_ELEMENTS, Slot, fill, fill_joined, have_lengths};
+use super::{Group, NotRouted, NotWritten, TemplateParts, make_template};
 use rtp_base::put;
 use rtp_wire::{Fields, RtpPacket};
 
@@ -37,7 +39,7 @@ pub struct HeaderTemplate<'a> {
 }
 
 impl<'a> HeaderTemplate<'a> {
-    ghost use Rattle.rtp_route.specs.TemplateOf.{IsTemplate, KeepsFromWriting, lengths_of, header_len_in};
+    ghost use Rattle.rtp_route.specs.TemplateOf.{IsTemplate, KeepsFromWriting, slots_in, lengths_of, header_len_in};
 
     /// Makes the header that the packet gets for the group in the buffer, which is lent to the
     /// template. One of twice the packet's header and 264 bytes for each element has room.
@@ -59,20 +61,34 @@ impl<'a> HeaderTemplate<'a> {
             × KeepsFromTemplate (header_in packet.now) (new_id group.now.ids.now)
             (elements_of group.now.elements.now) group.now.allowed (length buf.old) cause) }
     {
-        if group.elements.len() > MAX_ELEMENTS {
-            return Err(NotRouted::ManyElements);
-        }
-        if !have_own_ids(group.elements) {
-            return Err(NotRouted::RepeatedId);
-        }
-        let len = make_header(packet, &Fields::default(), group, buf)?;
-        // The calls made a packet, in which each element is.
-        let header = RtpPacket::parse(&buf[..len]).unwrap();
-        let slots = slots_of(&header, group.elements).unwrap();
+        let parts = make_template(packet, group, buf)?;
+        let header = RtpPacket::parse(&buf[..parts.header_len as usize]).unwrap();
+        let slots = parts.slots;
         Ok(HeaderTemplate {
             header,
             slots,
-            count: group.elements.len(),
+            count: parts.count,
+        })
+    }
+
+    /// The template of a header and its parts, as [`make_template`](super::make_template) made
+    /// them. `None` where the header has another length, there are more than
+    /// [`MAX_ELEMENTS`](super::MAX_ELEMENTS) places, or one doesn't lie in the header.
+    pub fn from_parts(header: RtpPacket<'a>, parts: &TemplateParts) -> Option<Self>
+        ensures header { IfSome result (λ template. template.header ≡ header.entry) }
+        ensures slots { IfSome result (λ template.
+            slots_in template ≡ take parts.now.count parts.now.slots) }
+        ensures some { IsSome result ↔ ((parts.now.header_len ≡ header_len_of (parts_of header.entry))
+            × (parts.now.count ≤ 16) × All (λ slot. slot.start + slot.len ≤ parts.now.header_len)
+            (take parts.now.count parts.now.slots)) }
+    {
+        if parts.header_len as usize != header.header_len() || !parts.are_in_range() {
+            return None;
+        }
+        Some(HeaderTemplate {
+            header,
+            slots: parts.slots,
+            count: parts.count,
         })
     }
 
@@ -126,6 +142,37 @@ impl<'a> HeaderTemplate<'a> {
         Ok(needed)
     }
 
+    /// Writes the header with these fields, and with these data of the group's elements, one after
+    /// another in their order, into a buffer of its length. Requires as many data as these elements
+    /// have in the group, and a payload type of at most 127.
+    pub fn write_joined(&self, fields: &Fields, bytes: &[u8], buf: &mut [u8])
+        requires payload_type { IfSome fields.now.payload_type (λ pt. pt ≤ 127) }
+        requires lengths { length bytes.now ≡ total_of (slots_in self.now) }
+        requires room { length buf.old ≡ header_len_in self.now }
+        ensures routed { (old : List ℕ) (ids : ℕ → Option ℕ) (news : List Element)
+            (allowed : Option ExtensionsForm) → IsTemplate old ids news allowed self.now →
+            IsRouted old fields.now ids
+            (with_data news (pieces (data_lengths news) bytes.now)) allowed buf.new }
+        ensures filled { IsFilledIn (header_in self.now.header) (slots_in self.now) fields.now
+            (pieces (lengths_of self.now) bytes.now) buf.new }
+    {
+        self.copy_header(fields, buf);
+        fill_joined(buf, &self.slots[..self.count], bytes);
+    }
+
+    // Copies the header, and sets these fields.
+    #[inline(always)]
+    fn copy_header(&self, fields: &Fields, buf: &mut [u8])
+        requires payload_type { IfSome fields.now.payload_type (λ pt. pt ≤ 127) }
+        requires room { length buf.old ≡ header_len_in self.now }
+        ensures set { (parts : PacketParts) → IsPacket (header_in self.now.header) parts →
+            IsPacket buf.new (with_header_fields fields.now parts) }
+        ensures fixed { ChangesOnly 1 12 (header_in self.now.header) buf.new }
+    {
+        put(buf, 0, self.header.header_bytes());
+        set_fields(buf, self.header.header_len(), self.header.form(), fields);
+    }
+
     // The same, where the data are as long as those that were put, in a buffer of the header's
     // length.
     #[inline(always)]
@@ -138,8 +185,7 @@ impl<'a> HeaderTemplate<'a> {
             IsRouted old fields.now ids
             (with_data news (map (λ bytes. bytes.now) contents.now)) allowed buf.new }
     {
-        put(buf, 0, self.header.header_bytes());
-        set_fields(buf, self.header.header_len(), self.header.form(), fields);
+        self.copy_header(fields, buf);
         fill(buf, &self.slots[..self.count], contents);
     }
 }

@@ -1,0 +1,317 @@
+/* One packet to all its receivers. The expected bytes are worked out by hand from RFC 3550, 5.1, and RFC 8285, 4.1.2,
+ * 4.2, 4.3 and 5. */
+#include "../rtp_wire.h"
+
+#include <stdio.h>
+#include <string.h>
+
+static int failed = 0;
+
+#define CHECK(holds) \
+    do { \
+        if (!(holds)) { \
+            printf("routed.c:%d: %s\n", __LINE__, #holds); \
+            failed = 1; \
+        } \
+    } while (0)
+
+/* Timestamp 100, SSRC 44. */
+#define REST 0, 0, 0, 100, 0, 0, 0, 44
+#define REST_45 0, 0, 0, 100, 0, 0, 0, 45
+
+/* The element 1 of one byte, padding, and a payload of a byte. */
+static const uint8_t SAMPLE[] = {0x90, 96, 0, 5, REST, 0xBE, 0xDE, 0, 1, 0x10, 0xAA, 0, 0, 'p'};
+static const uint8_t NUMBERS[] = {0, 7, 0, 8};
+
+static uint8_t header[700];
+static rtpw_template made;
+
+static rtpw_new_ids ids_of(uint8_t old, uint8_t id) {
+    rtpw_new_ids ids;
+    memset(&ids, 0, sizeof ids);
+    ids.id[old] = id;
+    return ids;
+}
+
+static rtpw_element element_of(size_t data_at, size_t data_len, uint8_t id) {
+    rtpw_element element;
+    element.data_at = data_at;
+    element.data_len = data_len;
+    element.end = 77; /* it isn't looked at */
+    element.id = id;
+    return element;
+}
+
+/* What is made for the group is these bytes. */
+static void is_made(const uint8_t *packet, size_t len, const rtpw_new_ids *ids, const uint8_t *data, size_t data_len,
+                    const rtpw_element *elements, size_t count, uint8_t allowed, const uint8_t *wanted,
+                    size_t wanted_len) {
+    memset(&made, 0x5A, sizeof made);
+    CHECK(rtpw_make_template(packet, len, ids, data, data_len, elements, count, allowed, header, sizeof header, &made) ==
+          RTPW_OK);
+    CHECK(made.header_len == wanted_len && made.count == count);
+    CHECK(memcmp(header, wanted, wanted_len) == 0);
+}
+
+static int32_t status_of(const uint8_t *packet, size_t len, const rtpw_new_ids *ids, const rtpw_element *elements,
+                         size_t count, uint8_t allowed, size_t size) {
+    static const uint8_t data[300] = {0};
+    rtpw_template before;
+    int32_t status;
+    memset(&made, 0x5A, sizeof made);
+    before = made;
+    status = rtpw_make_template(packet, len, ids, data, sizeof data, elements, count, allowed, header, size, &made);
+    CHECK(status == RTPW_OK || memcmp(&made, &before, sizeof made) == 0);
+    return status;
+}
+
+static void two_receivers(void) {
+    static const uint8_t first[] = {0x90, 96, 0, 9, REST_45, 0xBE, 0xDE, 0, 2, 0x30, 0xAA, 0x41, 0, 7, 0, 0, 0};
+    static const uint8_t second[] = {0x90, 0xE1, 0, 5, 1, 2, 3, 4, 0, 0, 0, 44, 0xBE, 0xDE, 0, 2, 0x30, 0xAA, 0x41, 0, 8, 0, 0, 0};
+    static const uint8_t common[] = {0x90, 96, 0, 5, REST, 0xBE, 0xDE, 0, 2, 0x30, 0xAA, 0x41, 0, 7, 0, 0, 0};
+    const rtpw_new_ids ids = ids_of(1, 3);
+    const rtpw_element element = element_of(0, 2, 4);
+    rtpw_routed_header receivers[2];
+    uint8_t headers[50];
+    size_t i;
+    is_made(SAMPLE, sizeof SAMPLE, &ids, NUMBERS, sizeof NUMBERS, &element, 1, RTPW_ANY_FORM, common, sizeof common);
+    CHECK(made.data_at[0] == 19 && made.data_len[0] == 2 && made.data_total == 2);
+    for (i = 1; i < 16; i++) {
+        CHECK(made.data_at[i] == 0 && made.data_len[i] == 0);
+    }
+    memset(receivers, 0, sizeof receivers);
+    receivers[0].at = 25;
+    receivers[0].fields.has_sequence_number = receivers[0].fields.has_ssrc = 1;
+    receivers[0].fields.sequence_number = 9;
+    receivers[0].fields.ssrc = 45;
+    receivers[1].data_at = 2;
+    receivers[1].fields.has_timestamp = receivers[1].fields.has_payload_type = receivers[1].fields.has_marker = 1;
+    receivers[1].fields.timestamp = 0x01020304;
+    receivers[1].fields.payload_type = 97;
+    receivers[1].fields.marker = 2;
+    receivers[0].status = receivers[1].status = 77;
+    memset(headers, 0xEE, sizeof headers);
+    CHECK(rtpw_write_headers(&made, header, sizeof header, NUMBERS, sizeof NUMBERS, receivers, 2, headers,
+                             sizeof headers) == RTPW_OK);
+    CHECK(receivers[0].status == RTPW_OK && receivers[1].status == RTPW_OK);
+    CHECK(memcmp(headers + 25, first, sizeof first) == 0 && memcmp(headers, second, sizeof second) == 0);
+    CHECK(headers[24] == 0xEE && headers[49] == 0xEE);
+    CHECK(receivers[1].data_at == 2 && receivers[1].at == 0 && receivers[0].fields.ssrc == 45);
+}
+
+static void groups(void) {
+    /* the elements 1, 2 and 1 again */
+    static const uint8_t three[] = {0x90, 96, 0, 5, REST, 0xBE, 0xDE, 0, 2, 0x10, 'a', 0x21, 'b', 'c', 0x10, 'd', 0};
+    static const uint8_t placed[] = {0x90, 96, 0, 5, REST, 0xBE, 0xDE, 0, 2, 0x31, 'b', 'c', 0x51, 0, 7, 0, 0};
+    static const uint8_t gone[] = {0x90, 96, 0, 5, REST, 0xBE, 0xDE, 0, 0};
+    static const uint8_t two_byte[] = {0x90, 96, 0, 5,   REST, 0x10, 0, 0, 3,   1,  1,
+                                       'a',  2,  2, 'b', 'c',  1,    1, 'd', 20, 0};
+    /* no block; one of another form */
+    static const uint8_t bare[] = {0x80, 96, 0, 5, REST}, other[] = {0x90, 96, 0, 5, REST, 0xAB, 0xAC, 0, 1, 1, 2, 3, 4};
+    static const uint8_t with_block[] = {0x90, 96, 0, 5, REST, 0xBE, 0xDE, 0, 1, 0x41, 0, 7, 0};
+    static const uint8_t application[] = {0x90, 96, 0, 5, REST, 0x10, 0x07, 0, 1, 4, 1, 9, 0};
+    static const uint8_t longer[] = {0x90, 96, 0, 5, REST, 0x10, 0x07, 0, 2, 6, 1, 9, 4, 2, 0, 7, 0};
+    rtpw_new_ids ids = ids_of(2, 3), same;
+    rtpw_element elements[3];
+    int i;
+    memset(&same, 0, sizeof same);
+    for (i = 1; i < 256; i++) {
+        same.id[i] = (uint8_t)i;
+    }
+    elements[0] = element_of(0, 2, 5);
+    elements[1] = element_of(2, 1, 3);
+    is_made(three, sizeof three, &ids, NUMBERS, sizeof NUMBERS, elements, 1, RTPW_ONE_BYTE_FORM, placed, sizeof placed);
+    CHECK(made.data_at[0] == 20 && made.data_total == 2);
+    ids = ids_of(9, 9);
+    is_made(three, sizeof three, &ids, NULL, 0, NULL, 0, RTPW_ONE_BYTE_FORM, gone, sizeof gone);
+    CHECK(made.data_total == 0);
+    /* an id above 14 and no data make it the two-byte form, where that is allowed */
+    elements[0] = element_of(4, 0, 20);
+    is_made(three, sizeof three, &same, NUMBERS, sizeof NUMBERS, elements, 1, RTPW_ANY_FORM, two_byte, sizeof two_byte);
+    CHECK(made.data_at[0] == 28 && made.data_len[0] == 0);
+    CHECK(status_of(three, sizeof three, &same, elements, 1, RTPW_ONE_BYTE_FORM, sizeof header) == RTPW_FORM_NOT_ALLOWED);
+    elements[0] = element_of(0, 2, 4);
+    is_made(bare, sizeof bare, &same, NUMBERS, sizeof NUMBERS, elements, 1, RTPW_ANY_FORM, with_block, sizeof with_block);
+    is_made(bare, sizeof bare, &same, NULL, 0, NULL, 0, RTPW_ANY_FORM, bare, sizeof bare);
+    is_made(other, sizeof other, &same, NULL, 0, NULL, 0, RTPW_ANY_FORM, other, sizeof other);
+    CHECK(status_of(other, sizeof other, &same, elements, 1, RTPW_ANY_FORM, sizeof header) == RTPW_UNKNOWN_FORM);
+    /* the application's bits stay */
+    ids = ids_of(4, 6);
+    is_made(application, sizeof application, &ids, NUMBERS, sizeof NUMBERS, elements, 1, RTPW_ANY_FORM, longer, sizeof longer);
+}
+
+static void refusals(void) {
+    static const uint8_t other_version[] = {0x50, 96, 0, 5, REST}, cut_source[] = {0x81, 96, 0, 5, REST};
+    static const uint8_t cut_block[] = {0x90, 96, 0, 5, REST, 0xBE, 0xDE, 0, 1};
+    rtpw_new_ids ids = ids_of(1, 3);
+    rtpw_element elements[17];
+    uint8_t i;
+    for (i = 0; i < 17; i++) {
+        elements[i] = element_of(i, 1, (uint8_t)(i + 20));
+    }
+    CHECK(status_of(SAMPLE, sizeof SAMPLE, &ids, elements, 16, RTPW_ANY_FORM, sizeof header) == RTPW_OK);
+    CHECK(status_of(SAMPLE, sizeof SAMPLE, &ids, elements, 17, RTPW_ANY_FORM, sizeof header) == RTPW_BAD_FIELD);
+    CHECK(status_of(SAMPLE, sizeof SAMPLE, &ids, elements, 1, 3, sizeof header) == RTPW_BAD_FIELD);
+    CHECK(status_of(SAMPLE, 11, &ids, elements, 1, 3, sizeof header) == RTPW_BAD_FIELD);
+    CHECK(status_of(SAMPLE, 11, &ids, elements, 1, RTPW_ANY_FORM, sizeof header) == RTPW_CUT_FIXED_PART);
+    CHECK(status_of(other_version, 12, &ids, elements, 1, RTPW_ANY_FORM, sizeof header) == RTPW_OTHER_VERSION);
+    CHECK(status_of(cut_source, 12, &ids, elements, 1, RTPW_ANY_FORM, sizeof header) == RTPW_CUT_SOURCES);
+    CHECK(status_of(cut_block, 15, &ids, elements, 1, RTPW_ANY_FORM, sizeof header) == RTPW_CUT_BLOCK_HEADER);
+    CHECK(status_of(cut_block, 16, &ids, elements, 1, RTPW_ANY_FORM, sizeof header) == RTPW_CUT_BLOCK);
+    elements[1].data_at = 299;
+    CHECK(status_of(SAMPLE, sizeof SAMPLE, &ids, elements, 2, RTPW_ANY_FORM, sizeof header) == RTPW_OK);
+    elements[1].data_at = 300;
+    CHECK(status_of(SAMPLE, sizeof SAMPLE, &ids, elements, 2, RTPW_ANY_FORM, sizeof header) == RTPW_BAD_FIELD);
+    elements[1].data_at = (size_t)-1; /* data_at + data_len is 0 in 64 bits */
+    CHECK(status_of(SAMPLE, 11, &ids, elements, 2, RTPW_ANY_FORM, sizeof header) == RTPW_BAD_FIELD);
+    elements[1] = element_of(0, 256, 21);
+    CHECK(status_of(SAMPLE, sizeof SAMPLE, &ids, elements, 2, RTPW_ANY_FORM, sizeof header) == RTPW_BAD_FIELD);
+    elements[1] = element_of(0, 255, 21);
+    CHECK(status_of(SAMPLE, sizeof SAMPLE, &ids, elements, 2, RTPW_ANY_FORM, sizeof header) == RTPW_OK);
+    elements[1] = element_of(0, 1, 20);
+    CHECK(status_of(SAMPLE, sizeof SAMPLE, &ids, elements, 2, RTPW_ANY_FORM, sizeof header) == RTPW_BAD_FIELD);
+    elements[1] = element_of(0, 1, 0);
+    CHECK(status_of(SAMPLE, sizeof SAMPLE, &ids, elements, 2, RTPW_ANY_FORM, sizeof header) == RTPW_BAD_ID);
+    ids = ids_of(1, 15);
+    CHECK(status_of(SAMPLE, sizeof SAMPLE, &ids, elements, 0, RTPW_ANY_FORM, sizeof header) == RTPW_BAD_FIELD);
+    /* the header's twenty bytes have room, and one byte less hasn't; then what is put hasn't */
+    ids = ids_of(1, 14);
+    CHECK(status_of(SAMPLE, sizeof SAMPLE, &ids, elements, 0, RTPW_ANY_FORM, 20) == RTPW_OK);
+    CHECK(status_of(SAMPLE, sizeof SAMPLE, &ids, elements, 0, RTPW_ANY_FORM, 19) == RTPW_SHORT_BUFFER);
+    elements[0] = element_of(0, 3, 4);
+    CHECK(status_of(SAMPLE, sizeof SAMPLE, &ids, elements, 1, RTPW_ANY_FORM, 24) == RTPW_OK);
+    CHECK(status_of(SAMPLE, sizeof SAMPLE, &ids, elements, 1, RTPW_ANY_FORM, 23) == RTPW_SHORT_BUFFER);
+}
+
+/* Twenty receivers, of which the ninth can't be served, each for another cause; and places that overlap. */
+static void many(void) {
+    enum { COUNT = 20, LEN = 24 };
+    const rtpw_new_ids ids = ids_of(1, 3);
+    const rtpw_element element = element_of(0, 2, 4);
+    rtpw_routed_header receivers[COUNT], before[COUNT];
+    uint8_t headers[COUNT * LEN], expected[LEN], data[2 * COUNT];
+    size_t i, cause;
+    CHECK(rtpw_make_template(SAMPLE, sizeof SAMPLE, &ids, NUMBERS, sizeof NUMBERS, &element, 1, RTPW_ANY_FORM, header,
+                             sizeof header, &made) == RTPW_OK);
+    for (i = 0; i < sizeof data; i++) {
+        data[i] = (uint8_t)(i + 100);
+    }
+    for (cause = 0; cause < 6; cause++) {
+        memset(receivers, 0, sizeof receivers);
+        for (i = 0; i < COUNT; i++) {
+            receivers[i].data_at = 2 * i;
+            receivers[i].at = LEN * i;
+            receivers[i].fields.has_sequence_number = 1;
+            receivers[i].fields.sequence_number = (uint16_t)(1000 + i);
+            receivers[i].fields.payload_type = 128; /* it isn't given */
+            receivers[i].status = 77;
+        }
+        switch (cause) {
+        case 0: receivers[8].fields.has_payload_type = 1; break;
+        case 1: receivers[8].data_at = 2 * COUNT - 1; break;
+        case 2: receivers[8].data_at = (size_t)-1; break;
+        case 3: receivers[8].at = LEN * (COUNT - 1) + 1; break;
+        case 4: receivers[8].at = (size_t)-1; break;
+        default: break;
+        }
+        memcpy(before, receivers, sizeof before);
+        memset(headers, 0xEE, sizeof headers);
+        CHECK(rtpw_write_headers(&made, header, sizeof header, data, sizeof data, receivers, COUNT, headers,
+                                 sizeof headers) == RTPW_OK);
+        for (i = 0; i < COUNT; i++) {
+            const int32_t refused = cause < 3 ? RTPW_BAD_FIELD : RTPW_SHORT_BUFFER;
+            const int is_refused = i == 8 && cause < 5;
+            memcpy(expected, header, LEN);
+            expected[2] = (uint8_t)((1000 + i) >> 8);
+            expected[3] = (uint8_t)(1000 + i);
+            expected[19] = data[2 * i];
+            expected[20] = data[2 * i + 1];
+            if (is_refused) {
+                memset(expected, 0xEE, LEN);
+            }
+            CHECK(receivers[i].status == (is_refused ? refused : RTPW_OK));
+            CHECK(memcmp(headers + LEN * i, expected, LEN) == 0);
+            before[i].status = receivers[i].status;
+            CHECK(memcmp(&receivers[i], &before[i], sizeof before[i]) == 0);
+        }
+    }
+    /* the second one over the end of the first, and the third over both, with no room but its own */
+    receivers[0].at = 0;
+    receivers[1].at = 10;
+    receivers[2].at = 5;
+    memset(headers, 0xEE, sizeof headers);
+    CHECK(rtpw_write_headers(&made, header, LEN, data, sizeof data, receivers, 3, headers, 34) == RTPW_OK);
+    CHECK(headers[0] == 0x90 && headers[3] == (uint8_t)1000 && headers[4] == 0);
+    CHECK(headers[5] == 0x90 && headers[8] == (uint8_t)1002 && headers[24] == data[4] && headers[25] == data[5]);
+    CHECK(headers[29] == data[2] && headers[30] == data[3] && headers[33] == 0 && headers[34] == 0xEE);
+    CHECK(rtpw_write_headers(&made, header, LEN, data, sizeof data, receivers, 3, headers, 33) == RTPW_OK);
+    CHECK(receivers[0].status == RTPW_OK && receivers[1].status == RTPW_SHORT_BUFFER && receivers[2].status == RTPW_OK);
+    CHECK(rtpw_write_headers(&made, header, LEN, NULL, 0, receivers, 3, headers, 33) == RTPW_OK);
+    CHECK(receivers[0].status == RTPW_BAD_FIELD && receivers[1].status == RTPW_BAD_FIELD);
+    CHECK(rtpw_write_headers(&made, header, LEN, NULL, 0, NULL, 0, NULL, 0) == RTPW_OK);
+}
+
+/* What is none of a template and a header: nothing is written, and no status either. */
+static void is_none(const rtpw_template *it, const uint8_t *bytes, size_t size, int32_t wanted) {
+    rtpw_routed_header receiver, before;
+    uint8_t headers[300];
+    size_t i;
+    memset(&receiver, 0, sizeof receiver);
+    receiver.status = 77;
+    before = receiver;
+    memset(headers, 0xEE, sizeof headers);
+    CHECK(rtpw_write_headers(it, bytes, size, NUMBERS, sizeof NUMBERS, &receiver, 1, headers, sizeof headers) == wanted);
+    CHECK(memcmp(&receiver, &before, sizeof before) == 0);
+    for (i = 0; i < sizeof headers; i++) {
+        CHECK(headers[i] == 0xEE);
+    }
+    CHECK(rtpw_write_headers(it, bytes, size, NULL, 0, NULL, 0, NULL, 0) == wanted);
+}
+
+static void torn(void) {
+    const rtpw_new_ids ids = ids_of(1, 3);
+    const rtpw_element element = element_of(0, 2, 4);
+    rtpw_template it;
+    uint8_t bytes[40];
+    CHECK(rtpw_make_template(SAMPLE, sizeof SAMPLE, &ids, NUMBERS, sizeof NUMBERS, &element, 1, RTPW_ANY_FORM, header,
+                             sizeof header, &made) == RTPW_OK);
+    memcpy(bytes, header, 24);
+    memset(bytes + 24, 0, 16);
+    is_none(&made, bytes, 23, RTPW_BAD_FIELD);
+    it = made, it.count = 17;
+    is_none(&it, bytes, sizeof bytes, RTPW_BAD_FIELD);
+    it = made, it.count = 255;
+    is_none(&it, bytes, sizeof bytes, RTPW_BAD_FIELD);
+    it = made, it.count = 0; /* the total is of one */
+    is_none(&it, bytes, sizeof bytes, RTPW_BAD_FIELD);
+    it = made, it.data_total = 3;
+    is_none(&it, bytes, sizeof bytes, RTPW_BAD_FIELD);
+    it = made, it.data_at[0] = 23;
+    is_none(&it, bytes, sizeof bytes, RTPW_BAD_FIELD);
+    it = made, it.data_at[0] = 0xFFFFFFFF;
+    is_none(&it, bytes, sizeof bytes, RTPW_BAD_FIELD);
+    it = made, it.header_len = 25; /* a byte of payload */
+    is_none(&it, bytes, sizeof bytes, RTPW_BAD_FIELD);
+    it = made, it.header_len = 23;
+    is_none(&it, bytes, sizeof bytes, RTPW_CUT_BLOCK);
+    it = made, it.header_len = 0xFFFFFFFF;
+    is_none(&it, bytes, sizeof bytes, RTPW_BAD_FIELD);
+    memset(&it, 0, sizeof it);
+    is_none(&it, bytes, sizeof bytes, RTPW_CUT_FIXED_PART);
+    is_none(&it, NULL, 0, RTPW_CUT_FIXED_PART);
+    bytes[0] = 0x50;
+    is_none(&made, bytes, sizeof bytes, RTPW_OTHER_VERSION);
+    it = made, it.count = 17;
+    is_none(&it, bytes, sizeof bytes, RTPW_BAD_FIELD);
+    bytes[0] = 0x91; /* a source, and then no block */
+    is_none(&made, bytes, sizeof bytes, RTPW_CUT_BLOCK);
+}
+
+int main(void) {
+    two_receivers();
+    groups();
+    refusals();
+    many();
+    torn();
+    return failed;
+}

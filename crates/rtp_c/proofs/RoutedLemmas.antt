@@ -1,0 +1,61 @@
+-- A header that is written for a receiver, and the template that it is written from.
+use Rattle.rtp_c.proofs.Common.{◌≡◌, ℕ, ◌+◌, ◌-◌, ◌≤◌, List, [], ◌∷◌, ◌++◌, length, take, drop, map, refl, sym, ap, subst, ◌∙◌, arith, length-take, length-drop, All}
+use Rattle.rtp_base.specs.Overwriting.{overwritten}
+use Rattle.rtp_wire.specs.declared.packet.fields.Fields.{Fields}
+use Rattle.rtp_wire.specs.declared.packet.rtp_packet.RtpPacket.{RtpPacket}
+use Rattle.rtp_wire.specs.Packet.{PacketParts, IsPacket, header_len_of}
+use Rattle.rtp_wire.specs.PartsOf.{parts_of, datagram_of}
+use Rattle.rtp_wire.proofs.PartsLemmas.{length-packet, IsPacket-found}
+use Rattle.rtp_route.specs.declared.slots.Slot.{Slot}
+use Rattle.rtp_route.specs.Calls as calls
+use Rattle.rtp_route.specs.GroupHeader.{IsFilledIn}
+use Rattle.rtp_route.specs.Template.{slot_lengths, total_of, pieces}
+use Rattle.rtp_route.proofs.LengthLemmas.{pieces-lengths}
+use Rattle.rtp_route.proofs.TemplateLemmas.{routed-filled}
+use Rattle.rtp_c.specs.declared.template.StoredTemplate.{StoredTemplate}
+use Rattle.rtp_c.specs.PacketView.{slice_at}
+use Rattle.rtp_c.specs.RoutedHeaders.{IsReceivers}
+use Rattle.rtp_c.specs.StoredTemplate.{slots_at, slots_of, IsInRange}
+
+-- what is stored, where the parts are found to be in range
+pub in-range : (made : StoredTemplate) (size len count total : ℕ) (slots : List Slot) → len ≡ made.header_len → slots ≡ slots_at made.data_at made.data_len → count ≡ made.count
+    → made.header_len ≤ size → count ≤ 16 → All (λ (s : Slot). s.start + s.len ≤ len) (take count slots) → total ≡ total_of (take count slots) → total ≡ made.data_total → IsInRange made size
+in-range made size len count total slots len_is slots_are count_is there few within total_is same =
+    let places : take count slots ≡ slots_of made = ap (λ (k : ℕ). take k slots) count_is ∙ ap (take made.count) slots_are in
+    record {
+      few = omega (arith, few, count_is);
+      there = there;
+      within = subst (λ (ss : List Slot). All (λ (s : Slot). s.start + s.len ≤ made.header_len) ss) places
+          (subst (λ (n : ℕ). All (λ (s : Slot). s.start + s.len ≤ n) (take count slots)) len_is within);
+      total_is = sym same ∙ total_is ∙ ap total_of places;
+    }
+
+pub no-bytes : (xs : List ℕ) → length xs ≡ 0 → xs ≡ []
+no-bytes [] none = refl
+no-bytes (x ∷ xs) none = absurd (omega (arith, none))
+
+-- a header and its payload are all of the bytes
+pub all-header : (bytes : List ℕ) (len : ℕ) (parts : PacketParts) → len ≤ length bytes → IsPacket (take len bytes) parts → header_len_of parts + length parts.payload ≡ len
+all-header bytes len parts there is = omega (arith, length-packet (take len bytes) parts is, length-take len bytes, there)
+
+pub header_in-length : (packet : RtpPacket) → length (calls.header_in packet) ≡ header_len_of (parts_of packet)
+header_in-length packet =
+    omega (arith, length-packet (datagram_of packet) (parts_of packet) (IsPacket-found packet), length-take (header_len_of (parts_of packet)) (datagram_of packet))
+
+length-slice : (bytes : List ℕ) (at len : ℕ) → at + len ≤ length bytes → length (slice_at bytes at len) ≡ len
+length-slice bytes at len within = omega (arith, within, length-take (at + len - at) (drop at bytes), length-drop at bytes)
+
+-- the header with the receiver's fields and data
+pub receivers-header : (header : List ℕ) (slots : List Slot) (fields given : Fields) (bytes own : List ℕ) (at len : ℕ) (new : List ℕ) → given ≡ fields → own ≡ slice_at bytes at len → len ≡ total_of slots
+    → at + len ≤ length bytes → IsFilledIn header slots given (pieces (slot_lengths slots) own) new
+    → IsReceivers header slots fields (pieces (slot_lengths slots) (slice_at bytes at (total_of slots))) new
+receivers-header header slots fields given bytes own at len new fields_are own_is total within filled =
+    let data_is : own ≡ slice_at bytes at (total_of slots) = own_is ∙ ap (slice_at bytes at) total in
+    let long : length (slice_at bytes at (total_of slots)) ≡ total_of slots = length-slice bytes at (total_of slots) (omega (arith, within, total)) in
+    let now : IsFilledIn header slots fields (pieces (slot_lengths slots) (slice_at bytes at (total_of slots))) new =
+    subst (λ (f : Fields). IsFilledIn header slots f (pieces (slot_lengths slots) (slice_at bytes at (total_of slots))) new) fields_are
+    (subst (λ (b : List ℕ). IsFilledIn header slots given (pieces (slot_lengths slots) b) new) data_is filled) in
+    record {
+      filled = now;
+      routed = λ old ids news allowed is. routed-filled old ids news allowed header slots fields _ new is (pieces-lengths slots (slice_at bytes at (total_of slots)) long) now;
+    }

@@ -1,0 +1,62 @@
+use Rattle.rtp_c.proofs.Common.{◌≡◌, ℕ, ◌+◌, ◌-◌, ◌<◌, List, ◌++◌, length, take, drop, refl, sym, ap, ◌∙◌, arith, length-take, length-drop}
+use Rattle.rtp_base.proofs.OverwritingLemmas.{overwritten-copied}
+use Rattle.rtp_route.specs.Calls as calls
+use Rattle.rtp_route.specs.TemplateOf.{slots_in}
+use Rattle.rtp_c.specs.SetFields.{fields_given, CanBeSet}
+use Rattle.rtp_c.proofs.RoutedLemmas.{header_in-length, receivers-header}
+use Rattle.rtp_c.proofs.routed_headers.write_one.Goals as goal
+use Rattle.rtp_c.proofs.routed_headers.write_one.Goals.{else-receiver-ne0-via-then-receiver-ne0+else-receiver-gt127, else-receiver-ne0-via-else-receiver-ne0, then-at-buf-via-then-at-buf, then-at-buf-via-else-at-buf+then-len-buf}
+
+pub returns-then-at-buf : goal.returns-then-at-buf
+returns-then-at-buf c =
+    let receiver = c.args.receiver.now in
+    let long = header_in-length c.args.template.now.header in
+    let can : CanBeSet receiver.fields =
+    elim c.else-receiver-ne0.branch [
+      | else-receiver-ne0-via-then-receiver-ne0+else-receiver-gt127 w ↦ λ _. w.if-receiver-gt127.false
+      | else-receiver-ne0-via-else-receiver-ne0 w ↦ λ some. absurd (omega (arith, some, w.if-receiver-ne0.false))
+    ] in
+    let short : length c.args.buf.now < receiver.at + c.header_len-len.result =
+    elim c.then-at-buf.branch [
+      | then-at-buf-via-then-at-buf w ↦ omega (arith, w.if-at-buf.true, c.header_len-len.ensures, long)
+      | then-at-buf-via-else-at-buf+then-len-buf w ↦ omega (arith, w.if-at-buf.false, w.if-len-buf.true)
+    ] in
+    record {
+      given_is = refl;
+      written = λ served room. absurd (omega (arith, room, short, long, c.header_len-len.ensures));
+      short = λ served few. refl;
+      refused = λ not. absurd (not (record { fields = can; within = omega (arith, c.in-Some.ensures.found.0, c.requires) }));
+      unchanged = λ other. refl;
+    }
+
+pub returns : goal.returns
+returns c =
+    let receiver = c.args.receiver.now in
+    let header = calls.header_in c.args.template.now.header in
+    let slots = slots_in c.args.template.now in
+    let own = c.write_joined.new.buf in
+    let buf = c.args.buf.now in
+    let at = receiver.at in
+    let len = c.header_len-len.result in
+    let long = header_in-length c.args.template.now.header in
+    let can : CanBeSet receiver.fields =
+    elim c.else-receiver-ne0.branch [
+      | else-receiver-ne0-via-then-receiver-ne0+else-receiver-gt127 w ↦ λ _. w.if-receiver-gt127.false
+      | else-receiver-ne0-via-else-receiver-ne0 w ↦ λ some. absurd (omega (arith, some, w.if-receiver-ne0.false))
+    ] in
+    let own_len : len ≡ length own = omega (arith, c.write_joined.auto.buf, c.if-at-buf.false, c.if-len-buf.false, length-take (at + len - at) (drop at buf), length-drop at buf) in
+    record {
+      given_is = refl;
+      written = λ served room. (
+        refl,
+        (
+          own,
+          receivers-header header slots (fields_given receiver.fields) c.given_fields.result c.args.bytes.now c.in-Some.own.now receiver.data_at c.args.data_len own c.given_fields.ensures c.in-Some.ensures.found.1 c.requires
+              c.in-Some.ensures.found.0 c.write_joined.ensures.filled,
+          ap (λ (n : ℕ). take at buf ++ (own ++ drop (at + n - at) (drop at buf))) own_len ∙ overwritten-copied buf own at,
+        ),
+      );
+      short = λ served few. absurd (omega (arith, few, long, c.header_len-len.ensures, c.if-at-buf.false, c.if-len-buf.false));
+      refused = λ not. absurd (not (record { fields = can; within = omega (arith, c.in-Some.ensures.found.0, c.requires) }));
+      unchanged = λ other. absurd (other refl);
+    }

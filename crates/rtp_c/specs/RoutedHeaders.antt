@@ -1,0 +1,69 @@
+-- The headers that receivers of a packet get, one after another, in a buffer of C's (RFC 7667, 3.7; RFC 8285, 5).
+use Rattle.std.specs.Prelude.{◌≡◌, ◌≢◌, ℕ, ◌+◌, ◌≤◌, ◌<◌, List, [], ◌∷◌, length, take, Option, ℤ}
+use Rattle.rtp_base.specs.Overwriting.{overwritten}
+use Rattle.rtp_ext.specs.declared.form.ExtensionsForm.{ExtensionsForm}
+use Rattle.rtp_ext.specs.Elements.{Element}
+use Rattle.rtp_wire.specs.declared.packet.fields.Fields.{Fields}
+use Rattle.rtp_wire.specs.Packet.{PacketParts, IsPacket}
+use Rattle.rtp_route.specs.declared.slots.Slot.{Slot}
+use Rattle.rtp_route.specs.GroupHeader.{IsGroupHeader, IsFilledIn}
+use Rattle.rtp_route.specs.Routing.{IsRouted}
+use Rattle.rtp_route.specs.Template.{slot_lengths, total_of, pieces, with_data}
+use Rattle.rtp_c.specs.declared.template.StoredTemplate.{StoredTemplate}
+use Rattle.rtp_c.specs.declared.routed_headers.RoutedHeader.{RoutedHeader}
+use Rattle.rtp_c.specs.PacketView.{slice_at}
+use Rattle.rtp_c.specs.SetFields.{fields_given, CanBeSet}
+use Rattle.rtp_c.specs.Status.{ok, short_buffer, bad_field, IsCauseStatus}
+use Rattle.rtp_c.specs.StoredTemplate.{slots_of, IsInRange}
+
+-- the header that a template is stored of
+abbrev pub header_in : StoredTemplate → List ℕ → List ℕ
+header_in made bytes = take made.header_len bytes
+
+-- these bytes are a packet without a payload
+pub record IsHeaderAlone (bytes : List ℕ) : Type 0 where
+  pub parts : PacketParts
+  pub is_packet : IsPacket bytes parts
+  pub no_payload : parts.payload ≡ []
+
+-- a template and a header from which headers are written
+pub record IsWholeTemplate (made : StoredTemplate) (bytes : List ℕ) : Type 0 where
+  pub in_range : IsInRange made (length bytes)
+  pub is_header : IsHeaderAlone (header_in made bytes)
+
+-- the status of why they are none
+pub data IsTemplateStatus (made : StoredTemplate) (bytes : List ℕ) (status : ℤ) : Type 0 where
+  out_of_range : (IsInRange made (length bytes) → ⊥) → status ≡ bad_field → IsTemplateStatus made bytes status
+  no_packet : IsInRange made (length bytes) → IsCauseStatus (header_in made bytes) status → IsTemplateStatus made bytes status
+  payload : (parts : PacketParts) → IsInRange made (length bytes) → IsPacket (header_in made bytes) parts → parts.payload ≢ [] → status ≡ bad_field → IsTemplateStatus made bytes status
+
+-- the header with these fields and data at the places: where it was made of a packet for a group, it is that packet's for a receiver with these fields and data
+pub record IsReceivers (header : List ℕ) (slots : List Slot) (fields : Fields) (contents : List (List ℕ)) (new : List ℕ) : Type 0 where
+  pub filled : IsFilledIn header slots fields contents new
+  pub routed : (old : List ℕ) (ids : ℕ → Option ℕ) (news : List Element) (allowed : Option ExtensionsForm)
+      → IsGroupHeader old ids news allowed header slots → IsRouted old fields ids (with_data news contents) allowed new
+
+-- the fields of a receiver can be set, and its data lie within these bytes
+pub record IsServed (slots : List Slot) (bytes : List ℕ) (receiver : RoutedHeader) : Type 0 where
+  pub fields : CanBeSet receiver.fields
+  pub within : receiver.data_at + total_of slots ≤ length bytes
+
+-- the data of a receiver, one for each place
+abbrev pub data_of : List Slot → List ℕ → RoutedHeader → List (List ℕ)
+data_of slots bytes receiver = pieces (slot_lengths slots) (slice_at bytes receiver.data_at (total_of slots))
+
+-- the header of a receiver stands at its place in the buffer, and all other bytes are as they were; without room there, or where it can't be served, all are
+pub record IsHeaderWritten (header : List ℕ) (slots : List Slot) (bytes : List ℕ) (old new : RoutedHeader) (buf after : List ℕ) : Type 0 where
+  pub given_is : new ≡ record old { status = new.status }
+  pub written : IsServed slots bytes old → old.at + length header ≤ length buf →
+      (new.status ≡ ok) × ((own : List ℕ) × IsReceivers header slots (fields_given old.fields) (data_of slots bytes old) own × (after ≡ overwritten buf old.at own))
+  pub short : IsServed slots bytes old → length buf < old.at + length header → new.status ≡ short_buffer
+  pub refused : (IsServed slots bytes old → ⊥) → new.status ≡ bad_field
+  pub unchanged : new.status ≢ ok → after ≡ buf
+
+-- so for each of the receivers, one after another
+abbrev pub AreHeadersWritten : List ℕ → List Slot → List ℕ → List RoutedHeader → List RoutedHeader → List ℕ → List ℕ → Type 0
+AreHeadersWritten header slots bytes [] [] buf after = after ≡ buf
+AreHeadersWritten header slots bytes (old ∷ olds) (new ∷ news) buf after =
+    (next : List ℕ) × IsHeaderWritten header slots bytes old new buf next × AreHeadersWritten header slots bytes olds news next after
+AreHeadersWritten header slots bytes _ _ buf after = ⊥

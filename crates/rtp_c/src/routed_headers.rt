@@ -1,0 +1,121 @@
+//! One packet to all its receivers: a header for each, in one call.
+
+ghost use Rattle.std.specs.Prelude.{◌≡◌, ◌≢◌, ◌↔◌, IsOk, IfOk, IfErr};
+ghost use Rattle.rtp_route.specs.Calls as calls;
+ghost use Rattle.rtp_route.specs.Template.{total_of};
+ghost use Rattle.rtp_route.specs.TemplateOf.{slots_in};
+ghost use Rattle.rtp_c.specs.RoutedHeaders.{header_in, IsWholeTemplate, IsTemplateStatus, IsHeaderWritten, AreHeadersWritten};
+ghost use Rattle.rtp_c.specs.Status.{ok};
+ghost use Rattle.rtp_c.specs.StoredTemplate.{slots_of};
+
+use super::changing::{FieldsView, given_fields};
+use super::datagrams::slice_in;
+use super::status::{BAD_FIELD, OK, SHORT_BUFFER, status_of};
+use super::template::StoredTemplate;
+use rtp_route::HeaderTemplate;
+use rtp_wire::RtpPacket;
+
+/// One of the receivers of a group, and the header that it gets: `rtpw_routed_header` in C, 40
+/// bytes.
+#[repr(C)]
+#[derive(Clone, Copy)]
+pub struct RoutedHeader {
+    /// Given: where its data begin, those of the group's elements one after another.
+    pub data_at: usize,
+    /// Given: where its header begins in the buffer.
+    pub at: usize,
+    /// Given: its fields; the others are the packet's.
+    pub fields: FieldsView,
+    /// `OK`; `BAD_FIELD` where a payload type is given that is above 127, or its data reach past
+    /// the data; `SHORT_BUFFER` where its header would reach past the buffer.
+    pub status: i32,
+}
+
+// The template that is stored, and the header at the front of these bytes, or the status of why
+// they are none.
+fn template_in<'a>(made: &StoredTemplate, bytes: &'a [u8]) -> Result<HeaderTemplate<'a>, i32>
+    ensures header { IfOk result (λ template.
+        calls.header_in template.header ≡ header_in made.now bytes.now) }
+    ensures slots { IfOk result (λ template. slots_in template ≡ slots_of made.now) }
+    ensures total { IfOk result (λ template. made.now.data_total ≡ total_of (slots_in template)) }
+    ensures whole { IsOk result ↔ IsWholeTemplate made.now bytes.now }
+    ensures status { IfErr result (IsTemplateStatus made.now bytes.now) }
+{
+    let parts = made.parts();
+    let len = made.header_len as usize;
+    if len > bytes.len() || !parts.are_in_range() || parts.data_len() != made.data_total as usize {
+        return Err(BAD_FIELD);
+    }
+    let header = match RtpPacket::parse(&bytes[..len]) {
+        Ok(header) => header,
+        Err(cause) => return Err(status_of(cause)),
+    };
+    match HeaderTemplate::from_parts(header, &parts) {
+        Some(template) => Ok(template),
+        None => Err(BAD_FIELD),
+    }
+}
+
+// Writes the header of a receiver at its place, where it can be served and there is room.
+fn write_one(
+    template: &HeaderTemplate<'_>,
+    data_len: usize,
+    bytes: &[u8],
+    receiver: &mut RoutedHeader,
+    buf: &mut [u8],
+)
+    requires { data_len ≡ total_of (slots_in template.now) }
+    ensures { IsHeaderWritten (calls.header_in template.now.header) (slots_in template.now) bytes.now
+        receiver.old receiver.new buf.old buf.new }
+{
+    if receiver.fields.has_payload_type != 0 && receiver.fields.payload_type > 127 {
+        receiver.status = BAD_FIELD;
+        return;
+    }
+    let Some(own) = slice_in(bytes, receiver.data_at, data_len) else {
+        receiver.status = BAD_FIELD;
+        return;
+    };
+    let (at, len) = (receiver.at, template.header_len());
+    if at > buf.len() || len > buf.len() - at {
+        receiver.status = SHORT_BUFFER;
+        return;
+    }
+    template.write_joined(&given_fields(&receiver.fields), own, &mut buf[at..at + len]);
+    receiver.status = OK;
+}
+
+/// Writes the header of each of these receivers of a group at its place in the buffer (RFC 7667,
+/// 3.7; RFC 8285, 5), from what [`rtpw_make_template`](super::template::rtpw_make_template) made:
+/// the struct, and the header at the front of `header`. Each is that header with the receiver's
+/// fields, and with its data as those of the group's elements. They are written one after another,
+/// and one that can't be served has no effect on any other.
+///
+/// `OK`, whatever the statuses of the receivers are. `BAD_FIELD` where the struct names more than
+/// 16 elements, more bytes than `header` has, data that reach past the header, or another number of
+/// them than they have; the status of the first cause for which the header is no packet;
+/// `BAD_FIELD` where it has a payload. Where it isn't `OK` nothing is written.
+#[unsafe(no_mangle)]
+pub extern "C" fn rtpw_write_headers(
+    made: &StoredTemplate,
+    header: &[u8],
+    bytes: &[u8],
+    receivers: &mut [RoutedHeader],
+    buf: &mut [u8],
+) -> i32
+    ensures written { result ≡ ok → AreHeadersWritten (header_in made.now header.now)
+        (slots_of made.now) bytes.now receivers.old receivers.new buf.old buf.new }
+    ensures whole { (result ≡ ok) ↔ IsWholeTemplate made.now header.now }
+    ensures status { result ≢ ok → IsTemplateStatus made.now header.now result }
+    ensures unchanged { result ≢ ok → (receivers.new ≡ receivers.old) × (buf.new ≡ buf.old) }
+{
+    let template = match template_in(made, header) {
+        Ok(template) => template,
+        Err(status) => return status,
+    };
+    let data_len = made.data_total as usize;
+    for receiver in receivers {
+        write_one(&template, data_len, bytes, receiver, buf);
+    }
+    OK
+}

@@ -1,0 +1,178 @@
+//! A packet's header, made once for a group of receivers.
+
+ghost use Rattle.std.specs.Prelude.{◌≡◌, ◌≢◌, ◌↔◌, ◌<◌, ◌≤◌, length, take, Option};
+ghost use Rattle.rtp_ext.specs.declared.form.ExtensionsForm.{ExtensionsForm};
+ghost use Rattle.rtp_ext.specs.NewIds.{new_id, ids_in_bytes};
+ghost use Rattle.rtp_wire.specs.NotAHeader.{IsNoPacket};
+ghost use Rattle.rtp_wire.specs.Packet.{PacketParts, IsPacket, header_len_of};
+ghost use Rattle.rtp_route.specs.declared.not_routed.NotRouted.{NotRouted};
+ghost use Rattle.rtp_route.specs.NotRouted.{KeepsFromTemplate};
+ghost use Rattle.rtp_route.specs.GroupHeader.{IsGroupHeader};
+ghost use Rattle.rtp_route.specs.Template.{total_of};
+ghost use Rattle.rtp_c.specs.PacketView.{form_number};
+ghost use Rattle.rtp_c.specs.Status.{ok, bad_field, IsCauseStatus};
+ghost use Rattle.rtp_c.specs.RoutedStatus.{not_routed_status, IsNotRoutedStatus};
+ghost use Rattle.rtp_c.specs.StoredTemplate.{slots_at, slots_of, IsInRange};
+ghost use Rattle.rtp_c.specs.WrittenElements.{LieIn, elements_in};
+
+use super::growing::put_status_of;
+use super::map::StoredNewIds;
+use super::named_elements::NamedElements;
+use super::packet::{ElementView, allowed_of};
+use super::status::{BAD_FIELD, OK, status_of};
+use rtp_ext::NewIds;
+use rtp_route::{Group, MAX_ELEMENTS, NotRouted, Slot, TemplateParts, make_template};
+use rtp_wire::RtpPacket;
+
+/// How long a group's header is, and where in it the data of the group's elements lie:
+/// `rtpw_template` in C, 88 bytes.
+#[repr(C)]
+#[derive(Clone, Copy)]
+pub struct StoredTemplate {
+    /// How many bytes the header has, 12 to 262,216.
+    pub header_len: u32,
+    /// Where the data of each element begin in the header; after the last not looked at.
+    pub data_at: [u32; MAX_ELEMENTS],
+    /// How many bytes of data the elements have together.
+    pub data_total: u16,
+    /// How many elements there are, 0 to 16.
+    pub count: u8,
+    /// How many bytes of data each element has; after the last not looked at.
+    pub data_len: [u8; MAX_ELEMENTS],
+}
+
+impl StoredTemplate {
+    // The parts that are stored.
+    pub(super) fn parts(&self) -> TemplateParts
+        ensures header_len { result.header_len ≡ self.now.header_len }
+        ensures slots { result.slots ≡ slots_at self.now.data_at self.now.data_len }
+        ensures count { result.count ≡ self.now.count }
+    {
+        let mut slots = [Slot { start: 0, len: 0 }; MAX_ELEMENTS];
+        for index in 0..MAX_ELEMENTS {
+            slots[index] = Slot {
+                start: self.data_at[index],
+                len: self.data_len[index],
+            };
+        }
+        TemplateParts {
+            header_len: self.header_len,
+            slots,
+            count: self.count as usize,
+        }
+    }
+}
+
+// The parts of a template as C keeps them.
+fn stored(parts: &TemplateParts) -> StoredTemplate
+    requires { parts.now.count ≤ 16 }
+    ensures header_len { result.header_len ≡ parts.now.header_len }
+    ensures slots { slots_of result ≡ take parts.now.count parts.now.slots }
+    ensures count { result.count ≡ parts.now.count }
+    ensures total { result.data_total ≡ total_of (take parts.now.count parts.now.slots) }
+{
+    let mut data_at = [0; MAX_ELEMENTS];
+    let mut data_len = [0; MAX_ELEMENTS];
+    let mut data_total = 0;
+    for index in 0..parts.count {
+        let slot = parts.slots[index];
+        data_at[index] = slot.start;
+        data_len[index] = slot.len;
+        data_total += slot.len as u16;
+    }
+    StoredTemplate {
+        header_len: parts.header_len,
+        data_at,
+        data_total,
+        count: parts.count as u8,
+        data_len,
+    }
+}
+
+// The status of a cause for which no header is made for a group. It stays out of line, so that a
+// call does nothing for it where one is made.
+#[cold]
+#[inline(never)]
+fn not_routed_status(cause: NotRouted) -> i32
+    ensures { result ≡ not_routed_status cause }
+{
+    match cause {
+        NotRouted::ManyElements | NotRouted::RepeatedId | NotRouted::LongId => BAD_FIELD,
+        NotRouted::NotPut(cause) => put_status_of(cause),
+    }
+}
+
+/// Makes the header that the packet gets for a group at the front of the buffer, and tells where
+/// its parts lie (RFC 7667, 3.7; RFC 8285, 4.1.2 and 5): its elements get these new ids, and then
+/// the elements are put into it one after another, each with its id and the `data_len` bytes of
+/// `bytes` from its `data_at` on. The number `allowed` is as in `rtpw_put_element`.
+///
+/// `OK`; `BAD_FIELD` where `allowed` is above 2, `data_at + data_len` of an element is past
+/// `bytes`, or there are more than 16 elements; the status of the first cause for which the bytes
+/// are no packet; `BAD_FIELD` where two elements have one id; `SHORT_BUFFER` where the packet's
+/// header has no room; `BAD_FIELD` where the form of its block can't carry a new id; and of each
+/// element in turn what `rtpw_put_element` returns of it. Where it isn't `OK` the buffer may hold
+/// anything, and nothing else is written.
+#[unsafe(no_mangle)]
+pub extern "C" fn rtpw_make_template(
+    datagram: &[u8],
+    ids: &StoredNewIds,
+    bytes: &[u8],
+    elements: &[ElementView],
+    allowed: u8,
+    buf: &mut [u8],
+    made: &mut StoredTemplate,
+) -> i32
+    ensures made { (form : Option ExtensionsForm) → form_number form ≡ allowed → result ≡ ok →
+        IsGroupHeader datagram.now (new_id (ids_in_bytes ids.now.id))
+        (elements_in bytes.now elements.now) form (take made.new.header_len buf.new)
+        (slots_of made.new) }
+    ensures in_range { result ≡ ok → IsInRange made.new (length buf.new) }
+    ensures bad_form { ((form : Option ExtensionsForm) → form_number form ≢ allowed) →
+        result ≡ bad_field }
+    ensures outside { (LieIn bytes.now elements.now → ⊥) → result ≡ bad_field }
+    ensures many { 16 < length elements.now → result ≡ bad_field }
+    ensures cause { (form : Option ExtensionsForm) → form_number form ≡ allowed →
+        LieIn bytes.now elements.now → length elements.now ≤ 16 → IsNoPacket datagram.now →
+        IsCauseStatus datagram.now result }
+    ensures refusal { (form : Option ExtensionsForm) → form_number form ≡ allowed →
+        LieIn bytes.now elements.now → length elements.now ≤ 16 → result ≢ ok →
+        (parts : PacketParts) → IsPacket datagram.now parts →
+        IsNotRoutedStatus (KeepsFromTemplate (take (header_len_of parts) datagram.now)
+        (new_id (ids_in_bytes ids.now.id)) (elements_in bytes.now elements.now) form
+        (length buf.old)) result }
+    ensures refused { (form : Option ExtensionsForm) → form_number form ≡ allowed →
+        LieIn bytes.now elements.now → length elements.now ≤ 16 →
+        (parts : PacketParts) → IsPacket datagram.now parts → result ≢ ok
+        ↔ ((cause : NotRouted) × KeepsFromTemplate (take (header_len_of parts) datagram.now)
+        (new_id (ids_in_bytes ids.now.id)) (elements_in bytes.now elements.now) form
+        (length buf.old) cause) }
+    ensures unchanged { result ≢ ok → made.new ≡ made.old }
+{
+    let Some(allowed) = allowed_of(allowed) else {
+        return BAD_FIELD;
+    };
+    let Some(named) = NamedElements::new(bytes, elements) else {
+        return BAD_FIELD;
+    };
+    if elements.len() > MAX_ELEMENTS {
+        return BAD_FIELD;
+    }
+    let packet = match RtpPacket::parse(datagram) {
+        Ok(packet) => packet,
+        Err(cause) => return status_of(cause),
+    };
+    let lent = named.lent();
+    let group = Group {
+        ids: &NewIds::from_ids(&ids.id),
+        elements: &lent[..elements.len()],
+        allowed,
+    };
+    match make_template(&packet, &group, buf) {
+        Ok(parts) => {
+            *made = stored(&parts);
+            OK
+        }
+        Err(cause) => not_routed_status(cause),
+    }
+}

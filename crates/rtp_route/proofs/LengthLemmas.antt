@@ -1,0 +1,73 @@
+-- How long headers are, and where data lie in them.
+use Rattle.std.proofs.Common.{◌≡◌, ℕ, ◌+◌, ◌-◌, ◌*◌, ◌<◌, ◌≤◌, Bool, true, false, List, [], ◌∷◌, length, take, drop, map, get_or, refl, sym, ap, subst, ◌∙◌, arith, add-zero, length-drop, length-take}
+use Rattle.std.specs.Prelude.{slice_index, if◌then◌else◌}
+use Rattle.std.proofs.lemmas.List.{get_or-take, get_or-drop, drop_more}
+use Rattle.std.proofs.lemmas.List.Sums.{sum_by-cons}
+use Rattle.rtp_base.specs.Overwriting.{overwritten}
+use Rattle.rtp_ext.specs.declared.form.ExtensionsForm.{ExtensionsForm}
+use Rattle.rtp_ext.specs.declared.form.ExtensionsForm.TheVariants.{OneByte, TwoByte}
+use Rattle.rtp_ext.specs.Elements.{Element, IsElement}
+use Rattle.rtp_wire.specs.declared.packet.rtp_packet.RtpPacket.{RtpPacket}
+use Rattle.rtp_wire.specs.Block.{word_at}
+use Rattle.rtp_wire.specs.NotAHeader.{sources_end}
+use Rattle.rtp_wire.specs.Packet.{header_len_of}
+use Rattle.rtp_wire.specs.PartsAt.{has_block, header_end}
+use Rattle.rtp_wire.specs.PartsOf.{parts_of}
+use Rattle.rtp_wire.proofs.PartsLemmas.{header_end-len}
+use Rattle.rtp_route.specs.declared.slots.Slot.{Slot}
+use Rattle.rtp_route.specs.Template.{slot_lengths, total_of, pieces, filled_in}
+
+-- the word in two bytes
+word_at-bytes : (bytes : List ℕ) (offset : ℕ) → word_at bytes offset ≡ slice_index bytes offset * 256 + slice_index bytes (offset + 1)
+word_at-bytes bytes offset =
+    let two : offset + 2 - offset ≡ 2 = omega arith in
+    rw (two, get_or-take 2 (drop offset bytes) 0 0 (omega arith), get_or-take 2 (drop offset bytes) 1 0 (omega arith), get_or-drop offset bytes 0 0, get_or-drop offset bytes 1 0, add-zero offset) (omega arith)
+
+short-if : (b : Bool) (k n : ℕ) → k ≤ n → (if b then k else 0) ≤ n
+short-if false k n few = omega arith
+short-if true k n few = few
+
+-- fifteen sources, and a block of 65,535 words
+pub short-header : (packet : RtpPacket) → header_len_of (parts_of packet) ≤ 262216
+unfolding header_end
+short-header packet =
+    let bytes : List ℕ = packet.datagram.now in
+    let after : List ℕ = drop (sources_end bytes) bytes in
+    let high : slice_index after 2 < 256 = rw (get_or-drop (sources_end bytes) bytes 2 0) (packet.bytes (sources_end bytes + 2)) in
+    let low : slice_index after 3 < 256 = rw (get_or-drop (sources_end bytes) bytes 3 0) (packet.bytes (sources_end bytes + 3)) in
+    let word : word_at after 2 ≡ slice_index after 2 * 256 + slice_index after 3 = word_at-bytes after 2 in
+    let few = short-if (has_block bytes) (4 + 4 * word_at after 2) (4 + 4 * 65535) (omega (arith, word, high, low)) in
+    let end : header_end bytes ≤ sources_end bytes + (4 + 4 * 65535) = omega (arith, few) in
+    let sources : sources_end bytes ≤ 72 = omega arith in
+    omega (arith, end, sources, header_end-len packet)
+
+-- an element has at most 255 bytes of data
+pub short-data : (form : ExtensionsForm) (id : ℕ) (bytes : List ℕ) → IsElement form (id, bytes) → length bytes ≤ 255
+short-data OneByte id bytes is = omega (arith, is.2)
+short-data TwoByte id bytes is = is.2
+
+-- ---- data that lie one after another
+
+-- those of the next place, and those that are left
+pub joined-total : (slots : List Slot) (index : ℕ) (d : Slot) (left : List ℕ) → index < length slots → length left ≡ total_of (drop index slots)
+    → ((get_or slots index d).len ≤ length left) × (length (drop (get_or slots index d).len left) ≡ total_of (drop (index + 1) slots))
+joined-total slots index d left within long =
+    let more : total_of (drop index slots) ≡ (get_or slots index d).len + total_of (drop (index + 1) slots) =
+    ap total_of (drop_more slots index d within) ∙ sum_by-cons (λ (s : Slot). s.len) (get_or slots index d) (drop (index + 1) slots) in
+    (omega (arith, more, long), omega (arith, more, long, length-drop (get_or slots index d).len left))
+
+pub joined-next : (slots : List Slot) (index : ℕ) (d : Slot) (left buf whole : List ℕ) → index < length slots
+    → filled_in (drop index slots) (pieces (slot_lengths (drop index slots)) left) buf ≡ whole
+    → filled_in (drop (index + 1) slots) (pieces (slot_lengths (drop (index + 1) slots)) (drop (get_or slots index d).len left))
+    (overwritten buf (get_or slots index d).start (take (get_or slots index d).len left)) ≡ whole
+joined-next slots index d left buf whole within so_far =
+    subst (λ (ss : List Slot). filled_in ss (pieces (slot_lengths ss) left) buf ≡ whole) (drop_more slots index d within) so_far
+
+-- the pieces are as long as the places
+pub pieces-lengths : (slots : List Slot) (bytes : List ℕ) → length bytes ≡ total_of slots → map length (pieces (slot_lengths slots) bytes) ≡ slot_lengths slots
+pieces-lengths [] bytes long = refl
+pieces-lengths (slot ∷ slots) bytes long =
+    let all : total_of (slot ∷ slots) ≡ slot.len + total_of slots = sum_by-cons (λ (s : Slot). s.len) slot slots in
+    let first : length (take slot.len bytes) ≡ slot.len = omega (arith, long, all, length-take slot.len bytes) in
+    ap (λ (k : ℕ). k ∷ map length (pieces (slot_lengths slots) (drop slot.len bytes))) first
+    ∙ ap (λ (ks : List ℕ). slot.len ∷ ks) (pieces-lengths slots (drop slot.len bytes) (omega (arith, long, all, length-drop slot.len bytes)))
