@@ -755,12 +755,12 @@ static void make_template(void) {
     memset(&element, 0, sizeof element);
     element.data_len = 2;
     element.id = 4;
-    const uint8_t *datagram = PACKET, *data = in("ab", 2);
+    const uint8_t *packet = PACKET, *data = in("ab", 2);
     const rtpw_new_ids *given_ids = in(&ids, sizeof ids);
     const rtpw_element *elements = in(&element, sizeof element);
     buf = out(400);
     made = out(sizeof *made);
-    done(rtpw_make_template(datagram, LEN, given_ids, data, 2, elements, 1, RTPW_ANY_FORM, buf, 400, made));
+    done(rtpw_make_template(packet, LEN, given_ids, data, 2, elements, 1, RTPW_ANY_FORM, buf, 400, made));
     set(made, offsetof(rtpw_template, data_len) + sizeof made->data_len);
     set(buf, made->header_len);
 }
