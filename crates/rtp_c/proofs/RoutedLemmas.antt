@@ -9,26 +9,29 @@ use Rattle.rtp_wire.proofs.PartsLemmas.{length-packet, IsPacket-found}
 use Rattle.rtp_route.specs.declared.slots.Slot.{Slot}
 use Rattle.rtp_route.specs.Calls as calls
 use Rattle.rtp_route.specs.GroupHeader.{IsFilledIn}
-use Rattle.rtp_route.specs.Template.{slot_lengths, total_of, pieces}
+use Rattle.rtp_route.specs.Template.{slot_lengths, total_of, pieces, LiesInHeader}
+use Rattle.rtp_route.specs.declared.parts.TemplateParts.{TemplateParts}
 use Rattle.rtp_route.proofs.LengthLemmas.{pieces-lengths}
 use Rattle.rtp_route.proofs.TemplateLemmas.{routed-filled}
 use Rattle.rtp_c.specs.declared.template.StoredTemplate.{StoredTemplate}
 use Rattle.rtp_c.specs.PacketView.{slice_at}
 use Rattle.rtp_c.specs.RoutedHeaders.{IsReceivers}
-use Rattle.rtp_c.specs.StoredTemplate.{slots_at, slots_of, IsInRange}
+use Rattle.rtp_c.specs.StoredTemplate.{slots_of, IsInRange, HasParts}
 
 -- what is stored, where the parts are found to be in range
-pub in-range : (made : StoredTemplate) (size len count total : ℕ) (slots : List Slot) → len ≡ made.header_len → slots ≡ slots_at made.data_at made.data_len → count ≡ made.count
-    → made.header_len ≤ size → count ≤ 16 → All (λ (s : Slot). s.start + s.len ≤ len) (take count slots) → total ≡ total_of (take count slots) → total ≡ made.data_total → IsInRange made size
-in-range made size len count total slots len_is slots_are count_is there few within total_is same =
-    let places : take count slots ≡ slots_of made = ap (λ (k : ℕ). take k slots) count_is ∙ ap (take made.count) slots_are in
-    record {
-      few = omega (arith, few, count_is);
-      there = there;
-      within = subst (λ (ss : List Slot). All (λ (s : Slot). s.start + s.len ≤ made.header_len) ss) places
-          (subst (λ (n : ℕ). All (λ (s : Slot). s.start + s.len ≤ n) (take count slots)) len_is within);
-      total_is = sym same ∙ total_is ∙ ap total_of places;
-    }
+pub in-range : (made : StoredTemplate) (parts : TemplateParts) (size total : ℕ) → HasParts made parts → made.count ≤ 16 → made.header_len ≤ size
+    → All (λ (s : Slot). s.start + s.len ≤ parts.header_len) (take parts.count parts.slots) → total ≡ total_of (take parts.count parts.slots) → total ≡ made.data_total → IsInRange made size
+in-range made parts size total has few there within total_is same = record {
+  few = few;
+  there = there;
+  within = subst (λ (ss : List Slot). All (λ (s : Slot). s.start + s.len ≤ made.header_len) ss) has.slots_are
+      (subst (λ (n : ℕ). All (λ (s : Slot). s.start + s.len ≤ n) (take parts.count parts.slots)) has.header_len_is within);
+  total_is = sym same ∙ total_is ∙ ap total_of has.slots_are;
+}
+
+-- the places lie in a header of the length that is stored
+pub in-header : (made : StoredTemplate) (parts : PacketParts) (size len : ℕ) → IsInRange made size → len ≡ header_len_of parts → made.header_len ≡ len → All (LiesInHeader parts) (slots_of made)
+in-header made parts size len range found same = subst (λ (n : ℕ). All (λ (s : Slot). s.start + s.len ≤ n) (slots_of made)) (same ∙ found) range.within
 
 pub no-bytes : (xs : List ℕ) → length xs ≡ 0 → xs ≡ []
 no-bytes [] none = refl

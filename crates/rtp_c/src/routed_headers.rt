@@ -1,18 +1,18 @@
 //! One packet to all its receivers: a header for each, in one call.
 
-ghost use Rattle.std.specs.Prelude.{◌≡◌, ◌≢◌, ◌↔◌, IsOk, IfOk, IfErr};
+ghost use Rattle.std.specs.Prelude.{◌≡◌, ◌≢◌, ◌↔◌, ◌≤◌, All, IsOk, IfOk, IfErr};
+ghost use Rattle.rtp_wire.specs.PartsOf.{parts_of};
 ghost use Rattle.rtp_route.specs.Calls as calls;
-ghost use Rattle.rtp_route.specs.Template.{total_of};
-ghost use Rattle.rtp_route.specs.TemplateOf.{slots_in};
+ghost use Rattle.rtp_route.specs.Template.{total_of, LiesInHeader};
 ghost use Rattle.rtp_c.specs.RoutedHeaders.{header_in, IsWholeTemplate, IsTemplateStatus, IsHeaderWritten, AreHeadersWritten};
 ghost use Rattle.rtp_c.specs.Status.{ok};
-ghost use Rattle.rtp_c.specs.StoredTemplate.{slots_of};
+ghost use Rattle.rtp_c.specs.StoredTemplate.{slots_of, HasParts};
 
 use super::changing::{FieldsView, given_fields};
 use super::datagrams::slice_in;
 use super::status::{BAD_FIELD, OK, SHORT_BUFFER, status_of};
 use super::template::StoredTemplate;
-use rtp_route::HeaderTemplate;
+use rtp_route::{MAX_ELEMENTS, Slot, TemplateParts, write_joined};
 use rtp_wire::RtpPacket;
 
 /// One of the receivers of a group, and the header that it gets: `rtpw_routed_header` in C, 40
@@ -31,17 +31,21 @@ pub struct RoutedHeader {
     pub status: i32,
 }
 
-// The template that is stored, and the header at the front of these bytes, or the status of why
-// they are none.
-fn template_in<'a>(made: &StoredTemplate, bytes: &'a [u8]) -> Result<HeaderTemplate<'a>, i32>
-    ensures header { IfOk result (λ template.
-        calls.header_in template.header ≡ header_in made.now bytes.now) }
-    ensures slots { IfOk result (λ template. slots_in template ≡ slots_of made.now) }
-    ensures total { IfOk result (λ template. made.now.data_total ≡ total_of (slots_in template)) }
+// The header of the template at the front of these bytes, or the status of why it is none.
+fn header_of<'a>(
+    made: &StoredTemplate,
+    parts: &TemplateParts,
+    bytes: &'a [u8],
+) -> Result<RtpPacket<'a>, i32>
+    requires few { made.now.count ≤ 16 }
+    requires parts { HasParts made.now parts.now }
+    ensures header { IfOk result (λ header. calls.header_in header ≡ header_in made.now bytes.now) }
+    ensures within { IfOk result (λ header.
+        All (LiesInHeader (parts_of header)) (slots_of made.now)) }
+    ensures total { IsOk result → made.now.data_total ≡ total_of (slots_of made.now) }
     ensures whole { IsOk result ↔ IsWholeTemplate made.now bytes.now }
     ensures status { IfErr result (IsTemplateStatus made.now bytes.now) }
 {
-    let parts = made.parts();
     let len = made.header_len as usize;
     if len > bytes.len() || !parts.are_in_range() || parts.data_len() != made.data_total as usize {
         return Err(BAD_FIELD);
@@ -50,23 +54,25 @@ fn template_in<'a>(made: &StoredTemplate, bytes: &'a [u8]) -> Result<HeaderTempl
         Ok(header) => header,
         Err(cause) => return Err(status_of(cause)),
     };
-    match HeaderTemplate::from_parts(header, &parts) {
-        Some(template) => Ok(template),
-        None => Err(BAD_FIELD),
+    if header.header_len() != len {
+        return Err(BAD_FIELD);
     }
+    Ok(header)
 }
 
 // Writes the header of a receiver at its place, where it can be served and there is room.
 fn write_one(
-    template: &HeaderTemplate<'_>,
+    header: &RtpPacket<'_>,
+    slots: &[Slot],
     data_len: usize,
     bytes: &[u8],
     receiver: &mut RoutedHeader,
     buf: &mut [u8],
 )
-    requires { data_len ≡ total_of (slots_in template.now) }
-    ensures { IsHeaderWritten (calls.header_in template.now.header) (slots_in template.now) bytes.now
-        receiver.old receiver.new buf.old buf.new }
+    requires total { data_len ≡ total_of slots.now }
+    requires within { All (LiesInHeader (parts_of header.now)) slots.now }
+    ensures { IsHeaderWritten (calls.header_in header.now) slots.now bytes.now receiver.old
+        receiver.new buf.old buf.new }
 {
     if receiver.fields.has_payload_type != 0 && receiver.fields.payload_type > 127 {
         receiver.status = BAD_FIELD;
@@ -76,12 +82,13 @@ fn write_one(
         receiver.status = BAD_FIELD;
         return;
     };
-    let (at, len) = (receiver.at, template.header_len());
+    let (at, len) = (receiver.at, header.header_len());
     if at > buf.len() || len > buf.len() - at {
         receiver.status = SHORT_BUFFER;
         return;
     }
-    template.write_joined(&given_fields(&receiver.fields), own, &mut buf[at..at + len]);
+    let fields = given_fields(&receiver.fields);
+    write_joined(header, slots, &fields, own, &mut buf[at..at + len]);
     receiver.status = OK;
 }
 
@@ -109,13 +116,18 @@ pub extern "C" fn rtpw_write_headers(
     ensures status { result ≢ ok → IsTemplateStatus made.now header.now result }
     ensures unchanged { result ≢ ok → (receivers.new ≡ receivers.old) × (buf.new ≡ buf.old) }
 {
-    let template = match template_in(made, header) {
+    if made.count as usize > MAX_ELEMENTS {
+        return BAD_FIELD;
+    }
+    let parts = made.parts();
+    let template = match header_of(made, &parts, header) {
         Ok(template) => template,
         Err(status) => return status,
     };
+    let slots = &parts.slots[..parts.count];
     let data_len = made.data_total as usize;
     for receiver in receivers {
-        write_one(&template, data_len, bytes, receiver, buf);
+        write_one(&template, slots, data_len, bytes, receiver, buf);
     }
     OK
 }

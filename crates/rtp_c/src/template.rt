@@ -12,7 +12,7 @@ ghost use Rattle.rtp_route.specs.Template.{total_of};
 ghost use Rattle.rtp_c.specs.PacketView.{form_number};
 ghost use Rattle.rtp_c.specs.Status.{ok, bad_field, IsCauseStatus};
 ghost use Rattle.rtp_c.specs.RoutedStatus.{not_routed_status, IsNotRoutedStatus};
-ghost use Rattle.rtp_c.specs.StoredTemplate.{slots_at, slots_of, IsInRange};
+ghost use Rattle.rtp_c.specs.StoredTemplate.{slots_of, IsInRange, HasParts};
 ghost use Rattle.rtp_c.specs.WrittenElements.{LieIn, elements_in};
 
 use super::growing::put_status_of;
@@ -44,12 +44,12 @@ pub struct StoredTemplate {
 impl StoredTemplate {
     // The parts that are stored.
     pub(super) fn parts(&self) -> TemplateParts
-        ensures header_len { result.header_len ≡ self.now.header_len }
-        ensures slots { result.slots ≡ slots_at self.now.data_at self.now.data_len }
-        ensures count { result.count ≡ self.now.count }
+        requires { self.now.count ≤ 16 }
+        ensures { HasParts self.now result }
     {
+        let count = self.count as usize;
         let mut slots = [Slot { start: 0, len: 0 }; MAX_ELEMENTS];
-        for index in 0..MAX_ELEMENTS {
+        for index in 0..count {
             slots[index] = Slot {
                 start: self.data_at[index],
                 len: self.data_len[index],
@@ -58,7 +58,7 @@ impl StoredTemplate {
         TemplateParts {
             header_len: self.header_len,
             slots,
-            count: self.count as usize,
+            count,
         }
     }
 }

@@ -37,10 +37,11 @@ fn fit<L: ElementList>(room: usize, form: ExtensionsForm, elements: L) -> bool
     true
 }
 
-// Puts the data of an element at the offset. Up to three bytes, as most elements have, are put one
-// by one, since a copy of so few takes longer.
+/// Puts the data of an element at the offset, and leaves all other bytes as they were. Up to three
+/// bytes, as most elements have, are put one by one, since a copy of so few takes longer. Requires
+/// room for them.
 #[inline(always)]
-pub(super) fn put_data(buf: &mut [u8], at: usize, data: &[u8])
+pub fn put_data(buf: &mut [u8], at: usize, data: &[u8])
     requires { at + length «data».now ≤ length buf.old }
     ensures { buf.new ≡ overwritten buf.old at «data».now }
 {

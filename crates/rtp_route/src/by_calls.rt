@@ -19,7 +19,7 @@ use super::NotRouted;
 use super::in_place::{renumber, set_fields};
 use rtp_base::put;
 use rtp_ext::{ExtensionsForm, NewIds};
-use rtp_wire::{Fields, NotPut, RtpPacket, compact, put_element};
+use rtp_wire::{Fields, NotPut, RtpPacket, compact, put_element_copy};
 
 /// What receivers of a packet have in common.
 #[derive(Clone, Copy)]
@@ -52,7 +52,7 @@ fn put_each(buf: &mut [u8], len: usize, group: &Group<'_>) -> Result<usize, NotP
 {
     let mut len = len;
     for (id, data) in group.elements {
-        len = put_element(buf, len, *id, data, group.allowed)?;
+        len = put_element_copy::<1>(buf, len, *id, data, group.allowed)?;
     }
     Ok(len)
 }
@@ -104,7 +104,7 @@ pub(super) fn make_header(
 ///   header, whose length it says.
 /// - [`NotRouted::LongId`], where the new id of one of the packet's elements is above 14 and its
 ///   block has the one-byte form.
-/// - [`NotRouted::NotPut`] of the cause for which [`put_element`] refuses one of the group's
+/// - [`NotRouted::NotPut`] of the cause for which [`put_element`](rtp_wire::put_element) refuses one of the group's
 ///   elements in this buffer, once those before it are put. The block becomes as short as it can
 ///   only then, so that each of them needs room.
 ///

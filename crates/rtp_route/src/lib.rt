@@ -29,4 +29,4 @@ pub use not_routed::NotRouted;
 pub use not_written::NotWritten;
 pub use parts::{TemplateParts, make_template};
 pub use slots::{MAX_ELEMENTS, Slot};
-pub use template::HeaderTemplate;
+pub use template::{HeaderTemplate, write_joined};

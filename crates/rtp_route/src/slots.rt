@@ -11,8 +11,7 @@ ghost use Rattle.rtp_wire.specs.PartsOf.{parts_of};
 ghost use Rattle.rtp_route.specs.declared.slots.Slot.{Slot};
 ghost use Rattle.rtp_route.specs.Template.{HaveOwnIds, HasOnly, HasRow, IsSlot, AreSlots, LiesInHeader, body_start_of, slot_lengths, total_of, pieces, filled_in};
 
-use rtp_base::put;
-use rtp_ext::last_place;
+use rtp_ext::{last_place, put_data};
 use rtp_wire::RtpPacket;
 
 /// The most elements that are put into a header for a group.
@@ -117,7 +116,7 @@ pub(super) fn fill(buf: &mut [u8], slots: &[Slot], contents: &[&[u8]])
     ensures { buf.new ≡ filled_in slots.now (map (λ bytes. bytes.now) contents.now) buf.old }
 {
     for index in 0..slots.len() {
-        put(buf, slots[index].start as usize, contents[index]);
+        put_data(buf, slots[index].start as usize, contents[index]);
     }
 }
 
@@ -143,7 +142,7 @@ pub(super) fn fill_joined(buf: &mut [u8], slots: &[Slot], bytes: &[u8])
     let mut left = bytes;
     for index in 0..slots.len() {
         let (first, after) = left.split_at(slots[index].len as usize);
-        put(buf, slots[index].start as usize, first);
+        put_data(buf, slots[index].start as usize, first);
         left = after;
     }
 }

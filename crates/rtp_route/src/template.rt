@@ -1,6 +1,6 @@
 //! A header that is made once for a group of receivers.
 
-ghost use Rattle.std.specs.Prelude.{◌≡◌, ◌↔◌, ◌+◌, ◌<◌, ◌≤◌, ℕ, List, Option, Some, length, map, take, drop, slice_index, true, All, IsErr, IsSome, IfOk, IfErr, IfSome, OnErr};
+ghost use Rattle.std.specs.Prelude.{◌≡◌, ◌↔◌, ◌<◌, ◌≤◌, ℕ, List, Option, length, map, take, drop, slice_index, All, IsErr, IfOk, IfErr, IfSome, OnErr};
 ghost use Rattle.rtp_ext.specs.declared.form.ExtensionsForm.{ExtensionsForm};
 ghost use Rattle.rtp_route.specs.declared.not_written.NotWritten.{NotWritten};
 ghost use Rattle.rtp_ext.specs.Elements.{Element};
@@ -12,14 +12,14 @@ ghost use Rattle.rtp_wire.specs.Packet.{PacketParts, IsPacket, header_len_of};
 ghost use Rattle.rtp_wire.specs.PartsOf.{parts_of, datagram_of};
 ghost use Rattle.rtp_route.specs.declared.not_routed.NotRouted.{NotRouted};
 ghost use Rattle.rtp_route.specs.Calls.{header_in};
-ghost use Rattle.rtp_route.specs.GroupHeader.{IsFilledIn};
+ghost use Rattle.rtp_route.specs.GroupHeader.{IsGroupHeader, IsFilledIn};
 ghost use Rattle.rtp_route.specs.NotRouted.{KeepsFromTemplate};
 ghost use Rattle.rtp_route.specs.Routing.{IsRouted};
-ghost use Rattle.rtp_route.specs.Template.{with_data, data_lengths, total_of, pieces, LiesInHeader};
+ghost use Rattle.rtp_route.specs.Template.{with_data, data_lengths, slot_lengths, total_of, pieces, LiesInHeader};
 
 use super::in_place::set_fields;
 use super::slots::{MAX_ELEMENTS, Slot, fill, fill_joined, have_lengths};
-use super::{Group, NotRouted, NotWritten, TemplateParts, make_template};
+use super::{Group, NotRouted, NotWritten, make_template};
 use rtp_base::put;
 use rtp_wire::{Fields, RtpPacket};
 
@@ -67,27 +67,6 @@ impl<'a> HeaderTemplate<'a> {
         Ok(HeaderTemplate {
             header,
             slots,
-            count: parts.count,
-        })
-    }
-
-    /// The template of a header and its parts, as [`make_template`](super::make_template) made
-    /// them. `None` where the header has another length, there are more than
-    /// [`MAX_ELEMENTS`](super::MAX_ELEMENTS) places, or one doesn't lie in the header.
-    pub fn from_parts(header: RtpPacket<'a>, parts: &TemplateParts) -> Option<Self>
-        ensures header { IfSome result (λ template. template.header ≡ header.entry) }
-        ensures slots { IfSome result (λ template.
-            slots_in template ≡ take parts.now.count parts.now.slots) }
-        ensures some { IsSome result ↔ ((parts.now.header_len ≡ header_len_of (parts_of header.entry))
-            × (parts.now.count ≤ 16) × All (λ slot. slot.start + slot.len ≤ parts.now.header_len)
-            (take parts.now.count parts.now.slots)) }
-    {
-        if parts.header_len as usize != header.header_len() || !parts.are_in_range() {
-            return None;
-        }
-        Some(HeaderTemplate {
-            header,
-            slots: parts.slots,
             count: parts.count,
         })
     }
@@ -142,39 +121,8 @@ impl<'a> HeaderTemplate<'a> {
         Ok(needed)
     }
 
-    /// Writes the header with these fields, and with these data of the group's elements, one after
-    /// another in their order, into a buffer of its length. Requires as many data as these elements
-    /// have in the group, and a payload type of at most 127.
-    pub fn write_joined(&self, fields: &Fields, bytes: &[u8], buf: &mut [u8])
-        requires payload_type { IfSome fields.now.payload_type (λ pt. pt ≤ 127) }
-        requires lengths { length bytes.now ≡ total_of (slots_in self.now) }
-        requires room { length buf.old ≡ header_len_in self.now }
-        ensures routed { (old : List ℕ) (ids : ℕ → Option ℕ) (news : List Element)
-            (allowed : Option ExtensionsForm) → IsTemplate old ids news allowed self.now →
-            IsRouted old fields.now ids
-            (with_data news (pieces (data_lengths news) bytes.now)) allowed buf.new }
-        ensures filled { IsFilledIn (header_in self.now.header) (slots_in self.now) fields.now
-            (pieces (lengths_of self.now) bytes.now) buf.new }
-    {
-        self.copy_header(fields, buf);
-        fill_joined(buf, &self.slots[..self.count], bytes);
-    }
-
-    // Copies the header, and sets these fields.
-    #[inline(always)]
-    fn copy_header(&self, fields: &Fields, buf: &mut [u8])
-        requires payload_type { IfSome fields.now.payload_type (λ pt. pt ≤ 127) }
-        requires room { length buf.old ≡ header_len_in self.now }
-        ensures set { (parts : PacketParts) → IsPacket (header_in self.now.header) parts →
-            IsPacket buf.new (with_header_fields fields.now parts) }
-        ensures fixed { ChangesOnly 1 12 (header_in self.now.header) buf.new }
-    {
-        put(buf, 0, self.header.header_bytes());
-        set_fields(buf, self.header.header_len(), self.header.form(), fields);
-    }
-
-    // The same, where the data are as long as those that were put, in a buffer of the header's
-    // length.
+    // Writes the header with these fields and data, as long as those that were put, into a buffer
+    // of the header's length.
     #[inline(always)]
     fn fill_header(&self, fields: &Fields, contents: &[&[u8]], buf: &mut [u8])
         requires payload_type { IfSome fields.now.payload_type (λ pt. pt ≤ 127) }
@@ -185,7 +133,47 @@ impl<'a> HeaderTemplate<'a> {
             IsRouted old fields.now ids
             (with_data news (map (λ bytes. bytes.now) contents.now)) allowed buf.new }
     {
-        self.copy_header(fields, buf);
+        copy_header(&self.header, fields, buf);
         fill(buf, &self.slots[..self.count], contents);
     }
+}
+
+// Copies the header of a packet, and sets these fields.
+#[inline(always)]
+fn copy_header(header: &RtpPacket<'_>, fields: &Fields, buf: &mut [u8])
+    requires payload_type { IfSome fields.now.payload_type (λ pt. pt ≤ 127) }
+    requires room { length buf.old ≡ header_len_of (parts_of header.now) }
+    ensures set { (parts : PacketParts) → IsPacket (header_in header.now) parts →
+        IsPacket buf.new (with_header_fields fields.now parts) }
+    ensures fixed { ChangesOnly 1 12 (header_in header.now) buf.new }
+{
+    put(buf, 0, header.header_bytes());
+    set_fields(buf, header.header_len(), header.form(), fields);
+}
+
+/// Writes a header that [`make_template`](super::make_template) made, as a packet without a
+/// payload, with these fields, and with these data of the group's elements, one after another in
+/// their order, at the places, into a buffer of the header's length. Requires as many data as the
+/// places have, places that lie in the header, and a payload type of at most 127.
+pub fn write_joined(
+    header: &RtpPacket<'_>,
+    slots: &[Slot],
+    fields: &Fields,
+    bytes: &[u8],
+    buf: &mut [u8],
+)
+    requires payload_type { IfSome fields.now.payload_type (λ pt. pt ≤ 127) }
+    requires lengths { length bytes.now ≡ total_of slots.now }
+    requires within { All (LiesInHeader (parts_of header.now)) slots.now }
+    requires room { length buf.old ≡ header_len_of (parts_of header.now) }
+    ensures routed { (old : List ℕ) (ids : ℕ → Option ℕ) (news : List Element)
+        (allowed : Option ExtensionsForm) →
+        IsGroupHeader old ids news allowed (header_in header.now) slots.now →
+        IsRouted old fields.now ids (with_data news (pieces (data_lengths news) bytes.now)) allowed
+        buf.new }
+    ensures filled { IsFilledIn (header_in header.now) slots.now fields.now
+        (pieces (slot_lengths slots.now) bytes.now) buf.new }
+{
+    copy_header(header, fields, buf);
+    fill_joined(buf, slots, bytes);
 }

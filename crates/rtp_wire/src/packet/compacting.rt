@@ -24,6 +24,7 @@ use rtp_ext::compact_body;
 ///
 /// The packet `90 60 00 05 00 00 00 64 00 00 00 2C BE DE 00 02 00 00 21 BB CC 00 00 00 01` (hexadecimal)
 /// becomes `90 60 00 05 00 00 00 64 00 00 00 2C BE DE 00 01 21 BB CC 00 01`, and 21 is returned.
+#[inline(always)]
 pub fn compact(datagram: &mut [u8]) -> Result<usize, NotAPacket>
     ensures compacted { IfOk result (Compacts datagram.old datagram.new) }
     ensures within { IfOk result (λ len. len ≤ length datagram.old) }

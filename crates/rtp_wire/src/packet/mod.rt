@@ -31,7 +31,7 @@ pub use not_a_packet::NotAPacket;
 pub use not_in_buffer::NotInBuffer;
 pub use not_put::NotPut;
 pub use not_retransmitted::NotRetransmitted;
-pub use putting::put_element;
+pub use putting::{put_element, put_element_copy};
 pub use retransmission::{
     OriginalFields, RetransmissionFields, from_retransmission, to_retransmission,
 };

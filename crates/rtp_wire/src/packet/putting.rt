@@ -114,8 +114,15 @@ impl Plan {
     }
 
     // Makes the block of the packet in the first bytes of the buffer anew, with the element in it, and a body
-    // of so many bytes.
-    fn make_anew(&self, buf: &mut [u8], len: usize, new_body_len: usize, id: u8, data: &[u8])
+    // of so many bytes. `COPY` is that of the caller.
+    fn make_anew<const COPY: usize>(
+        &self,
+        buf: &mut [u8],
+        len: usize,
+        new_body_len: usize,
+        id: u8,
+        data: &[u8],
+    )
         requires within { len ≤ length buf.old }
         requires plan { (allowed : Option ExtensionsForm)
             × IsPlan (take len buf.old) (id, «data».now) allowed self.now }
@@ -247,7 +254,32 @@ pub(super) fn announce(buf: &mut [u8], block_at: usize, form: ExtensionsForm)
 /// The packet `90 60 00 05 00 00 00 64 00 00 00 2C BE DE 00 01 10 AA 00 00 01` (hexadecimal), with room
 /// behind it and the data `07 08` of id 2, becomes
 /// `90 60 00 05 00 00 00 64 00 00 00 2C BE DE 00 02 10 AA 21 07 08 00 00 00 01`, and 25 is returned.
+#[inline(always)]
 pub fn put_element(
+    buf: &mut [u8],
+    len: usize,
+    id: u8,
+    data: &[u8],
+    allowed: Option<ExtensionsForm>,
+) -> Result<usize, NotPut>
+    ensures put { IfOk result (PutsElement (take len buf.old) (id, «data».now) allowed buf.new) }
+    ensures within { IfOk result (λ new_len. (len ≤ new_len) × (new_len ≤ length buf.old)) }
+    ensures behind { IfOk result (λ new_len. drop new_len buf.new ≡ drop new_len buf.old) }
+
+    // The cause is the first that applies, and there are no others.
+    ensures cause { IfErr result (IsFirstNotPut
+        (AppliesToPut buf.old len (id, «data».now) allowed)) }
+    ensures refused { IsErr result
+        ↔ ((cause : NotPut) × AppliesToPut buf.old len (id, «data».now) allowed cause) }
+    ensures unchanged { OnErr result (buf.new ≡ buf.old) }
+{
+    put_element_copy::<0>(buf, len, id, data, allowed)
+}
+
+/// The same as [`put_element`], compiled anew for each `COPY`. A function that a library calls at one place
+/// alone is compiled into its caller, and takes fewer instructions there: so a second caller takes another
+/// copy.
+pub fn put_element_copy<const COPY: usize>(
     buf: &mut [u8],
     len: usize,
     id: u8,
@@ -280,6 +312,6 @@ pub fn put_element(
     if new_len > buf.len() {
         return Err(NotPut::NoRoom { needed: new_len });
     }
-    plan.make_anew(buf, len, new_body_len, id, data);
+    plan.make_anew::<COPY>(buf, len, new_body_len, id, data);
     Ok(new_len)
 }

@@ -1,8 +1,7 @@
 use Rattle.rtp_route.specs.Calls as calls
-use Rattle.rtp_route.specs.TemplateOf.{slots_in}
 use Rattle.rtp_c.proofs.InTurnLemmas.{AreHeadersWrittenTo}
 use Rattle.rtp_c.proofs.routed_headers.rtpw_write_headers.Given as goal
 
 abbrev pub invariant-loop-receiver : goal.invariant-loop-receiver
 invariant-loop-receiver l =
-    AreHeadersWrittenTo (calls.header_in l.template.header) (slots_in l.template) l.bytes l.initial.receiver-items l.receiver-items l.initial.buf l.buf l.receiver-index
+    AreHeadersWrittenTo (calls.header_in l.template) l.slots l.bytes l.initial.receiver-items l.receiver-items l.initial.buf l.buf l.receiver-index

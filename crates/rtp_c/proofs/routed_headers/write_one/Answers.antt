@@ -1,7 +1,6 @@
 use Rattle.rtp_c.proofs.Common.{◌≡◌, ℕ, ◌+◌, ◌-◌, ◌<◌, List, ◌++◌, length, take, drop, refl, sym, ap, ◌∙◌, arith, length-take, length-drop}
 use Rattle.rtp_base.proofs.OverwritingLemmas.{overwritten-copied}
 use Rattle.rtp_route.specs.Calls as calls
-use Rattle.rtp_route.specs.TemplateOf.{slots_in}
 use Rattle.rtp_c.specs.SetFields.{fields_given, CanBeSet}
 use Rattle.rtp_c.proofs.RoutedLemmas.{header_in-length, receivers-header}
 use Rattle.rtp_c.proofs.routed_headers.write_one.Goals as goal
@@ -10,7 +9,7 @@ use Rattle.rtp_c.proofs.routed_headers.write_one.Goals.{else-receiver-ne0-via-th
 pub returns-then-at-buf : goal.returns-then-at-buf
 returns-then-at-buf c =
     let receiver = c.args.receiver.now in
-    let long = header_in-length c.args.template.now.header in
+    let long = header_in-length c.args.header.now in
     let can : CanBeSet receiver.fields =
     elim c.else-receiver-ne0.branch [
       | else-receiver-ne0-via-then-receiver-ne0+else-receiver-gt127 w ↦ λ _. w.if-receiver-gt127.false
@@ -25,20 +24,20 @@ returns-then-at-buf c =
       given_is = refl;
       written = λ served room. absurd (omega (arith, room, short, long, c.header_len-len.ensures));
       short = λ served few. refl;
-      refused = λ not. absurd (not (record { fields = can; within = omega (arith, c.in-Some.ensures.found.0, c.requires) }));
+      refused = λ not. absurd (not (record { fields = can; within = omega (arith, c.in-Some.ensures.found.0, c.requires.total) }));
       unchanged = λ other. refl;
     }
 
 pub returns : goal.returns
 returns c =
     let receiver = c.args.receiver.now in
-    let header = calls.header_in c.args.template.now.header in
-    let slots = slots_in c.args.template.now in
+    let header = calls.header_in c.args.header.now in
+    let slots = c.args.slots.now in
     let own = c.write_joined.new.buf in
     let buf = c.args.buf.now in
     let at = receiver.at in
     let len = c.header_len-len.result in
-    let long = header_in-length c.args.template.now.header in
+    let long = header_in-length c.args.header.now in
     let can : CanBeSet receiver.fields =
     elim c.else-receiver-ne0.branch [
       | else-receiver-ne0-via-then-receiver-ne0+else-receiver-gt127 w ↦ λ _. w.if-receiver-gt127.false
@@ -51,12 +50,12 @@ returns c =
         refl,
         (
           own,
-          receivers-header header slots (fields_given receiver.fields) c.given_fields.result c.args.bytes.now c.in-Some.own.now receiver.data_at c.args.data_len own c.given_fields.ensures c.in-Some.ensures.found.1 c.requires
+          receivers-header header slots (fields_given receiver.fields) c.given_fields.result c.args.bytes.now c.in-Some.own.now receiver.data_at c.args.data_len own c.given_fields.ensures c.in-Some.ensures.found.1 c.requires.total
               c.in-Some.ensures.found.0 c.write_joined.ensures.filled,
           ap (λ (n : ℕ). take at buf ++ (own ++ drop (at + n - at) (drop at buf))) own_len ∙ overwritten-copied buf own at,
         ),
       );
       short = λ served few. absurd (omega (arith, few, long, c.header_len-len.ensures, c.if-at-buf.false, c.if-len-buf.false));
-      refused = λ not. absurd (not (record { fields = can; within = omega (arith, c.in-Some.ensures.found.0, c.requires) }));
+      refused = λ not. absurd (not (record { fields = can; within = omega (arith, c.in-Some.ensures.found.0, c.requires.total) }));
       unchanged = λ other. absurd (other refl);
     }

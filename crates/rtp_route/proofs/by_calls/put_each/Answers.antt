@@ -37,8 +37,8 @@ loop-id-preserved c =
     let room : ℕ = length c.args.buf.now in
     let now : List ℕ = take c.loop-id.len c.loop-id.buf in
     record {
-      are_put = subst (λ (es : List Element). ArePutInRoom room start es allowed (take c.in_ok-len.len c.put_element.new.buf)) (sym more)
-          (ArePutInRoom-more (elements_of (take k lents)) new allowed room start now c.put_element.new.buf c.in_ok-len.len c.loop-id.invariant.are_put c.in_ok-len.ensures.put
+      are_put = subst (λ (es : List Element). ArePutInRoom room start es allowed (take c.in_ok-len.len c.put_element_copy.new.buf)) (sym more)
+          (ArePutInRoom-more (elements_of (take k lents)) new allowed room start now c.put_element_copy.new.buf c.in_ok-len.len c.loop-id.invariant.are_put c.in_ok-len.ensures.put
           (λ cause fact. put cause (applies-here c.loop-id.buf c.loop-id.len room new allowed cause c.loop-id.invariant.same_length fact)));
       no_zero = none-more lents k 0 _ within c.loop-id.invariant.no_zero (λ is. put ZeroId is);
       none_refused = λ packet cause same is.
@@ -46,7 +46,7 @@ loop-id-preserved c =
           (ArePutInRoom-puts (elements_of (take k lents)) allowed room start now c.loop-id.invariant.are_put) c.loop-id.invariant.same_length
           (λ other. c.loop-id.invariant.none_refused packet other same) put
           (subst (λ (es : List Element). IsNotPutAmong packet es allowed (length c.args.buf.now) cause) more is);
-      within = omega (arith, c.in_ok-len.ensures.within.1, c.put_element.auto.buf);
+      within = omega (arith, c.in_ok-len.ensures.within.1, c.put_element_copy.auto.buf);
       same_length = search rules;
     }
 

@@ -7,11 +7,11 @@ use Rattle.rtp_wire.proofs.packet.putting.Plan.make_anew.Goals as goal
 use Rattle.rtp_wire.proofs.packet.putting.Plan.make_anew.Goals.{Joined-not-self, then-not-self, else-not-self}
 
 pub resize-requires-clause-order : goal.resize-requires-clause-order
-resize-requires-clause-order c =
+resize-requires-clause-order g c =
     let plan = c.requires.plan.1 in
     omega (arith, plan.payload_is, len-is c.args.buf.now c.args.len plan.growth.parts plan.growth.is_packet c.requires.within)
 
-module _ (c : Joined-not-self) (allowed : Option ExtensionsForm) (plan : IsPlan (take c.args.len c.args.buf.now) (c.args.id, c.args.data.now) allowed c.args.self.now) where
+module _ (g : _) (c : Joined-not-self g) (allowed : Option ExtensionsForm) (plan : IsPlan (take c.args.len c.args.buf.now) (c.args.id, c.args.data.now) allowed c.args.self.now) where
   abbrev self : Plan
   self = c.args.self.now
 
@@ -72,54 +72,54 @@ module _ (c : Joined-not-self) (allowed : Option ExtensionsForm) (plan : IsPlan 
       )
 
 pub put_anew-requires-clause-within : goal.put_anew-requires-clause-within
-put_anew-requires-clause-within c =
+put_anew-requires-clause-within g c =
     let allowed = c.requires.plan.0 in
     let plan = c.requires.plan.1 in
     omega (
       arith,
-      length-room (goal.at.put_anew-requires-clause-within c).Joined-not-self allowed plan,
+      length-room g (goal.at.put_anew-requires-clause-within g c).Joined-not-self allowed plan,
       body-fits (take c.args.len c.args.buf.now) (c.args.id, c.args.data.now) allowed plan.growth,
       plan.body_is,
       c.requires.body_len allowed plan,
     )
 
 pub put_anew-requires-clause-survey : goal.put_anew-requires-clause-survey
-put_anew-requires-clause-survey c =
+put_anew-requires-clause-survey g c =
     let plan = c.requires.plan.1 in
-    let joined = (goal.at.put_anew-requires-clause-survey c).Joined-not-self in
-    subst (λ (b : List ℕ). IsSurvey c.args.self.now.form b c.args.id c.args.self.now.survey) (sym (body-here joined c.requires.plan.0 plan)) plan.survey_is
+    let joined = (goal.at.put_anew-requires-clause-survey g c).Joined-not-self in
+    subst (λ (b : List ℕ). IsSurvey c.args.self.now.form b c.args.id c.args.self.now.survey) (sym (body-here g joined c.requires.plan.0 plan)) plan.survey_is
 
 pub put_anew-requires-clause-room : goal.put_anew-requires-clause-room
-put_anew-requires-clause-room c = λ elements are.
-    fits (goal.at.put_anew-requires-clause-room c).Joined-not-self c.requires.plan.0 c.requires.plan.1 elements are
+put_anew-requires-clause-room g c = λ elements are.
+    fits g (goal.at.put_anew-requires-clause-room g c).Joined-not-self c.requires.plan.0 c.requires.plan.1 elements are
 
 pub returns : goal.returns
-returns c = λ allowed plan.
-    let joined = (goal.at.returns c).Joined-not-self in
+returns g c = λ allowed plan.
+    let joined = (goal.at.returns g c).Joined-not-self in
     let self = c.args.self.now in
     let growth = plan.growth in
     let body : List ℕ = c.put_anew.new.body in
-    let as_long : length body ≡ c.args.new_body_len = c.put_anew.auto.body ∙ length-room joined allowed plan in
+    let as_long : length body ≡ c.args.new_body_len = c.put_anew.auto.body ∙ length-room g joined allowed plan in
     let size : growth.len ≡ 12 + 4 * length growth.parts.sources + (4 + c.args.new_body_len) + length growth.parts.payload = omega (arith, growth.len_is, (c.requires.body_len allowed plan)) in
     record {
       body = body;
-      body_is = c.put_anew.ensures.row growth.elements (elements-here joined allowed plan)
-          ∙ ap (row_to self.new_form (elements_with (c.args.id, c.args.data.now) growth.elements)) (length-room joined allowed plan ∙ (c.requires.body_len allowed plan))
+      body_is = c.put_anew.ensures.row growth.elements (elements-here g joined allowed plan)
+          ∙ ap (row_to self.new_form (elements_with (c.args.id, c.args.data.now) growth.elements)) (length-room g joined allowed plan ∙ (c.requires.body_len allowed plan))
           ∙ ap (λ (f : ExtensionsForm). row_to f (elements_with (c.args.id, c.args.data.now) growth.elements) growth.body_len) plan.form_is;
       is_packet = subst (λ (f : ExtensionsForm). IsPacket (take growth.len (put_mid (self.block_at + 4) (self.block_at + 4 + c.args.new_body_len - (self.block_at + 4)) c.if-not-self.buf body)) (record growth.parts { has_extension = true; block = Some (f, body) })) plan.form_is
           (IsPacket-new c.args.buf.now c.args.len growth.parts growth.is_packet c.requires.within self.block_at plan.block_is self.payload_at plan.payload_is c.args.new_body_len c.requires.room
-          self.new_form c.if-not-self.buf (laid joined allowed plan) body as_long growth.len growth.no_other size
+          self.new_form c.if-not-self.buf (laid g joined allowed plan) body as_long growth.len growth.no_other size
           (omega (arith, body-whole (take c.args.len c.args.buf.now) (c.args.id, c.args.data.now) allowed growth, (c.requires.body_len allowed plan))) c.requires.few);
       are_elements = subst (λ (f : ExtensionsForm). AreElements f body (elements_with (c.args.id, c.args.data.now) growth.elements)) plan.form_is
-          (c.put_anew.ensures.elements growth.elements (elements-here joined allowed plan));
+          (c.put_anew.ensures.elements growth.elements (elements-here g joined allowed plan));
       word_is = λ some.
           word-new c.args.buf.now c.args.len growth.parts growth.is_packet c.requires.within self.block_at plan.block_is self.payload_at plan.payload_is c.args.new_body_len c.requires.room
-          self.new_form c.if-not-self.buf (laid joined allowed plan) body as_long (some ∙ ap (λ (f : ExtensionsForm). Some f) (sym plan.form_is));
+          self.new_form c.if-not-self.buf (laid g joined allowed plan) body as_long (some ∙ ap (λ (f : ExtensionsForm). Some f) (sym plan.form_is));
       new_word_is = λ other.
           written-new c.args.buf.now c.args.len growth.parts growth.is_packet c.requires.within self.block_at plan.block_is self.payload_at plan.payload_is c.args.new_body_len c.requires.room
-          self.new_form c.if-not-self.buf (laid joined allowed plan) body as_long (λ some. other (some ∙ ap (λ (f : ExtensionsForm). Some f) plan.form_is))
+          self.new_form c.if-not-self.buf (laid g joined allowed plan) body as_long (λ some. other (some ∙ ap (λ (f : ExtensionsForm). Some f) plan.form_is))
           ∙ ap (λ (f : ExtensionsForm). to_be_bytes w16 (form_word f)) plan.form_is;
       behind_is =
           behind-new c.args.buf.now c.args.len growth.parts growth.is_packet c.requires.within self.block_at plan.block_is self.payload_at plan.payload_is c.args.new_body_len c.requires.room
-          self.new_form c.if-not-self.buf (laid joined allowed plan) body as_long growth.len size;
+          self.new_form c.if-not-self.buf (laid g joined allowed plan) body as_long growth.len size;
     }
