@@ -104,9 +104,9 @@ pub(super) fn make_header(
 ///   header, whose length it says.
 /// - [`NotRouted::LongId`], where the new id of one of the packet's elements is above 14 and its
 ///   block has the one-byte form.
-/// - [`NotRouted::NotPut`] of the cause for which [`put_element`](rtp_wire::put_element) refuses one of the group's
-///   elements in this buffer, once those before it are put. The block becomes as short as it can
-///   only then, so that each of them needs room.
+/// - [`NotRouted::NotPut`] of the cause for which [`put_element`](rtp_wire::put_element) refuses
+///   one of the group's elements in this buffer, once those before it are put. The block becomes as
+///   short as it can only then, so that each of them needs room.
 ///
 /// Of the packet `90 60 00 05 00 00 00 64 00 00 00 2C BE DE 00 01 10 AA 00 00` (hexadecimal) the
 /// number 9, the id 3 for 1 and the data `00 07` of the id 4 make
