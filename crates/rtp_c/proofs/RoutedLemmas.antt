@@ -9,7 +9,7 @@ use Rattle.rtp_wire.proofs.PartsLemmas.{length-packet, IsPacket-found}
 use Rattle.rtp_route.specs.declared.slots.Slot.{Slot}
 use Rattle.rtp_route.specs.Calls as calls
 use Rattle.rtp_route.specs.GroupHeader.{IsFilledIn}
-use Rattle.rtp_route.specs.Template.{slot_lengths, total_of, pieces, LiesInHeader}
+use Rattle.rtp_route.specs.Template.{slot_lengths, total_of, pieces}
 use Rattle.rtp_route.specs.declared.parts.TemplateParts.{TemplateParts}
 use Rattle.rtp_route.proofs.LengthLemmas.{pieces-lengths}
 use Rattle.rtp_route.proofs.TemplateLemmas.{routed-filled}
@@ -28,10 +28,6 @@ in-range made parts size total has few there within total_is same = record {
       (subst (λ (n : ℕ). All (λ (s : Slot). s.start + s.len ≤ n) (take parts.count parts.slots)) has.header_len_is within);
   total_is = sym same ∙ total_is ∙ ap total_of has.slots_are;
 }
-
--- the places lie in a header of the length that is stored
-pub in-header : (made : StoredTemplate) (parts : PacketParts) (size len : ℕ) → IsInRange made size → len ≡ header_len_of parts → made.header_len ≡ len → All (LiesInHeader parts) (slots_of made)
-in-header made parts size len range found same = subst (λ (n : ℕ). All (λ (s : Slot). s.start + s.len ≤ n) (slots_of made)) (same ∙ found) range.within
 
 pub no-bytes : (xs : List ℕ) → length xs ≡ 0 → xs ≡ []
 no-bytes [] none = refl

@@ -50,7 +50,7 @@ returns c =
         refl,
         (
           own,
-          receivers-header header slots (fields_given receiver.fields) c.given_fields.result c.args.bytes.now c.in-Some.own.now receiver.data_at c.args.data_len own c.given_fields.ensures c.in-Some.ensures.found.1 c.requires.total
+          receivers-header header slots (fields_given receiver.fields) c.given_fields-fields.result c.args.bytes.now c.in-Some.own.now receiver.data_at c.args.data_len own c.given_fields-fields.ensures c.in-Some.ensures.found.1 c.requires.total
               c.in-Some.ensures.found.0 c.write_joined.ensures.filled,
           ap (λ (n : ℕ). take at buf ++ (own ++ drop (at + n - at) (drop at buf))) own_len ∙ overwritten-copied buf own at,
         ),
