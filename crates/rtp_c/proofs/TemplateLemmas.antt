@@ -65,9 +65,6 @@ parts-more slots starts lens index same within there so_far =
     ∙ ap (λ (s : Slot). take index (slots_at starts lens) ++ s ∷ []) (sym (slots_at-get starts lens index d same within))
     ∙ sym (take_more (slots_at starts lens) index d (omega (arith, within, slots_at-length starts lens same)))
 
-pub all-taken : (xs ys : List Slot) (n : ℕ) → length xs ≤ n → length ys ≤ n → take n xs ≡ take n ys → xs ≡ ys
-all-taken xs ys n long longer same = sym (take_all n xs long) ∙ same ∙ take_all n ys longer
-
 -- ---- what is made for a group
 
 -- as many elements are named as there are views

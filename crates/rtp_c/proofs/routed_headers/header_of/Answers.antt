@@ -1,5 +1,5 @@
-use Rattle.rtp_c.proofs.Common.{◌≡◌, ℕ, ◌+◌, List, [], length, take, refl, sym, ap, ◌∙◌, arith, false≢true}
-use Rattle.rtp_wire.specs.Packet.{PacketParts, header_len_of}
+use Rattle.rtp_c.proofs.Common.{◌≡◌, [], length, refl, ap, ◌∙◌, arith, false≢true}
+use Rattle.rtp_wire.specs.Packet.{PacketParts}
 use Rattle.rtp_wire.specs.PartsOf.{parts_of}
 use Rattle.rtp_c.specs.RoutedHeaders.{payload}
 use Rattle.rtp_c.specs.StoredTemplate.{IsInRange}

@@ -1,6 +1,5 @@
-use Rattle.std.proofs.Common.{◌≡◌, ℕ, length, take, sym, ◌∙◌, refl, subst, arith, rules}
+use Rattle.std.proofs.Common.{◌≡◌, length, sym, ◌∙◌, arith, rules}
 use Rattle.std.proofs.Math.ListN.{length-set}
-use Rattle.rtp_c.specs.StoredTemplate.{slots_at}
 use Rattle.rtp_c.proofs.TemplateLemmas.{parts-more}
 use Rattle.rtp_c.proofs.template.StoredTemplate.parts.Goals as goal
 
