@@ -340,7 +340,9 @@ func TestTemplatesKeepNothing(t *testing.T) {
 	same(t, "not of the last packet", []any{batch.Write(&template, data, buf), batch.Len()}, []any{rtpwire.CutFixedPart, 0})
 	same(t, "routed", batch.Route(routable(), numbered(), data, buf), nil)
 	same(t, "no packet", []any{batch.Route(nil, numbered(), data, buf), batch.Len()}, []any{rtpwire.CutFixedPart, 0})
+	same(t, "routed", []any{batch.Route(routable(), numbered(), data, buf), batch.Len()}, []any{nil, 1})
 	batch.Reset()
+	same(t, "after a reset", batch.Len(), 0)
 	same(t, "none", []any{batch.Route(routable(), numbered(), data, buf), batch.Len()}, []any{nil, 0})
 	batch.Add(0, 0)
 	same(t, "added and not written", batch.Len(), 0)
@@ -395,6 +397,13 @@ func TestTheLongestBlock(t *testing.T) {
 	same(t, "one more, of half as many", batch.Route(packet, group, data, buf), nil)
 	header, err = batch.At(1)
 	same(t, "length", []any{len(header), err}, []any{16 + 4*0x8000, nil})
+	// In the other form each of the 65,534 elements takes three bytes, which a new batch has room for too.
+	group.Allowed = rtpwire.TwoByteForm
+	batch, template = rtpwire.RouteBatch{}, rtpwire.HeaderTemplate{}
+	batch.Add(0, 0)
+	same(t, "in the other form", []error{batch.Route(packet, group, data, buf), template.Make(packet, group, data)}, []error{nil, nil})
+	header, err = batch.At(0)
+	same(t, "length", []any{len(header), err, template.HeaderLen()}, []any{16 + 3*65534 + 4 + 2, nil, 16 + 3*65534 + 4 + 2})
 }
 
 // Batches and templates of many goroutines at once, with one group, give what each gives alone.
