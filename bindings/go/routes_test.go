@@ -341,8 +341,13 @@ func TestTemplatesKeepNothing(t *testing.T) {
 	same(t, "routed", batch.Route(routable(), numbered(), data, buf), nil)
 	same(t, "no packet", []any{batch.Route(nil, numbered(), data, buf), batch.Len()}, []any{rtpwire.CutFixedPart, 0})
 	same(t, "routed", []any{batch.Route(routable(), numbered(), data, buf), batch.Len()}, []any{nil, 1})
+	batch.Fields(0).SetSSRC(45)
+	same(t, "with an SSRC", []any{batch.Route(routable(), numbered(), data, buf), buf[11]}, []any{nil, uint8(45)})
 	batch.Reset()
 	same(t, "after a reset", batch.Len(), 0)
+	batch.Add(0, 0)
+	same(t, "without one", []any{batch.Route(routable(), numbered(), data, buf), buf[11]}, []any{nil, uint8(44)})
+	batch.Reset()
 	same(t, "none", []any{batch.Route(routable(), numbered(), data, buf), batch.Len()}, []any{nil, 0})
 	batch.Add(0, 0)
 	same(t, "added and not written", batch.Len(), 0)
@@ -401,6 +406,7 @@ func TestTheLongestBlock(t *testing.T) {
 	group.Allowed = rtpwire.TwoByteForm
 	batch, template = rtpwire.RouteBatch{}, rtpwire.HeaderTemplate{}
 	batch.Add(0, 0)
+	packet = packet[:16+4*0x7FFF]
 	same(t, "in the other form", []error{batch.Route(packet, group, data, buf), template.Make(packet, group, data)}, []error{nil, nil})
 	header, err = batch.At(0)
 	same(t, "length", []any{len(header), err, template.HeaderLen()}, []any{16 + 3*65534 + 4 + 2, nil, 16 + 3*65534 + 4 + 2})
