@@ -19,6 +19,7 @@ import (
 	"os/exec"
 	"strings"
 	"sync/atomic"
+	"syscall"
 	"time"
 )
 
@@ -153,11 +154,11 @@ func run(program string, receivers, packets int) error {
 	for _, peer := range peers {
 		came, twice = came+peer.came.Load(), twice+peer.twice.Load()
 	}
-	state := child.ProcessState
+	usage := child.ProcessState.SysUsage().(*syscall.Rusage)
+	user, all := usage.Utime.Nano(), usage.Utime.Nano()+usage.Stime.Nano()
 	fmt.Printf("%-12s receivers %2d: %7.0f packets/s, %6.2f us of a processor each (%.2f in the program itself), lost %d, twice %d; %s\n",
 		program[strings.LastIndex(program, "/")+1:], receivers, float64(packets)/took.Seconds(),
-		float64((state.UserTime()+state.SystemTime()).Nanoseconds())/1000/float64(packets),
-		float64(state.UserTime().Nanoseconds())/1000/float64(packets),
+		float64(all)/1000/float64(packets), float64(user)/1000/float64(packets),
 		uint64(packets*receivers)-came, twice, strings.TrimSpace(said+string(rest)))
 	if came != uint64(packets*receivers) || twice != 0 {
 		return errors.New("packets were lost, or came twice")

@@ -142,7 +142,11 @@ func (s *sfu) describe(buf []byte, from *stream, i int, sendTime uint64, level [
 	if err != nil {
 		return 0, err
 	}
-	return header.MarshalTo(buf[len(buf)-header.MarshalSize():])
+	n, err := header.MarshalTo(s.header[:])
+	if err == nil {
+		copy(buf[len(buf)-n:], s.header[:n])
+	}
+	return n, err
 }
 
 func main() {
