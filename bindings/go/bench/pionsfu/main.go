@@ -53,14 +53,16 @@ func (s *stream) take(low uint16) bool {
 }
 
 type sfu struct {
-	receivers                                int
-	audioLevelID                             uint8 // the sender's
-	streams                                  map[uint32]*stream
-	packet                                   rtp.Packet
-	copied                                   [16]byte
-	extensions                               []rtp.Extension
-	data                                     []byte // a mid, a transport number and a send time for each receiver
-	transport                                uint16
+	receivers    int
+	audioLevelID uint8 // the sender's
+	streams      map[uint32]*stream
+	packet       rtp.Packet
+	copied       [16]byte
+	extensions   []rtp.Extension
+	header       [udp.Room]byte
+	data         []byte // a mid, a transport number and a send time for each receiver
+	transport    uint16 // of the next packet to the first receiver
+
 	taken, refused, unreadable, sent, unsent uint64
 }
 
