@@ -23,8 +23,9 @@ type template struct {
 }
 
 // A HeaderTemplate is the header that a packet gets for a group of receivers: made once, and written for each receiver
-// with fields and data of its own ([RouteBatch.Write]). It has a copy of what it was made from. Use one again: then no
-// memory is taken but where a header is longer than ever before.
+// with fields and data of its own ([RouteBatch.Write]). It has a copy of what it was made from, and several goroutines may
+// write by it at once, each with a batch of its own. Use one again: then no memory is taken but where a header is longer
+// than ever before.
 type HeaderTemplate struct {
 	made template
 	buf  []byte // begins with the header

@@ -412,9 +412,11 @@ func TestTheLongestBlock(t *testing.T) {
 	same(t, "length", []any{len(header), err, template.HeaderLen()}, []any{16 + 3*65534 + 4 + 2, nil, 16 + 3*65534 + 4 + 2})
 }
 
-// Batches and templates of many goroutines at once, with one group, give what each gives alone.
+// Batches and templates of many goroutines at once, with one group and one more template, give what each gives alone.
 func TestRoutesOfManyGoroutines(t *testing.T) {
 	group := numbered()
+	var shared rtpwire.HeaderTemplate
+	same(t, "made", shared.Make(routable(), group, []byte{0, 0}), nil)
 	done := make(chan error)
 	for own := byte(1); own <= 8; own++ {
 		go func(own byte) {
@@ -438,7 +440,9 @@ func TestRoutesOfManyGoroutines(t *testing.T) {
 				other, _ := plain.At(0)
 				wanted := []byte{0x90, 96, 0, 5, 0, 0, 0, 100, 0, 0, 0, own, 0xBE, 0xDE, 0, 2, 0x30, byte(round), 0x41, own, byte(round), 0, 0, 0}
 				is := bytes.Equal(other, wanted)
-				wanted[2], wanted[3] = byte(round>>8), byte(round)
+				written, wanted[11], wanted[17] = plain.Write(&shared, data, buf), 44, 0xAA
+				is = is && bytes.Equal(other, wanted)
+				wanted[2], wanted[3], wanted[11], wanted[17] = byte(round>>8), byte(round), own, byte(round)
 				if failed != nil || made != nil || written != nil || !is || !bytes.Equal(header, wanted) {
 					err = fmt.Errorf("% x and % x, wanted % x: %v %v %v", header, other, wanted, failed, made, written)
 				}
