@@ -156,6 +156,9 @@ func (s *sfu) forward(buf []byte, from *stream, now time.Duration, send udp.Send
 	payloadAt := udp.Room + s.packet.HeaderLen()
 	for i := 0; i < receivers; i++ {
 		header, err := s.batch.At(i)
+		if len(header) > stride { // then the next one lies over its end
+			err = rtpwire.ErrShortBuffer
+		}
 		if err == nil {
 			at := payloadAt - copy(buf[payloadAt-len(header):], header)
 			err = send(i, buf[at:])

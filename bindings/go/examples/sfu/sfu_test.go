@@ -61,16 +61,22 @@ func TestPacketsOfEachReceiver(t *testing.T) {
 			"906F0006" + "00000066" + "000003E8" + "ABAC0001" + "01020304" + "73",
 			"906F03EE" + "00000066" + "000007D0" + "ABAC0001" + "01020304" + "73",
 		}},
+		// A header of 512 bytes has its place, and one of 516 hasn't.
+		{"906F 0007 00000067 0000002C ABAC007C" + strings.Repeat("00000000", 124) + "74", 0, []string{
+			"906F0007" + "00000067" + "000003E8" + "ABAC007C" + strings.Repeat("00000000", 124) + "74",
+			"906F03EF" + "00000067" + "000007D0" + "ABAC007C" + strings.Repeat("00000000", 124) + "74",
+		}},
+		{"906F 0008 00000068 0000002C ABAC007D" + strings.Repeat("00000000", 125) + "74", 0, nil},
 		{"80C9 0001 00000009", 0, nil},
 		{"80E0 FFFF 000000", 0, nil},
-		{"8060 FF85 00000064 0000002C", 0, nil}, // 129 before 6
+		{"8060 FF88 00000064 0000002C", 0, nil}, // 128 before 8
 	}
 	for _, row := range rows {
 		if got := sent(t, s, row.datagram, row.now); !reflect.DeepEqual(got, row.wanted) {
 			t.Errorf("%s: %v, wanted %v", row.datagram, got, row.wanted)
 		}
 	}
-	if wanted := (counts{taken: 3, replays: 1, late: 1, rtcp: 1, unreadable: 1, sent: 6}); s.counts != wanted {
+	if wanted := (counts{taken: 5, replays: 1, late: 1, rtcp: 1, unreadable: 1, sent: 8, unsent: 2}); s.counts != wanted {
 		t.Errorf("%+v, wanted %+v", s.counts, wanted)
 	}
 	for ssrc := 1; ssrc <= 20; ssrc++ {
