@@ -142,7 +142,7 @@ func TestOverUDP(t *testing.T) {
 			if !bytes.Equal(buf[:26], wanted) || n != 34 || buf[32] != byte(i>>8) || buf[33] != byte(i) {
 				t.Fatalf("packet %d of receiver %d: % x, wanted % x ...", i, r, buf[:n], wanted)
 			}
-			if i == packets-1 && r == 0 { // a report
+			if i == 0 && r == 0 { // a report
 				if _, err := peer.WriteToUDP([]byte{0x80, 201, 0, 1, 0, 0, 0, 9}, from); err != nil {
 					t.Fatal(err)
 				}

@@ -8,8 +8,10 @@ import (
 	"fmt"
 	"io"
 	"net"
+	"os"
 	"strconv"
 	"sync/atomic"
+	"syscall"
 	"time"
 )
 
@@ -20,6 +22,7 @@ const (
 	longest = time.Minute            // for which an SFU works
 	after   = 200 * time.Millisecond // for which it still takes what has come, where its input has ended
 	buffer  = 4 << 20                // what a socket is to hold while a goroutine waits for a processor
+	most    = 1 << 16                // so many datagrams are still taken at the end
 )
 
 // A Send sends a packet to the receiver of this place.
@@ -76,10 +79,13 @@ func Serve(in io.Reader, out io.Writer, ports []string, server Server) (back uin
 		}
 		_ = sender.SetReadDeadline(time.Now().Add(after))
 	}()
-	take(sender, server, func(receiver int, packet []byte) error {
+	err = take(sender, server, func(receiver int, packet []byte) error {
 		_, err := receivers[receiver].Write(packet)
 		return err
 	})
+	if err != nil {
+		return 0, err
+	}
 	for _, receiver := range receivers {
 		receiver.Close()
 		<-ended
@@ -107,17 +113,33 @@ func dialed(ports []string) (receivers []*net.UDPConn, err error) {
 	return receivers, nil
 }
 
-// take has the server take each datagram, until none may come any more.
-func take(sender *net.UDPConn, server Server, send Send) {
+// take has the server take each datagram until the socket's time ends, and then those that it still holds.
+func take(sender *net.UDPConn, server Server, send Send) error {
 	buf := make([]byte, Room+65536)
 	begun := time.Now()
 	for {
 		n, _, err := sender.ReadFromUDPAddrPort(buf[Room:])
+		if errors.Is(err, os.ErrDeadlineExceeded) {
+			break
+		}
 		if err != nil {
-			return
+			return err
 		}
 		server.Take(buf[:Room+n], time.Since(begun), send)
 	}
+	held, err := sender.SyscallConn()
+	if err != nil {
+		return err
+	}
+	return held.Control(func(fd uintptr) {
+		for left := most; left > 0; left-- {
+			n, err := syscall.Read(int(fd), buf[Room:])
+			if err != nil {
+				return // EAGAIN: no more
+			}
+			server.Take(buf[:Room+n], time.Since(begun), send)
+		}
+	})
 }
 
 // count counts what a receiver sends: reports, which nobody answers here.
