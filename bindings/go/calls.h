@@ -73,6 +73,18 @@ static inline void call_parse_many(const uint8_t *buf, size_t size, const rtpw_m
     }
 }
 
+/* The header for a group, and then those of its receivers. */
+static inline int32_t call_route(const uint8_t *datagram, size_t len, const rtpw_new_ids *ids, const uint8_t *data,
+                                 size_t data_len, const rtpw_element *elements, size_t element_count, uint8_t allowed,
+                                 uint8_t *header, size_t header_size, rtpw_template *made,
+                                 rtpw_routed_header *receivers, size_t count, uint8_t *buf, size_t size) {
+    int32_t status = rtpw_make_template(datagram, len, ids, data, data_len, elements, element_count, allowed, header,
+                                        header_size, made);
+    return status != RTPW_OK
+               ? status
+               : rtpw_write_headers(made, header, header_size, data, data_len, receivers, count, buf, size);
+}
+
 static inline call_number call_receive(rtpw_receiver *receiver, uint16_t sequence_number) {
     call_number it = {0};
     it.status = rtpw_receiver_receive(receiver, sequence_number, &it.number);

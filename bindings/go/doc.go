@@ -13,6 +13,9 @@
 // Where many datagrams lie in one buffer one call reads them all ([HeaderBatch], [PacketBatch]), and another judges
 // them ([ArrivalBatch]): of 32 at once each then takes less than half of that time.
 //
+// A packet that goes to many receivers gets all their headers by one call, each with fields and data of its own, while
+// the payload stays where it lies ([RouteBatch]).
+//
 // [Values] have some elements as str0m reads and writes them, and others not at all. The data that [Packet.Element]
 // lends are read as the standards have them, for any peer, by [ParseTransmissionOffset], [ParseFrameMarking],
 // [ParseOrientation], [ParseTiming], [ParseTransportNumber], [ParseColorSpace], [ParseDependencyDescriptor],

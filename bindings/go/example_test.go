@@ -211,6 +211,46 @@ func ExamplePacketBatch() {
 	// rtpwire: an argument is out of its range
 }
 
+// A packet goes to two receivers, which have agreed to the same ids: each gets an SSRC and a transport number of its own.
+func ExampleRouteBatch() {
+	publisher, subscribers := new(rtpwire.Map), new(rtpwire.Map)
+	for _, err := range []error{
+		publisher.Set(1, rtpwire.KindAudioLevel), subscribers.Set(3, rtpwire.KindAudioLevel),
+		subscribers.Set(4, rtpwire.KindTransportNumber),
+	} {
+		if err != nil {
+			log.Fatal(err)
+		}
+	}
+	group := rtpwire.Group{ // once for these receivers
+		IDs:      rtpwire.NewIDsBetween(publisher, subscribers),
+		Elements: []rtpwire.Place{{ID: 4, At: 0, Len: 2}},
+	}
+	const stride = 64
+	buf := make([]byte, 2*stride)
+	var batch rtpwire.RouteBatch
+	for i, ssrc := range []uint32{45, 46} {
+		batch.Add(2*i, stride*i).SetSSRC(ssrc)
+	}
+
+	// For each packet:
+	datagram := []byte{0x90, 96, 0, 5, 0, 0, 0, 160, 0, 0, 0, 7, 0xBE, 0xDE, 0, 1, 0x10, 0x8A, 0, 0, 'h', 'i'}
+	data := []byte{0, 7, 0, 8} // two bytes for each receiver
+	if err := batch.Route(datagram, &group, data, buf); err != nil {
+		log.Fatal(err)
+	}
+	for i := 0; i < batch.Len(); i++ {
+		header, err := batch.At(i)
+		if err != nil {
+			log.Fatal(err)
+		}
+		fmt.Printf("% X, and then %q\n", header, datagram[20:])
+	}
+	// Output:
+	// 90 60 00 05 00 00 00 A0 00 00 00 2D BE DE 00 02 30 8A 41 00 07 00 00 00, and then "hi"
+	// 90 60 00 05 00 00 00 A0 00 00 00 2E BE DE 00 02 30 8A 41 00 08 00 00 00, and then "hi"
+}
+
 // Two mids that the peer chose are one text to Values: the bytes of the element tell them apart.
 func ExamplePacket_Token() {
 	m := new(rtpwire.Map)

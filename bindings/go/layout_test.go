@@ -26,6 +26,8 @@ func TestStructsLieAsThoseOfC(t *testing.T) {
 		dg datagram
 		dh datagramHeader
 		a  arrival
+		te template
+		rh routedHeader
 		fm FrameMarking
 		o  Orientation
 		ti Timing
@@ -229,6 +231,15 @@ func TestStructsLieAsThoseOfC(t *testing.T) {
 		{"arrival.number", unsafe.Offsetof(a.number), 8},
 		{"arrival.sequence_number", unsafe.Offsetof(a.sequenceNumber), 16},
 		{"arrival.status", unsafe.Offsetof(a.status), 20},
+		{"template", unsafe.Sizeof(te), 88},
+		{"template.data_at", unsafe.Offsetof(te.dataAt), 4},
+		{"template.data_total", unsafe.Offsetof(te.dataTotal), 68},
+		{"template.count", unsafe.Offsetof(te.count), 70},
+		{"template.data_len", unsafe.Offsetof(te.dataLen), 71},
+		{"routed_header", unsafe.Sizeof(rh), 40},
+		{"routed_header.at", unsafe.Offsetof(rh.at), 8},
+		{"routed_header.fields", unsafe.Offsetof(rh.Fields), 16},
+		{"routed_header.status", unsafe.Offsetof(rh.status), 36},
 	}
 	for _, row := range rows {
 		if row.got != row.wanted {

@@ -60,6 +60,13 @@ func firstArrival(arrivals []arrival) *C.rtpw_arrival {
 	return (*C.rtpw_arrival)(unsafe.Pointer(&arrivals[0]))
 }
 
+func firstRouted(receivers []routedHeader) *C.rtpw_routed_header {
+	if len(receivers) == 0 {
+		return nil
+	}
+	return (*C.rtpw_routed_header)(unsafe.Pointer(&receivers[0]))
+}
+
 func firstReceiver(receivers []Receiver) *C.rtpw_receiver {
 	if len(receivers) == 0 {
 		return nil
@@ -430,6 +437,38 @@ func readOriginal(payload []byte) (uint64, error) {
 
 func writeOriginal(payload []byte, number uint64) error {
 	return errorOf(int32(C.rtpw_write_original(first(payload), size(payload), C.uint64_t(number))))
+}
+
+// noIDs are the new ids where no element gets one.
+var noIDs NewIDs
+
+func (g *Group) ids() *C.rtpw_new_ids {
+	if g.IDs == nil {
+		return noIDs.c()
+	}
+	return g.IDs.c()
+}
+
+func (t *template) c() *C.rtpw_template {
+	return (*C.rtpw_template)(unsafe.Pointer(t))
+}
+
+func (t *HeaderTemplate) make(datagram []byte, group *Group, data []byte) int32 {
+	return int32(C.rtpw_make_template(first(datagram), size(datagram), group.ids(), first(data), size(data),
+		firstPlace(group.Elements), C.size_t(len(group.Elements)), C.uint8_t(group.Allowed), first(t.buf), size(t.buf), t.made.c()))
+}
+
+func writeHeaders(t *HeaderTemplate, data []byte, receivers []routedHeader, buf []byte) int32 {
+	data = apart(data, buf)
+	return int32(C.rtpw_write_headers(t.made.c(), first(t.buf), size(t.buf), first(data), size(data), firstRouted(receivers),
+		C.size_t(len(receivers)), first(buf), size(buf)))
+}
+
+func route(t *HeaderTemplate, datagram []byte, group *Group, data []byte, receivers []routedHeader, buf []byte) int32 {
+	data = apart(data, buf)
+	return int32(C.call_route(first(datagram), size(datagram), group.ids(), first(data), size(data), firstPlace(group.Elements),
+		C.size_t(len(group.Elements)), C.uint8_t(group.Allowed), first(t.buf), size(t.buf), t.made.c(), firstRouted(receivers),
+		C.size_t(len(receivers)), first(buf), size(buf)))
 }
 
 func (n *NewIDs) c() *C.rtpw_new_ids {

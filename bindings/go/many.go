@@ -122,7 +122,8 @@ func (b *HeaderBatch) Payload(i int) []byte {
 	if d.status != 0 {
 		return nil
 	}
-	return d.of(b.buf, d.header.headerLen)
+	end := d.at + d.len
+	return b.buf[d.at+d.header.headerLen : end : end]
 }
 
 // UnpaddedPayload is the payload without its padding ([Packet.UnpaddedPayload]). It is not ok also where At returns an
@@ -219,7 +220,8 @@ func (b *PacketBatch) Payload(i int) []byte {
 	if d.status != 0 {
 		return nil
 	}
-	return d.of(b.buf, d.packet.payloadAt)
+	end := d.at + d.len
+	return b.buf[d.at+d.packet.payloadAt : end : end]
 }
 
 // UnpaddedPayload is the payload without its padding ([Packet.UnpaddedPayload]). It is not ok also where At returns an

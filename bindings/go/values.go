@@ -1,9 +1,6 @@
 package rtpwire
 
-import (
-	"bytes"
-	"time"
-)
+import "time"
 
 // Values are what the elements of a packet say under a map: for each kind the last element whose id means it and whose
 // data are well-formed for it. Each is told with whether it is there, and set to be written. They may be copied, and
@@ -304,7 +301,11 @@ func (v *Values) HasLayers() bool {
 
 // textOf is the text that a zero ends.
 func textOf(room []byte) string {
-	return string(room[:bytes.IndexByte(room, 0)])
+	n := 0
+	for n < len(room) && room[n] != 0 {
+		n++
+	}
+	return string(room[:n])
 }
 
 func setText(room []byte, text string, has *bool) error {

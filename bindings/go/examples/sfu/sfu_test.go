@@ -1,0 +1,159 @@
+package main
+
+import (
+	"bufio"
+	"bytes"
+	"encoding/hex"
+	"fmt"
+	"io"
+	"net"
+	"reflect"
+	"strings"
+	"testing"
+	"time"
+
+	"rtpwire/examples/sfu/udp"
+)
+
+const levelURI = "urn:ietf:params:rtp-hdrext:ssrc-audio-level"
+
+// sent is what a datagram, in hexadecimal, that comes after so much time, becomes for each receiver.
+func sent(t *testing.T, s *sfu, datagram string, now time.Duration) (packets []string) {
+	t.Helper()
+	bytes, err := hex.DecodeString(strings.ReplaceAll(datagram, " ", ""))
+	if err != nil {
+		t.Fatal(err)
+	}
+	s.Take(append(make([]byte, udp.Room), bytes...), now, func(receiver int, packet []byte) error {
+		if receiver != len(packets) {
+			t.Errorf("%s: receiver %d after %d", datagram, receiver, len(packets))
+		}
+		packets = append(packets, strings.ToUpper(hex.EncodeToString(packet)))
+		return nil
+	})
+	return packets
+}
+
+// The expected bytes are worked out by hand from RFC 3550, 5.1, and RFC 8285, 4.2 and 4.3.
+func TestPacketsOfEachReceiver(t *testing.T) {
+	s := newSFU(2)
+	if err := s.Map(1, levelURI); err != nil {
+		t.Fatal(err)
+	}
+	rows := []struct {
+		datagram string
+		now      time.Duration
+		wanted   []string
+	}{
+		// The level 1 becomes 9; a mid, 2, a transport number, 5, and half a second, 131,072 units, 7, are put.
+		{"906F 0005 00000064 0000002C BEDE0001 108A0000 7071", time.Second / 2, []string{
+			"906F0005" + "00000064" + "000003E8" + "BEDE0004" + "908A" + "22303030" + "510000" + "72020000" + "0000" + "00" + "7071",
+			"906F03ED" + "00000064" + "000007D0" + "BEDE0004" + "908A" + "22303130" + "510001" + "72020000" + "0000" + "00" + "7071",
+		}},
+		{"906F 0005 00000064 0000002C BEDE0001 108A0000 7071", time.Second / 2, nil},
+		// Another stream, without a block.
+		{"80E0 FFFF 00000065 0000002D 72", 64*time.Second + 1*time.Second, []string{
+			"90E0FFFF" + "00000065" + "000003E9" + "BEDE0003" + "22303031" + "510001" + "72040000" + "00" + "72",
+			"90E003E7" + "00000065" + "000007D1" + "BEDE0003" + "22303131" + "510002" + "72040000" + "00" + "72",
+		}},
+		// A block of another form stays.
+		{"906F 0006 00000066 0000002C ABAC0001 01020304 73", 0, []string{
+			"906F0006" + "00000066" + "000003E8" + "ABAC0001" + "01020304" + "73",
+			"906F03EE" + "00000066" + "000007D0" + "ABAC0001" + "01020304" + "73",
+		}},
+		// A header of 512 bytes has its place, and one of 516 hasn't.
+		{"906F 0007 00000067 0000002C ABAC007C" + strings.Repeat("00000000", 124) + "74", 0, []string{
+			"906F0007" + "00000067" + "000003E8" + "ABAC007C" + strings.Repeat("00000000", 124) + "74",
+			"906F03EF" + "00000067" + "000007D0" + "ABAC007C" + strings.Repeat("00000000", 124) + "74",
+		}},
+		{"906F 0008 00000068 0000002C ABAC007D" + strings.Repeat("00000000", 125) + "74", 0, nil},
+		{"80C9 0001 00000009", 0, nil},
+		{"80E0 FFFF 000000", 0, nil},
+		{"8060 FF88 00000064 0000002C", 0, nil}, // 128 before 8
+	}
+	for _, row := range rows {
+		if got := sent(t, s, row.datagram, row.now); !reflect.DeepEqual(got, row.wanted) {
+			t.Errorf("%s: %v, wanted %v", row.datagram, got, row.wanted)
+		}
+	}
+	if wanted := (counts{taken: 5, replays: 1, late: 1, rtcp: 1, unreadable: 1, sent: 8, unsent: 2}); s.counts != wanted {
+		t.Errorf("%+v, wanted %+v", s.counts, wanted)
+	}
+	for ssrc := 1; ssrc <= 20; ssrc++ {
+		sent(t, s, fmt.Sprintf("8060 0001 00000000 000000%02X", ssrc), 0)
+	}
+	if wanted := uint64(6); s.counts.strangers != wanted {
+		t.Errorf("%d strangers, wanted %d", s.counts.strangers, wanted)
+	}
+}
+
+// Over sockets each receiver gets each packet once, also of those that come twice, and the counters say the same.
+func TestOverUDP(t *testing.T) {
+	const receivers, packets = 3, 300
+	var ports []string
+	var peers []*net.UDPConn
+	for i := 0; i < receivers; i++ {
+		peer, err := net.ListenUDP("udp4", &net.UDPAddr{IP: net.IPv4(127, 0, 0, 1)})
+		if err != nil {
+			t.Fatal(err)
+		}
+		defer peer.Close()
+		peers, ports = append(peers, peer), append(ports, fmt.Sprint(peer.LocalAddr().(*net.UDPAddr).Port))
+	}
+	in, lines := io.Pipe()
+	said, out := io.Pipe()
+	s, ended := newSFU(receivers), make(chan error)
+	go func() {
+		back, err := udp.Serve(in, out, ports, s)
+		if err == nil && back != 1 {
+			err = fmt.Errorf("%d came back", back)
+		}
+		ended <- err
+	}()
+	fmt.Fprintf(lines, "map 1 %s\n\n", levelURI)
+	var port int
+	if _, err := fmt.Fscanf(bufio.NewReader(said), "port %d\n", &port); err != nil {
+		t.Fatal(err)
+	}
+	sender, err := net.DialUDP("udp4", nil, &net.UDPAddr{IP: net.IPv4(127, 0, 0, 1), Port: port})
+	if err != nil {
+		t.Fatal(err)
+	}
+	defer sender.Close()
+	buf := make([]byte, 2048)
+	for i := 0; i < packets; i++ {
+		datagram := append([]byte{0x90, 111, byte(i >> 8), byte(i), 0, 0, 0, 7, 0, 0, 0, 44, 0xBE, 0xDE, 0, 1, 0x10, 0x8A, 0, 0}, byte(i>>8), byte(i))
+		for times := 0; times == 0 || times == 1 && i%10 == 9; times++ {
+			if _, err := sender.Write(datagram); err != nil {
+				t.Fatal(err)
+			}
+		}
+		for r, peer := range peers {
+			if err := peer.SetReadDeadline(time.Now().Add(20 * time.Second)); err != nil {
+				t.Fatal(err)
+			}
+			n, from, err := peer.ReadFromUDP(buf)
+			if err != nil {
+				t.Fatal(err)
+			}
+			number := i + 1000*r
+			wanted := []byte{0x90, 111, byte(number >> 8), byte(number), 0, 0, 0, 7, 0, 0, byte((1000 * (r + 1)) >> 8), byte((1000 * (r + 1)) & 0xFF),
+				0xBE, 0xDE, 0, 4, 0x90, 0x8A, 0x22, '0', byte('0' + r), '0', 0x51, byte((i + r) >> 8), byte(i + r), 0x72}
+			if !bytes.Equal(buf[:26], wanted) || n != 34 || buf[32] != byte(i>>8) || buf[33] != byte(i) {
+				t.Fatalf("packet %d of receiver %d: % x, wanted % x ...", i, r, buf[:n], wanted)
+			}
+			if i == 0 && r == 0 { // a report
+				if _, err := peer.WriteToUDP([]byte{0x80, 201, 0, 1, 0, 0, 0, 9}, from); err != nil {
+					t.Fatal(err)
+				}
+			}
+		}
+	}
+	lines.Close()
+	if err := <-ended; err != nil {
+		t.Error(err)
+	}
+	if wanted := (counts{taken: packets, replays: packets / 10, sent: receivers * packets}); s.counts != wanted {
+		t.Errorf("%+v, wanted %+v", s.counts, wanted)
+	}
+}

@@ -1,0 +1,196 @@
+package rtpwire
+
+// A Group is what several receivers of a packet have in common, so that one header is made for all of them: the ids that
+// its elements get, the elements that each receiver gets beside them, and how many bytes of data each of these has.
+type Group struct {
+	// IDs are the new ids of the packet's elements ([NewIDsBetween]); an element that gets none goes. In a nil one none
+	// gets one.
+	IDs *NewIDs
+	// Elements are put into the packet in their order, at most 16, of ids of their own. Each is a place in the data that
+	// the header is made with.
+	Elements []Place
+	// Allowed are the forms that the block may have ([PutElement]).
+	Allowed Form
+}
+
+// template is what a header that was made for a group is: rtpw_template in C.
+type template struct {
+	headerLen uint32
+	dataAt    [16]uint32
+	dataTotal uint16
+	count     uint8
+	dataLen   [16]uint8
+}
+
+// A HeaderTemplate is the header that a packet gets for a group of receivers: made once, and written for each receiver
+// with fields and data of its own ([RouteBatch.Write]). It has a copy of what it was made from, and several goroutines may
+// write by it at once, each with a batch of its own. Use one again: then no memory is taken but where a header is longer
+// than ever before.
+type HeaderTemplate struct {
+	made template
+	buf  []byte // begins with the header
+}
+
+// mostHeader is how many bytes a header has at most.
+const mostHeader = 12 + 15*4 + 4 + 4*65535
+
+// shortBuffer is RTPW_SHORT_BUFFER.
+const shortBuffer = 8
+
+// Make makes the header that the packet in the datagram gets for the group: each element has its new id ([Renumber]),
+// those of the group are put, with their data, one after the other ([PutElement]), and the block is as short as it can be
+// ([Compact]). The payload isn't looked at.
+//
+// It returns ErrBadField, before all else, where Allowed is none of the three forms, there are more than 16 elements, or
+// the data of one reach past the data; the first [Cause] for which the datagram is no packet; ErrBadField where two
+// elements have one id; and then what the first of the three calls returns that refuses: ErrBadField where the packet's
+// form can't carry a new id, and of the elements in turn [ErrBadID], ErrBadField of more than 255 bytes of data,
+// ErrOtherForm, [ErrFormNotAllowed] or [ErrLongBlock]. No header is made then.
+func (t *HeaderTemplate) Make(datagram []byte, group *Group, data []byte) error {
+	status := t.make(datagram, group, data)
+	for status == shortBuffer && t.grow(datagram, group) {
+		status = t.make(datagram, group, data)
+	}
+	return t.ended(status)
+}
+
+// grow gives the buffer the room that any header of such a datagram takes, and is whether it hadn't it.
+func (t *HeaderTemplate) grow(datagram []byte, group *Group) bool {
+	length := len(datagram)
+	if length > mostHeader {
+		length = mostHeader
+	}
+	room := 2*length + 264*len(group.Elements)
+	if len(t.buf) >= room {
+		return false
+	}
+	t.buf = make([]byte, room)
+	return true
+}
+
+// ended is the error that the status means: of a header that wasn't made nothing stays.
+func (t *HeaderTemplate) ended(status int32) error {
+	if status != 0 {
+		t.made = template{}
+	}
+	return errorOf(status)
+}
+
+// HeaderLen is how many bytes the header has, and each that is written: 12 to 262,216; 0 where none is made.
+func (t *HeaderTemplate) HeaderLen() int {
+	return int(t.made.headerLen)
+}
+
+// DataLen is how many bytes of data each receiver brings, those of all elements together: 0 to 4,080.
+func (t *HeaderTemplate) DataLen() int {
+	return int(t.made.dataTotal)
+}
+
+// routedHeader is a receiver and the header that it gets: rtpw_routed_header in C.
+type routedHeader struct {
+	dataAt, at int
+	Fields
+	status int32
+}
+
+// A RouteBatch writes the headers of all receivers of a group in one call of the library, each with fields and data of
+// its own. With the packet's payload behind it each is the packet that goes to the receiver: what [Fields.Apply],
+// [Renumber], [PutElement] for each element and [Compact] make of a copy, one after the other. One receiver that gets
+// none spoils no other. Use one again, as a [HeaderBatch]. The zero RouteBatch is ready.
+//
+//	group := rtpwire.Group{IDs: ids, Elements: []rtpwire.Place{{ID: 4, At: 0, Len: 2}}} // two bytes of the id 4
+//	batch.Reset()
+//	for i, receiver := range receivers {
+//		fields := batch.Add(2*i, 512*i) // the data from the byte 2*i on; the header goes to the byte 512*i of the buffer
+//		fields.SetSSRC(receiver.ssrc)
+//	}
+//	err := batch.Route(datagram, &group, data, buf)
+//	if err != nil {
+//		return err // no packet, or none of it can be made for the group
+//	}
+//	for i := 0; i < batch.Len(); i++ {
+//		header, err := batch.At(i)
+//		...
+//	}
+type RouteBatch struct {
+	buf       []byte
+	headerLen int
+	given     []routedHeader
+	written   []routedHeader
+	own       HeaderTemplate
+}
+
+// Reset takes all receivers away.
+func (b *RouteBatch) Reset() {
+	b.buf, b.given, b.written = nil, b.given[:0], nil
+}
+
+// Add adds a receiver. Its data begin there in the data: those of the group's elements, one after the other in their
+// order. Its header is to begin at this place of the buffer. It returns the receiver's fields, of which none is set yet,
+// and which are to be set before the next Add; later [RouteBatch.Fields] tells them.
+func (b *RouteBatch) Add(dataAt, at int) *Fields {
+	n := len(b.given)
+	if n == cap(b.given) {
+		b.given = append(b.given, routedHeader{})
+	}
+	b.given = b.given[:n+1]
+	r := &b.given[n]
+	*r = routedHeader{dataAt: dataAt, at: at}
+	return &r.Fields
+}
+
+// Fields are those of a receiver that was added, to be set for the next packet. They are the batch's: an Add may move
+// them.
+func (b *RouteBatch) Fields(i int) *Fields {
+	return &b.given[i].Fields
+}
+
+// Write writes the headers of the receivers that were added, in the order in which they were, to their places in the
+// buffer: where two overlap, the bytes of the later one stand. The batch keeps the buffer until it writes into another
+// one or is Reset. Data that overlap the buffer are copied first.
+//
+// It returns CutFixedPart where the template was never made, or the last Make failed. Nothing is written then, and Len
+// is 0.
+func (b *RouteBatch) Write(t *HeaderTemplate, data, buf []byte) error {
+	b.buf, b.written = nil, nil
+	return b.ended(t, buf, writeHeaders(t, data, b.given, buf))
+}
+
+// Route makes the header of a packet for a group and writes it for all receivers that were added, as
+// [HeaderTemplate.Make] and then Write with the same data do, by one call of the library. The headers may be written over
+// the datagram.
+//
+// It returns the errors of Make. Nothing is written then, and Len is 0.
+func (b *RouteBatch) Route(datagram []byte, group *Group, data, buf []byte) error {
+	b.buf, b.written = nil, nil
+	status := route(&b.own, datagram, group, data, b.given, buf)
+	for status == shortBuffer && b.own.grow(datagram, group) {
+		status = route(&b.own, datagram, group, data, b.given, buf)
+	}
+	return b.ended(&b.own, buf, status)
+}
+
+// ended keeps what was written by the template, unless the status is that of an error, which it returns.
+func (b *RouteBatch) ended(t *HeaderTemplate, buf []byte, status int32) error {
+	if status == 0 {
+		b.buf, b.written, b.headerLen = buf, b.given, t.HeaderLen()
+	}
+	return errorOf(status)
+}
+
+// Len is for how many receivers the last Write or Route wrote; 0 after a Reset.
+func (b *RouteBatch) Len() int {
+	return len(b.written)
+}
+
+// At is the header of a receiver: a part of the buffer, which an append copies.
+//
+// It returns ErrBadField where the receiver's fields have a payload type above 127, or its data reach past the data; and
+// else ErrShortBuffer where its header would reach past the buffer. Nothing is written for it then.
+func (b *RouteBatch) At(i int) ([]byte, error) {
+	r := &b.written[i]
+	if r.status != 0 {
+		return nil, errorOf(r.status)
+	}
+	return b.buf[r.at:][:b.headerLen:b.headerLen], nil
+}
