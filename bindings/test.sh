@@ -121,7 +121,7 @@ printf '#include <rtp_wire.hpp>\nvoid it(rtpw::buffer packet) { LOOKED_AT rtpw::
 for it in c++ clang++; do
     has $it || continue
     for standard in c++17 c++20; do
-        for program in wrapped wrapped_peers; do
+        for program in wrapped wrapped_alike wrapped_peers; do
             $it -std=$standard "${strict[@]}" -Wshadow -Wold-style-cast "${include[@]}" bindings/c/test/$program.cpp "$library" -o "$scratch/by_hand"
             "$scratch/by_hand"
         done
@@ -287,7 +287,7 @@ told_by_sanitizers() { # those of -fsanitize=
         sed -i "s/\$/ and $(cat "$scratch/said")/" "$scratch/told"
     fi
     clang++ "${built[@]/-std=c99/-std=c++11}" -x c++ -fsyntax-only "$scratch/header.c"
-    for program in wrapped wrapped_peers; do
+    for program in wrapped wrapped_alike wrapped_peers; do
         clang++ "${built[@]/-std=c99/-std=c++17}" bindings/c/test/$program.cpp "$library" -o "$scratch/by_hand"
         "$scratch/by_hand" >"$scratch/said" 2>&1 || { cat "$scratch/said" >&2; fail "-fsanitize=$1, $program.cpp"; }
     done

@@ -3,8 +3,6 @@
 
 #include <string.h>
 
-enum { WINDOW = 128 }; /* so many numbers up to the highest one a receiver keeps */
-
 bool sfu_add(sfu *sfu, const rtpw_map *sender, const sfu_peer *peer) {
     static const uint8_t KINDS[] = {RTPW_KIND_MID, RTPW_KIND_TRANSPORT_NUMBER, RTPW_KIND_ABS_SEND_TIME};
     size_t mid_len = strlen(peer->mid) + 1, at = 0; /* with the stream's digit */
@@ -52,25 +50,24 @@ static size_t stream_of(sfu *sfu, uint32_t ssrc) {
 
 /* A packet on its way. */
 typedef struct {
-    const uint8_t *datagram;
-    const rtpw_packet *packet;
+    const uint8_t *buf;
+    const rtpw_datagram *datagram; /* in this buffer */
     size_t stream;
     uint32_t time; /* 24 bits, in units of 2^-18 seconds */
 } passing;
 
-/* What a receiver gets: fields, and the data of its elements, which are the mid of the stream, the next number of the
- * transport, and the time at which the packet goes. A block of another form has no elements, and stays. */
+/* What a receiver gets: fields, and data: the mid of the stream, the next number of the transport, and the time. */
 static rtpw_routed_header header_for(sfu *sfu, size_t receiver, const sfu_terms *terms, const passing *it, size_t at) {
     sfu_route *route = &sfu->routes[receiver];
     uint8_t *data = sfu->data[receiver] + terms->mid_len;
     rtpw_routed_header header = {.data_at = receiver * SFU_DATA, .at = at};
     header.fields.has_ssrc = header.fields.has_sequence_number = 1;
     header.fields.ssrc = route->peer.first_ssrc + (uint32_t)it->stream;
-    header.fields.sequence_number = (uint16_t)(it->packet->sequence_number + route->peer.number_offset);
+    header.fields.sequence_number = (uint16_t)(it->datagram->packet.sequence_number + route->peer.number_offset);
     if (terms->mid_len != 0) {
         data[-1] = (uint8_t)"0123456789ABCDEF"[it->stream];
     }
-    if (terms->id[SFU_TRANSPORT_NUMBER] != 0 && it->packet->block_form != RTPW_OTHER_FORM) {
+    if (terms->id[SFU_TRANSPORT_NUMBER] != 0 && it->datagram->packet.block_form != RTPW_OTHER_FORM) {
         uint16_t number = route->transport_number++;
         *data++ = (uint8_t)(number >> 8), *data++ = (uint8_t)number;
     }
@@ -78,12 +75,15 @@ static rtpw_routed_header header_for(sfu *sfu, size_t receiver, const sfu_terms 
     return header;
 }
 
-/* Sends the packet to a group. A one-byte block can't carry ids above 14: so it becomes a two-byte one first. */
+/* Sends the packet to a group. A one-byte block can't carry ids above 14: so it becomes a two-byte one first. One of
+ * another form has no elements, and stays. */
 static void send_to(sfu *sfu, const sfu_group *group, const passing *it, sfu_output *out) {
-    uint8_t wide[SFU_HEADER], common[SFU_HEADER], form = it->packet->block_form, is_wide = group->terms.wide;
+    uint8_t common[SFU_HEADER], wide[SFU_HEADER];
+    const rtpw_packet *packet = &it->datagram->packet;
+    uint8_t form = packet->block_form, is_wide = group->terms.wide;
     uint8_t allowed = is_wide || form == RTPW_TWO_BYTE_FORM ? RTPW_ANY_FORM : RTPW_ONE_BYTE_FORM;
-    size_t element_count = form == RTPW_OTHER_FORM ? 0 : group->element_count, len = it->packet->payload_at;
-    const uint8_t *header = it->datagram;
+    size_t len = packet->payload_at, element_count = form == RTPW_OTHER_FORM ? 0 : group->element_count;
+    const uint8_t *datagram = it->buf + it->datagram->at, *header = datagram;
     rtpw_routed_header receivers[SFU_RECEIVERS];
     rtpw_template made = {0};
     if (is_wide && form == RTPW_ONE_BYTE_FORM && len <= sizeof wide) {
@@ -107,7 +107,7 @@ static void send_to(sfu *sfu, const sfu_group *group, const passing *it, sfu_out
         sfu->counts.sent++;
         out->headers_len += made.header_len;
         out->packets[out->count++] = (sfu_packet){group->receivers[i], out->headers + receivers[i].at, made.header_len,
-                                                  it->datagram + it->packet->payload_at, it->packet->payload_len};
+                                                  datagram + packet->payload_at, packet->payload_len};
     }
 }
 
@@ -125,7 +125,7 @@ static unsigned long *count_of(sfu *sfu, const rtpw_datagram *datagram, const rt
         return &sfu->counts.taken;
     }
     uint64_t below = *highest - rtpw_extend_u16(*highest, arrival->sequence_number);
-    return below < WINDOW ? &sfu->counts.replays : &sfu->counts.late;
+    return below < SFU_WINDOW ? &sfu->counts.replays : &sfu->counts.late;
 }
 
 void sfu_receive(sfu *sfu, const uint8_t *buf, size_t size, rtpw_datagram *datagrams, size_t count,
@@ -140,8 +140,7 @@ void sfu_receive(sfu *sfu, const uint8_t *buf, size_t size, rtpw_datagram *datag
     }
     rtpw_receive_many(sfu->receivers, sfu->stream_count, arrivals, count); /* with SRTP of what is authentic */
     for (size_t i = 0; i < count; i++) {
-        passing it = {buf + datagrams[i].at, &datagrams[i].packet, arrivals[i].receiver,
-                      (uint32_t)(microseconds % 64000000 * 262144 / 1000000)};
+        passing it = {buf, &datagrams[i], arrivals[i].receiver, (uint32_t)(microseconds % 64000000 * 262144 / 1000000)};
         unsigned long *counted = count_of(sfu, &datagrams[i], &arrivals[i]);
         ++*counted;
         for (size_t group = 0; counted == &sfu->counts.taken && group < sfu->group_count; group++) {

@@ -14,6 +14,7 @@ enum {
     SFU_STREAMS = 16,   /* and so many SSRCs of the sender */
     SFU_DATAGRAMS = 32, /* and so many datagrams at once */
     SFU_HEADER = 2048,  /* a header that is sent on has at most so many bytes */
+    SFU_WINDOW = 128,   /* so many numbers up to the highest one a receiver of a stream keeps */
     SFU_LONGEST_MID = 32,
     SFU_DATA = SFU_LONGEST_MID + 2 + 3 /* of a mid, a transport number and a send time */
 };
