@@ -1,7 +1,7 @@
 #!/usr/bin/env bash
 # Prints the tables of docs/COSTS.md of what each call of the library for C costs: nanoseconds, and instructions, which
 # valgrind's callgrind counts. Each function of the header file has to be in the first one, those for many with 32 at
-# once; the second one has what these take for each of 1, 8 and 32.
+# once; the second one has what these take for each of 1, 8 and 32, or of 1, 3 and 32 receivers of a packet.
 #
 # usage: bindings/test/costs.sh [CALLS]      of each function in each of nine rounds, by default a million
 set -euo pipefail
@@ -32,10 +32,11 @@ echo '```'
 printf '%-30s %7s %13s\n' '' ns instructions
 awk '{ printf "%-30s %7s %13s\n", $1, $2, $3 == "" ? "?" : int($3 + 0.5) }' "$scratch/all"
 echo '```'
-for count in 1 8 32; do
-    measure "$count" | awk -v count="$count" '{ print $1, count, $2 / count, $3 / count }'
+for count in 1 3 8 32; do
+    measure "$count" | awk -v count="$count" '
+        count != ($1 == "rtpw_write_headers" ? 8 : 3) { print $1, count, $2 / count, $3 / count }'
 done >"$scratch/many"
-printf '\n%s\n\n```\n' 'For each datagram or number of 1, 8 and 32 in one call:'
+printf '\n%s\n\n```\n' 'For each datagram, number or receiver of so many in one call:'
 printf '%-24s %5s %7s %13s\n' 'for each' of ns instructions
 sort -s -k1,1 "$scratch/many" | awk '{ printf "%-24s %5s %7.1f %13d\n", $1, $2, $3, $4 + 0.5 }'
 echo '```'
