@@ -209,7 +209,7 @@ elif has go; then
 fi
 
 # The programs of docs/CALLING.md print what stands there: in the section of each language the first block of that
-# language is the program, and the first one of none its output.
+# language is the program, and the first one of none its output. In C a server has one of its own.
 block() { .ci/block docs/CALLING.md "$@"; } # section, language
 block C c >"$scratch/call.c"
 block C++ cpp >"$scratch/call.cpp"
@@ -231,6 +231,10 @@ for program in "$scratch"/call_*; do
     "$program" >"$scratch/said_$it"
     block "$it" '' | grep -v '^\$' | diff - "$scratch/said_$it" >&2 || fail "the program in $it of docs/CALLING.md"
 done
+block 'One packet to all its receivers' c >"$scratch/server.c"
+cc -std=c99 "${strict[@]}" "${include[@]}" "$scratch/server.c" "$library" -o "$scratch/server"
+"$scratch/server" >"$scratch/said"
+block 'One packet to all its receivers' | grep -v '^\$' | diff - "$scratch/said" >&2 || fail 'the server of docs/CALLING.md'
 if has pkg-config; then
     flags=$(PKG_CONFIG_PATH=$prefix/lib/pkgconfig pkg-config --cflags --libs rtp_wire)
     # shellcheck disable=SC2086
