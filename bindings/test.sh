@@ -116,8 +116,14 @@ for it in packets blocks padding faults headers statuses receivers reception cor
 done
 said 'values worked out by hand, as C99 and C++11'
 
-# The header file of C++17, with each compiler, and a status that isn't looked at.
-printf '#include <rtp_wire.hpp>\nvoid it(rtpw::buffer packet) { LOOKED_AT rtpw::set_ssrc(packet, 1); }\n' >"$scratch/status.cpp"
+# The header file of C++17, with each compiler, and a status or a result that isn't looked at.
+cat >"$scratch/status.cpp" <<'END'
+#include <rtp_wire.hpp>
+void it(rtpw::buffer packet, const rtpw_new_ids &ids, const rtpw_template &made) {
+    static_cast<void>(ids), static_cast<void>(made), static_cast<void>(packet);
+    LOOKED_AT rtpw::CALL;
+}
+END
 for it in c++ clang++; do
     has $it || continue
     for standard in c++17 c++20; do
@@ -125,9 +131,11 @@ for it in c++ clang++; do
             $it -std=$standard "${strict[@]}" -Wshadow -Wold-style-cast "${include[@]}" bindings/c/test/$program.cpp "$library" -o "$scratch/by_hand"
             "$scratch/by_hand"
         done
-        looks=("$it" -std=$standard "${strict[@]}" "${include[@]}" -fsyntax-only "$scratch/status.cpp")
-        "${looks[@]}" -D 'LOOKED_AT=(void)'
-        ! "${looks[@]}" -D LOOKED_AT= 2>/dev/null || fail "a status that isn't looked at passed $it"
+        for call in 'set_ssrc(packet, 1)' 'make_template(packet, ids, packet, {}, packet)' 'write_headers(made, packet, packet, {}, packet)'; do
+            looks=("$it" -std=$standard "${strict[@]}" "${include[@]}" -fsyntax-only "$scratch/status.cpp" -D "CALL=$call")
+            "${looks[@]}" -D 'LOOKED_AT=(void)'
+            ! "${looks[@]}" -D LOOKED_AT= 2>/dev/null || fail "a status that isn't looked at passed $it: $call"
+        done
     done
 done
 said 'the header file of C++17, as C++17 and C++20, and a status that is not looked at is a warning'
