@@ -116,18 +116,26 @@ for it in packets blocks padding faults headers statuses receivers reception cor
 done
 said 'values worked out by hand, as C99 and C++11'
 
-# The header file of C++17, with each compiler, and a status that isn't looked at.
-printf '#include <rtp_wire.hpp>\nvoid it(rtpw::buffer packet) { LOOKED_AT rtpw::set_ssrc(packet, 1); }\n' >"$scratch/status.cpp"
+# The header file of C++17, with each compiler, and a status or a result that isn't looked at.
+cat >"$scratch/status.cpp" <<'END'
+#include <rtp_wire.hpp>
+void it(rtpw::buffer packet, const rtpw_new_ids &ids, const rtpw_template &made) {
+    static_cast<void>(ids), static_cast<void>(made), static_cast<void>(packet);
+    LOOKED_AT rtpw::CALL;
+}
+END
 for it in c++ clang++; do
     has $it || continue
     for standard in c++17 c++20; do
-        for program in wrapped wrapped_peers; do
+        for program in wrapped wrapped_alike wrapped_peers; do
             $it -std=$standard "${strict[@]}" -Wshadow -Wold-style-cast "${include[@]}" bindings/c/test/$program.cpp "$library" -o "$scratch/by_hand"
             "$scratch/by_hand"
         done
-        looks=("$it" -std=$standard "${strict[@]}" "${include[@]}" -fsyntax-only "$scratch/status.cpp")
-        "${looks[@]}" -D 'LOOKED_AT=(void)'
-        ! "${looks[@]}" -D LOOKED_AT= 2>/dev/null || fail "a status that isn't looked at passed $it"
+        for call in 'set_ssrc(packet, 1)' 'make_template(packet, ids, packet, {}, packet)' 'write_headers(made, packet, packet, {}, packet)'; do
+            looks=("$it" -std=$standard "${strict[@]}" "${include[@]}" -fsyntax-only "$scratch/status.cpp" -D "CALL=$call")
+            "${looks[@]}" -D 'LOOKED_AT=(void)'
+            ! "${looks[@]}" -D LOOKED_AT= 2>/dev/null || fail "a status that isn't looked at passed $it: $call"
+        done
     done
 done
 said 'the header file of C++17, as C++17 and C++20, and a status that is not looked at is a warning'
@@ -209,7 +217,7 @@ elif has go; then
 fi
 
 # The programs of docs/CALLING.md print what stands there: in the section of each language the first block of that
-# language is the program, and the first one of none its output.
+# language is the program, and the first one of none its output. In C a server has one of its own.
 block() { .ci/block docs/CALLING.md "$@"; } # section, language
 block C c >"$scratch/call.c"
 block C++ cpp >"$scratch/call.cpp"
@@ -231,6 +239,10 @@ for program in "$scratch"/call_*; do
     "$program" >"$scratch/said_$it"
     block "$it" '' | grep -v '^\$' | diff - "$scratch/said_$it" >&2 || fail "the program in $it of docs/CALLING.md"
 done
+block 'One packet to all its receivers' c >"$scratch/server.c"
+cc -std=c99 "${strict[@]}" "${include[@]}" "$scratch/server.c" "$library" -o "$scratch/server"
+"$scratch/server" >"$scratch/said"
+block 'One packet to all its receivers' | grep -v '^\$' | diff - "$scratch/said" >&2 || fail 'the server of docs/CALLING.md'
 if has pkg-config; then
     flags=$(PKG_CONFIG_PATH=$prefix/lib/pkgconfig pkg-config --cflags --libs rtp_wire)
     # shellcheck disable=SC2086
@@ -287,7 +299,7 @@ told_by_sanitizers() { # those of -fsanitize=
         sed -i "s/\$/ and $(cat "$scratch/said")/" "$scratch/told"
     fi
     clang++ "${built[@]/-std=c99/-std=c++11}" -x c++ -fsyntax-only "$scratch/header.c"
-    for program in wrapped wrapped_peers; do
+    for program in wrapped wrapped_alike wrapped_peers; do
         clang++ "${built[@]/-std=c99/-std=c++17}" bindings/c/test/$program.cpp "$library" -o "$scratch/by_hand"
         "$scratch/by_hand" >"$scratch/said" 2>&1 || { cat "$scratch/said" >&2; fail "-fsanitize=$1, $program.cpp"; }
     done

@@ -1,7 +1,8 @@
 /*
  * The core of an SFU, without sockets, clock or memory of its own: the packets of a sender go on to each of
- * several receivers under SSRCs, numbers, ids of extensions and mids of their own. A packet is never written
- * anew: its header is copied and changed for each receiver, and its payload stays where it lies.
+ * several receivers under SSRCs, numbers, ids of extensions and mids of their own. As many datagrams as have come are
+ * read and judged at once, where they lie. Receivers that get the same ids, elements and lengths are a group: of each
+ * packet one header is made for the group, and then written for each of them. No payload is copied.
  */
 #ifndef SFU_H
 #define SFU_H
@@ -11,8 +12,11 @@
 enum {
     SFU_RECEIVERS = 8,  /* at most so many */
     SFU_STREAMS = 16,   /* and so many SSRCs of the sender */
+    SFU_DATAGRAMS = 32, /* and so many datagrams at once */
     SFU_HEADER = 2048,  /* a header that is sent on has at most so many bytes */
-    SFU_LONGEST_MID = 32
+    SFU_WINDOW = 128,   /* so many numbers up to the highest one a receiver of a stream keeps */
+    SFU_LONGEST_MID = 32,
+    SFU_DATA = SFU_LONGEST_MID + 2 + 3 /* of a mid, a transport number and a send time */
 };
 
 /* What a receiver agreed to, and under what it gets the streams. */
@@ -26,25 +30,39 @@ typedef struct {
 /* The way to a receiver. */
 typedef struct {
     sfu_peer peer;
-    rtpw_new_ids ids;          /* from the sender's ids to the receiver's */
-    uint8_t mid_id;            /* the receiver's, of these extensions; 0 where it has none */
-    uint8_t transport_number_id;
-    uint8_t send_time_id;
-    bool wide;                 /* whether the receiver's ids or mids need the two-byte form */
     uint16_t transport_number; /* of the next packet */
 } sfu_route;
 
+/* What may be put into each packet. */
+enum { SFU_MID, SFU_TRANSPORT_NUMBER, SFU_SEND_TIME, SFU_PUTS };
+
+/* What the receivers of a group have in common. */
+typedef struct {
+    rtpw_new_ids ids;     /* from the sender's ids to theirs */
+    uint8_t id[SFU_PUTS]; /* theirs; 0 where they have none */
+    uint8_t mid_len;      /* with the stream's digit; 0 where they have no id for it */
+    uint8_t wide;         /* whether their ids or mids need the two-byte form: 0 or 1 */
+} sfu_terms;
+
+typedef struct {
+    sfu_terms terms;
+    rtpw_element elements[SFU_PUTS]; /* those that are put into each packet */
+    size_t element_count;
+    size_t receivers[SFU_RECEIVERS]; /* the places of their routes */
+    size_t receiver_count;
+} sfu_group;
+
 typedef struct {
     uint32_t ssrc;
-    rtpw_receiver receiver;
+    uint64_t highest; /* the highest number taken */
 } sfu_stream;
 
 /* What became of the datagrams: each one is counted in one of the first six. */
 typedef struct {
     unsigned long taken;
-    unsigned long replays;   /* taken before */
-    unsigned long late;      /* too old to tell */
-    unsigned long rtcp;      /* for who answers it: here nobody */
+    unsigned long replays; /* taken before */
+    unsigned long late;    /* too old to tell */
+    unsigned long rtcp;    /* for who answers it: here nobody */
     unsigned long unreadable;
     unsigned long strangers; /* of one more SSRC than there is room for */
     unsigned long sent;      /* packets to receivers */
@@ -53,21 +71,40 @@ typedef struct {
 
 typedef struct {
     sfu_route routes[SFU_RECEIVERS];
+    uint8_t data[SFU_RECEIVERS][SFU_DATA]; /* of the elements that were put into the last packet of each route */
     size_t route_count;
+    sfu_group groups[SFU_RECEIVERS];
+    size_t group_count;
     sfu_stream streams[SFU_STREAMS];
+    rtpw_receiver receivers[SFU_STREAMS]; /* of the streams */
     size_t stream_count;
     sfu_counts counts;
 } sfu;
 
-/* Sends a packet, its header and then its payload, to the receiver of this place. */
-typedef void sfu_send(void *context, size_t receiver, const uint8_t *header, size_t header_len, const uint8_t *payload,
-                      size_t payload_len);
+/* A packet to the receiver of this place: its header and then its payload, each where it lies. */
+typedef struct {
+    size_t receiver;
+    const uint8_t *header;
+    size_t header_len;
+    const uint8_t *payload;
+    size_t payload_len;
+} sfu_packet;
+
+/* What goes to the receivers, with the headers. */
+typedef struct {
+    sfu_packet packets[SFU_DATAGRAMS * SFU_RECEIVERS];
+    size_t count;
+    uint8_t headers[SFU_DATAGRAMS * SFU_RECEIVERS * SFU_HEADER];
+    size_t headers_len;
+} sfu_output;
 
 /* Adds a receiver of what the sender with this map sends, to an SFU that is {0} at first; false where there is
  * no room for it. */
 bool sfu_add(sfu *sfu, const rtpw_map *sender, const sfu_peer *peer);
 
-/* Takes a datagram that came at this moment. */
-void sfu_receive(sfu *sfu, const uint8_t *datagram, size_t len, uint64_t microseconds, sfu_send *send, void *context);
+/* Takes datagrams that came at this moment, at most SFU_DATAGRAMS of them, each by its place in the buffer and its
+ * length, and tells what goes out: payloads as they lie in the buffer. */
+void sfu_receive(sfu *sfu, const uint8_t *buf, size_t size, rtpw_datagram *datagrams, size_t count,
+                 uint64_t microseconds, sfu_output *out);
 
 #endif

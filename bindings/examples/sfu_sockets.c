@@ -7,7 +7,7 @@
  *        `port N` is printed. Where standard input ends, what has come by then is still sent, and what became of
  *        the datagrams is printed.
  */
-#define _DEFAULT_SOURCE
+#define _GNU_SOURCE
 #include "sfu_peers.h"
 
 #include <arpa/inet.h>
@@ -18,6 +18,8 @@
 #include <sys/uio.h>
 #include <time.h>
 #include <unistd.h>
+
+enum { ROOM = 65536 }; /* no datagram has so many bytes */
 
 typedef struct {
     int socket;
@@ -47,28 +49,49 @@ static int opened(void) {
     return fflush(stdout) == 0 ? it : -1;
 }
 
-/* The header and the payload go from where each lies. */
-static void send_packet(void *context, size_t receiver, const uint8_t *header, size_t header_len,
-                        const uint8_t *payload, size_t payload_len) {
-    network *network = context;
-    struct iovec parts[2] = {{(void *)header, header_len}, {(void *)payload, payload_len}};
-    struct msghdr message = {0};
-    message.msg_name = &network->to[receiver];
-    message.msg_namelen = sizeof network->to[receiver];
-    message.msg_iov = parts;
-    message.msg_iovlen = 2;
-    network->failed += sendmsg(network->socket, &message, 0) < 0;
+/* Sends what goes out, each header and payload from where it lies. One that can't be sent stops none behind it. */
+static void send_packets(network *network, const sfu_output *out) {
+    static struct mmsghdr messages[SFU_DATAGRAMS * SFU_RECEIVERS];
+    static struct iovec parts[SFU_DATAGRAMS * SFU_RECEIVERS][2];
+    for (size_t i = 0; i < out->count; i++) {
+        const sfu_packet *it = &out->packets[i];
+        parts[i][0] = (struct iovec){(void *)it->header, it->header_len};
+        parts[i][1] = (struct iovec){(void *)it->payload, it->payload_len};
+        messages[i].msg_hdr.msg_name = &network->to[it->receiver];
+        messages[i].msg_hdr.msg_namelen = sizeof network->to[it->receiver];
+        messages[i].msg_hdr.msg_iov = parts[i];
+        messages[i].msg_hdr.msg_iovlen = 2;
+    }
+    for (size_t at = 0; at < out->count;) {
+        int sent = sendmmsg(network->socket, messages + at, (unsigned)(out->count - at), 0);
+        network->failed += sent <= 0;
+        at += sent <= 0 ? 1 : (size_t)sent;
+    }
 }
 
 /* Takes what has come. */
 static void take(sfu *sfu, network *network) {
-    static uint8_t datagram[65536];
-    ssize_t len;
-    while ((len = recv(network->socket, datagram, sizeof datagram, MSG_DONTWAIT)) >= 0) {
+    static uint8_t buf[SFU_DATAGRAMS * ROOM];
+    static sfu_output out;
+    struct iovec places[SFU_DATAGRAMS];
+    struct mmsghdr messages[SFU_DATAGRAMS] = {0};
+    rtpw_datagram datagrams[SFU_DATAGRAMS];
+    int count;
+    for (size_t i = 0; i < SFU_DATAGRAMS; i++) {
+        places[i] = (struct iovec){buf + i * ROOM, ROOM};
+        messages[i].msg_hdr.msg_iov = &places[i];
+        messages[i].msg_hdr.msg_iovlen = 1;
+        datagrams[i].at = i * ROOM;
+    }
+    while ((count = recvmmsg(network->socket, messages, SFU_DATAGRAMS, MSG_DONTWAIT, NULL)) > 0) {
         struct timespec now;
         clock_gettime(CLOCK_MONOTONIC, &now);
         uint64_t microseconds = (uint64_t)now.tv_sec * 1000000 + (uint64_t)now.tv_nsec / 1000;
-        sfu_receive(sfu, datagram, (size_t)len, microseconds, send_packet, network);
+        for (int i = 0; i < count; i++) {
+            datagrams[i].len = messages[i].msg_len;
+        }
+        sfu_receive(sfu, buf, sizeof buf, datagrams, (size_t)count, microseconds, &out);
+        send_packets(network, &out);
     }
 }
 

@@ -3,8 +3,8 @@
 # what was worked out by hand. Ends at the first that prints other things.
 #
 # usage: bindings/test/examples.sh FOLDER [EMULATOR]
-#        FOLDER has those of the programs lines_*, receive, receive_rust, forward, sfu_*, ends, and sockets with udp
-#        that are to be compared.
+#        FOLDER has those of the programs lines_*, receive, receive_rust, forward, sfu_*, ends, many, and sockets with
+#        udp that are to be compared.
 set -euo pipefail
 folder=$(cd -- "$1" && pwd)
 emulator=("${@:2}")
@@ -276,8 +276,8 @@ printf '806F%s000000A00000002C\n' 00CD 004E 004E 004D >"$scratch/window.lines"
 printf '%s\n' 1\ 906F00CD000000A0000003E8BEDE0003216D30510000720000000000 \
     1\ 906F004E000000A0000003E8BEDE0003216D305100017200147A0000 >"$scratch/window.expected"
 echo 'taken 2 replays 1 late 1 rtcp 0 unreadable 0 strangers 0 sent 6 unsent 0' >>"$scratch/window.expected"
-# One source more than there is room for. Then headers of 2,048 bytes, which is as much as is sent on, and the padding
-# of its block is used up; of four more, and of eight more.
+# One source more than there is room for. Then a header of 2,048 bytes, which is as much as is sent on, and the padding
+# of its block goes; of four more, and of eight more.
 for i in {1..17}; do printf '9021B7980000271000000%03XBEDE000132000000\n' "$i"; done >"$scratch/full.lines"
 printf '9021B7990000271000000001100001FC%04064d\n9021B79A0000271000000001100001FD%04072d\n' 0 0 >>"$scratch/full.lines"
 printf '9021B79B0000271000000001100001FE%04080d\n' 0 >>"$scratch/full.lines"
@@ -389,6 +389,7 @@ for program in "$folder"/sfu_*; do
     [ ! -e "$program" ] || sends_on "$program"
 done
 if [ -e "$folder/ends" ]; then "$folder/ends" >&2 || fail 'the SFU at the ends of its room'; fi
+if [ -e "$folder/many" ]; then "$folder/many" >&2 || fail 'the SFU with many datagrams'; fi
 # It has no memory of its own that threads would share: no data that are written.
 if [ -e "$folder/sfu.o" ]; then
     nm "$folder/sfu.o" >"$scratch/symbols"

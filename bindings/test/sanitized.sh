@@ -34,6 +34,7 @@ build receive c99 receive.c
 build forward c99 forward.c
 build sfu_c c99 sfu.c sfu_lines.c sfu.h sfu_peers.h utf8.h
 build ends c99 ../test/sfu_ends.c sfu.c sfu.h
+build many c99 ../test/sfu_many.c sfu.c sfu.h
 build sfu.o c99 sfu.c sfu.h
 build sockets c99 sfu.c sfu_sockets.c sfu.h sfu_peers.h utf8.h
 [ ! -e "$folder/sockets" ] || file='' program='' build udp c99 ../test/sfu_udp.c

@@ -24,15 +24,20 @@ typedef struct {
     const uint8_t *payload;
 } sent;
 
-static void keep(void *context, size_t receiver, const uint8_t *header, size_t header_len, const uint8_t *payload,
-                 size_t payload_len) {
-    sent *last = context;
-    last->count++;
-    last->receiver = receiver;
-    memcpy(last->header, header, header_len);
-    last->header_len = header_len;
-    last->payload = payload;
-    last->payload_len = payload_len;
+/* Takes one datagram, and adds what goes out; the last packet is kept. */
+static void take(sfu *sfu, const uint8_t *bytes, size_t len, uint64_t microseconds, sent *last) {
+    static sfu_output out;
+    rtpw_datagram datagram = {.len = len};
+    sfu_receive(sfu, bytes, len, &datagram, 1, microseconds, &out);
+    for (size_t i = 0; i < out.count; i++) {
+        const sfu_packet *it = &out.packets[i];
+        last->count++;
+        last->receiver = it->receiver;
+        memcpy(last->header, it->header, it->header_len);
+        last->header_len = it->header_len;
+        last->payload = it->payload;
+        last->payload_len = it->payload_len;
+    }
 }
 
 static const char LONGEST[] = "0123456789abcdef0123456789ABCDE";
@@ -47,7 +52,7 @@ static sent sent_to(uint8_t id, uint8_t kind, const char *mid, uint64_t microsec
     sfu_peer peer = {{{0}}, mid, 0xFFFFFFFF, 2};
     peer.map.kind[id] = kind;
     if (sfu_add(&sfu, &NOTHING, &peer)) {
-        sfu_receive(&sfu, packet, sizeof packet, microseconds, keep, &last);
+        take(&sfu, packet, sizeof packet, microseconds, &last);
     }
     static const uint8_t fixed[] = {0x90, 0x6F, 0, 1, 0, 0, 0, 1, 0xFF, 0xFF, 0xFF, 0xFF};
     if (last.count != 1 || last.payload != packet + 12 || last.payload_len != 3 || memcmp(last.header, fixed, 12) != 0) {
@@ -120,7 +125,7 @@ static int one_byte(void) {
         }
         sender.kind[1] = peer.map.kind[20] = RTPW_KIND_AUDIO_LEVEL;
         CHECK(sfu_add(&sfu, &sender, &peer));
-        sfu_receive(&sfu, packet, sizeof packet, 0, keep, &it);
+        take(&sfu, packet, sizeof packet, 0, &it);
         CHECK(is(&it, "\x10\0\0\1\x14\1\x8A\0", 8));
     }
     return 0;
@@ -135,11 +140,11 @@ static int two_byte(void) {
     sent it = {0};
     sender.kind[1] = peer.map.kind[20] = RTPW_KIND_AUDIO_LEVEL;
     CHECK(sfu_add(&sfu, &sender, &peer));
-    sfu_receive(&sfu, packet, sizeof packet, 0, keep, &it);
+    take(&sfu, packet, sizeof packet, 0, &it);
     CHECK(is(&it, "\x10\0\0\1\x14\1\x8A\0", 8));
     /* Without a block, and without an element for it, a packet gets none. */
     static const uint8_t plain[] = {0x80, 0, 0, 6, 0, 0, 0, 1, 0, 0, 0, 0x2C, 9};
-    sfu_receive(&sfu, plain, sizeof plain, 0, keep, &it);
+    take(&sfu, plain, sizeof plain, 0, &it);
     CHECK(it.count == 2 && it.header_len == 12 && it.header[0] == 0x80 && it.payload == plain + 12);
     return 0;
 }
@@ -153,7 +158,7 @@ static int long_mid_without_an_id(void) {
     sent it = {0};
     sender.kind[1] = peer.map.kind[14] = RTPW_KIND_AUDIO_LEVEL;
     CHECK(sfu_add(&sfu, &sender, &peer));
-    sfu_receive(&sfu, packet, sizeof packet, 0, keep, &it);
+    take(&sfu, packet, sizeof packet, 0, &it);
     CHECK(is(&it, "\xBE\xDE\0\1\xE0\x8A\0\0", 8));
     return 0;
 }
@@ -172,7 +177,7 @@ static int room(void) {
     uint8_t packet[12] = {0x80, 0, 0, 5};
     for (uint8_t stream = 0; stream <= STREAMS; stream++) {
         packet[11] = stream;
-        sfu_receive(&sfu, packet, sizeof packet, 0, keep, &last);
+        take(&sfu, packet, sizeof packet, 0, &last);
         bool is_known = stream < STREAMS;
         CHECK(last.count == RECEIVERS * (is_known ? stream + 1u : STREAMS));
         CHECK(last.receiver == RECEIVERS - 1 && last.payload_len == 0);
@@ -188,54 +193,42 @@ static int room(void) {
     CHECK(sfu_add(&sfu, &NOTHING, &peer) && sfu_add(&sfu, &NOTHING, &peer));
     for (int i = 0; i < 600; i++) {
         packet[2] = (uint8_t)(i / 2 >> 8), packet[3] = (uint8_t)(i / 2), packet[11] = (uint8_t)(i % 2);
-        sfu_receive(&sfu, packet, sizeof packet, 0, keep, &last);
+        take(&sfu, packet, sizeof packet, 0, &last);
     }
     CHECK(last.count == RECEIVERS * STREAMS + 1200 && last.header_len == 12 + 4 + 40);
     CHECK(memcmp(last.header + 12 + 4 + 34, "\3\2\2\x57", 4) == 0); /* 599 */
     return 0;
 }
 
-/* Two SFUs, of which the other one takes a datagram while the first one sends. */
-typedef struct {
-    sfu first, other;
-    unsigned own, others;
-} both;
-
-static const uint8_t FIRST[] = {0x90, 1, 0, 5, 0, 0, 0, 1, 0, 0, 0, 0x2C, 0xBE, 0xDE, 0, 1, 0x10, 0x8A, 0, 0, 1, 2, 3};
-
-/* Counts the packets that are as they have to be. */
-static void as_other(void *context, size_t receiver, const uint8_t *header, size_t header_len, const uint8_t *payload,
-                     size_t payload_len) {
-    both *it = context;
-    it->others += receiver == 0 && header_len == 20 && payload_len == 5 && memcmp(payload, "other", 5) == 0 &&
-                  memcmp(header + 1, "\2\0\0\0\0\0\2\0\0\x03\xE8\xBE\xDE\0\1\x31m0\0", 19) == 0;
-}
-
-static void goes_on(void *context, size_t receiver, const uint8_t *header, size_t header_len, const uint8_t *payload,
-                    size_t payload_len) {
-    both *it = context;
-    uint8_t other[] = {0x80, 2, 0, 0, 0, 0, 0, 2, 0, 0, 0, (uint8_t)receiver, 'o', 't', 'h', 'e', 'r'};
-    it->other.stream_count = 0; /* each is of its first stream */
-    sfu_receive(&it->other, other, sizeof other, 1, as_other, it);
-    it->own += header_len == 24 && payload == FIRST + 20 && payload_len == 3 &&
-               memcmp(header, "\x90\1\0\5\0\0\0\1\0\0\x03\xE8\xBE\xDE\0\2\x20\x8A\x31m0\0\0\0", 24) == 0;
-}
-
-/* An SFU has all that it knows in itself: another one that takes a datagram meanwhile, as in another thread, changes
- * nothing of what it sends to each receiver. */
+/* Two SFUs, of which the other one takes a datagram before what the first one sends goes out, as in another thread. All
+ * that an SFU knows is in itself, and all that goes out where it was told to. */
 static int apart(void) {
-    static both it;
+    static const uint8_t packet[] = {0x90, 1,    0, 5, 0,    0,    0, 1, 0, 0, 0, 0x2C,
+                                     0xBE, 0xDE, 0, 1, 0x10, 0x8A, 0, 0, 1, 2, 3};
+    static const uint8_t plain[] = {0x80, 2, 0, 0, 0, 0, 0, 2, 0, 0, 0, 7, 'o', 't', 'h', 'e', 'r'};
+    static sfu first, other;
+    static sfu_output out, others;
     sfu_peer peer = {{{0}}, "m", 1000, 0};
     rtpw_map sender = {{0}};
+    rtpw_datagram datagram = {.len = sizeof packet};
     sender.kind[1] = peer.map.kind[2] = RTPW_KIND_AUDIO_LEVEL;
     peer.map.kind[3] = RTPW_KIND_MID;
     for (int i = 0; i < 3; i++) {
-        CHECK(sfu_add(&it.first, &sender, &peer));
+        CHECK(sfu_add(&first, &sender, &peer));
     }
-    CHECK(sfu_add(&it.other, &NOTHING, &peer));
-    sfu_receive(&it.first, FIRST, sizeof FIRST, 0, goes_on, &it);
-    CHECK(it.own == 3 && it.others == 3);
-    CHECK(it.first.counts.taken == 1 && it.first.counts.sent == 3 && it.other.counts.taken == 3);
+    CHECK(sfu_add(&other, &NOTHING, &peer));
+    sfu_receive(&first, packet, sizeof packet, &datagram, 1, 0, &out);
+    datagram.len = sizeof plain;
+    sfu_receive(&other, plain, sizeof plain, &datagram, 1, 1, &others);
+    CHECK(out.count == 3 && others.count == 1);
+    for (size_t i = 0; i < 3; i++) {
+        const sfu_packet *it = &out.packets[i];
+        CHECK(it->receiver == i && it->header_len == 24 && it->payload == packet + 20 && it->payload_len == 3);
+        CHECK(memcmp(it->header, "\x90\1\0\5\0\0\0\1\0\0\x03\xE8\xBE\xDE\0\2\x20\x8A\x31m0\0\0\0", 24) == 0);
+    }
+    CHECK(others.packets[0].header_len == 20 && others.packets[0].payload == plain + 12);
+    CHECK(memcmp(others.packets[0].header, "\x90\2\0\0\0\0\0\2\0\0\x03\xE8\xBE\xDE\0\1\x31m0\0", 20) == 0);
+    CHECK(first.counts.taken == 1 && first.counts.sent == 3 && other.counts.taken == 1 && other.counts.sent == 1);
     return 0;
 }
 
@@ -248,18 +241,18 @@ static int numbers(void) {
     sent it = {0};
     peer.map.kind[3] = RTPW_KIND_TRANSPORT_NUMBER;
     CHECK(sfu_add(&sfu, &NOTHING, &peer));
-    sfu_receive(&sfu, camera, sizeof camera, 0, keep, &it);
+    take(&sfu, camera, sizeof camera, 0, &it);
     CHECK(it.count == 1 && it.header_len == 20 && it.payload == camera + 20 && it.payload_len == 1);
     CHECK(memcmp(it.header, "\x90\0\0\4\0\0\0\1\xFF\xFF\xFF\xFE\xAB\xAC\0\1\1\2\3\4", 20) == 0);
-    sfu_receive(&sfu, camera, sizeof camera, 0, keep, &it); /* a replay */
-    sfu_receive(&sfu, camera, 15, 0, keep, &it);            /* no packet */
+    take(&sfu, camera, sizeof camera, 0, &it); /* a replay */
+    take(&sfu, camera, 15, 0, &it);            /* no packet */
     camera[1] = 200, camera[3] = 7;
-    sfu_receive(&sfu, camera, sizeof camera, 0, keep, &it); /* RTCP */
+    take(&sfu, camera, sizeof camera, 0, &it); /* RTCP */
     CHECK(it.count == 1);
-    sfu_receive(&sfu, plain, sizeof plain, 0, keep, &it);
+    take(&sfu, plain, sizeof plain, 0, &it);
     CHECK(it.count == 2 && is(&it, "\xBE\xDE\0\1\x31\0\0\0", 8));
     plain[3] = 7;
-    sfu_receive(&sfu, plain, sizeof plain, 0, keep, &it);
+    take(&sfu, plain, sizeof plain, 0, &it);
     CHECK(it.count == 3 && is(&it, "\xBE\xDE\0\1\x31\0\1\0", 8));
     CHECK(sfu.stream_count == 1 && sfu.counts.taken == 3 && sfu.counts.replays == 1 && sfu.counts.late == 0);
     CHECK(sfu.counts.unreadable == 1 && sfu.counts.rtcp == 1 && sfu.counts.strangers == 0);
@@ -273,15 +266,15 @@ static int past_32_bits(void) {
     for (unsigned long i = 0; i <= 3 * 65536; i++) {
         unsigned number = i % 3 * 21845;
         plain[2] = (uint8_t)(number >> 8), plain[3] = (uint8_t)number;
-        sfu_receive(&sfu, plain, sizeof plain, 0, keep, NULL);
+        take(&sfu, plain, sizeof plain, 0, NULL);
     }
     CHECK(sfu.counts.taken == 3 * 65536 + 1 && sfu.counts.replays == 0 && sfu.counts.late == 0);
-    sfu_receive(&sfu, plain, sizeof plain, 0, keep, NULL);
+    take(&sfu, plain, sizeof plain, 0, NULL);
     plain[2] = 0xFF, plain[3] = 0xFF; /* one below it */
-    sfu_receive(&sfu, plain, sizeof plain, 0, keep, NULL);
-    sfu_receive(&sfu, plain, sizeof plain, 0, keep, NULL);
+    take(&sfu, plain, sizeof plain, 0, NULL);
+    take(&sfu, plain, sizeof plain, 0, NULL);
     plain[3] = 0x80; /* 128 below it */
-    sfu_receive(&sfu, plain, sizeof plain, 0, keep, NULL);
+    take(&sfu, plain, sizeof plain, 0, NULL);
     CHECK(sfu.counts.taken == 3 * 65536 + 2 && sfu.counts.replays == 2 && sfu.counts.late == 1);
     CHECK(sfu.counts.sent == 0 && sfu.counts.unsent == 0 && sfu.stream_count == 1);
     return 0;

@@ -253,14 +253,21 @@ static void with_other_lines(const char *program) {
     ends(&it, "taken 1 replays 1 late 0 rtcp 0 unreadable 0 strangers 0 sent 3 unsent 0\n", 0);
 }
 
-/* While it is stopped a datagram of no bytes comes, a packet, and the end of its input: all are taken. */
+/* While it is stopped a datagram of no bytes comes, a short packet and a long one, and the end of its input: all are
+ * taken, and go on as they are. */
 static void while_it_is_stopped(const char *program) {
     running it = started(program, ports);
+    uint32_t since = now();
     stop(&it);
     sends(sender, it.port, LEVEL, 0);
     sends(sender, it.port, LEVEL, sizeof LEVEL);
+    sends(sender, it.port, datagram, LONG);
     CHECK(fclose(it.in) == 0 && kill(it.process, SIGCONT) == 0);
-    has_ended(&it, "taken 1 replays 0 late 0 rtcp 0 unreadable 1 strangers 0 sent 3 unsent 0\n", 0);
+    for (int i = 0; i < RECEIVERS; i++) {
+        comes_to(sockets[i], it.port, 0, i, LEVEL + 20, 3, since);
+        comes_to(sockets[i], it.port, 1, i, datagram + FIXED, LONG - FIXED, since);
+    }
+    has_ended(&it, "taken 2 replays 0 late 0 rtcp 0 unreadable 1 strangers 0 sent 6 unsent 0\n", 0);
 }
 
 /* What comes while it is stopped waits, as much as its room holds. */

@@ -12,7 +12,8 @@ use std::io::{self, BufRead, Write};
 use std::process::ExitCode;
 
 use rtp_wire::{
-    change_form, is_rtcp, put_element, Fields, Form, Kind, Map, NewIds, Packet, PacketMut, Receiver,
+    change_form, compact, is_rtcp, put_element, Fields, Form, Kind, Map, NewIds, Packet, PacketMut,
+    Receiver,
 };
 
 /// So many numbers up to the highest one a receiver keeps.
@@ -171,7 +172,7 @@ impl Route {
         Some(header)
     }
 
-    /// Gives the packet the elements that the receiver agreed to.
+    /// Gives the packet the elements that the receiver agreed to, in as few bytes as they take.
     fn put_elements(
         &mut self,
         header: &mut Header,
@@ -186,7 +187,9 @@ impl Route {
         self.transport_number = number.wrapping_add(1);
         header.put(self.transport_number_id, &number.to_be_bytes())?;
         let time = microseconds % 64_000_000 * 262_144 / 1_000_000; // 24 bits, in units of 2^-18 seconds
-        header.put(self.send_time_id, &time.to_be_bytes()[5..])
+        header.put(self.send_time_id, &time.to_be_bytes()[5..])?;
+        header.len = compact(header.bytes()).ok()?;
+        Some(())
     }
 }
 
