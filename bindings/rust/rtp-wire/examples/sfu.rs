@@ -1,6 +1,7 @@
 //! The core of an SFU, without sockets: the packets of a sender go on to each of three receivers under SSRCs,
-//! numbers, ids of extensions and mids of their own. A packet is never written anew: its header is copied and
-//! changed for each receiver, and its payload stays where it lies.
+//! numbers, ids of extensions and mids of their own. A packet is never written anew: a header is made of its own once
+//! for all receivers that have the same ids, each of them gets a copy with what it has of its own, and the payload stays
+//! where it lies.
 //!
 //! Reads the datagrams of the sender from standard input, one a line in hexadecimal, the second one 20
 //! milliseconds after the first and so on, and prints what each receiver gets: its number, 1 to 3, and the
@@ -12,7 +13,8 @@ use std::io::{self, BufRead, Write};
 use std::process::ExitCode;
 
 use rtp_wire::{
-    change_form, is_rtcp, put_element, Fields, Form, Kind, Map, NewIds, Packet, PacketMut, Receiver,
+    change_form, is_rtcp, Fields, Form, Group, HeaderTemplate, Kind, Map, NewIds, Packet, Place,
+    Receiver, RoutedSlot,
 };
 
 /// So many numbers up to the highest one a receiver keeps.
@@ -21,6 +23,8 @@ const WINDOW: u64 = 128;
 const STREAMS: usize = 16;
 /// A header that is sent on has at most so many bytes.
 const HEADER: usize = 2048;
+/// What each receiver gets of its own, where it has an id for it.
+const KINDS: [Kind; 3] = [Kind::Mid, Kind::TransportNumber, Kind::AbsSendTime];
 
 /// What a receiver agreed to, and under what it gets the streams.
 #[derive(Clone, Copy)]
@@ -37,19 +41,22 @@ struct Peer {
 
 /// The way to a receiver.
 struct Route {
+    /// Which of the receivers it is.
+    at: usize,
     peer: Peer,
-    /// The mid of the stream that was sent last.
-    mid: Vec<u8>,
-    /// From the sender's ids to the receiver's.
-    ids: NewIds,
-    /// The receiver's ids of these extensions, where it has one.
-    mid_id: Option<u8>,
-    transport_number_id: Option<u8>,
-    send_time_id: Option<u8>,
-    /// Whether the receiver's ids or mids need the two-byte form.
-    wide: bool,
     /// Of the next packet.
     transport_number: u16,
+}
+
+/// The ways to receivers that have the same ids, and mids of one length.
+struct Party {
+    /// From the sender's ids to theirs.
+    ids: NewIds,
+    /// The elements that they get, in what each has of its own.
+    elements: Vec<Place>,
+    /// Whether these ids or mids need the two-byte form.
+    wide: bool,
+    routes: Vec<Route>,
 }
 
 struct Stream {
@@ -87,106 +94,120 @@ impl fmt::Display for Counts {
     }
 }
 
-/// A header that lies in a buffer, with room behind it.
-struct Header {
-    buf: [u8; HEADER],
-    len: usize,
-    /// The form that alone its block may get, or that it may get either.
-    allowed: Option<Form>,
-}
-
-impl Header {
-    /// That of the packet.
-    fn of(packet: &Packet, allowed: Option<Form>) -> Option<Header> {
-        let mut buf = [0; HEADER];
-        let len = packet.header_len();
-        buf.get_mut(..len)?
-            .copy_from_slice(&packet.datagram()[..len]);
-        Some(Header { buf, len, allowed })
-    }
-
-    fn bytes(&mut self) -> &mut [u8] {
-        &mut self.buf[..self.len]
-    }
-
-    /// Gives it this element, where the receiver has an id for it.
-    fn put(&mut self, id: Option<u8>, data: &[u8]) -> Option<()> {
-        if let Some(id) = id {
-            self.len = put_element(&mut self.buf, self.len, id, data, self.allowed).ok()?;
-        }
-        Some(())
-    }
-}
-
 #[derive(Default)]
 struct Sfu {
-    routes: Vec<Route>,
+    parties: Vec<Party>,
     streams: Vec<Stream>,
     counts: Counts,
 }
 
 impl Route {
-    fn new(sender: &Map, peer: &Peer) -> Route {
-        let ids = NewIds::between(sender, &peer.map);
-        let mid_id = peer.map.id_of(Kind::Mid);
-        let long_mid = mid_id.is_some() && peer.mid.len() + 1 > 16;
-        Route {
-            peer: *peer,
-            mid: format!("{}0", peer.mid).into(),
-            ids,
-            mid_id,
-            transport_number_id: peer.map.id_of(Kind::TransportNumber),
-            send_time_id: peer.map.id_of(Kind::AbsSendTime),
-            wide: long_mid || peer.map.iter().any(|(id, _)| id > 14),
-            transport_number: 0,
-        }
-    }
-
-    /// Gives the packet the ids of the receiver. A one-byte block can't carry ids above 14: so it becomes a two-byte
-    /// one first.
-    fn renumber(&self, header: &mut Header, form: Option<Form>) -> Option<()> {
-        if self.wide && form == Some(Form::OneByte) {
-            header.len = change_form(&mut header.buf, header.len, Form::TwoByte).ok()?;
-        }
-        let mut packet = PacketMut::parse(header.bytes()).ok()?;
-        packet.renumber(&self.ids).ok()
-    }
-
-    /// The header of the packet, which is of this stream, for the receiver; `None` where it has no room.
-    fn header(&mut self, packet: &Packet, stream: usize, microseconds: u64) -> Option<Header> {
-        let wide = self.wide || packet.form() == Some(Form::TwoByte);
-        let allowed = if wide { None } else { Some(Form::OneByte) };
-        let mut header = Header::of(packet, allowed)?;
+    /// The fields that the receiver gets of a packet of this stream.
+    fn fields(&self, packet: &Packet, stream: usize) -> Fields {
         let number = packet.sequence_number();
-        let fields = Fields {
+        Fields {
             ssrc: Some(self.peer.first_ssrc.wrapping_add(stream as u32)),
             sequence_number: Some(number.wrapping_add(self.peer.number_offset)),
             ..Fields::default()
-        };
-        let mut changed = PacketMut::parse(header.bytes()).ok()?;
-        changed.set_fields(&fields).ok()?;
-        if packet.form().is_some() || packet.block_profile().is_none() {
-            self.put_elements(&mut header, packet.form(), stream, microseconds)?;
-        } // a block of another form has no elements, and stays
-        Some(header)
+        }
     }
 
-    /// Gives the packet the elements that the receiver agreed to.
-    fn put_elements(
-        &mut self,
-        header: &mut Header,
-        form: Option<Form>,
-        stream: usize,
-        microseconds: u64,
-    ) -> Option<()> {
-        self.renumber(header, form)?;
-        *self.mid.last_mut()? = b"0123456789ABCDEF"[stream];
-        header.put(self.mid_id, &self.mid)?;
+    /// Adds the data of the elements that the receiver agreed to, in the order of [`KINDS`].
+    fn put_data(&mut self, data: &mut Vec<u8>, stream: usize, microseconds: u64) {
+        let mid = [
+            self.peer.mid.as_bytes(),
+            &b"0123456789ABCDEF"[stream..=stream],
+        ]
+        .concat();
         let number = self.transport_number;
         self.transport_number = number.wrapping_add(1);
-        header.put(self.transport_number_id, &number.to_be_bytes())?;
         let time = microseconds % 64_000_000 * 262_144 / 1_000_000; // 24 bits, in units of 2^-18 seconds
-        header.put(self.send_time_id, &time.to_be_bytes()[5..])
+        let all: [&[u8]; 3] = [&mid, &number.to_be_bytes(), &time.to_be_bytes()[5..]];
+        for (kind, its_data) in KINDS.into_iter().zip(all) {
+            if self.peer.map.id_of(kind).is_some() {
+                data.extend_from_slice(its_data);
+            }
+        }
+    }
+}
+
+impl Party {
+    /// The receivers that are like this first one.
+    fn of(sender: &Map, first: Route) -> Party {
+        let peer = &first.peer;
+        let (mut elements, mut at) = (Vec::new(), 0);
+        for (kind, len) in KINDS.into_iter().zip([peer.mid.len() + 1, 2, 3]) {
+            if let Some(id) = peer.map.id_of(kind) {
+                elements.push(Place::new(id, at..at + len));
+                at += len;
+            }
+        }
+        let has_long_mid = elements.iter().any(|it| it.data().len() > 16);
+        Party {
+            ids: NewIds::between(sender, &peer.map),
+            wide: has_long_mid || peer.map.iter().any(|(id, _)| id > 14),
+            elements,
+            routes: vec![first],
+        }
+    }
+
+    fn is_of(&self, peer: &Peer) -> bool {
+        let other = &self.routes[0].peer;
+        other.map == peer.map && other.mid.len() == peer.mid.len()
+    }
+
+    /// The packet, or its header in this buffer, with a block that can carry the receivers' ids: a one-byte block can't
+    /// carry those above 14, and becomes a two-byte one. `None` where it has no room.
+    fn widened<'a>(&self, packet: Packet<'a>, room: &'a mut [u8; HEADER]) -> Option<Packet<'a>> {
+        if !self.wide || packet.form() != Some(Form::OneByte) {
+            return Some(packet);
+        }
+        let header = &packet.datagram()[..packet.header_len()];
+        room.get_mut(..header.len())?.copy_from_slice(header);
+        let len = change_form(room, header.len(), Form::TwoByte).ok()?;
+        Packet::parse(&room[..len]).ok()
+    }
+
+    /// Sends the packet, which is of this stream, to the receivers, and returns to how many; `None` where its header has
+    /// no room.
+    fn send(
+        &mut self,
+        packet: Packet,
+        stream: usize,
+        microseconds: u64,
+        send: &mut impl FnMut(usize, &[u8], &[u8]),
+    ) -> Option<u64> {
+        // A block of another form has no elements, and stays.
+        let has_elements = packet.form().is_some() || packet.block_profile().is_none();
+        let mut data = Vec::new();
+        for route in self.routes.iter_mut().filter(|_| has_elements) {
+            route.put_data(&mut data, stream, microseconds);
+        }
+        let is_wide = self.wide || packet.form() == Some(Form::TwoByte);
+        let group = Group {
+            ids: &self.ids,
+            data: &data,
+            elements: if has_elements { &self.elements } else { &[] },
+            allowed: if is_wide { None } else { Some(Form::OneByte) },
+        };
+        let (mut room, mut made) = ([0; HEADER], [0; HEADER]);
+        let widened = self.widened(packet, &mut room)?;
+        let template = HeaderTemplate::new(&widened, &group, &mut made).ok()?;
+        let (data_len, header_len) = (template.data_len(), template.header_len());
+        let slot = |(n, it): (usize, &Route)| {
+            RoutedSlot::new(&it.fields(&packet, stream), n * data_len, n * header_len)
+        };
+        let mut slots: Vec<_> = self.routes.iter().enumerate().map(slot).collect();
+        let mut buf = vec![0; slots.len() * header_len];
+        let mut sent = 0;
+        let headers = template.write_headers(&data, &mut slots, &mut buf);
+        for (route, header) in self.routes.iter().zip(headers) {
+            if let Ok(header) = header {
+                send(route.at, header, packet.payload());
+                sent += 1;
+            }
+        }
+        Some(sent)
     }
 }
 
@@ -233,14 +254,24 @@ impl Sfu {
         }
         receiver.record(number); // with SRTP once it is authentic
         self.counts.taken += 1;
-        for (at, route) in self.routes.iter_mut().enumerate() {
-            match route.header(&packet, stream, microseconds) {
-                Some(mut header) => {
-                    send(at, header.bytes(), packet.payload());
-                    self.counts.sent += 1;
-                }
-                None => self.counts.unsent += 1,
-            }
+        for party in &mut self.parties {
+            let all = party.routes.len() as u64;
+            let sent = party.send(packet, stream, microseconds, &mut send);
+            self.counts.sent += sent.unwrap_or(0);
+            self.counts.unsent += all - sent.unwrap_or(0);
+        }
+    }
+
+    fn add(&mut self, sender: &Map, peer: &Peer) {
+        let route = Route {
+            at: self.parties.iter().map(|it| it.routes.len()).sum(),
+            peer: *peer,
+            transport_number: 0,
+        };
+        if let Some(party) = self.parties.iter_mut().find(|it| it.is_of(peer)) {
+            party.routes.push(route);
+        } else {
+            self.parties.push(Party::of(sender, route));
         }
     }
 }
@@ -330,7 +361,9 @@ fn main() -> io::Result<ExitCode> {
             return Ok(ExitCode::from(2));
         };
         if count == 0 {
-            sfu.routes = PEERS.iter().map(|peer| Route::new(&sender, peer)).collect();
+            for peer in &PEERS {
+                sfu.add(&sender, peer);
+            }
         }
         let mut sent = Vec::new();
         sfu.receive(&datagram, 20_000 * count, |receiver, header, payload| {
