@@ -64,6 +64,7 @@ from ._standard import (
     has_dependency_structure,
     read_token,
 )
+from ._template import HeaderTemplate, Route
 from ._values import Time, Values, VideoTiming
 
 __all__ = [
@@ -86,6 +87,7 @@ __all__ = [
     "FrameMarking",
     "HdrMetadata",
     "Header",
+    "HeaderTemplate",
     "Kind",
     "Layer",
     "Layers",
@@ -103,6 +105,7 @@ __all__ = [
     "ReceptionStatistics",
     "Resolution",
     "RestartingReceiver",
+    "Route",
     "RtpError",
     "ShortBuffer",
     "Standing",
