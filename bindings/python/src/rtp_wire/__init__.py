@@ -1,7 +1,7 @@
 """RTP packets (RFC 3550, 5.1), their header extensions (RFC 8285) and the receive state of a stream.
 
-`Packet` reads a packet where it lies, and changes it in place; `Columns` reads many at once; `Header` is the header as
-a value, to be read or written; `Map` says which extension each id means; `Receiver` judges the packets of a stream. The
+`Packet` reads a packet where it lies, and changes it in place; `Columns` reads many at once; `HeaderTemplate` writes a
+header for each receiver of a packet; `Header` is the header as a value, to be read or written; `Map` says which extension each id means; `Receiver` judges the packets of a stream. The
 work is done by the functions of librtp_wire, each of which is proved.
 """
 

@@ -199,8 +199,8 @@ class HeaderTemplate:
 
     def __setstate__(self, state: Tuple[bytes, bytes]) -> None:
         """BadField where what was stored is no template."""
-        self._header, raw = state
-        self._raw = _library.RawTemplate.from_buffer_copy(raw)
+        header, raw = state
+        self._header, self._raw = bytes(header), _library.RawTemplate.from_buffer_copy(raw)
         self._call(b"", (_library.RawRoutedHeader * 0)(), memoryview(b""))
 
 
