@@ -99,6 +99,9 @@ CALLS: Dict[Any, str] = {
     rtp_wire.remove_block: "(datagram)",
     rtp_wire.compact: "(datagram)",
     rtp_wire.write_elements: "(elements, form)",
+    rtp_wire.structured_array: (
+        "(buffer, at, lengths, map=None, values=(), receivers=None, rollover_count=1)"
+    ),
     rtp_wire.HeaderTemplate: "(datagram, ids, elements=(), allowed=None)",
     rtp_wire.HeaderTemplate.write: "(self, routes)",
     rtp_wire.HeaderTemplate.write_into: "(self, buffer, routes, at=None)",
@@ -424,7 +427,7 @@ SIZES = {
     _library.RawArrival: 24,
     _library.RawTemplate: 88,
     _library.RawRoutedHeader: 40,
-    _library.RawColumn: 24,
+    _library.RawColumn: 32,
     _library.RawLayer: 40,
     _library.RawStream: 168,
     _library.RawLayers: 680,

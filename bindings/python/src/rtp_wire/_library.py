@@ -209,7 +209,7 @@ class RawRoutedHeader(Structure):
 class RawColumn(Structure):
     """A column of src/columns.c."""
 
-    _fields_ = [("offset", c_size_t), ("size", c_size_t), ("to", c_void_p)]
+    _fields_ = [("offset", c_size_t), ("size", c_size_t), ("to", c_void_p), ("stride", c_size_t)]
 
 
 class RawLayer(Structure):
@@ -397,10 +397,19 @@ columns_parse = _declare(
     _SIZE,
     POINTER(RawColumn),
     _SIZE,
-    _BYTES,
+    POINTER(RawColumn),
 )
 columns_receive = _declare(
-    None, "columns_receive", POINTER(RawReceiver), _SIZE, _BYTES, _BYTES, _BYTES, _SIZE, _BYTES, _BYTES
+    None,
+    "columns_receive",
+    POINTER(RawReceiver),
+    _SIZE,
+    _BYTES,
+    POINTER(RawColumn),
+    POINTER(RawColumn),
+    _SIZE,
+    POINTER(RawColumn),
+    POINTER(RawColumn),
 )
 
 version = _declare(c_uint32, "rtpw_version")
