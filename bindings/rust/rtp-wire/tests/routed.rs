@@ -326,101 +326,123 @@ fn data_are_those_of_the_elements_one_after_another() {
     assert_eq!((&buf[18..273], &buf[273..]), (&data[..255], &[1, 0, 0][..]));
 }
 
-#[test]
-fn a_header_that_is_not_made_has_a_cause() {
-    let ids = NewIds::new().with(1, 3);
-    let long_id = NewIds::new().with(1, 15);
-    let own = each_its_own();
-    let all: Vec<Place> = (0..17).map(|at| place(20 + at as u8, at, 1)).collect();
-    let data = [0; 300];
-    let cause = |packet: &[u8], ids, elements: &[Place], allowed, room| {
-        let group = Group {
-            ids,
-            data: &data,
-            elements,
-            allowed,
-        };
-        made(packet, &group, room).err()
+/// Why no header is made of the packet with these, whose data are zeros, in so many bytes.
+fn cause(packet: &[u8], ids: &NewIds, elements: &[Place], room: usize) -> Option<NotRouted> {
+    let group = Group {
+        ids,
+        data: &[0; 300],
+        elements,
+        allowed: None,
     };
-    let not_put = |cause| Some(NotRouted::NotPut(cause));
+    made(packet, &group, room).err()
+}
+
+/// The elements 20, 21 and so on, of a byte each.
+fn in_a_row(count: u8) -> Vec<Place> {
+    (0..count).map(|n| place(20 + n, n.into(), 1)).collect()
+}
+
+const SHORT: Option<NotRouted> = Some(NotRouted::NotPut(NotPut::ShortBuffer));
+const BAD: Option<NotRouted> = Some(NotRouted::NotPut(NotPut::BadField));
+
+#[test]
+fn elements_have_ids_of_their_own_and_are_few() {
+    let (ids, long_id) = (NewIds::new().with(1, 3), NewIds::new().with(1, 15));
+    let all = in_a_row(17);
     assert_eq!(HeaderTemplate::MAX_ELEMENTS, 16);
-    assert_eq!(cause(&SAMPLE, &ids, &all[..16], None, 5000), None);
+    assert_eq!(cause(&SAMPLE, &ids, &all[..16], 5000), None);
     assert_eq!(
-        cause(&SAMPLE, &ids, &all, None, 5000),
+        cause(&SAMPLE, &ids, &all, 5000),
         Some(NotRouted::ManyElements)
     );
-    let twice = [all[0], all[1], all[0].with_id(21)];
-    assert_eq!(
-        cause(&SAMPLE, &ids, &twice, None, 5000),
-        Some(NotRouted::RepeatedId)
-    );
-    // the data of one begin or end behind those that are there, or are too many
-    for (at, len, refused) in [
-        (299, 1, false),
-        (300, 0, false),
-        (45, 255, false),
-        (300, 1, true),
-        (301, 0, true),
-        (usize::MAX, 0, true),
-        (0, usize::MAX, true),
-        (0, 256, true),
-        (46, 255, true),
-        (1 << 32, 1, true),
-        (0, 1 << 32, true),
+    for last in [20, 21, 22] {
+        let elements = [all[0], all[1], all[2], all[3].with_id(last)];
+        let repeated = cause(&SAMPLE, &ids, &elements, 5000);
+        assert_eq!(repeated, Some(NotRouted::RepeatedId), "{last}");
+    }
+    let of_zero = cause(&SAMPLE, &ids, &[place(0, 0, 1)], 5000);
+    assert_eq!(of_zero, Some(NotRouted::NotPut(NotPut::BadId)));
+    // what else may be put, where the packet's own element can't have its id
+    for elements in [&[][..], &all[..16], &[place(30, 45, 255)]] {
+        let refused = cause(&SAMPLE, &long_id, elements, 5000);
+        assert_eq!(refused, Some(NotRouted::BadNewId), "{elements:?}");
+    }
+}
+
+#[test]
+fn data_begin_and_end_in_those_that_are_there() {
+    let ids = NewIds::new().with(1, 3);
+    for (at, len, due) in [
+        (299, 1, None),
+        (300, 0, None),
+        (45, 255, None),
+        (300, 1, BAD),
+        (301, 0, BAD),
+        (usize::MAX, 0, BAD),
+        (0, usize::MAX, BAD),
+        (0, 256, BAD),
+        (46, 255, BAD),
+        (1 << 32, 1, BAD),
+        (0, 1 << 32, BAD),
     ] {
-        let elements = [all[0], place(30, at, len)];
-        let refused = if refused {
-            not_put(NotPut::BadField)
-        } else {
-            None
-        };
-        let told = cause(&SAMPLE, &ids, &elements, None, 5000);
-        assert_eq!(told, refused, "{at} {len}");
+        let elements = [place(20, 0, 1), place(30, at, len)];
+        let told = cause(&SAMPLE, &ids, &elements, 5000);
+        assert_eq!(told, due, "{at} {len}");
     }
-    assert_eq!(
-        cause(&SAMPLE, &ids, &[place(0, 0, 1)], None, 5000),
-        not_put(NotPut::BadId)
-    );
-    assert_eq!(
-        cause(&SAMPLE, &long_id, &[], None, 5000),
-        Some(NotRouted::BadNewId)
-    );
-    assert_eq!(
-        cause(&SAMPLE, &long_id, &[], TWO, 5000),
-        Some(NotRouted::BadNewId)
-    );
-    assert_eq!(
-        cause(&SAMPLE, &ids, &all[..1], ONE, 5000),
-        not_put(NotPut::FormNotAllowed)
-    );
-    assert_eq!(cause(&written(0x90, "ABAC0000"), &ids, &[], None, 16), None);
-    let of_a_camera = cause(&written(0x90, "ABAC0000"), &ids, &all[..1], None, 5000);
-    assert_eq!(of_a_camera, not_put(NotPut::OtherForm));
-    // a block of 65,535 words has no room for more
-    let full = written(
-        0x90,
-        &format!(
-            "1000FFFF {}",
-            "02FF".to_string() + &"00".repeat(4 * 65_535 - 2)
-        ),
-    );
-    assert_eq!(cause(&full, &own, &[], None, full.len()), None);
-    let mut full_of_elements = full;
-    for at in (16..=full_of_elements.len() - 257).step_by(257) {
-        full_of_elements[at..at + 2].copy_from_slice(&[2, 255]);
+}
+
+#[test]
+fn forms_that_are_not_allowed_and_others() {
+    let ids = NewIds::new().with(1, 3);
+    let elements = in_a_row(1);
+    let mut group = Group {
+        ids: &ids,
+        data: &[0],
+        elements: &elements,
+        allowed: ONE,
+    };
+    let not_allowed = Some(NotRouted::NotPut(NotPut::FormNotAllowed));
+    assert_eq!(made(&SAMPLE, &group, 5000).err(), not_allowed);
+    group.allowed = TWO;
+    let two = made(&SAMPLE, &group, 5000).unwrap();
+    assert_eq!(two.header(), written(0x90, "10000002 0301AA 140100 0000"));
+    let camera = written(0x90, "ABAC0000");
+    assert_eq!(cause(&camera, &ids, &[], 16), None);
+    let other = Some(NotRouted::NotPut(NotPut::OtherForm));
+    assert_eq!(cause(&camera, &ids, &elements, 5000), other);
+}
+
+#[test]
+fn a_block_of_65535_words() {
+    let own = each_its_own();
+    let mut full = written(0x90, &format!("1000FFFF {}", "00".repeat(4 * 65_535)));
+    for at in (16..full.len()).step_by(257) {
+        full[at..at + 2].copy_from_slice(&[2, 255]);
     }
-    let of_long = cause(&full_of_elements, &own, &[place(9, 0, 255)], None, 600_000);
-    assert_eq!(of_long, not_put(NotPut::LongBlock));
-    // the header has room in its twenty bytes; the element, too, in 24
+    let long = cause(&full, &own, &[place(9, 0, 255)], 600_000);
+    assert_eq!(long, Some(NotRouted::NotPut(NotPut::LongBlock)));
+    let group = Group {
+        ids: &own,
+        data: &[],
+        elements: &[],
+        allowed: None,
+    };
+    let template = made(&full, &group, full.len()).unwrap();
+    assert!(template.header() == full);
+    let buf = at_end(&vec![0; full.len()]);
+    assert_eq!(template.write_header(&NO_FIELDS, &[], buf), Ok(262_156));
+    assert!(buf == full);
+}
+
+#[test]
+fn a_header_has_room_or_not() {
+    let ids = NewIds::new().with(1, 3);
+    // in its twenty bytes; with the element in 24
     for (elements, room) in [(&[][..], 20), (&[place(4, 0, 3)][..], 24)] {
-        assert_eq!(cause(&SAMPLE, &ids, elements, None, room), None);
-        let short = cause(&SAMPLE, &ids, elements, None, room - 1);
-        assert_eq!(short, not_put(NotPut::ShortBuffer));
+        assert_eq!(cause(&SAMPLE, &ids, elements, room), None);
+        assert_eq!(cause(&SAMPLE, &ids, elements, room - 1), SHORT);
     }
-    assert_eq!(
-        cause(&SAMPLE, &ids, &[], None, 0),
-        not_put(NotPut::ShortBuffer)
-    );
+    assert_eq!(cause(&SAMPLE, &ids, &[], 0), SHORT);
 }
 
 /// Twenty receivers of the template, each with a number and data of its own.
