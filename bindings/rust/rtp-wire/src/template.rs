@@ -13,6 +13,20 @@ pub use crate::views::RoutedSlot;
 use crate::views::TemplateParts;
 
 /// What some receivers of a packet have in common.
+///
+/// ```
+/// use rtp_wire::{Form, Group, Kind, Map, NewIds, Place};
+///
+/// const SENDER: Map = Map::new().with(1, Kind::AudioLevel);
+/// const RECEIVER: Map = Map::new().with(3, Kind::AudioLevel).with(4, Kind::Mid).with(5, Kind::TransportNumber);
+/// let group = Group {
+///     ids: &NewIds::between(&SENDER, &RECEIVER),
+///     data: b"a\0\x07", // of one of the receivers: its mid, and then its transport number
+///     elements: &[Place::new(4, 0..1), Place::new(5, 1..3)],
+///     allowed: Some(Form::OneByte), // they haven't agreed to both forms
+/// };
+/// # let _ = group;
+/// ```
 #[derive(Clone, Copy, Debug)]
 pub struct Group<'a> {
     /// The ids that the packet's elements get; one that gets none goes.
@@ -285,6 +299,23 @@ impl fmt::Debug for RoutedHeaders<'_, '_> {
 impl RoutedSlot {
     /// A receiver with these fields, whose data begin there in all data, and whose header is to begin there in the
     /// buffer, in bytes.
+    ///
+    /// ```
+    /// use rtp_wire::{Fields, Group, HeaderTemplate, NewIds, NotWritten, Packet, RoutedSlot};
+    ///
+    /// let packet = Packet::parse(&[0x80, 96, 0, 5, 0, 0, 0, 100, 0, 0, 0, 44])?;
+    /// let group = Group { ids: &NewIds::new(), data: &[], elements: &[], allowed: None };
+    /// let mut room = [0; 24];
+    /// let template = HeaderTemplate::new(&packet, &group, &mut room)?;
+    ///
+    /// let mut buf = [0; 24];
+    /// let fields = Fields { ssrc: Some(45), ..Fields::default() };
+    /// let mut slots = [RoutedSlot::new(&fields, 0, 12), RoutedSlot::new(&fields, 0, 13)];
+    /// template.write_headers(&[], &mut slots, &mut buf);
+    /// assert_eq!(slots.map(|it| it.written()), [Ok(()), Err(NotWritten::ShortBuffer)]);
+    /// assert_eq!((&buf[..12], buf[23]), (&[0; 12][..], 45)); // to be encrypted where they lie, say
+    /// # Ok::<(), Box<dyn std::error::Error>>(())
+    /// ```
     #[must_use]
     #[inline]
     pub fn new(fields: &Fields, data_at: usize, at: usize) -> RoutedSlot {
