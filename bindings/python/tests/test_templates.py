@@ -24,6 +24,7 @@ from rtp_wire import (
     Route,
     RtpError,
     ShortBuffer,
+    Status,
     change_form,
     compact,
     put_element,
@@ -422,6 +423,31 @@ class ByCalls(unittest.TestCase):
             buffer = bytearray(len(routes) * made.header_len)
             self.assertEqual(made.write_into(buffer, routes), each)
         self.assertEqual(causes, {BadField, FormNotAllowed, OtherForm})
+
+    def test_any_places_fields_and_data(self) -> None:
+        draw, made = Random(9), template()
+        for _ in range(300):
+            routes, places, size = [], [], draw.randrange(120)
+            for _ in range(6):
+                length = draw.choice((2, 2, 2, 2, 0, 1, 3))
+                kind, ssrc = draw.choice((None, 5, 127, 128, -1)), draw.choice((None, 7, 1 << 32))
+                routes.append(Route(draw.randbytes(length), kind, ssrc=ssrc))
+                places.append(draw.choice((draw.randrange(size + 2), 0, 24, 48, -1, (1 << 64) - draw.randint(1, 9))))
+            # one after the other, each of them alone
+            wanted = bytearray(b"\xEE" * size)
+            results: List[object] = []
+            for route, place in zip(routes, places):
+                (result,) = made.write([route])
+                if isinstance(result, bytes) and place + 24 > size:
+                    result = ShortBuffer(Status.SHORT_BUFFER)
+                if isinstance(result, bytes) and 0 <= place:
+                    wanted[place : place + 24] = result
+                fails = isinstance(result, RtpError) or place < 0
+                results.append(BadField if place < 0 else type(result) if fails else None)
+            buffer = bytearray(b"\xEE" * size)
+            headers = made.write_into(buffer, routes, places)
+            self.assertEqual([type(it) if isinstance(it, RtpError) else None for it in headers], results)
+            self.assertEqual(buffer, wanted)
 
     def test_values_that_are_put(self) -> None:
         # a transport number of each receiver, as its data say it

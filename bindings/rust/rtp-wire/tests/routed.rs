@@ -623,11 +623,14 @@ fn many_receivers_and_slots_that_are_used_again() {
 #[test]
 fn headers_are_gone_through_as_a_list() {
     fn is_a_list<T: Clone + ExactSizeIterator + DoubleEndedIterator + FusedIterator>(_: &T) {}
+    fn crosses_threads<T: Send + Sync>(_: &T) {}
     let template = template();
+    crosses_threads(&template);
     let (mut slots, data) = twenty();
     let mut buf = [0; 72];
     let mut headers = template.write_headers(&data, &mut slots[..4], &mut buf);
     is_a_list(&headers);
+    crosses_threads(&headers);
     let again = headers.clone();
     assert_eq!(
         (headers.next_back(), headers.len()),

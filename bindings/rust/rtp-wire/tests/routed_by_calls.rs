@@ -218,3 +218,54 @@ fn each_is_what_the_calls_for_one_packet_make() {
         assert!(causes.contains(&cause), "{cause:?}");
     }
 }
+
+#[test]
+fn any_places_fields_and_data() {
+    let mut random = Random(11);
+    let ids = NewIds::new().with(1, 3);
+    let packet = [
+        0x90, 96, 0, 5, 0, 0, 0, 100, 0, 0, 0, 44, 0xBE, 0xDE, 0, 1, 0x10, 0xAA, 0, 0,
+    ];
+    let elements = [Place::new(4, 0..2), Place::new(9, 2..5)];
+    let group = Group {
+        ids: &ids,
+        data: &[0; 5],
+        elements: &elements,
+        allowed: None,
+    };
+    let mut room = [0; 600];
+    let made = HeaderTemplate::new(&Packet::parse(&packet).unwrap(), &group, &mut room).unwrap();
+    for _ in 0..2000 {
+        let (data_len, room) = (random.below(40), random.below(120));
+        let data = random.bytes(data_len);
+        let mut place = |end: usize| match random.below(20) {
+            0 => usize::MAX - random.below(30),
+            1 => (1 << 32) + random.below(30),
+            _ => random.below(end + 2),
+        };
+        let places: Vec<_> = (0..6).map(|_| (place(data_len), place(room))).collect();
+        let fields: Vec<_> = places.iter().map(|_| random.fields()).collect();
+        let slot = |(fields, it): (&Fields, &(usize, usize))| RoutedSlot::new(fields, it.0, it.1);
+        let mut slots: Vec<_> = fields.iter().zip(&places).map(slot).collect();
+        let mut buf = vec![0xEE; room];
+        // one after the other, each of them alone
+        let mut wanted = buf.clone();
+        let mut one = |(fields, (data_at, at)): (&Fields, &(usize, usize))| {
+            let its_data = data.get(*data_at..).and_then(|it| it.get(..5));
+            let its_data = its_data.ok_or(NotWritten::BadField)?;
+            if fields.payload_type.is_some_and(|it| it > 127) {
+                return Err(NotWritten::BadField);
+            }
+            let its_buf = wanted.get_mut(*at..).ok_or(NotWritten::ShortBuffer)?;
+            made.write_header(fields, its_data, its_buf).map(|_| ())
+        };
+        let results: Vec<_> = fields.iter().zip(&places).map(&mut one).collect();
+        let headers = made.write_headers(&data, &mut slots, &mut buf);
+        for ((header, result), (_, at)) in headers.zip(&results).zip(&places) {
+            let due = result.map(|()| &wanted[*at..*at + made.header_len()]);
+            assert_eq!(header, due);
+        }
+        assert_eq!(buf, wanted);
+        assert!(slots.iter().map(RoutedSlot::written).eq(results));
+    }
+}
