@@ -378,3 +378,59 @@ fn main() -> io::Result<ExitCode> {
     out.flush()?;
     Ok(ExitCode::SUCCESS)
 }
+
+#[cfg(test)]
+mod tests {
+    use super::*;
+
+    /// What each receiver of this SFU gets of the datagram.
+    fn sent(sfu: &mut Sfu, datagram: &[u8]) -> Vec<(usize, Vec<u8>)> {
+        let mut all = Vec::new();
+        sfu.receive(datagram, 0, |at, header, payload| {
+            assert_eq!(payload, b"hi");
+            all.push((at, header.to_vec()));
+        });
+        all
+    }
+
+    #[test]
+    fn receivers_with_the_same_ids_get_one_header_with_values_of_their_own() {
+        let (sender, mut sfu) = (Map::new().with(1, Kind::AudioLevel), Sfu::default());
+        let [first, other, _] = PEERS;
+        let alike = Peer {
+            mid: "n",
+            first_ssrc: 5000,
+            number_offset: 7,
+            ..first
+        };
+        let longer = Peer { mid: "mn", ..first };
+        for peer in [&first, &other, &alike, &longer] {
+            sfu.add(&sender, peer);
+        }
+        let parties = sfu.parties.iter().map(|it| it.routes.len());
+        assert_eq!(parties.collect::<Vec<_>>(), [2, 1, 1]);
+        // the level 10 below, of which no padding is left
+        let mut datagram = *b"\x90\x60\0\x05\0\0\0\x64\0\0\0\x2C\xBE\xDE\0\x01\x10\x8A\0\0hi";
+        for packet in [5, 6] {
+            datagram[3] = packet;
+            let number = packet - 5;
+            let headers = sent(&mut sfu, &datagram);
+            let places: Vec<_> = headers.iter().map(|it| it.0).collect();
+            assert_eq!(places, [0, 2, 1, 3]);
+            let header = |ssrc: u16, offset: u8, mid: u8| {
+                let [high, low] = ssrc.to_be_bytes();
+                let fixed = [0x90, 96, 0, packet + offset, 0, 0, 0, 100, 0, 0, high, low];
+                let block = [
+                    0xBE, 0xDE, 0, 3, 0x90, 0x8A, 0x21, mid, b'0', 0x51, 0, number, 0x72, 0, 0, 0,
+                ];
+                [&fixed[..], &block].concat()
+            };
+            assert_eq!(headers[0].1, header(1000, 0, b'm'));
+            assert_eq!(headers[1].1, header(5000, 7, b'n'));
+        }
+        assert_eq!(
+            (sfu.counts.taken, sfu.counts.sent, sfu.counts.unsent),
+            (2, 8, 0)
+        );
+    }
+}
