@@ -7,18 +7,24 @@
 /* So many structs lie on the stack at once. */
 enum { AT_ONCE = 32 };
 
-/* A column: of each datagram the bytes that stand there in its struct. */
+/* A column: of each datagram the bytes that stand there in its struct. Those of the first one are put there, and those
+ * of each other one so many bytes behind the one before. */
 typedef struct {
     size_t offset;
     size_t size;
     uint8_t *to;
+    size_t stride;
 } column;
+
+static uint8_t *cell(const column *it, size_t row) {
+    return it->to + row * it->stride;
+}
 
 /* Puts what stands in so many structs of this size into the column, from a row on. */
 static void put(const column *it, const void *structs, size_t struct_size, size_t row, size_t count) {
     const uint8_t *from = (const uint8_t *)structs + it->offset;
-    uint8_t *to = it->to + row * it->size;
-    for (size_t i = 0; i < count; i++, from += struct_size, to += it->size) {
+    uint8_t *to = cell(it, row);
+    for (size_t i = 0; i < count; i++, from += struct_size, to += it->stride) {
         switch (it->size) {
         case 1: *to = *from; break;
         case 2: memcpy(to, from, 2); break;
@@ -30,7 +36,7 @@ static void put(const column *it, const void *structs, size_t struct_size, size_
 }
 
 static void put_fields(const uint8_t *buf, size_t size, const uint64_t *at, const uint64_t *len, size_t row,
-                       size_t count, const column *columns, size_t column_count, uint8_t *is_rtp) {
+                       size_t count, const column *columns, size_t column_count, const column *is_rtp) {
     rtpw_datagram datagrams[AT_ONCE] = {{0}};
     for (size_t i = 0; i < count; i++) {
         datagrams[i].at = at[row + i];
@@ -39,7 +45,7 @@ static void put_fields(const uint8_t *buf, size_t size, const uint64_t *at, cons
     rtpw_packet_parse_many(buf, size, datagrams, count);
     for (size_t i = 0; i < count; i++) {
         rtpw_datagram *it = &datagrams[i];
-        is_rtp[row + i] = it->status == RTPW_OK && !it->is_rtcp;
+        *cell(is_rtp, row + i) = it->status == RTPW_OK && !it->is_rtcp;
         if (it->status == RTPW_OK) {
             it->packet.payload_at += it->at; /* from the buffer's first byte on */
         }
@@ -72,7 +78,7 @@ static void put_values(const uint8_t *buf, size_t size, const rtpw_map *map, con
  * of rtpw_datagram_header. Of one that is no packet, and so has a status, the fields and values are 0. */
 void columns_parse(const uint8_t *buf, size_t size, const rtpw_map *map, const uint64_t *at, const uint64_t *len,
                    size_t count, const column *fields, size_t field_count, const column *values, size_t value_count,
-                   uint8_t *is_rtp) {
+                   const column *is_rtp) {
     for (size_t row = 0; row < count; row += AT_ONCE) {
         size_t rows = count - row < AT_ONCE ? count - row : AT_ONCE;
         put_fields(buf, size, at, len, row, rows, fields, field_count, is_rtp);
@@ -85,20 +91,21 @@ void columns_parse(const uint8_t *buf, size_t size, const rtpw_map *map, const u
 /* Has the packets judged in order, each by the receiver at its index, where it is one. Of each that is taken the
  * number is written, and else 0; and the verdict: 0 where it isn't judged, 1 where it is taken, 2 where refused. */
 void columns_receive(rtpw_receiver *receivers, size_t receiver_count, const uint64_t *indices,
-                     const uint16_t *sequence_numbers, const uint8_t *is_rtp, size_t count, uint64_t *numbers,
-                     uint8_t *verdicts) {
+                     const column *sequence_numbers, const column *is_rtp, size_t count, const column *numbers,
+                     const column *verdicts) {
     for (size_t row = 0; row < count; row += AT_ONCE) {
         size_t rows = count - row < AT_ONCE ? count - row : AT_ONCE;
         rtpw_arrival arrivals[AT_ONCE];
         for (size_t i = 0; i < rows; i++) {
-            arrivals[i].receiver = is_rtp[row + i] ? indices[row + i] : SIZE_MAX;
+            arrivals[i].receiver = *cell(is_rtp, row + i) ? indices[row + i] : SIZE_MAX;
             arrivals[i].number = 0;
-            arrivals[i].sequence_number = sequence_numbers[row + i];
+            memcpy(&arrivals[i].sequence_number, cell(sequence_numbers, row + i), 2);
         }
         rtpw_receive_many(receivers, receiver_count, arrivals, rows);
         for (size_t i = 0; i < rows; i++) {
-            numbers[row + i] = arrivals[i].number;
-            verdicts[row + i] = arrivals[i].status == RTPW_OK ? 1 : arrivals[i].status == RTPW_REFUSED ? 2 : 0;
+            const rtpw_arrival *it = &arrivals[i];
+            memcpy(cell(numbers, row + i), &it->number, 8);
+            *cell(verdicts, row + i) = it->status == RTPW_OK ? 1 : it->status == RTPW_REFUSED ? 2 : 0;
         }
     }
 }

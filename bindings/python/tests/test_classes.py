@@ -70,6 +70,7 @@ FIELDS: Dict[Any, Tuple[str, ...]] = {
     VideoTiming: ("encode_start", "encode_finish", "packetize_complete", "last_left_pacer", "flags"),
     Element: ("id", "data"),
     Taken: ("number", "restarted"),
+    rtp_wire.Route: ("data", "payload_type", "sequence_number", "timestamp", "ssrc", "marker"),
     rtp_wire.FrameMarking: ("start", "end", "independent", "discardable", "layers"),
     rtp_wire.FrameLayers: ("base_layer_sync", "temporal_id", "layer_id", "tl0_pic_idx"),
     rtp_wire.Orientation: ("camera", "flip", "turn"),
@@ -98,6 +99,12 @@ CALLS: Dict[Any, str] = {
     rtp_wire.remove_block: "(datagram)",
     rtp_wire.compact: "(datagram)",
     rtp_wire.write_elements: "(elements, form)",
+    rtp_wire.structured_array: (
+        "(buffer, at, lengths, map=None, values=(), receivers=None, rollover_count=1)"
+    ),
+    rtp_wire.HeaderTemplate: "(datagram, ids, elements=(), allowed=None)",
+    rtp_wire.HeaderTemplate.write: "(self, routes)",
+    rtp_wire.HeaderTemplate.write_into: "(self, buffer, routes, at=None)",
     rtp_wire.pad: "(datagram, header_len, pad_len, block_size=1)",
     rtp_wire.read_original: "(payload)",
     rtp_wire.write_original: "(payload, number)",
@@ -192,6 +199,7 @@ class Fields(unittest.TestCase):
             if is_tuple:
                 self.assertEqual((made, tuple(made)), (tuple(range(len(names))), made))
                 self.assertRaises(AttributeError, setattr, made, names[0], 7)
+        self.assertEqual(untyped(rtp_wire.Route)[:30], "(data=b'', payload_type=None, ")
         self.assertEqual(untyped(Header)[:40], "(payload_type=0, sequence_number=0, time")
         self.assertEqual(untyped(Values), f"({', '.join(f'{name}=None' for name in VALUES)})")
 
@@ -397,6 +405,9 @@ class Calls(unittest.TestCase):
                 self.assertEqual(Map.from_uris({4: uri, 5: level}), Map({5: Kind.AUDIO_LEVEL}))
         self.assertIs(Kind.from_uri(MID), Kind.MID)
         self.assertIs(Kind.from_uri("urn:\u0131etf:params:rtp-hdrext:sdes:mid"), Kind.NONE)
+        for other, told in ((5, "int"), (None, "NoneType"), (b"urn:x", "bytes")):
+            with self.assertRaisesRegex(TypeError, f"^a URI is {told}, and not str$"):
+                Kind.from_uri(other)  # type: ignore[arg-type]
         # of an id the last URI counts
         self.assertEqual(Map.from_uris([(4, MID), (4, level)]), Map({4: Kind.AUDIO_LEVEL}))
 
@@ -414,7 +425,9 @@ SIZES = {
     _library.RawDatagram: 88,
     _library.RawDatagramHeader: 248,
     _library.RawArrival: 24,
-    _library.RawColumn: 24,
+    _library.RawTemplate: 88,
+    _library.RawRoutedHeader: 40,
+    _library.RawColumn: 32,
     _library.RawLayer: 40,
     _library.RawStream: 168,
     _library.RawLayers: 680,
@@ -436,6 +449,7 @@ SIZES = {
 SMALL = {
     _library.RawReport: 4,
     _library.RawFields: 4,
+    _library.RawTemplate: 4,
     _library.RawMap: 1,
     _library.RawNewIds: 1,
     _library.RawFrameMarking: 1,

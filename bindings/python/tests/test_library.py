@@ -31,6 +31,8 @@ STRUCTS = {
     "rtpw_datagram": _library.RawDatagram,
     "rtpw_datagram_header": _library.RawDatagramHeader,
     "rtpw_arrival": _library.RawArrival,
+    "rtpw_template": _library.RawTemplate,
+    "rtpw_routed_header": _library.RawRoutedHeader,
     "rtpw_layer": _library.RawLayer,
     "rtpw_stream": _library.RawStream,
     "rtpw_layers": _library.RawLayers,

@@ -1,8 +1,9 @@
 """RTP packets (RFC 3550, 5.1), their header extensions (RFC 8285) and the receive state of a stream.
 
-`Packet` reads a packet where it lies, and changes it in place; `Columns` reads many at once; `Header` is the header as
-a value, to be read or written; `Map` says which extension each id means; `Receiver` judges the packets of a stream. The
-work is done by the functions of librtp_wire, each of which is proved.
+`Packet` reads a packet where it lies, and changes it in place; `Columns` reads many at once; `HeaderTemplate` writes a
+header for each receiver of a packet; `Header` is the header as a value, to be read or written; `Map` says which extension
+each id means; `Receiver` judges the packets of a stream. The work is done by the functions of librtp_wire, each of which
+is proved.
 """
 
 from . import _library
@@ -64,6 +65,8 @@ from ._standard import (
     has_dependency_structure,
     read_token,
 )
+from ._structured import structured_array
+from ._template import HeaderTemplate, Route
 from ._values import Time, Values, VideoTiming
 
 __all__ = [
@@ -86,6 +89,7 @@ __all__ = [
     "FrameMarking",
     "HdrMetadata",
     "Header",
+    "HeaderTemplate",
     "Kind",
     "Layer",
     "Layers",
@@ -103,6 +107,7 @@ __all__ = [
     "ReceptionStatistics",
     "Resolution",
     "RestartingReceiver",
+    "Route",
     "RtpError",
     "ShortBuffer",
     "Standing",
@@ -142,6 +147,7 @@ __all__ = [
     "read_token",
     "read_transmission_offset",
     "remove_block",
+    "structured_array",
     "to_retransmission",
     "transmission_offset_data",
     "write_elements",

@@ -3,15 +3,26 @@
 from __future__ import annotations
 
 from array import array
-from ctypes import byref, memmove, sizeof
 from enum import IntEnum
 from itertools import compress
-from typing import TYPE_CHECKING, Dict, Iterable, Iterator, MutableMapping, NamedTuple, Optional, Tuple, Union
+from typing import (
+    TYPE_CHECKING,
+    Dict,
+    Iterable,
+    Iterator,
+    List,
+    MutableMapping,
+    NamedTuple,
+    Optional,
+    Tuple,
+    Union,
+)
 
 from . import _library
 from ._buffers import address_of, place_of
 from ._column import Column, TextColumn
 from ._errors import BadField, Status
+from ._judges import Judges
 from ._map import Map, raw_map
 from ._receiver import Receiver
 
@@ -25,7 +36,7 @@ _VALUES_AT = _library.RawDatagramHeader.header.offset + _library.RawHeader.value
 _HAS_AT = _VALUES_AT + _library.RawValues.has.offset
 
 # The columns of fields: what `array` calls the type of each, and where it stands in the struct.
-_FIELDS: Dict[str, Tuple[str, int]] = {
+FIELDS: Dict[str, Tuple[str, int]] = {
     "status": ("i", _library.RawDatagram.status.offset),
     "is_rtcp": ("B", _library.RawDatagram.is_rtcp.offset),
     **{
@@ -44,7 +55,7 @@ _FIELDS: Dict[str, Tuple[str, int]] = {
     },
 }
 # The columns of values: the type of each, where it stands in the struct, and what says that it is there.
-_NUMBERS: Dict[str, Tuple[str, int, str]] = {
+NUMBERS: Dict[str, Tuple[str, int, str]] = {
     **{
         name: (code, _VALUES_AT + getattr(_library.RawValues, name).offset, name)
         for name, code in {
@@ -74,7 +85,7 @@ _NUMBERS: Dict[str, Tuple[str, int, str]] = {
     },
 }
 # The columns of texts, and how many bytes each takes in the struct.
-_TEXTS: Dict[str, Tuple[int, int, str]] = {
+TEXTS: Dict[str, Tuple[int, int, str]] = {
     name: (_VALUES_AT + described.offset, described.size, name)
     for name in ("mid", "rid", "repaired_rid")
     for described in [getattr(_library.RawValues, name)]
@@ -87,8 +98,8 @@ def _zeros(code: str, count: int) -> array[int]:
     return column
 
 
-def _raw_column(offset: int, column: array[int]) -> _library.RawColumn:
-    return _library.RawColumn(offset, column.itemsize, column.buffer_info()[0])
+def _raw_column(column: array[int], offset: int = 0) -> _library.RawColumn:
+    return _library.RawColumn(offset, column.itemsize, column.buffer_info()[0], column.itemsize)
 
 
 def _numbers(places: Places) -> array[int]:
@@ -109,14 +120,46 @@ def _numbers(places: Places) -> array[int]:
     return numbers
 
 
-_NO_INDEX = (1 << 64) - 1
+def places_of(at: Places, lengths: Places) -> Tuple[array[int], array[int]]:
+    """Where datagrams begin, and how long they are."""
+    places = _numbers(at), _numbers(lengths)
+    if len(places[0]) != len(places[1]):
+        raise BadField(Status.BAD_FIELD, f"there are {len(places[0])} places and {len(places[1])} lengths")
+    return places
 
 
-class _Indices(Dict[int, int]):
-    """The index of the receiver of each SSRC; of one that no packet has, that of none."""
+def has_at(name: str) -> int:
+    """Where in the struct it stands whether this value is there."""
+    return _HAS_AT + _library.VALUES.index(name)
 
-    def __missing__(self, ssrc: int) -> int:
-        return _NO_INDEX
+
+def no_column(name: object) -> BadField:
+    return BadField(Status.BAD_FIELD, f"there is no column of {name!r}")
+
+
+def read(
+    data: Union[bytes, memoryview],
+    at: array[int],
+    lengths: array[int],
+    map: Optional[Map],
+    fields: List[_library.RawColumn],
+    values: List[_library.RawColumn],
+    is_rtp: _library.RawColumn,
+) -> None:
+    """Reads the datagrams at these places into these columns of fields and values."""
+    _library.columns_parse(
+        place_of(data)[1],
+        len(data),
+        raw_map(Map() if map is None else map),
+        at.buffer_info()[0],
+        lengths.buffer_info()[0],
+        len(at),
+        (_library.RawColumn * len(fields))(*fields),
+        len(fields),
+        (_library.RawColumn * len(values))(*values),
+        len(values),
+        is_rtp,
+    )
 
 
 class Verdict(IntEnum):
@@ -158,7 +201,7 @@ class Columns:
     (b'hi', 0, None)
     """
 
-    __slots__ = (*_FIELDS, "is_rtp", "values", "texts", "_data", "_at", "_lengths")
+    __slots__ = (*FIELDS, "is_rtp", "values", "texts", "_data", "_at", "_lengths")
 
     status: array[int]
     """A `Status` of each, as a number: 0 of a packet, one of the causes 1 to 6 for which it is none, or
@@ -214,47 +257,32 @@ class Columns:
         of a second; in place of "video_timing" its parts "encode_start", "encode_finish", "packetize_complete",
         "last_left_pacer" and "timing_flags"; and no "layers". BadField for any other name."""
         columns = cls.__new__(cls)
-        columns._data, first = place_of(buffer)
-        columns._at, columns._lengths = _numbers(at), _numbers(lengths)
+        columns._data, columns._at, columns._lengths = place_of(buffer)[0], *places_of(at, lengths)
         count = len(columns._at)
-        if len(columns._lengths) != count:
-            raise BadField(Status.BAD_FIELD, f"there are {count} places and {len(columns._lengths)} lengths")
         fields = []
-        for name, (code, offset) in _FIELDS.items():
+        for name, (code, offset) in FIELDS.items():
             column = _zeros(code, count)
             setattr(columns, name, column)
-            fields.append(_raw_column(offset, column))
+            fields.append(_raw_column(column, offset))
         columns.is_rtp, columns.values, columns.texts = _zeros("B", count), {}, {}
         of_values = [it for name in dict.fromkeys(values) for it in columns._add(name)]
-        _library.columns_parse(
-            first,
-            len(columns._data),
-            raw_map(Map() if map is None else map),
-            columns._at.buffer_info()[0],
-            columns._lengths.buffer_info()[0],
-            count,
-            (_library.RawColumn * len(fields))(*fields),
-            len(fields),
-            (_library.RawColumn * len(of_values))(*of_values),
-            len(of_values),
-            columns.is_rtp.buffer_info()[0],
-        )
+        read(columns._data, columns._at, columns._lengths, map, fields, of_values, _raw_column(columns.is_rtp))
         return columns
 
     def _add(self, name: str) -> Iterator[_library.RawColumn]:
         """Adds an empty column of this kind of value, and says what goes there."""
         there = _zeros("B", len(self))
-        if name in _NUMBERS:
-            code, offset, has = _NUMBERS[name]
+        if name in NUMBERS:
+            code, offset, has = NUMBERS[name]
             self.values[name] = Column(_zeros(code, len(self)), there)
-            yield _raw_column(offset, self.values[name].data)
-        elif name in _TEXTS:
-            offset, size, has = _TEXTS[name]
+            yield _raw_column(self.values[name].data, offset)
+        elif name in TEXTS:
+            offset, size, has = TEXTS[name]
             text = self.texts[name] = TextColumn(bytearray(size * len(self)), size, there)
-            yield _library.RawColumn(offset, size, address_of(memoryview(text.data)))
+            yield _library.RawColumn(offset, size, address_of(memoryview(text.data)), size)
         else:
-            raise BadField(Status.BAD_FIELD, f"there is no column of {name!r}")
-        yield _raw_column(_HAS_AT + _library.VALUES.index(has), there)
+            raise no_column(name)
+        yield _raw_column(there, has_at(has))
 
     def __len__(self) -> int:
         """How many datagrams there are."""
@@ -284,24 +312,9 @@ class Columns:
         """
         count = len(self)
         verdicts = Verdicts(_zeros("Q", count), _zeros("B", count))
-        ssrcs = set(compress(self.ssrc, self.is_rtp))
-        judges = {ssrc: receivers[ssrc] if ssrc in receivers else Receiver(rollover_count) for ssrc in ssrcs}
-        apart = {id(it): it for it in judges.values()}  # one may be that of several sources
-        states = (_library.RawReceiver * len(apart))(*(it._raw for it in apart.values()))
-        places = dict(zip(apart, range(len(apart))))
-        index_of = _Indices((ssrc, places[id(it)]) for ssrc, it in judges.items())
-        indices = array("Q", map(index_of.__getitem__, self.ssrc))
-        _library.columns_receive(
-            states,
-            len(apart),
-            indices.buffer_info()[0],
-            self.sequence_number.buffer_info()[0],
-            self.is_rtp.buffer_info()[0],
-            count,
-            verdicts.number.buffer_info()[0],
-            verdicts.verdict.buffer_info()[0],
-        )
-        for judge, state in zip(apart.values(), states):
-            memmove(byref(judge._raw), byref(state), sizeof(state))
-        receivers.update(judges)
+        judges = Judges(receivers, rollover_count, set(compress(self.ssrc, self.is_rtp)))
+        indices = array("Q", map(judges.index_of.__getitem__, self.ssrc))
+        given = _raw_column(self.sequence_number), _raw_column(self.is_rtp)
+        made = _raw_column(verdicts.number), _raw_column(verdicts.verdict)
+        judges.judge(indices.buffer_info()[0], *given, count, *made)
         return verdicts

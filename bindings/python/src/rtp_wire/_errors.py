@@ -190,3 +190,11 @@ def within(name: str, value: int, low: int, high: int) -> int:
 def unsigned(name: str, value: int, bits: int) -> int:
     """The value, where it is a whole number of so many bits."""
     return within(name, value, 0, (1 << bits) - 1)
+
+
+def element_id(id: int) -> int:
+    """The id of an element; BadId where it is none."""
+    number = whole("id", id)
+    if not 1 <= number <= 255:
+        raise BadId(Status.BAD_ID, f"id is {number}, and not 1 to 255")
+    return number

@@ -3,12 +3,11 @@
 from __future__ import annotations
 
 from ctypes import c_size_t
-from operator import index
 from typing import TYPE_CHECKING, Optional
 
 from . import _library
 from ._buffers import address_of, copy_of, writable_view_of
-from ._errors import BadField, BadId, Status, check, unsigned, within
+from ._errors import BadField, Status, check, element_id, unsigned, within
 from ._packet import Form
 
 if TYPE_CHECKING:
@@ -60,14 +59,16 @@ def _put(
 ) -> int:
     """Puts an element by this function of the library."""
     view = writable_view_of(buffer)
-    count, number = c_size_t(within("length", length, 0, len(view))), index(id)
-    if not 1 <= number <= 255:
-        raise BadId(Status.BAD_ID, f"id is {number}, and not 1 to 255")
+    count, number = c_size_t(within("length", length, 0, len(view))), element_id(id)
     copy = copy_of(data)
     within("the length of data", len(copy), 0, 255)
-    form = Form.NONE if allowed is None else within("allowed", allowed, Form.NONE, Form.TWO_BYTE)
-    check(call(address_of(view), len(view), count, number, copy, len(copy), form))
+    check(call(address_of(view), len(view), count, number, copy, len(copy), allowed_forms(allowed)))
     return count.value
+
+
+def allowed_forms(allowed: Optional[Form]) -> int:
+    """The forms that are allowed, as the library has them: 0 for both."""
+    return Form.NONE if allowed is None else within("allowed", allowed, Form.NONE, Form.TWO_BYTE)
 
 
 def change_form(buffer: WritableBuffer, length: int, form: Form) -> int:

@@ -180,10 +180,36 @@ class RawDatagramHeader(Structure):
     ]
 
 
+class RawTemplate(Structure):
+    header_len: int
+    data_total: int
+    count: int
+    _fields_ = [
+        ("header_len", c_uint32),
+        ("data_at", c_uint32 * 16),
+        ("data_total", c_uint16),
+        ("count", c_uint8),
+        ("data_len", c_uint8 * 16),
+    ]
+
+
+class RawRoutedHeader(Structure):
+    data_at: int
+    at: int
+    fields: RawFields
+    status: int
+    _fields_ = [
+        ("data_at", c_size_t),
+        ("at", c_size_t),
+        ("fields", cast(Any, RawFields)),
+        ("status", c_int32),
+    ]
+
+
 class RawColumn(Structure):
     """A column of src/columns.c."""
 
-    _fields_ = [("offset", c_size_t), ("size", c_size_t), ("to", c_void_p)]
+    _fields_ = [("offset", c_size_t), ("size", c_size_t), ("to", c_void_p), ("stride", c_size_t)]
 
 
 class RawLayer(Structure):
@@ -341,6 +367,7 @@ if TYPE_CHECKING:
     from ctypes import Array
 
     Places = Array[RawElement]
+    Receivers = Array[RawRoutedHeader]
 
 FUNCTIONS: Dict[str, Any] = {}
 Function = Callable[..., Any]
@@ -370,10 +397,19 @@ columns_parse = _declare(
     _SIZE,
     POINTER(RawColumn),
     _SIZE,
-    _BYTES,
+    POINTER(RawColumn),
 )
 columns_receive = _declare(
-    None, "columns_receive", POINTER(RawReceiver), _SIZE, _BYTES, _BYTES, _BYTES, _SIZE, _BYTES, _BYTES
+    None,
+    "columns_receive",
+    POINTER(RawReceiver),
+    _SIZE,
+    _BYTES,
+    POINTER(RawColumn),
+    POINTER(RawColumn),
+    _SIZE,
+    POINTER(RawColumn),
+    POINTER(RawColumn),
 )
 
 version = _declare(c_uint32, "rtpw_version")
@@ -402,6 +438,35 @@ change_form = _declare(_STATUS, "rtpw_change_form", _BYTES, _SIZE, POINTER(c_siz
 put_block = _declare(_STATUS, "rtpw_put_block", _BYTES, _SIZE, POINTER(c_size_t), c_uint16, _BYTES, _SIZE)
 remove_block = _declare(_STATUS, "rtpw_remove_block", _BYTES, _SIZE, POINTER(c_size_t))
 compact = _declare(_STATUS, "rtpw_compact", _BYTES, _SIZE, POINTER(c_size_t))
+
+make_template = _declare(
+    _STATUS,
+    "rtpw_make_template",
+    _BYTES,
+    _SIZE,
+    POINTER(RawNewIds),
+    _BYTES,
+    _SIZE,
+    POINTER(RawElement),
+    _SIZE,
+    c_uint8,
+    _BYTES,
+    _SIZE,
+    POINTER(RawTemplate),
+)
+write_headers = _declare(
+    _STATUS,
+    "rtpw_write_headers",
+    POINTER(RawTemplate),
+    _BYTES,
+    _SIZE,
+    _BYTES,
+    _SIZE,
+    POINTER(RawRoutedHeader),
+    _SIZE,
+    _BYTES,
+    _SIZE,
+)
 
 next_element = _declare(_STATUS, "rtpw_next_element", _BYTES, _SIZE, c_uint8, _SIZE, POINTER(RawElement))
 last_element = _declare(_STATUS, "rtpw_last_element", _BYTES, _SIZE, c_uint8, c_uint8, POINTER(RawElement))

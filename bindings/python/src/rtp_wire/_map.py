@@ -50,6 +50,8 @@ class Kind(IntEnum):
     @classmethod
     def from_uri(cls, uri: str) -> Kind:
         """The kind whose URI this is, letter for letter; NONE where it is that of none, as of your own kinds."""
+        if not isinstance(uri, str):
+            raise TypeError(f"a URI is {type(uri).__name__}, and not str")
         data = uri.encode()
         return cls(_library.kind_of_uri(data, len(data)))
 

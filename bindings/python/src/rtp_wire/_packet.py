@@ -58,6 +58,27 @@ def elements(body: Buffer, form: int) -> Iterator[Element]:
         yield Element(raw.id, view[raw.data_at : raw.end])
 
 
+# The fields that are set together: the name of each, of what says that it is there, and how many bits it has.
+_FIELDS = [
+    (name, f"has_{name}", bits)
+    for name, bits in (
+        ("payload_type", 7),
+        ("sequence_number", 16),
+        ("timestamp", 32),
+        ("ssrc", 32),
+        ("marker", 1),
+    )
+]
+
+
+def put_fields(fields: _library.RawFields, *given: Optional[int]) -> None:
+    """Puts these, which are all in their order, into the fields; one that is None isn't there."""
+    for (name, has, bits), value in zip(_FIELDS, given):
+        if value is not None:
+            setattr(fields, name, unsigned(name, value, bits))
+            setattr(fields, has, 1)
+
+
 class Packet:
     """A packet where it lies. `parse` looks at it once; no byte of it is copied.
 
@@ -193,17 +214,7 @@ class Packet:
     ) -> None:
         """Sets those that are given, after one look at the packet: all of them or, where one is refused, none."""
         fields = _library.RawFields()
-        given = (
-            ("payload_type", payload_type, 7),
-            ("sequence_number", sequence_number, 16),
-            ("timestamp", timestamp, 32),
-            ("ssrc", ssrc, 32),
-            ("marker", marker, 1),
-        )
-        for name, value, bits in given:
-            if value is not None:
-                setattr(fields, name, unsigned(name, value, bits))
-                setattr(fields, f"has_{name}", 1)
+        put_fields(fields, payload_type, sequence_number, timestamp, ssrc, marker)
         self._set(_library.set_fields, fields)
 
     def _set(self, change: _library.Function, *arguments: object, reason: Optional[str] = None) -> None:

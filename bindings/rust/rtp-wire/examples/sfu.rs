@@ -1,6 +1,7 @@
 //! The core of an SFU, without sockets: the packets of a sender go on to each of three receivers under SSRCs,
-//! numbers, ids of extensions and mids of their own. A packet is never written anew: its header is copied and
-//! changed for each receiver, and its payload stays where it lies.
+//! numbers, ids of extensions and mids of their own. A packet is never written anew: a header is made of its own once
+//! for all receivers that have the same ids, each of them gets a copy with what it has of its own, and the payload stays
+//! where it lies.
 //!
 //! Reads the datagrams of the sender from standard input, one a line in hexadecimal, the second one 20
 //! milliseconds after the first and so on, and prints what each receiver gets: its number, 1 to 3, and the
@@ -12,8 +13,8 @@ use std::io::{self, BufRead, Write};
 use std::process::ExitCode;
 
 use rtp_wire::{
-    change_form, compact, is_rtcp, put_element, Fields, Form, Kind, Map, NewIds, Packet, PacketMut,
-    Receiver,
+    change_form, is_rtcp, Fields, Form, Group, HeaderTemplate, Kind, Map, NewIds, Packet, Place,
+    Receiver, RoutedSlot,
 };
 
 /// So many numbers up to the highest one a receiver keeps.
@@ -22,6 +23,8 @@ const WINDOW: u64 = 128;
 const STREAMS: usize = 16;
 /// A header that is sent on has at most so many bytes.
 const HEADER: usize = 2048;
+/// What each receiver gets of its own, where it has an id for it.
+const KINDS: [Kind; 3] = [Kind::Mid, Kind::TransportNumber, Kind::AbsSendTime];
 
 /// What a receiver agreed to, and under what it gets the streams.
 #[derive(Clone, Copy)]
@@ -38,19 +41,22 @@ struct Peer {
 
 /// The way to a receiver.
 struct Route {
+    /// Which of the receivers it is.
+    at: usize,
     peer: Peer,
-    /// The mid of the stream that was sent last.
-    mid: Vec<u8>,
-    /// From the sender's ids to the receiver's.
-    ids: NewIds,
-    /// The receiver's ids of these extensions, where it has one.
-    mid_id: Option<u8>,
-    transport_number_id: Option<u8>,
-    send_time_id: Option<u8>,
-    /// Whether the receiver's ids or mids need the two-byte form.
-    wide: bool,
     /// Of the next packet.
     transport_number: u16,
+}
+
+/// The ways to receivers that have the same ids, and mids of one length.
+struct Party {
+    /// From the sender's ids to theirs.
+    ids: NewIds,
+    /// The elements that they get, in what each has of its own.
+    elements: Vec<Place>,
+    /// Whether these ids or mids need the two-byte form.
+    wide: bool,
+    routes: Vec<Route>,
 }
 
 struct Stream {
@@ -88,108 +94,120 @@ impl fmt::Display for Counts {
     }
 }
 
-/// A header that lies in a buffer, with room behind it.
-struct Header {
-    buf: [u8; HEADER],
-    len: usize,
-    /// The form that alone its block may get, or that it may get either.
-    allowed: Option<Form>,
-}
-
-impl Header {
-    /// That of the packet.
-    fn of(packet: &Packet, allowed: Option<Form>) -> Option<Header> {
-        let mut buf = [0; HEADER];
-        let len = packet.header_len();
-        buf.get_mut(..len)?
-            .copy_from_slice(&packet.datagram()[..len]);
-        Some(Header { buf, len, allowed })
-    }
-
-    fn bytes(&mut self) -> &mut [u8] {
-        &mut self.buf[..self.len]
-    }
-
-    /// Gives it this element, where the receiver has an id for it.
-    fn put(&mut self, id: Option<u8>, data: &[u8]) -> Option<()> {
-        if let Some(id) = id {
-            self.len = put_element(&mut self.buf, self.len, id, data, self.allowed).ok()?;
-        }
-        Some(())
-    }
-}
-
 #[derive(Default)]
 struct Sfu {
-    routes: Vec<Route>,
+    parties: Vec<Party>,
     streams: Vec<Stream>,
     counts: Counts,
 }
 
 impl Route {
-    fn new(sender: &Map, peer: &Peer) -> Route {
-        let ids = NewIds::between(sender, &peer.map);
-        let mid_id = peer.map.id_of(Kind::Mid);
-        let long_mid = mid_id.is_some() && peer.mid.len() + 1 > 16;
-        Route {
-            peer: *peer,
-            mid: format!("{}0", peer.mid).into(),
-            ids,
-            mid_id,
-            transport_number_id: peer.map.id_of(Kind::TransportNumber),
-            send_time_id: peer.map.id_of(Kind::AbsSendTime),
-            wide: long_mid || peer.map.iter().any(|(id, _)| id > 14),
-            transport_number: 0,
-        }
-    }
-
-    /// Gives the packet the ids of the receiver. A one-byte block can't carry ids above 14: so it becomes a two-byte
-    /// one first.
-    fn renumber(&self, header: &mut Header, form: Option<Form>) -> Option<()> {
-        if self.wide && form == Some(Form::OneByte) {
-            header.len = change_form(&mut header.buf, header.len, Form::TwoByte).ok()?;
-        }
-        let mut packet = PacketMut::parse(header.bytes()).ok()?;
-        packet.renumber(&self.ids).ok()
-    }
-
-    /// The header of the packet, which is of this stream, for the receiver; `None` where it has no room.
-    fn header(&mut self, packet: &Packet, stream: usize, microseconds: u64) -> Option<Header> {
-        let wide = self.wide || packet.form() == Some(Form::TwoByte);
-        let allowed = if wide { None } else { Some(Form::OneByte) };
-        let mut header = Header::of(packet, allowed)?;
+    /// The fields that the receiver gets of a packet of this stream.
+    fn fields(&self, packet: &Packet, stream: usize) -> Fields {
         let number = packet.sequence_number();
-        let fields = Fields {
+        Fields {
             ssrc: Some(self.peer.first_ssrc.wrapping_add(stream as u32)),
             sequence_number: Some(number.wrapping_add(self.peer.number_offset)),
             ..Fields::default()
-        };
-        let mut changed = PacketMut::parse(header.bytes()).ok()?;
-        changed.set_fields(&fields).ok()?;
-        if packet.form().is_some() || packet.block_profile().is_none() {
-            self.put_elements(&mut header, packet.form(), stream, microseconds)?;
-        } // a block of another form has no elements, and stays
-        Some(header)
+        }
     }
 
-    /// Gives the packet the elements that the receiver agreed to, in as few bytes as they take.
-    fn put_elements(
-        &mut self,
-        header: &mut Header,
-        form: Option<Form>,
-        stream: usize,
-        microseconds: u64,
-    ) -> Option<()> {
-        self.renumber(header, form)?;
-        *self.mid.last_mut()? = b"0123456789ABCDEF"[stream];
-        header.put(self.mid_id, &self.mid)?;
+    /// Adds the data of the elements that the receiver agreed to, in the order of [`KINDS`].
+    fn put_data(&mut self, data: &mut Vec<u8>, stream: usize, microseconds: u64) {
+        let mid = [
+            self.peer.mid.as_bytes(),
+            &b"0123456789ABCDEF"[stream..=stream],
+        ]
+        .concat();
         let number = self.transport_number;
         self.transport_number = number.wrapping_add(1);
-        header.put(self.transport_number_id, &number.to_be_bytes())?;
         let time = microseconds % 64_000_000 * 262_144 / 1_000_000; // 24 bits, in units of 2^-18 seconds
-        header.put(self.send_time_id, &time.to_be_bytes()[5..])?;
-        header.len = compact(header.bytes()).ok()?;
-        Some(())
+        let all: [&[u8]; 3] = [&mid, &number.to_be_bytes(), &time.to_be_bytes()[5..]];
+        for (kind, its_data) in KINDS.into_iter().zip(all) {
+            if self.peer.map.id_of(kind).is_some() {
+                data.extend_from_slice(its_data);
+            }
+        }
+    }
+}
+
+impl Party {
+    /// The receivers that are like this first one.
+    fn of(sender: &Map, first: Route) -> Party {
+        let peer = &first.peer;
+        let (mut elements, mut at) = (Vec::new(), 0);
+        for (kind, len) in KINDS.into_iter().zip([peer.mid.len() + 1, 2, 3]) {
+            if let Some(id) = peer.map.id_of(kind) {
+                elements.push(Place::new(id, at..at + len));
+                at += len;
+            }
+        }
+        let has_long_mid = elements.iter().any(|it| it.data().len() > 16);
+        Party {
+            ids: NewIds::between(sender, &peer.map),
+            wide: has_long_mid || peer.map.iter().any(|(id, _)| id > 14),
+            elements,
+            routes: vec![first],
+        }
+    }
+
+    fn is_of(&self, peer: &Peer) -> bool {
+        let other = &self.routes[0].peer;
+        other.map == peer.map && other.mid.len() == peer.mid.len()
+    }
+
+    /// The packet, or its header in this buffer, with a block that can carry the receivers' ids: a one-byte block can't
+    /// carry those above 14, and becomes a two-byte one. `None` where it has no room.
+    fn widened<'a>(&self, packet: Packet<'a>, room: &'a mut [u8; HEADER]) -> Option<Packet<'a>> {
+        if !self.wide || packet.form() != Some(Form::OneByte) {
+            return Some(packet);
+        }
+        let header = &packet.datagram()[..packet.header_len()];
+        room.get_mut(..header.len())?.copy_from_slice(header);
+        let len = change_form(room, header.len(), Form::TwoByte).ok()?;
+        Packet::parse(&room[..len]).ok()
+    }
+
+    /// Sends the packet, which is of this stream, to the receivers, and returns to how many; `None` where its header has
+    /// no room.
+    fn send(
+        &mut self,
+        packet: Packet,
+        stream: usize,
+        microseconds: u64,
+        send: &mut impl FnMut(usize, &[u8], &[u8]),
+    ) -> Option<u64> {
+        // A block of another form has no elements, and stays.
+        let has_elements = packet.form().is_some() || packet.block_profile().is_none();
+        let mut data = Vec::new();
+        for route in self.routes.iter_mut().filter(|_| has_elements) {
+            route.put_data(&mut data, stream, microseconds);
+        }
+        let is_wide = self.wide || packet.form() == Some(Form::TwoByte);
+        let group = Group {
+            ids: &self.ids,
+            data: &data,
+            elements: if has_elements { &self.elements } else { &[] },
+            allowed: if is_wide { None } else { Some(Form::OneByte) },
+        };
+        let (mut room, mut made) = ([0; HEADER], [0; HEADER]);
+        let widened = self.widened(packet, &mut room)?;
+        let template = HeaderTemplate::new(&widened, &group, &mut made).ok()?;
+        let (data_len, header_len) = (template.data_len(), template.header_len());
+        let slot = |(n, it): (usize, &Route)| {
+            RoutedSlot::new(&it.fields(&packet, stream), n * data_len, n * header_len)
+        };
+        let mut slots: Vec<_> = self.routes.iter().enumerate().map(slot).collect();
+        let mut buf = vec![0; slots.len() * header_len];
+        let mut sent = 0;
+        let headers = template.write_headers(&data, &mut slots, &mut buf);
+        for (route, header) in self.routes.iter().zip(headers) {
+            if let Ok(header) = header {
+                send(route.at, header, packet.payload());
+                sent += 1;
+            }
+        }
+        Some(sent)
     }
 }
 
@@ -236,14 +254,24 @@ impl Sfu {
         }
         receiver.record(number); // with SRTP once it is authentic
         self.counts.taken += 1;
-        for (at, route) in self.routes.iter_mut().enumerate() {
-            match route.header(&packet, stream, microseconds) {
-                Some(mut header) => {
-                    send(at, header.bytes(), packet.payload());
-                    self.counts.sent += 1;
-                }
-                None => self.counts.unsent += 1,
-            }
+        for party in &mut self.parties {
+            let all = party.routes.len() as u64;
+            let sent = party.send(packet, stream, microseconds, &mut send);
+            self.counts.sent += sent.unwrap_or(0);
+            self.counts.unsent += all - sent.unwrap_or(0);
+        }
+    }
+
+    fn add(&mut self, sender: &Map, peer: &Peer) {
+        let route = Route {
+            at: self.parties.iter().map(|it| it.routes.len()).sum(),
+            peer: *peer,
+            transport_number: 0,
+        };
+        if let Some(party) = self.parties.iter_mut().find(|it| it.is_of(peer)) {
+            party.routes.push(route);
+        } else {
+            self.parties.push(Party::of(sender, route));
         }
     }
 }
@@ -333,7 +361,9 @@ fn main() -> io::Result<ExitCode> {
             return Ok(ExitCode::from(2));
         };
         if count == 0 {
-            sfu.routes = PEERS.iter().map(|peer| Route::new(&sender, peer)).collect();
+            for peer in &PEERS {
+                sfu.add(&sender, peer);
+            }
         }
         let mut sent = Vec::new();
         sfu.receive(&datagram, 20_000 * count, |receiver, header, payload| {
@@ -347,4 +377,60 @@ fn main() -> io::Result<ExitCode> {
     writeln!(out, "{}", sfu.counts)?;
     out.flush()?;
     Ok(ExitCode::SUCCESS)
+}
+
+#[cfg(test)]
+mod tests {
+    use super::*;
+
+    /// What each receiver of this SFU gets of the datagram.
+    fn sent(sfu: &mut Sfu, datagram: &[u8]) -> Vec<(usize, Vec<u8>)> {
+        let mut all = Vec::new();
+        sfu.receive(datagram, 0, |at, header, payload| {
+            assert_eq!(payload, b"hi");
+            all.push((at, header.to_vec()));
+        });
+        all
+    }
+
+    #[test]
+    fn receivers_with_the_same_ids_get_one_header_with_values_of_their_own() {
+        let (sender, mut sfu) = (Map::new().with(1, Kind::AudioLevel), Sfu::default());
+        let [first, other, _] = PEERS;
+        let alike = Peer {
+            mid: "n",
+            first_ssrc: 5000,
+            number_offset: 7,
+            ..first
+        };
+        let longer = Peer { mid: "mn", ..first };
+        for peer in [&first, &other, &alike, &longer] {
+            sfu.add(&sender, peer);
+        }
+        let parties = sfu.parties.iter().map(|it| it.routes.len());
+        assert_eq!(parties.collect::<Vec<_>>(), [2, 1, 1]);
+        // the level 10 below, of which no padding is left
+        let mut datagram = *b"\x90\x60\0\x05\0\0\0\x64\0\0\0\x2C\xBE\xDE\0\x01\x10\x8A\0\0hi";
+        for packet in [5, 6] {
+            datagram[3] = packet;
+            let number = packet - 5;
+            let headers = sent(&mut sfu, &datagram);
+            let places: Vec<_> = headers.iter().map(|it| it.0).collect();
+            assert_eq!(places, [0, 2, 1, 3]);
+            let header = |ssrc: u16, offset: u8, mid: u8| {
+                let [high, low] = ssrc.to_be_bytes();
+                let fixed = [0x90, 96, 0, packet + offset, 0, 0, 0, 100, 0, 0, high, low];
+                let block = [
+                    0xBE, 0xDE, 0, 3, 0x90, 0x8A, 0x21, mid, b'0', 0x51, 0, number, 0x72, 0, 0, 0,
+                ];
+                [&fixed[..], &block].concat()
+            };
+            assert_eq!(headers[0].1, header(1000, 0, b'm'));
+            assert_eq!(headers[1].1, header(5000, 7, b'n'));
+        }
+        assert_eq!(
+            (sfu.counts.taken, sfu.counts.sent, sfu.counts.unsent),
+            (2, 8, 0)
+        );
+    }
 }

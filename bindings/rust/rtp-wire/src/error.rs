@@ -344,6 +344,42 @@ impl From<NotAPacket> for NotPut {
     }
 }
 
+/// Why no header was made for the receivers of a packet ([`HeaderTemplate::new`](crate::HeaderTemplate::new)).
+#[derive(Clone, Copy, Debug, PartialEq, Eq, Hash)]
+#[non_exhaustive]
+pub enum NotRouted {
+    /// There are more than 16 elements to put.
+    ManyElements,
+    /// Two of the elements have one id.
+    RepeatedId,
+    /// An element of the packet would get an id that the packet's form can't carry: one above 14 in the one-byte form,
+    /// of which [`change_form`](crate::change_form) makes the other.
+    BadNewId,
+    /// An element isn't put, or the buffer has no room: [`source`](Error::source) says why. It is
+    /// [`NotPut::BadField`] where there are more than 255 bytes of data, or these reach past what they lie in.
+    NotPut(NotPut),
+}
+
+impl fmt::Display for NotRouted {
+    fn fmt(&self, f: &mut fmt::Formatter<'_>) -> fmt::Result {
+        f.write_str(match self {
+            NotRouted::ManyElements => "more than 16 elements",
+            NotRouted::RepeatedId => "two elements of one id",
+            NotRouted::BadNewId => "the block's form can't carry a new id",
+            NotRouted::NotPut(_) => "an element can't be put, or there is no room",
+        })
+    }
+}
+
+impl Error for NotRouted {
+    fn source(&self) -> Option<&(dyn Error + 'static)> {
+        match self {
+            NotRouted::NotPut(cause) => Some(cause),
+            _ => None,
+        }
+    }
+}
+
 /// Why a packet or a header was left as it was.
 #[derive(Clone, Copy, Debug, PartialEq, Eq, Hash)]
 #[non_exhaustive]

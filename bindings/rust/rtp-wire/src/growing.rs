@@ -71,7 +71,7 @@ pub fn add_element(
 }
 
 /// The forms that are allowed, as the library has them: 0 for both.
-fn number_of(allowed: Option<Form>) -> u8 {
+pub(crate) fn number_of(allowed: Option<Form>) -> u8 {
     allowed.map_or(0, Form::number)
 }
 

@@ -10,10 +10,11 @@
 //!   [`Header::write_with_layers`], [`write_elements`], [`pad`].
 //! - To send on: [`PacketMut`], [`put_element`], [`add_element`], [`change_form`], [`put_block`], [`remove_block`],
 //!   [`compact`], [`Fields`], [`Values::data_of`], [`NewIds`].
+//! - To send to many receivers: [`HeaderTemplate`], [`Group`], [`RoutedSlot`].
 //! - To send again: [`to_retransmission`], [`from_retransmission`], [`read_original`], [`write_original`].
 //! - Elements as their standards have them, for any peer: [`standard`], [`Packet::token`].
 //! - What went wrong: [`NotAPacket`], [`NotAHeader`], [`NotAValue`], [`NotRead`], [`NotTaken`], [`NotWritten`], [`OutOfRange`], [`NotChanged`],
-//!   [`NotPut`], [`NotRetransmitted`], [`NotAText`], [`BadId`], [`BadRolloverCount`], [`TooManyLayers`].
+//!   [`NotPut`], [`NotRouted`], [`NotRetransmitted`], [`NotAText`], [`BadId`], [`BadRolloverCount`], [`TooManyLayers`].
 #![no_std]
 #![deny(unsafe_code)]
 #![warn(missing_docs, missing_debug_implementations)]
@@ -36,6 +37,7 @@ mod reception;
 mod restarting;
 pub mod standard;
 mod sys;
+mod template;
 mod text;
 mod uri;
 mod values;
@@ -45,7 +47,7 @@ mod wide_receiver;
 pub use elements::{write_elements, Element, Elements, Place, Places};
 pub use error::{
     BadId, BadRolloverCount, NotAHeader, NotAPacket, NotAValue, NotChanged, NotPut, NotRead,
-    NotRetransmitted, NotTaken, NotWritten, OutOfRange, TooManyLayers,
+    NotRetransmitted, NotRouted, NotTaken, NotWritten, OutOfRange, TooManyLayers,
 };
 pub use growing::{add_element, change_form, compact, put_block, put_element, remove_block};
 pub use header::Header;
@@ -65,6 +67,7 @@ pub use payload::{
 pub use receiver::{extend_u15, extend_u16, extend_u32, extend_u8, Receiver, Standing};
 pub use reception::{ReceptionReport, ReceptionStatistics};
 pub use restarting::{Arrival, RestartingReceiver, WideRestartingReceiver};
+pub use template::{Group, HeaderTemplate, RoutedHeaders, RoutedSlot};
 pub use text::{Mid, NotAText, Rid, Text};
 pub use uri::Uri;
 pub use values::{Values, VideoTiming};

@@ -6,7 +6,8 @@ use crate::packet::Packet;
 use crate::sys;
 use crate::views::FieldsView;
 
-/// Fields that [`PacketMut::set_fields`] sets at once; one that is `None` stays as it is.
+/// Fields that [`PacketMut::set_fields`] sets at once, or that a receiver of a [`HeaderTemplate`](crate::HeaderTemplate)
+/// gets of its own; one that is `None` stays as it is.
 #[derive(Clone, Copy, Debug, Default, PartialEq, Eq, Hash)]
 pub struct Fields {
     /// M.
@@ -22,7 +23,8 @@ pub struct Fields {
 }
 
 impl Fields {
-    fn view(&self) -> FieldsView {
+    #[inline]
+    pub(crate) fn view(&self) -> FieldsView {
         FieldsView {
             timestamp: self.timestamp.unwrap_or_default(),
             ssrc: self.ssrc.unwrap_or_default(),

@@ -12,8 +12,8 @@ use crate::reception::ReceptionReport;
 use crate::views::{
     ArrivalSlot, ColorSpaceView, DependencyDescriptorView, FieldsView, FrameMarkingView,
     HeaderSlot, HeaderView, Layers, OrientationView, PacketParts, PacketSlot, Place, ReceiverState,
-    ReceptionState, RestartingState, StoredMap, StoredNewIds, TimingView, TransportNumberView,
-    ValuesView, WideState,
+    ReceptionState, RestartingState, RoutedSlot, StoredMap, StoredNewIds, TemplateParts,
+    TimingView, TransportNumberView, ValuesView, WideState,
 };
 
 pub const OK: i32 = 0;
@@ -44,8 +44,8 @@ mod c {
     use super::{
         ArrivalSlot, ColorSpaceView, DependencyDescriptorView, FieldsView, FrameMarkingView,
         HeaderSlot, HeaderView, Layers, OrientationView, PacketParts, PacketSlot, Place,
-        ReceiverState, ReceptionReport, ReceptionState, RestartingState, StoredMap, StoredNewIds,
-        TimingView, TransportNumberView, ValuesView, WideState,
+        ReceiverState, ReceptionReport, ReceptionState, RestartingState, RoutedSlot, StoredMap,
+        StoredNewIds, TemplateParts, TimingView, TransportNumberView, ValuesView, WideState,
     };
 
     extern "C" {
@@ -427,6 +427,30 @@ mod c {
             arrivals: *mut ArrivalSlot,
             count: usize,
         );
+        pub fn rtpw_make_template(
+            datagram: *const u8,
+            len: usize,
+            ids: *const StoredNewIds,
+            data: *const u8,
+            data_len: usize,
+            elements: *const Place,
+            count: usize,
+            allowed: u8,
+            buf: *mut u8,
+            size: usize,
+            made: *mut TemplateParts,
+        ) -> i32;
+        pub fn rtpw_write_headers(
+            made: *const TemplateParts,
+            header: *const u8,
+            header_size: usize,
+            data: *const u8,
+            data_len: usize,
+            receivers: *mut RoutedSlot,
+            count: usize,
+            buf: *mut u8,
+            size: usize,
+        ) -> i32;
         pub fn rtpw_version() -> u32;
         pub fn rtpw_extend_u8(previous: u64, number: u8) -> u64;
         pub fn rtpw_extend_u15(previous: u64, number: u16) -> u64;
@@ -664,6 +688,56 @@ pub fn receive_many(receivers: &mut [Receiver], arrivals: &mut [ArrivalSlot]) {
             arrivals.as_mut_ptr(),
             arrivals.len(),
         );
+    }
+}
+
+pub fn make_template(
+    datagram: &[u8],
+    ids: &StoredNewIds,
+    data: &[u8],
+    elements: &[Place],
+    allowed: u8,
+    buf: &mut [u8],
+    made: &mut TemplateParts,
+) -> i32 {
+    // SAFETY: slices and a reference that are read, an exclusive slice, and an exclusive reference.
+    unsafe {
+        c::rtpw_make_template(
+            datagram.as_ptr(),
+            datagram.len(),
+            ids,
+            data.as_ptr(),
+            data.len(),
+            elements.as_ptr(),
+            elements.len(),
+            allowed,
+            buf.as_mut_ptr(),
+            buf.len(),
+            made,
+        )
+    }
+}
+
+pub fn write_headers(
+    made: &TemplateParts,
+    header: &[u8],
+    data: &[u8],
+    receivers: &mut [RoutedSlot],
+    buf: &mut [u8],
+) -> i32 {
+    // SAFETY: a reference and slices that are read, and two exclusive slices.
+    unsafe {
+        c::rtpw_write_headers(
+            made,
+            header.as_ptr(),
+            header.len(),
+            data.as_ptr(),
+            data.len(),
+            receivers.as_mut_ptr(),
+            receivers.len(),
+            buf.as_mut_ptr(),
+            buf.len(),
+        )
     }
 }
 

@@ -23,7 +23,7 @@ pub struct PacketParts {
 
 /// `rtpw_fields`
 #[repr(C)]
-#[derive(Clone, Copy)]
+#[derive(Clone, Copy, Debug)]
 pub struct FieldsView {
     pub timestamp: u32,
     pub ssrc: u32,
@@ -209,6 +209,29 @@ pub struct ArrivalSlot {
     pub(crate) status: i32,
 }
 
+/// `rtpw_template`
+#[repr(C)]
+#[derive(Clone, Copy, Debug, Default)]
+pub struct TemplateParts {
+    pub header_len: u32,
+    pub data_at: [u32; 16],
+    pub data_total: u16,
+    pub count: u8,
+    pub data_len: [u8; 16],
+}
+
+/// One of the receivers of a group, for [`HeaderTemplate::write_headers`](crate::HeaderTemplate::write_headers): what
+/// it gets of its own, and then what became of it. Keep some in an array or a `Vec`, and use them again. 40 bytes:
+/// `rtpw_routed_header` in C.
+#[repr(C)]
+#[derive(Clone, Copy, Debug)]
+pub struct RoutedSlot {
+    pub(crate) data_at: usize,
+    pub(crate) at: usize,
+    pub(crate) fields: FieldsView,
+    pub(crate) status: i32,
+}
+
 /// A spatial layer of a [`Stream`].
 #[repr(C)]
 #[derive(Clone, Copy, Debug, Default, PartialEq, Eq, Hash)]
@@ -381,6 +404,10 @@ mod tests {
         lies!(PacketSlot, 88, at 0, len 8, packet 16, status 80, is_rtcp 84);
         lies!(HeaderSlot, 248, at 0, len 8, header 16, status 240, is_rtcp 244);
         lies!(ArrivalSlot, 24, receiver 0, number 8, sequence_number 16, status 20);
+        lies!(FieldsView, 20, aligned 4, timestamp 0, ssrc 4, sequence_number 8, payload_type 10, marker 11,
+            has_timestamp 12, has_ssrc 13, has_sequence_number 14, has_payload_type 15, has_marker 16);
+        lies!(TemplateParts, 88, aligned 4, header_len 0, data_at 4, data_total 68, count 70, data_len 71);
+        lies!(RoutedSlot, 40, data_at 0, at 8, fields 16, status 36);
         lies!(Layer, 40, kbps 0, width 32, height 34, framerate 36, has_resolution 37, rates 38);
         lies!(Stream, 168, layers 0, count 160);
         lies!(Layers, 680, streams 0, count 672, current 673);

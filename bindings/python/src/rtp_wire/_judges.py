@@ -1,0 +1,49 @@
+"""The receivers that judge many packets at once."""
+
+from __future__ import annotations
+
+from ctypes import byref, memmove, sizeof
+from typing import Dict, Iterable, MutableMapping, Optional
+
+from . import _library
+from ._receiver import Receiver
+
+_NO_INDEX = (1 << 64) - 1
+
+
+class Indices(Dict[int, int]):
+    """The index of the receiver of each SSRC; of one that no packet has, that of none."""
+
+    def __missing__(self, ssrc: int) -> int:
+        return _NO_INDEX
+
+
+class Judges:
+    """The receivers of these SSRCs, of which each that has none yet gets one."""
+
+    def __init__(
+        self, receivers: MutableMapping[int, Receiver], rollover_count: int, ssrcs: Iterable[int]
+    ) -> None:
+        judges = {ssrc: receivers[ssrc] if ssrc in receivers else Receiver(rollover_count) for ssrc in ssrcs}
+        apart = {id(it): it for it in judges.values()}  # one may be that of several sources
+        places = dict(zip(apart, range(len(apart))))
+        self.receivers, self.judges, self.apart = receivers, judges, list(apart.values())
+        self.index_of = Indices((ssrc, places[id(it)]) for ssrc, it in judges.items())
+
+    def judge(
+        self,
+        indices: Optional[int],
+        sequence_numbers: _library.RawColumn,
+        is_rtp: _library.RawColumn,
+        count: int,
+        numbers: _library.RawColumn,
+        verdicts: _library.RawColumn,
+    ) -> None:
+        """Has the packets judged, one after the other, by the receivers whose indices lie there."""
+        states = (_library.RawReceiver * len(self.apart))(*(it._raw for it in self.apart))
+        _library.columns_receive(
+            states, len(states), indices, sequence_numbers, is_rtp, count, numbers, verdicts
+        )
+        for judge, state in zip(self.apart, states):
+            memmove(byref(judge._raw), byref(state), sizeof(state))
+        self.receivers.update(self.judges)

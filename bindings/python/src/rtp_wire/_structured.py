@@ -1,0 +1,99 @@
+"""Many packets at once, in a structured array of numpy."""
+
+from __future__ import annotations
+
+from importlib import import_module
+from typing import TYPE_CHECKING, Any, Dict, Iterable, List, MutableMapping, Optional, Tuple
+
+from . import _library
+from ._buffers import place_of
+from ._columns import FIELDS, NUMBERS, TEXTS, has_at, no_column, places_of, read
+from ._judges import Judges
+from ._map import Map
+from ._receiver import Receiver
+
+if TYPE_CHECKING:
+    from ._buffers import Buffer
+    from ._columns import Places
+
+
+def structured_array(
+    buffer: Buffer,
+    at: Places,
+    lengths: Places,
+    map: Optional[Map] = None,
+    values: Iterable[str] = (),
+    receivers: Optional[MutableMapping[int, Receiver]] = None,
+    rollover_count: int = 1,
+) -> Any:
+    """What many datagrams of one buffer are, as a structured array of numpy with a row for each, where numpy is there;
+    else it is an ImportError. What is given, the fields and the values that are asked for are those of `Columns.parse`,
+    by the same names; `is_rtp` is one too. The rows are written where they lie, and nothing is copied.
+
+    It is a numpy.ma.MaskedArray, in which a value that isn't there is masked, and 0: `table["audio_level"].mean()` is of
+    those that are there, `table.data` is without masks, and `table[table["ssrc"] == 7]` are the packets of a source.
+
+    With receivers each packet is judged as by `Columns.receive`, and there are the fields `number`, masked where the
+    packet isn't taken, and `verdict`, a `Verdict` as a number."""
+    numpy: Any = import_module("numpy")
+    data = place_of(buffer)[0]
+    begins, sizes = places_of(at, lengths)
+    listed = list(dict.fromkeys(values))
+    formats: Dict[str, str] = {name: code for name, (code, _) in FIELDS.items()}
+    formats.update({"is_rtp": "B"} if receivers is None else {"is_rtp": "B", "number": "Q", "verdict": "B"})
+    formats.update((name, _format_of(name)) for name in listed)
+    rows = _Rows(numpy, list(formats.items()), len(begins))
+    fields = [rows.column(name, offset) for name, (_, offset) in FIELDS.items()]
+    of_values = [it for name in listed for it in rows.value(name)]
+    read(data, begins, sizes, map, fields, of_values, rows.column("is_rtp"))
+    for name in listed:
+        rows.turn(name)
+    if receivers is not None:
+        rows.judge(receivers, rollover_count)
+    return numpy.ma.MaskedArray(rows.rows, rows.masks)
+
+
+def _format_of(name: str) -> str:
+    """The format of the field of a value; BadField where there is none."""
+    if name in NUMBERS:
+        return NUMBERS[name][0]
+    if name in TEXTS:
+        return f"S{TEXTS[name][1]}"
+    raise no_column(name)
+
+
+class _Rows:
+    """Rows of such fields, and what says of each whether it is masked, all 0."""
+
+    def __init__(self, numpy: Any, formats: List[Tuple[str, str]], count: int) -> None:
+        self.numpy = numpy
+        self.rows = numpy.zeros(count, numpy.dtype(formats, align=True))
+        self.masks = numpy.zeros(count, numpy.ma.make_mask_descr(self.rows.dtype))
+
+    def column(self, name: str, offset: int = 0, masks: bool = False) -> _library.RawColumn:
+        """The column of a field, or of its masks, for what stands in a struct there."""
+        of = self.masks if masks else self.rows
+        kind, begin = of.dtype.fields[name][:2]
+        return _library.RawColumn(offset, kind.itemsize, of.ctypes.data + begin, of.dtype.itemsize)
+
+    def value(self, name: str) -> List[_library.RawColumn]:
+        """The columns of a value, and of whether it is there."""
+        offset, has = NUMBERS[name][1:] if name in NUMBERS else TEXTS[name][::2]
+        return [self.column(name, offset), self.column(name, has_at(has), masks=True)]
+
+    def turn(self, name: str) -> None:
+        """Masks those of a value that aren't there, and no other."""
+        self.numpy.logical_not(self.masks[name], out=self.masks[name])
+
+    def judge(self, receivers: MutableMapping[int, Receiver], rollover_count: int) -> None:
+        """Has the packets judged by the receivers of their sources."""
+        numpy, rows = self.numpy, self.rows
+        sources, places = numpy.unique(rows["ssrc"], return_inverse=True)
+        heard = numpy.unique(rows["ssrc"][rows["is_rtp"] != 0]).tolist()
+        judges = Judges(receivers, rollover_count, heard)
+        of_sources = [judges.index_of[ssrc] for ssrc in sources.tolist()]
+        indices = numpy.array(of_sources, "Q")[places]
+        given = self.column("sequence_number"), self.column("is_rtp")
+        made = self.column("number"), self.column("verdict")
+        judges.judge(indices.ctypes.data, *given, len(rows), *made)
+        self.masks["number"] = rows["verdict"] != 1

@@ -1,0 +1,219 @@
+"""A packet's header for each of its receivers."""
+
+from __future__ import annotations
+
+from typing import TYPE_CHECKING, Iterable, List, NamedTuple, Optional, Sequence, Tuple, Union
+
+from . import _library
+from ._buffers import address_of, place_of, view_of, writable_view_of
+from ._errors import HIGH_ID, BadField, RtpError, Status, checked, element_id, error_of, unsigned, within
+from ._growing import allowed_forms
+from ._map import NewIds, raw_new_ids
+from ._packet import Form, put_fields
+
+if TYPE_CHECKING:
+    from ._buffers import Buffer, WritableBuffer
+
+MOST_ELEMENTS = 16
+# A place that no data have.
+_NOWHERE = (1 << 64) - 1
+
+
+class Route(NamedTuple):
+    """What one of the receivers of a packet gets of its own; a field that is None is the packet's."""
+
+    data: Buffer = b""
+    """The data of the elements that are put, one after another in their order, each as long as in the template."""
+    payload_type: Optional[int] = None
+    sequence_number: Optional[int] = None
+    timestamp: Optional[int] = None
+    ssrc: Optional[int] = None
+    marker: Optional[bool] = None
+
+
+class HeaderTemplate:
+    """A packet's header for receivers that have the same ids and elements: each gets a copy with fields and data of its
+    own before the one payload, which stays where it lies (`socket.sendmsg`; RFC 7667, 3.7). It is what
+    `Packet.set_fields`, `Packet.renumber`, `put_element` for each element and `compact` make of a copy of the packet's
+    header, one after another. The template has bytes of its own: the packet may change. Two with the same header and
+    places of the data are equal; it can be copied and pickled.
+
+    >>> packet = bytes.fromhex("90600005 00000064 0000002C BEDE0001 10AA0000 6869")
+    >>> template = HeaderTemplate(packet, NewIds({1: 3}), [(4, bytes(2))])
+    >>> routes = [Route(bytes([0, 7]), ssrc=45), Route(b"", ssrc=46), Route(bytes([0, 8]), ssrc=47)]
+    >>> headers = template.write(routes)
+    >>> headers[2].hex(" ", -4)
+    '90600005 00000064 0000002f bede0002 30aa4100 08000000'
+    >>> headers[1]
+    BadField('the length of data is 0, and not 2')
+    """
+
+    __slots__ = ("_header", "_raw")
+
+    _header: bytes
+    _raw: _library.RawTemplate
+
+    def __init__(
+        self,
+        datagram: Buffer,
+        ids: NewIds,
+        elements: Iterable[Tuple[int, Buffer]] = (),
+        allowed: Optional[Form] = None,
+    ) -> None:
+        """Makes the header that the packet gets: each of its elements gets its new id, and one that gets none goes; then
+        these, pairs of an id and its data, are put into it in their order, at most 16 of ids of their own, in the forms
+        that are allowed, as in `put_element`. Its header alone is enough.
+
+        BadField where there are more elements, two have one id, one has more than 255 bytes of data, or the form of the
+        block can't carry a new id, one above 14 in the one-byte form, of which `change_form` makes the other; BadId
+        where an id isn't 1 to 255; NotAPacket; OtherForm; FormNotAllowed; LongBlock."""
+        data, places = _gather(elements)
+        forms, new_ids = allowed_forms(allowed), raw_new_ids(ids)
+        packet, at = place_of(datagram)
+        room = memoryview(bytearray(2 * len(packet) + 264 * len(places)))
+        self._raw = _library.RawTemplate()
+        status = _library.make_template(
+            at,
+            len(packet),
+            new_ids,
+            data,
+            len(data),
+            places,
+            len(places),
+            forms,
+            address_of(room),
+            len(room),
+            self._raw,
+        )
+        checked(status, HIGH_ID)
+        self._header = bytes(room[: self._raw.header_len])
+
+    @property
+    def header(self) -> bytes:
+        """The header that was made, with the packet's fields and the data that were put."""
+        return self._header
+
+    @property
+    def header_len(self) -> int:
+        """How many bytes it has, and each that is written."""
+        return len(self._header)
+
+    @property
+    def data_len(self) -> int:
+        """How many bytes of data each receiver brings, those of all elements that are put."""
+        return self._raw.data_total
+
+    def write(self, routes: Iterable[Route]) -> List[Union[bytes, RtpError]]:
+        """The header of each receiver, in one call of the library for all; in its place the exception where a receiver
+        can't be served, and all others are as without it: BadField where its data aren't `data_len` bytes, or a field is
+        out of its range. TypeError where one is no `Route`, or has a value of another type."""
+        listed = list(routes)
+        step = len(self._header)
+        room = memoryview(bytearray(step * len(listed)))
+        written = self._write(listed, range(0, len(room), step), room)
+        return [it if isinstance(it, RtpError) else bytes(it) for it in written]
+
+    def write_into(
+        self, buffer: WritableBuffer, routes: Iterable[Route], at: Optional[Iterable[int]] = None
+    ) -> List[Union[memoryview, RtpError]]:
+        """The same in a buffer: the header of each receiver where it lies. They begin at these places, in bytes, or
+        without any in a row from the first byte on; where two overlap the bytes of the later one stand. BadField where
+        there are more places than receivers or fewer, and else for one alone, as ShortBuffer where a header would
+        reach past the buffer: nothing is written of that one. The data of receivers may lie in the buffer.
+
+        >>> template = HeaderTemplate(bytes.fromhex("80600005 00000064 0000002C"), NewIds())
+        >>> buffer = bytearray(20)
+        >>> first, second = template.write_into(buffer, [Route(ssrc=45), Route(ssrc=46)], at=[8, 9])
+        >>> buffer.hex(" ", -4), len(first), second
+        ('00000000 00000000 80600005 00000064 0000002d', 12, ShortBuffer('a buffer is too short'))
+        """
+        listed = list(routes)
+        step = len(self._header)
+        places = range(0, step * len(listed), step) if at is None else list(at)
+        if len(places) != len(listed):
+            raise BadField(Status.BAD_FIELD, f"there are {len(places)} places and {len(listed)} receivers")
+        return self._write(listed, places, writable_view_of(buffer))
+
+    def _write(
+        self, routes: List[Route], places: Sequence[int], room: memoryview
+    ) -> List[Union[memoryview, RtpError]]:
+        """Writes the headers at these places, and lends each, or says why it isn't written."""
+        receivers = (_library.RawRoutedHeader * len(routes))()
+        data, causes = bytearray(), {}
+        for row, (route, place) in enumerate(zip(routes, places)):
+            receiver = receivers[row]
+            receiver.data_at = len(data)
+            try:
+                receiver.at = unsigned("a place", place, 64)
+                data += self._own(receiver, route)
+            except RtpError as error:
+                causes[row] = error
+                receiver.data_at = _NOWHERE
+        self._call(bytes(data), receivers, room)
+        step = len(self._header)
+        return [
+            causes.get(row) or (error_of(it.status) if it.status else room[it.at : it.at + step])
+            for row, it in enumerate(receivers)
+        ]
+
+    def _own(self, receiver: _library.RawRoutedHeader, route: Route) -> memoryview:
+        """The data of a receiver, whose fields are put."""
+        if not isinstance(route, Route):
+            raise TypeError(f"a route is {type(route).__name__}, and not Route")
+        data, *fields = route
+        view = view_of(data)
+        if len(view) != self._raw.data_total:
+            told = f"the length of data is {len(view)}, and not {self._raw.data_total}"
+            raise BadField(Status.BAD_FIELD, told)
+        put_fields(receiver.fields, *fields)
+        return view
+
+    def _call(self, data: bytes, receivers: _library.Receivers, room: memoryview) -> None:
+        status = _library.write_headers(
+            self._raw,
+            self._header,
+            len(self._header),
+            data,
+            len(data),
+            receivers,
+            len(receivers),
+            address_of(room),
+            len(room),
+        )
+        checked(status, "no template was stored")
+
+    def _state(self) -> Tuple[bytes, bytes]:
+        return self._header, bytes(self._raw)
+
+    def __eq__(self, other: object) -> bool:
+        return isinstance(other, HeaderTemplate) and self._state() == other._state()
+
+    def __hash__(self) -> int:
+        return hash(self._state())
+
+    def __repr__(self) -> str:
+        return f"HeaderTemplate(header={self._header.hex()!r}, data_len={self.data_len})"
+
+    def __getstate__(self) -> Tuple[bytes, bytes]:
+        return self._state()
+
+    def __setstate__(self, state: Tuple[bytes, bytes]) -> None:
+        """BadField where what was stored is no template."""
+        header, raw = state
+        self._header, self._raw = bytes(header), _library.RawTemplate.from_buffer_copy(raw)
+        self._call(b"", (_library.RawRoutedHeader * 0)(), memoryview(b""))
+
+
+def _gather(elements: Iterable[Tuple[int, Buffer]]) -> Tuple[bytes, _library.Places]:
+    """The data of the elements, one after the other, and where those of each lie."""
+    data, places, ids = bytearray(), [], set()
+    for id, part in elements:
+        view, number = view_of(part), element_id(id)
+        if number in ids:
+            raise BadField(Status.BAD_FIELD, f"two elements have the id {number}")
+        ids.add(number)
+        within("the length of data", len(view), 0, 255)
+        places.append(_library.RawElement(len(data), len(view), 0, number))
+        data += view
+    within("the number of elements", len(places), 0, MOST_ELEMENTS)
+    return bytes(data), (_library.RawElement * len(places))(*places)

@@ -1,0 +1,461 @@
+"""A packet's header for each of its receivers. Expected values are worked out by hand from RFC 3550, 5.1, and RFC 8285,
+4.2 and 4.3, or are what the calls for one packet make of a copy, one after another."""
+
+import copy
+import pickle
+import unittest
+from array import array
+from random import Random
+from typing import Any, Callable, List, Optional, Sequence, Tuple, Union
+
+from rtp_wire import (
+    BadField,
+    BadId,
+    Cause,
+    Form,
+    FormNotAllowed,
+    Header,
+    HeaderTemplate,
+    LongBlock,
+    NewIds,
+    NotAPacket,
+    OtherForm,
+    Packet,
+    Route,
+    RtpError,
+    ShortBuffer,
+    Status,
+    change_form,
+    compact,
+    put_element,
+)
+
+# 96, 5, 100, 44 and the element 1 (AA), with two bytes of padding; the payload is no part of the header
+SAMPLE = bytes.fromhex("90600005 00000064 0000002C BEDE0001 10AA0000 6869")
+PLAIN = bytes.fromhex("80600005 00000064 0000002C")
+# the sample's, where 1 becomes 3, and two bytes of the id 4 are put
+MADE = bytes.fromhex("90600005 00000064 0000002C BEDE0002 30AA4100 07000000")
+OWN = NewIds({id: id for id in range(1, 256)})
+Elements = Sequence[Tuple[int, bytes]]
+
+
+def template() -> HeaderTemplate:
+    return HeaderTemplate(SAMPLE, NewIds({1: 3}), [(4, b"\0\7")])
+
+
+def with_block(text: str) -> bytes:
+    return bytes.fromhex("90600005 00000064 0000002C" + text)
+
+
+def put_in(header: bytes, at: int, data: bytes) -> bytes:
+    return header[:at] + data + header[at + len(data) :]
+
+
+def by_calls(
+    packet: bytes, ids: NewIds, elements: Elements, allowed: Optional[Form], route: Route = Route()
+) -> bytes:
+    """What the calls for one packet make of a copy of the header, where the elements have the route's data."""
+    length = Packet.parse(packet).header_len
+    buffer = bytearray(packet[:length]) + bytes(2000)
+    changed = Packet.parse(memoryview(buffer)[:length])
+    data, *fields = route
+    names = ("payload_type", "sequence_number", "timestamp", "ssrc", "marker")
+    changed.set_fields(**dict(zip(names, fields)))  # type: ignore[arg-type]
+    changed.renumber(ids)
+    at = 0
+    for id, old in elements:
+        length = put_element(buffer, length, id, bytes(data)[at : at + len(old)], allowed)
+        at += len(old)
+    return bytes(buffer[: compact(memoryview(buffer)[:length])])
+
+
+class Making(unittest.TestCase):
+    def test_groups_worked_out_by_hand(self) -> None:
+        # the elements 1, 2 and 1 again
+        three, camera = "BEDE0002 1061 216263 1064 00", "ABAC0001 01020304"
+        rows: List[Tuple[bytes, NewIds, Elements, Optional[Form], bytes]] = [
+            (SAMPLE, NewIds({1: 3}), [(4, b"\0\7")], None, MADE),
+            (
+                with_block(three),
+                NewIds({2: 3}),
+                [(5, b"\0\7")],
+                Form.ONE_BYTE,
+                with_block("BEDE0002 316263 510007 0000"),
+            ),
+            (with_block(three), NewIds({9: 9}), [], Form.ONE_BYTE, with_block("BEDE0000")),
+            # an id above 14, and no data, make it the two-byte form
+            (with_block(three), OWN, [(20, b"")], None, with_block("10000003 010161 02026263 010164 1400")),
+            (with_block(three), OWN, [(1, b"\0")], Form.TWO_BYTE, with_block("10000002 02026263 010100 00")),
+            (PLAIN, OWN, [(4, b"\0\7")], None, with_block("BEDE0001 410007 00")),
+            (PLAIN, OWN, [], None, PLAIN),
+            (with_block(camera), NewIds(), [], Form.ONE_BYTE, with_block(camera)),
+            # the application's bits stay
+            (
+                with_block("10070001 04010900"),
+                NewIds({4: 6}),
+                [(4, b"\0\7")],
+                None,
+                with_block("10070002 060109 04020007 00"),
+            ),
+            (PLAIN, OWN, [(9, b"ab"), (3, b"c")], None, with_block("BEDE0002 916162 3063 000000")),
+        ]
+        for packet, ids, elements, allowed, wanted in rows:
+            made = HeaderTemplate(packet, ids, elements, allowed)
+            self.assertEqual((made.header, made.header_len), (wanted, len(wanted)))
+            self.assertEqual(made.data_len, sum(len(data) for _, data in elements))
+            # of the header alone, and of other objects with the buffer protocol
+            header = memoryview(bytearray(packet))[: Packet.parse(packet).header_len]
+            others: List[Any] = [(id, array("B", data)) for id, data in elements]
+            self.assertEqual(HeaderTemplate(header, ids, iter(others), allowed), made)
+
+    def test_the_packet_may_change(self) -> None:
+        datagram, data, ids = bytearray(SAMPLE), bytearray(b"\0\7"), NewIds({1: 3})
+        made = HeaderTemplate(datagram, ids, [(4, data)])
+        datagram[:] = b"gone"
+        data[:] = b""
+        ids[1] = 5
+        self.assertEqual((made.header, made), (MADE, template()))
+        self.assertEqual(made.write([Route(b"\0\7")]), [MADE])
+
+    def test_what_it_is_refused_for(self) -> None:
+        ids, sixteen = NewIds({1: 3}), [(id, b"x") for id in range(20, 36)]
+        self.assertEqual(HeaderTemplate(SAMPLE, ids, sixteen).data_len, 16)
+        full = PLAIN.replace(b"\x80", b"\x90", 1) + b"\x10\0\xFF\xFF" + b"\2\xFF".ljust(257, b"\0") * 1020
+        wrong_form: Any = 3
+        rows: List[Tuple[Any, Callable[[], Any], str]] = [
+            (
+                BadField,
+                lambda: HeaderTemplate(SAMPLE, ids, [*sixteen, (1, b"")]),
+                "the number of elements is 17, and not 0 to 16",
+            ),
+            (BadField, lambda: HeaderTemplate(SAMPLE, ids, [(4, b"a"), (4, b"b")]), "two elements have the id 4"),
+            (
+                BadField,
+                lambda: HeaderTemplate(SAMPLE, ids, [(4, bytes(256))]),
+                "the length of data is 256, and not 0 to 255",
+            ),
+            (BadId, lambda: HeaderTemplate(SAMPLE, ids, [(0, b"a")]), "id is 0, and not 1 to 255"),
+            (BadId, lambda: HeaderTemplate(SAMPLE, ids, [(256, b"a")]), "id is 256, and not 1 to 255"),
+            (BadField, lambda: HeaderTemplate(SAMPLE, ids, allowed=wrong_form), "allowed is 3, and not 0 to 2"),
+            (
+                BadField,
+                lambda: HeaderTemplate(SAMPLE, NewIds({1: 15})),
+                "a new id is above 14, and the block in the one-byte form",
+            ),
+            (OtherForm, lambda: HeaderTemplate(with_block("ABAC0000"), ids, [(4, b"a")]), "an unknown form"),
+            (
+                FormNotAllowed,
+                lambda: HeaderTemplate(SAMPLE, ids, [(4, b"")], Form.ONE_BYTE),
+                "a form of the extension block that isn't allowed",
+            ),
+            (LongBlock, lambda: HeaderTemplate(full, OWN, [(9, b"a")]), "more than 65,535 words"),
+            (NotAPacket, lambda: HeaderTemplate(SAMPLE[:19], ids), "the extension block is cut short"),
+            (NotAPacket, lambda: HeaderTemplate(b"", ids), "fewer than twelve bytes"),
+        ]
+        for kind, make, told in rows:
+            with self.assertRaisesRegex(kind, told) as raised:
+                make()
+            self.assertIs(type(raised.exception), kind)
+        with self.assertRaises(NotAPacket) as caught:
+            HeaderTemplate(SAMPLE[:15], ids)
+        self.assertEqual(caught.exception.cause, Cause.CUT_BLOCK_HEADER)
+        self.assertEqual(HeaderTemplate(full, OWN).header, full)
+
+    def test_what_has_another_type(self) -> None:
+        for make, told in (
+            (lambda: HeaderTemplate(SAMPLE, {1: 3}), "new ids are dict, and not NewIds"),  # type: ignore[arg-type]
+            (lambda: HeaderTemplate(SAMPLE, OWN, [("4", b"")]), "id is str, and no whole number"),  # type: ignore
+            (lambda: HeaderTemplate(SAMPLE, OWN, [(4, "a")]), "bytes-like object"),  # type: ignore[list-item]
+            (lambda: HeaderTemplate("a", OWN), "bytes-like object"),  # type: ignore[arg-type]
+            (lambda: HeaderTemplate(SAMPLE, OWN, allowed="1"), "allowed is str"),  # type: ignore[arg-type]
+        ):
+            self.assertRaisesRegex(TypeError, told, make)
+
+    def test_what_the_form_cannot_carry_is_made_once_it_is_the_other(self) -> None:
+        buffer = bytearray(SAMPLE[:20])
+        length = change_form(buffer, 20, Form.TWO_BYTE)
+        made = HeaderTemplate(buffer[:length], NewIds({1: 200}))
+        self.assertEqual(made.header, with_block("10000001 C801AA00"))
+
+
+class Writing(unittest.TestCase):
+    def test_two_receivers(self) -> None:
+        first = Route(b"\0\7", sequence_number=9, ssrc=45)
+        second = Route(b"\0\x08", payload_type=97, timestamp=0x01020304, marker=True)
+        wanted = [
+            bytes.fromhex("90600009 00000064 0000002D BEDE0002 30AA4100 07000000"),
+            bytes.fromhex("90E10005 01020304 0000002C BEDE0002 30AA4100 08000000"),
+        ]
+        self.assertEqual(template().write([first, second]), wanted)
+        self.assertEqual(template().write(iter([second, first, second])), [wanted[1], *wanted])
+        buffer = bytearray(b"\xEE" * 50)
+        lent = template().write_into(buffer, [first, second], at=[25, 0])
+        self.assertEqual((lent, buffer), (wanted, wanted[1] + b"\xEE" + wanted[0] + b"\xEE"))
+
+    def test_each_field_is_one_of_its_own(self) -> None:
+        rows = [
+            (Route(b"\0\7"), 0, b""),
+            (Route(b"\0\7", marker=True), 1, b"\xE0"),
+            (Route(b"\0\7", marker=False), 0, b""),
+            (Route(b"\0\7", payload_type=1), 1, b"\1"),
+            (Route(b"\0\7", payload_type=0), 1, b"\0"),
+            (Route(b"\0\7", sequence_number=0x0203), 2, b"\2\3"),
+            (Route(b"\0\7", timestamp=0x04050607), 4, b"\4\5\6\7"),
+            (Route(b"\0\7", ssrc=0x08090A0B), 8, b"\x08\x09\x0A\x0B"),
+            (Route(b"\xAB\xCD"), 19, b"\xAB\xCD"),
+            (Route(b"\xAB\xCD", 127, 65535, 0xFFFFFFFF, 0, True), 1, b"\xFF" * 7 + bytes(4)),
+        ]
+        made = template()
+        for route, at, data in rows:
+            wanted = put_in(put_in(MADE, at, data), 19, bytes(route.data))
+            self.assertEqual(made.write([route]), [wanted], route)
+        # of a marker that is set one is cleared
+        marked = HeaderTemplate(put_in(SAMPLE, 1, b"\xE0"), NewIds())
+        headers = marked.write([Route(marker=False), Route()])
+        self.assertEqual([Packet.parse(it).marker for it in headers if isinstance(it, bytes)], [False, True])
+
+    def test_one_of_twenty_cannot_be_served(self) -> None:
+        made, data = template(), bytes(range(100, 140))
+        routes = [Route(data[2 * at : 2 * at + 2], sequence_number=1000 + at) for at in range(20)]
+        wanted = [put_in(put_in(MADE, 2, (1000 + at).to_bytes(2, "big")), 19, data[2 * at :][:2]) for at in range(20)]
+        self.assertEqual(made.write(routes), wanted)
+        two = routes[8].data
+        refused: List[Tuple[Route, str]] = [
+            (Route(two, payload_type=128), "payload_type is 128, and not 0 to 127"),
+            (Route(two, payload_type=-1), "payload_type is -1, and not 0 to 127"),
+            (Route(two, sequence_number=65536), "sequence_number is 65536, and not 0 to 65535"),
+            (Route(two, timestamp=1 << 32), "timestamp is 4294967296, and not 0 to 4294967295"),
+            (Route(two, ssrc=-1), "ssrc is -1, and not 0 to 4294967295"),
+            (Route(two, marker=2), "marker is 2, and not 0 to 1"),  # type: ignore[arg-type]
+            (Route(b"x"), "the length of data is 1, and not 2"),
+            (Route(b"xyz"), "the length of data is 3, and not 2"),
+            (Route(), "the length of data is 0, and not 2"),
+        ]
+        for route, told in refused:
+            given = [*routes[:8], route, *routes[9:]]
+            buffer = bytearray(b"\xEE" * 480)
+            both: List[List[Any]] = [[*made.write(given)], [*made.write_into(buffer, given)]]
+            for headers in both:
+                self.assertEqual([*headers[:8], *headers[9:]], [*wanted[:8], *wanted[9:]])
+                cause = headers[8]
+                self.assertEqual((type(cause), str(cause)), (BadField, told))
+            self.assertEqual(buffer, b"".join(wanted[:8]) + b"\xEE" * 24 + b"".join(wanted[9:]))
+        misplaced: List[Tuple[int, Any, str]] = [
+            (457, ShortBuffer, "a buffer is too short"),
+            (480, ShortBuffer, "a buffer is too short"),
+            ((1 << 64) - 1, ShortBuffer, "a buffer is too short"),
+            (1 << 32, ShortBuffer, "a buffer is too short"),
+            (-1, BadField, "a place is -1, and not 0 to 18446744073709551615"),
+            (1 << 64, BadField, "a place is 18446744073709551616, and not 0 to 18446744073709551615"),
+        ]
+        for place, kind, told in misplaced:
+            places = [24 * at for at in range(20)]
+            places[8] = place
+            buffer = bytearray(b"\xEE" * 480)
+            headers = list(made.write_into(buffer, routes, places))
+            cause = headers[8]
+            self.assertEqual((type(cause), str(cause)), (kind, told))
+            self.assertEqual([*headers[:8], *headers[9:]], [*wanted[:8], *wanted[9:]])
+            self.assertEqual(buffer, b"".join(wanted[:8]) + b"\xEE" * 24 + b"".join(wanted[9:]))
+
+    def test_none_are_none(self) -> None:
+        made = template()
+        self.assertEqual((made.write([]), made.write_into(bytearray(), [])), ([], []))
+        self.assertEqual(made.write_into(bytearray(), [], array("Q")), [])
+        (short,) = made.write_into(bytearray(23), [Route(b"\0\7")])
+        self.assertIsInstance(short, ShortBuffer)
+        plain = HeaderTemplate(PLAIN, NewIds())
+        self.assertEqual((plain.data_len, plain.write([Route(), Route(b"")])), (0, [PLAIN, PLAIN]))
+
+    def test_places_and_buffers(self) -> None:
+        made, routes = template(), [Route(b"\0\1"), Route(b"\0\2"), Route(b"\0\3")]
+        first, second, third = (put_in(MADE, 20, bytes([it])) for it in (1, 2, 3))
+        # where they overlap the later one stands
+        wanted = bytearray(34)
+        for header, begin in ((first, 0), (second, 10), (third, 5)):
+            wanted[begin : begin + 24] = header
+        buffers: List[Callable[[], Any]] = [
+            lambda: bytearray(34),
+            lambda: memoryview(bytearray(40))[3:37],
+            lambda: array("H", bytes(34)),
+        ]
+        for make in buffers:
+            buffer = make()
+            lent = made.write_into(buffer, routes, array("q", [0, 10, 5]))
+            self.assertEqual([len(it) for it in lent if isinstance(it, memoryview)], [24, 24, 24])
+            self.assertEqual((bytes(memoryview(buffer)), lent[2]), (wanted, third))
+        # the data may lie in what is written
+        buffer = bytearray(72)
+        buffer[0:2], buffer[20:22], buffer[70:72] = b"\0\1", b"\0\2", b"\0\3"
+        lying = [Route(memoryview(buffer)[at : at + 2]) for at in (0, 20, 70)]
+        self.assertEqual(made.write_into(buffer, lying), [first, second, third])
+        others: List[Sequence[int]] = [[], [0], [0, 24, 48, 72], range(4)]
+        for places in others:
+            told = f"there are {len(places)} places and 3 receivers"
+            with self.assertRaisesRegex(BadField, told):
+                made.write_into(bytearray(96), routes, places)
+        with self.assertRaisesRegex(TypeError, "read-only"):
+            made.write_into(bytes(96), routes)  # type: ignore[arg-type]
+        with self.assertRaisesRegex(TypeError, "don't lie together"):
+            made.write_into(memoryview(bytearray(96))[::2], routes)
+
+    def test_what_has_another_type(self) -> None:
+        made, buffer = template(), bytearray(96)
+        for route, told in (
+            ((b"\0\7", 1), "a route is tuple, and not Route"),
+            (None, "a route is NoneType, and not Route"),
+            (Route("ab"), "bytes-like object"),  # type: ignore[arg-type]
+            (Route(b"\0\7", ssrc="5"), "ssrc is str, and no whole number"),  # type: ignore[arg-type]
+            (Route(b"\0\7", timestamp=5.0), "timestamp is float"),  # type: ignore[arg-type]
+        ):
+            given: Any = [Route(b"\0\7"), route]
+            with self.assertRaisesRegex(TypeError, told):
+                made.write(given)
+            with self.assertRaisesRegex(TypeError, told):
+                made.write_into(buffer, given)
+        with self.assertRaisesRegex(TypeError, "a place is str"):
+            made.write_into(buffer, [Route(b"\0\7")], ["5"])  # type: ignore[list-item]
+        self.assertEqual(buffer, bytes(96))
+
+    def test_many_receivers(self) -> None:
+        made = template()
+        routes = [Route(at.to_bytes(2, "big"), ssrc=at) for at in range(1000)]
+        for at, header in enumerate(made.write(routes)):
+            data = at.to_bytes(2, "big")
+            self.assertEqual(header, put_in(put_in(MADE, 10, data), 19, data))
+
+
+class Values(unittest.TestCase):
+    def test_equality_and_text(self) -> None:
+        made, other = template(), HeaderTemplate(SAMPLE, NewIds({1: 3, 2: 9}), [(4, b"\0\7")])
+        self.assertEqual((made, hash(made), len({made, other})), (other, hash(other), 1))
+        # the same header, of which other bytes are the receivers'
+        packet = with_block("BEDE0002 30AA4100 07000000")
+        for different in (
+            HeaderTemplate(packet, OWN),
+            HeaderTemplate(packet, OWN, [(3, b"\xAA")]),
+            HeaderTemplate(SAMPLE, NewIds({1: 3}), [(4, b"\0\x08")]),
+        ):
+            self.assertNotEqual(made, different)
+        self.assertNotEqual(made, MADE)
+        self.assertEqual(repr(made), f"HeaderTemplate(header='{MADE.hex()}', data_len=2)")
+        it: Any = made
+        self.assertFalse(hasattr(made, "__dict__"))
+        for name in ("header", "header_len", "data_len", "other"):
+            self.assertRaises(AttributeError, setattr, it, name, 5)
+
+    def test_copies(self) -> None:
+        made = template()
+        wanted = put_in(put_in(MADE, 19, b"ab"), 2, b"\0\1")
+        for protocol in range(2, pickle.HIGHEST_PROTOCOL + 1):
+            for other in (copy.copy(made), copy.deepcopy(made), pickle.loads(pickle.dumps(made, protocol))):
+                self.assertEqual((other, other.header, other.data_len), (made, MADE, 2))
+                self.assertEqual(other.write([Route(b"ab", sequence_number=1)]), [wanted])
+
+        for route in (Route(b"a", 1, 2, 3, 4, True), Route()):
+            self.assertEqual((copy.copy(route), pickle.loads(pickle.dumps(route))), (route, route))
+
+    def test_what_was_stored_and_is_no_template(self) -> None:
+        made = template()
+        header, raw = made.__getstate__()
+        other = HeaderTemplate.__new__(HeaderTemplate)
+        for at, byte in ((0, 25), (0, 23), (3, 1), (4, 23), (7, 1), (68, 3), (70, 17), (70, 0), (71, 3)):
+            state = header, put_in(raw, at, bytes([byte]))
+            self.assertRaises((BadField, NotAPacket), other.__setstate__, state)
+        for wrong in ((header[:-1], raw), (b"", raw), (b"\x50" + header[1:], raw), (header, raw[:-1])):
+            self.assertRaises(ValueError, other.__setstate__, wrong)
+        self.assertRaises(TypeError, other.__setstate__, ("a" * 24, raw))
+        other.__setstate__((header, raw))
+        self.assertEqual(other, made)
+
+
+class ByCalls(unittest.TestCase):
+    def packet(self, draw: Random) -> bytes:
+        """A packet without a block, or with one of any form."""
+        packet = bytes([0x80 | draw.randrange(3)]) + draw.randbytes(19)
+        packet = packet[: 12 + 4 * (packet[0] & 15)]
+        form = draw.randrange(4)
+        if form:
+            body = b""
+            for _ in range(draw.randrange(6)):
+                id, data = draw.randint(1, 14), draw.randbytes(draw.randint(1, 5))
+                body += (bytes([id << 4 | len(data) - 1]) if form == 1 else bytes([id, len(data)])) + data
+                body += bytes(draw.choice((0, 0, 0, 1)))
+            body += bytes(-len(body) % 4 + 4 * draw.randrange(3))
+            profile = (0xBEDE, 0x1000 | draw.randrange(16), 0xABAC)[form - 1]
+            packet = bytes([packet[0] | 0x10]) + packet[1:] + profile.to_bytes(2, "big")
+            packet += (len(body) // 4).to_bytes(2, "big") + body
+        return packet + draw.randbytes(draw.randrange(3))
+
+    def route(self, draw: Random, length: int) -> Route:
+        kind, number, time, ssrc = (draw.choice((None, draw.randrange(1 << it))) for it in (7, 16, 32, 32))
+        marker = draw.choice((None, False, True))
+        return Route(draw.randbytes(length), kind, number, time, ssrc, marker)
+
+    def test_each_is_what_they_make(self) -> None:
+        draw = Random(5)
+        causes = set()
+        for _ in range(1500):
+            packet = self.packet(draw)
+            ids = NewIds({id: draw.randint(1, 14) for id in range(1, 15) if draw.random() < 0.8})
+            if draw.random() < 0.2:
+                ids[draw.randint(1, 14)] = draw.randint(15, 255)
+            named = draw.sample(range(1, 256 if draw.random() < 0.2 else 15), draw.randrange(5))
+            elements = [(id, draw.randbytes(draw.choice((1, 1, 2, 3, 16, 20, 0)))) for id in named]
+            allowed = draw.choice((None, None, Form.ONE_BYTE, Form.TWO_BYTE))
+            wanted: Union[bytes, RtpError]
+            data = b"".join(it for _, it in elements)
+            try:
+                wanted = by_calls(packet, ids, elements, allowed, Route(data))
+            except RtpError as error:
+                wanted = error
+                with self.assertRaises(RtpError) as raised:
+                    HeaderTemplate(packet, ids, elements, allowed)
+                told = raised.exception
+                self.assertEqual((type(told), told.status, str(told)), (type(error), error.status, str(error)))
+                causes.add(type(error))
+                continue
+            made = HeaderTemplate(packet, ids, elements, allowed)
+            self.assertEqual((made.header, made.data_len), (wanted, len(data)))
+            routes = [self.route(draw, len(data)) for _ in range(draw.randrange(4))]
+            each = [by_calls(packet, ids, elements, allowed, it) for it in routes]
+            self.assertEqual(made.write(routes), each)
+            buffer = bytearray(len(routes) * made.header_len)
+            self.assertEqual(made.write_into(buffer, routes), each)
+        self.assertEqual(causes, {BadField, FormNotAllowed, OtherForm})
+
+    def test_any_places_fields_and_data(self) -> None:
+        draw, made = Random(9), template()
+        for _ in range(300):
+            routes, places, size = [], [], draw.randrange(120)
+            for _ in range(6):
+                length = draw.choice((2, 2, 2, 2, 0, 1, 3))
+                kind, ssrc = draw.choice((None, 5, 127, 128, -1)), draw.choice((None, 7, 1 << 32))
+                routes.append(Route(draw.randbytes(length), kind, ssrc=ssrc))
+                places.append(draw.choice((draw.randrange(size + 2), 0, 24, 48, -1, (1 << 64) - draw.randint(1, 9))))
+            # one after the other, each of them alone
+            wanted = bytearray(b"\xEE" * size)
+            results: List[object] = []
+            for route, place in zip(routes, places):
+                (result,) = made.write([route])
+                if isinstance(result, bytes) and place + 24 > size:
+                    result = ShortBuffer(Status.SHORT_BUFFER)
+                if isinstance(result, bytes) and 0 <= place:
+                    wanted[place : place + 24] = result
+                fails = isinstance(result, RtpError) or place < 0
+                results.append(BadField if place < 0 else type(result) if fails else None)
+            buffer = bytearray(b"\xEE" * size)
+            headers = made.write_into(buffer, routes, places)
+            self.assertEqual([type(it) if isinstance(it, RtpError) else None for it in headers], results)
+            self.assertEqual(buffer, wanted)
+
+    def test_values_that_are_put(self) -> None:
+        # a transport number of each receiver, as its data say it
+        made = HeaderTemplate(Header(has_extension=True).write_with([]), NewIds(), [(3, bytes(2))])
+        headers = made.write([Route(number.to_bytes(2, "big")) for number in (7, 65535)])
+        read = [Packet.parse(it).element(3) for it in headers if isinstance(it, bytes)]
+        self.assertEqual(read, [b"\0\7", b"\xFF\xFF"])
+
+
+if __name__ == "__main__":
+    unittest.main()

@@ -1,0 +1,339 @@
+use core::fmt;
+use core::iter::FusedIterator;
+use core::slice;
+
+use crate::elements::Place;
+use crate::error::{NotPut, NotRouted, NotWritten};
+use crate::growing::number_of;
+use crate::new_ids::NewIds;
+use crate::packet::{Form, Packet};
+use crate::packet_mut::Fields;
+use crate::sys;
+pub use crate::views::RoutedSlot;
+use crate::views::TemplateParts;
+
+/// What some receivers of a packet have in common.
+///
+/// ```
+/// use rtp_wire::{Form, Group, Kind, Map, NewIds, Place};
+///
+/// const SENDER: Map = Map::new().with(1, Kind::AudioLevel);
+/// const RECEIVER: Map = Map::new().with(3, Kind::AudioLevel).with(4, Kind::Mid).with(5, Kind::TransportNumber);
+/// let group = Group {
+///     ids: &NewIds::between(&SENDER, &RECEIVER),
+///     data: b"a\0\x07", // of one of the receivers: its mid, and then its transport number
+///     elements: &[Place::new(4, 0..1), Place::new(5, 1..3)],
+///     allowed: Some(Form::OneByte), // they haven't agreed to both forms
+/// };
+/// # let _ = group;
+/// ```
+#[derive(Clone, Copy, Debug)]
+pub struct Group<'a> {
+    /// The ids that the packet's elements get; one that gets none goes.
+    pub ids: &'a NewIds,
+    /// What the data of the elements are bytes of.
+    pub data: &'a [u8],
+    /// The elements that are then put into the header, in this order, each by its place in `data`: at most 16, of ids
+    /// of their own, as [`put_element`](crate::put_element) takes them.
+    pub elements: &'a [Place],
+    /// The form that alone the block may have, or both.
+    pub allowed: Option<Form>,
+}
+
+/// A packet's header for a group of receivers, each of which gets a copy with fields and data of its own before the one
+/// payload, which stays where it lies (`writev`; RFC 7667, 3.7). It is what
+/// [`PacketMut::set_fields`](crate::PacketMut::set_fields), [`renumber`](crate::PacketMut::renumber),
+/// [`put_element`](crate::put_element) for each element and [`compact`](crate::compact) make of a copy of the packet's
+/// header, one after another. The header lies in a buffer of the caller's, which is lent to the template.
+///
+/// ```
+/// use rtp_wire::{Fields, Group, HeaderTemplate, NewIds, NotWritten, Packet, Place, RoutedSlot};
+///
+/// let datagram = [0x90, 96, 0, 5, 0, 0, 0, 100, 0, 0, 0, 44, 0xBE, 0xDE, 0, 1, 0x10, 0xAA, 0, 0, b'h', b'i'];
+/// let numbers = [0, 7, 0, 8]; // a transport number for each receiver: two bytes of the id 4
+/// let group = Group {
+///     ids: &NewIds::new().with(1, 3),
+///     data: &numbers,
+///     elements: &[Place::new(4, 0..2)],
+///     allowed: None,
+/// };
+/// let mut room = [0; 304];
+/// let template = HeaderTemplate::new(&Packet::parse(&datagram)?, &group, &mut room)?;
+///
+/// let fields = |ssrc| Fields { ssrc: Some(ssrc), ..Fields::default() };
+/// let mut receivers = [(45, 0, 0), (46, 2, 24), (47, 3, 48)]
+///     .map(|(ssrc, data_at, at)| RoutedSlot::new(&fields(ssrc), data_at, at));
+/// let mut buf = [0; 3 * 24];
+/// let mut headers = template.write_headers(&numbers, &mut receivers, &mut buf);
+/// assert!(headers.next().is_some_and(|it| it.is_ok()));
+/// let second = [0x90, 96, 0, 5, 0, 0, 0, 100, 0, 0, 0, 46, 0xBE, 0xDE, 0, 2, 0x30, 0xAA, 0x41, 0, 8, 0, 0, 0];
+/// assert_eq!(headers.next(), Some(Ok(&second[..])));
+/// assert_eq!(headers.next(), Some(Err(NotWritten::BadField))); // there is one byte of data where two are due
+/// # Ok::<(), Box<dyn std::error::Error>>(())
+/// ```
+///
+/// What it was made in can't be changed while it is used:
+///
+/// ```compile_fail,E0506
+/// # use rtp_wire::{Group, HeaderTemplate, NewIds, Packet};
+/// let mut room = [0; 304];
+/// let packet = Packet::parse(&[0x80, 0, 0, 0, 0, 0, 0, 0, 0, 0, 0, 0]).unwrap();
+/// let group = Group { ids: &NewIds::new(), data: &[], elements: &[], allowed: None };
+/// let template = HeaderTemplate::new(&packet, &group, &mut room).unwrap();
+/// room[0] = 0;
+/// template.header();
+/// ```
+#[derive(Clone, Copy)]
+pub struct HeaderTemplate<'a> {
+    header: &'a [u8],
+    parts: TemplateParts,
+}
+
+impl<'a> HeaderTemplate<'a> {
+    /// The most elements that are put into a header.
+    pub const MAX_ELEMENTS: usize = 16;
+
+    /// Makes the header that the packet gets for the group, at the front of the buffer. One of twice the packet's header
+    /// and 264 bytes for each element has room.
+    ///
+    /// # Errors
+    ///
+    /// [`NotRouted`] says why there is none; the buffer may hold anything then.
+    ///
+    /// ```
+    /// use rtp_wire::{Group, HeaderTemplate, NewIds, NotRouted, Packet, Place};
+    ///
+    /// let packet = Packet::parse(&[0x80, 96, 0, 5, 0, 0, 0, 100, 0, 0, 0, 44])?;
+    /// let elements = [Place::new(4, 0..2), Place::new(4, 0..1)];
+    /// let mut group = Group { ids: &NewIds::new(), data: &[0, 7], elements: &elements, allowed: None };
+    /// let mut room = [0; 552];
+    /// assert_eq!(HeaderTemplate::new(&packet, &group, &mut room).err(), Some(NotRouted::RepeatedId));
+    /// group.elements = &elements[..1];
+    /// let template = HeaderTemplate::new(&packet, &group, &mut room)?;
+    /// assert_eq!((template.header_len(), template.data_len()), (20, 2));
+    /// # Ok::<(), Box<dyn std::error::Error>>(())
+    /// ```
+    pub fn new(
+        packet: &Packet<'_>,
+        group: &Group<'_>,
+        buf: &'a mut [u8],
+    ) -> Result<HeaderTemplate<'a>, NotRouted> {
+        let mut parts = TemplateParts::default();
+        let status = sys::make_template(
+            packet.datagram(),
+            &group.ids.ids,
+            group.data,
+            group.elements,
+            number_of(group.allowed),
+            buf,
+            &mut parts,
+        );
+        group.check(status)?;
+        let header = &buf[..parts.header_len as usize];
+        Ok(HeaderTemplate { header, parts })
+    }
+
+    /// The header that was made, with the packet's fields and the group's data.
+    #[must_use]
+    pub fn header(&self) -> &'a [u8] {
+        self.header
+    }
+
+    /// How many bytes it has, and each that is written.
+    #[must_use]
+    pub fn header_len(&self) -> usize {
+        self.header.len()
+    }
+
+    /// How many bytes of data each receiver brings: those of the group's elements, 0 to 4,080.
+    #[must_use]
+    pub fn data_len(&self) -> usize {
+        self.parts.data_total.into()
+    }
+
+    /// Writes the header with these fields and these data, which are those of the group's elements one after another, to
+    /// the front of the buffer, and returns how many bytes it has; those after them stay.
+    ///
+    /// # Errors
+    ///
+    /// [`NotWritten::BadField`] where the payload type is above 127, or the data aren't as many as
+    /// [`data_len`](HeaderTemplate::data_len) says; [`NotWritten::ShortBuffer`]. Nothing is written then.
+    ///
+    /// ```
+    /// use rtp_wire::{Fields, Group, HeaderTemplate, NewIds, Packet, Place};
+    ///
+    /// let packet = Packet::parse(&[0x80, 96, 0, 5, 0, 0, 0, 100, 0, 0, 0, 44])?;
+    /// let group = Group { ids: &NewIds::new(), data: &[0, 7], elements: &[Place::new(4, 0..2)], allowed: None };
+    /// let mut room = [0; 288];
+    /// let template = HeaderTemplate::new(&packet, &group, &mut room)?;
+    /// let mut header = [0; 20];
+    /// let fields = Fields { sequence_number: Some(9), ..Fields::default() };
+    /// assert_eq!(template.write_header(&fields, &[0, 8], &mut header), Ok(20));
+    /// assert_eq!(header, [0x90, 96, 0, 9, 0, 0, 0, 100, 0, 0, 0, 44, 0xBE, 0xDE, 0, 1, 0x41, 0, 8, 0]);
+    /// # Ok::<(), Box<dyn std::error::Error>>(())
+    /// ```
+    pub fn write_header(
+        &self,
+        fields: &Fields,
+        data: &[u8],
+        buf: &mut [u8],
+    ) -> Result<usize, NotWritten> {
+        if data.len() != self.data_len() {
+            return Err(NotWritten::BadField);
+        }
+        let mut receiver = RoutedSlot::new(fields, 0, 0);
+        self.write(data, slice::from_mut(&mut receiver), buf);
+        receiver.written()?;
+        Ok(self.header_len())
+    }
+
+    /// Writes the headers of many receivers, each with the fields of its slot, and with the data and at the place that
+    /// its slot says: in `data` there are [`data_len`](HeaderTemplate::data_len) bytes for each, those of the group's
+    /// elements one after another. They are written in the order of the slots: where two overlap the bytes of the later
+    /// one stand. What each gets is lent in that order, or told by [`RoutedSlot::written`].
+    ///
+    /// # Errors
+    ///
+    /// Each has a result of its own: [`NotWritten::BadField`] where its payload type is above 127, or its data reach
+    /// past `data`; [`NotWritten::ShortBuffer`] where its header would reach past the buffer. Nothing is written of
+    /// that one then, and all others are as without it.
+    pub fn write_headers<'s, 'b>(
+        &self,
+        data: &[u8],
+        receivers: &'s mut [RoutedSlot],
+        buf: &'b mut [u8],
+    ) -> RoutedHeaders<'s, 'b> {
+        self.write(data, receivers, buf);
+        RoutedHeaders {
+            buf,
+            header_len: self.header_len(),
+            slots: receivers.iter(),
+        }
+    }
+
+    fn write(&self, data: &[u8], receivers: &mut [RoutedSlot], buf: &mut [u8]) {
+        let status = sys::write_headers(&self.parts, self.header, data, receivers, buf);
+        assert!(status == sys::OK, "what was made stays a template");
+    }
+}
+
+impl fmt::Debug for HeaderTemplate<'_> {
+    fn fmt(&self, f: &mut fmt::Formatter<'_>) -> fmt::Result {
+        f.debug_struct("HeaderTemplate")
+            .field("header", &self.header)
+            .field("data_len", &self.data_len())
+            .finish_non_exhaustive()
+    }
+}
+
+impl Group<'_> {
+    /// What the status says where a header is made for the group.
+    fn check(&self, status: i32) -> Result<(), NotRouted> {
+        match NotPut::of_status(status) {
+            Err(NotPut::BadField) => Err(self.bad_field()),
+            other => other.map_err(NotRouted::NotPut),
+        }
+    }
+
+    /// Which of the causes it is that the library doesn't tell apart.
+    fn bad_field(&self) -> NotRouted {
+        let elements = self.elements;
+        let is_repeated = |at: usize| elements[..at].iter().any(|it| it.id == elements[at].id);
+        if elements.len() > HeaderTemplate::MAX_ELEMENTS {
+            NotRouted::ManyElements
+        } else if (0..elements.len()).any(is_repeated) {
+            NotRouted::RepeatedId
+        } else if elements.iter().all(|it| it.is_within(self.data.len())) {
+            NotRouted::BadNewId
+        } else {
+            NotRouted::NotPut(NotPut::BadField)
+        }
+    }
+}
+
+/// The headers that [`HeaderTemplate::write_headers`] wrote, in the order of their slots.
+#[derive(Clone)]
+pub struct RoutedHeaders<'s, 'b> {
+    buf: &'b [u8],
+    header_len: usize,
+    slots: slice::Iter<'s, RoutedSlot>,
+}
+
+impl<'b> RoutedHeaders<'_, 'b> {
+    fn header(&self, slot: &RoutedSlot) -> Result<&'b [u8], NotWritten> {
+        slot.written()?;
+        Ok(&self.buf[slot.at..slot.at + self.header_len])
+    }
+}
+
+impl<'b> Iterator for RoutedHeaders<'_, 'b> {
+    type Item = Result<&'b [u8], NotWritten>;
+
+    #[inline]
+    fn next(&mut self) -> Option<Self::Item> {
+        let slot = self.slots.next()?;
+        Some(self.header(slot))
+    }
+
+    fn size_hint(&self) -> (usize, Option<usize>) {
+        self.slots.size_hint()
+    }
+}
+
+impl DoubleEndedIterator for RoutedHeaders<'_, '_> {
+    fn next_back(&mut self) -> Option<Self::Item> {
+        let slot = self.slots.next_back()?;
+        Some(self.header(slot))
+    }
+}
+
+impl ExactSizeIterator for RoutedHeaders<'_, '_> {}
+impl FusedIterator for RoutedHeaders<'_, '_> {}
+
+impl fmt::Debug for RoutedHeaders<'_, '_> {
+    fn fmt(&self, f: &mut fmt::Formatter<'_>) -> fmt::Result {
+        f.debug_list().entries(self.clone()).finish()
+    }
+}
+
+impl RoutedSlot {
+    /// A receiver with these fields, whose data begin there in all data, and whose header is to begin there in the
+    /// buffer, in bytes.
+    ///
+    /// ```
+    /// use rtp_wire::{Fields, Group, HeaderTemplate, NewIds, NotWritten, Packet, RoutedSlot};
+    ///
+    /// let packet = Packet::parse(&[0x80, 96, 0, 5, 0, 0, 0, 100, 0, 0, 0, 44])?;
+    /// let group = Group { ids: &NewIds::new(), data: &[], elements: &[], allowed: None };
+    /// let mut room = [0; 24];
+    /// let template = HeaderTemplate::new(&packet, &group, &mut room)?;
+    ///
+    /// let mut buf = [0; 24];
+    /// let fields = Fields { ssrc: Some(45), ..Fields::default() };
+    /// let mut slots = [RoutedSlot::new(&fields, 0, 12), RoutedSlot::new(&fields, 0, 13)];
+    /// template.write_headers(&[], &mut slots, &mut buf);
+    /// assert_eq!(slots.map(|it| it.written()), [Ok(()), Err(NotWritten::ShortBuffer)]);
+    /// assert_eq!((&buf[..12], buf[23]), (&[0; 12][..], 45)); // to be encrypted where they lie, say
+    /// # Ok::<(), Box<dyn std::error::Error>>(())
+    /// ```
+    #[must_use]
+    #[inline]
+    pub fn new(fields: &Fields, data_at: usize, at: usize) -> RoutedSlot {
+        RoutedSlot {
+            data_at,
+            at,
+            fields: fields.view(),
+            status: sys::BAD_FIELD,
+        }
+    }
+
+    /// Whether the receiver's header was written.
+    ///
+    /// # Errors
+    ///
+    /// Those of [`HeaderTemplate::write_headers`]; [`NotWritten::BadField`] also where that wasn't called yet.
+    #[inline]
+    pub fn written(&self) -> Result<(), NotWritten> {
+        NotWritten::of_status(self.status)
+    }
+}

@@ -1,0 +1,703 @@
+//! A packet's header for each of its receivers, worked out by hand from RFC 3550, 5.1, and RFC 8285, 4.2 and 4.3. Memory
+//! ends at a page that may not be touched.
+
+mod guarded;
+
+use std::error::Error;
+use std::iter::FusedIterator;
+
+use guarded::at_end;
+use rtp_wire::{
+    change_form, Fields, Form, Group, HeaderTemplate, NewIds, NotPut, NotRouted, NotWritten,
+    Packet, Place, RoutedSlot,
+};
+
+/// 96, 5, 100, 44 and what follows them: the element 1 (AA), and two bytes of padding. The payload is no part of it.
+const SAMPLE: [u8; 22] = [
+    0x90, 96, 0, 5, 0, 0, 0, 100, 0, 0, 0, 44, 0xBE, 0xDE, 0, 1, 0x10, 0xAA, 0, 0, b'h', b'i',
+];
+const NUMBERS: [u8; 4] = [0, 7, 0, 8];
+const NO_FIELDS: Fields = Fields {
+    marker: None,
+    payload_type: None,
+    sequence_number: None,
+    timestamp: None,
+    ssrc: None,
+};
+const ONE: Option<Form> = Some(Form::OneByte);
+const TWO: Option<Form> = Some(Form::TwoByte);
+
+/// The sample's fixed part with this first byte, and what is written in hexadecimal behind it.
+fn written(first: u8, rest: &str) -> Vec<u8> {
+    let digits: Vec<u8> = rest.bytes().filter(|it| *it != b' ').collect();
+    let pair = |it: &[u8]| u8::from_str_radix(std::str::from_utf8(it).unwrap(), 16).unwrap();
+    let rest: Vec<u8> = digits.chunks(2).map(pair).collect();
+    [&[first], &SAMPLE[1..12], &rest].concat()
+}
+
+fn place(id: u8, at: usize, len: usize) -> Place {
+    Place::new(id, at..at + len)
+}
+
+fn each_its_own() -> NewIds {
+    (1..=255).fold(NewIds::new(), |ids, id| ids.with(id, id))
+}
+
+/// The template that is made in so many bytes, or why not.
+fn made(packet: &[u8], group: &Group, room: usize) -> Result<HeaderTemplate<'static>, NotRouted> {
+    let packet = Packet::parse(at_end(packet)).unwrap();
+    let (data, elements) = (at_end(group.data), at_end(group.elements));
+    let group = Group {
+        data,
+        elements,
+        ..*group
+    };
+    HeaderTemplate::new(&packet, &group, at_end(&vec![0xEE; room]))
+}
+
+/// The sample's template for two bytes of the id 4, where 1 becomes 3.
+fn template() -> HeaderTemplate<'static> {
+    let ids = NewIds::new().with(1, 3);
+    let elements = [place(4, 0, 2)];
+    let group = Group {
+        ids: &ids,
+        data: &NUMBERS,
+        elements: &elements,
+        allowed: None,
+    };
+    made(&SAMPLE, &group, 304).unwrap()
+}
+
+#[test]
+fn two_receivers() {
+    let template = template();
+    let header = written(0x90, "BEDE0002 30AA4100 07000000");
+    assert_eq!(template.header(), header);
+    assert_eq!((template.header_len(), template.data_len()), (24, 2));
+    let first = Fields {
+        sequence_number: Some(9),
+        ssrc: Some(45),
+        ..NO_FIELDS
+    };
+    let second = Fields {
+        timestamp: Some(0x0102_0304),
+        payload_type: Some(97),
+        marker: Some(true),
+        ..NO_FIELDS
+    };
+    let mut slots = [
+        RoutedSlot::new(&first, 0, 25),
+        RoutedSlot::new(&second, 2, 0),
+    ];
+    let mut buf = [0xEE; 50];
+    let mut wanted = [0xEE; 50];
+    wanted[25..49].copy_from_slice(&header);
+    (wanted[28], wanted[36]) = (9, 45);
+    wanted[..24].copy_from_slice(&header);
+    wanted[1..8].copy_from_slice(&[0xE1, 0, 5, 1, 2, 3, 4]);
+    wanted[20] = 8;
+    let headers = template.write_headers(&NUMBERS, &mut slots, &mut buf);
+    assert!(headers.eq([Ok(&wanted[25..49]), Ok(&wanted[..24])]));
+    assert_eq!(buf, wanted);
+    // alone
+    let mut buf = [0xEE; 25];
+    assert_eq!(
+        template.write_header(&first, &NUMBERS[..2], &mut buf),
+        Ok(24)
+    );
+    assert_eq!((&buf[..24], buf[24]), (&wanted[25..49], 0xEE));
+    assert_eq!(
+        template.write_header(&second, &NUMBERS[2..], &mut buf),
+        Ok(24)
+    );
+    assert_eq!(buf[..24], wanted[..24]);
+}
+
+#[test]
+fn each_field_is_one_of_its_own() {
+    let template = template();
+    let header = template.header();
+    let all = Fields {
+        marker: Some(true),
+        payload_type: Some(1),
+        sequence_number: Some(0x0203),
+        timestamp: Some(0x0405_0607),
+        ssrc: Some(0x0809_0A0B),
+    };
+    let rows: [(Fields, std::ops::Range<usize>, &[u8]); 8] = [
+        (NO_FIELDS, 0..0, &[]),
+        (
+            Fields {
+                marker: all.marker,
+                ..NO_FIELDS
+            },
+            1..2,
+            &[0xE0],
+        ),
+        (
+            Fields {
+                marker: Some(false),
+                ..NO_FIELDS
+            },
+            0..0,
+            &[],
+        ),
+        (
+            Fields {
+                payload_type: all.payload_type,
+                ..NO_FIELDS
+            },
+            1..2,
+            &[1],
+        ),
+        (
+            Fields {
+                payload_type: Some(0),
+                ..NO_FIELDS
+            },
+            1..2,
+            &[0],
+        ),
+        (
+            Fields {
+                sequence_number: all.sequence_number,
+                ..NO_FIELDS
+            },
+            2..4,
+            &[2, 3],
+        ),
+        (
+            Fields {
+                timestamp: all.timestamp,
+                ..NO_FIELDS
+            },
+            4..8,
+            &[4, 5, 6, 7],
+        ),
+        (
+            Fields {
+                ssrc: all.ssrc,
+                ..NO_FIELDS
+            },
+            8..12,
+            &[8, 9, 10, 11],
+        ),
+    ];
+    for (fields, at, bytes) in
+        rows.into_iter()
+            .chain([(all, 1..12, &[0x81, 2, 3, 4, 5, 6, 7, 8, 9, 10, 11][..])])
+    {
+        let mut wanted = header.to_vec();
+        wanted[at].copy_from_slice(bytes);
+        let buf = at_end(&[0; 24]);
+        assert_eq!(template.write_header(&fields, &NUMBERS[..2], buf), Ok(24));
+        assert_eq!(buf, wanted, "{fields:?}");
+    }
+}
+
+/// The first byte of a packet and what follows its fixed part, what a group has in common, and the block that is made.
+type Row<'a> = (u8, &'a str, &'a NewIds, &'a [Place], Option<Form>, &'a str);
+
+#[test]
+fn groups_worked_out_by_hand() {
+    let own = each_its_own();
+    let second_alone = NewIds::new().with(2, 3);
+    let none = NewIds::new().with(9, 9);
+    let fourth = NewIds::new().with(4, 6);
+    // the elements 1, 2 and 1 again
+    let three = "BEDE0002 1061 216263 1064 00";
+    let camera = "ABAC0001 01020304";
+    let rows: [Row; 9] = [
+        (
+            0x90,
+            three,
+            &second_alone,
+            &[place(5, 0, 2)],
+            ONE,
+            "BEDE0002 316263 510007 0000",
+        ),
+        (0x90, three, &none, &[], ONE, "BEDE0000"),
+        // an id above 14, and no data, make it the two-byte form
+        (
+            0x90,
+            three,
+            &own,
+            &[place(20, 4, 0)],
+            None,
+            "10000003 010161 02026263 010164 1400",
+        ),
+        (
+            0x90,
+            three,
+            &own,
+            &[place(1, 0, 1)],
+            TWO,
+            "10000002 02026263 010100 00",
+        ),
+        (
+            0x80,
+            "",
+            &own,
+            &[place(4, 0, 2)],
+            None,
+            "BEDE0001 410007 00",
+        ),
+        (0x80, "", &own, &[], None, ""),
+        (0x90, camera, &none, &[], ONE, camera),
+        // the application's bits stay
+        (
+            0x90,
+            "10070001 04010900",
+            &fourth,
+            &[place(4, 0, 2)],
+            None,
+            "10070002 060109 04020007 00",
+        ),
+        // in the order that they are given
+        (
+            0x80,
+            "",
+            &own,
+            &[place(9, 2, 2), place(3, 1, 1)],
+            None,
+            "BEDE0002 910008 3007 000000",
+        ),
+    ];
+    for (first, rest, ids, elements, allowed, wanted) in rows {
+        let group = Group {
+            ids,
+            data: &NUMBERS,
+            elements,
+            allowed,
+        };
+        let first_wanted = if wanted.is_empty() { 0x80 } else { 0x90 };
+        let template = made(&written(first, rest), &group, 800).unwrap();
+        let wanted = written(first_wanted, wanted);
+        assert_eq!(template.header(), wanted, "{rest}");
+        let lens = elements.iter().map(|it| it.data().len());
+        assert_eq!(template.data_len(), lens.sum::<usize>(), "{rest}");
+    }
+}
+
+#[test]
+fn data_are_those_of_the_elements_one_after_another() {
+    let ids = NewIds::new();
+    // the data of the second and the third overlap where the header is made
+    let elements = [place(9, 1, 2), place(3, 0, 3), place(7, 2, 1)];
+    let group = Group {
+        ids: &ids,
+        data: &NUMBERS,
+        elements: &elements,
+        allowed: None,
+    };
+    let template = made(&written(0x80, ""), &group, 900).unwrap();
+    assert_eq!(
+        template.header(),
+        written(0x90, "BEDE0003 910700 32000700 7000 000000")
+    );
+    assert_eq!(template.data_len(), 6);
+    let mut buf = [0; 28];
+    let written_len = template.write_header(&NO_FIELDS, &[1, 2, 3, 4, 5, 6], &mut buf);
+    assert_eq!(written_len, Ok(28));
+    assert_eq!(
+        buf.to_vec(),
+        written(0x90, "BEDE0003 910102 32030405 7006 000000")
+    );
+    // in the two-byte form, as many as an element can have
+    let data: Vec<u8> = (0..=255).collect();
+    let elements = [place(255, 1, 255), place(1, 0, 0)];
+    let group = Group {
+        ids: &ids,
+        data: &data,
+        elements: &elements,
+        allowed: None,
+    };
+    let template = made(&written(0x80, ""), &group, 900).unwrap();
+    assert_eq!(
+        (template.data_len(), template.header_len()),
+        (255, 12 + 4 + 260)
+    );
+    let mut buf = [0; 276];
+    assert_eq!(
+        template.write_header(&NO_FIELDS, &data[..255], &mut buf),
+        Ok(276)
+    );
+    assert_eq!(buf[16..18], [255, 255]);
+    assert_eq!((&buf[18..273], &buf[273..]), (&data[..255], &[1, 0, 0][..]));
+}
+
+/// Why no header is made of the packet with these, whose data are zeros, in so many bytes.
+fn cause(packet: &[u8], ids: &NewIds, elements: &[Place], room: usize) -> Option<NotRouted> {
+    let group = Group {
+        ids,
+        data: &[0; 300],
+        elements,
+        allowed: None,
+    };
+    made(packet, &group, room).err()
+}
+
+/// The elements 20, 21 and so on, of a byte each.
+fn in_a_row(count: u8) -> Vec<Place> {
+    (0..count).map(|n| place(20 + n, n.into(), 1)).collect()
+}
+
+const SHORT: Option<NotRouted> = Some(NotRouted::NotPut(NotPut::ShortBuffer));
+const BAD: Option<NotRouted> = Some(NotRouted::NotPut(NotPut::BadField));
+
+#[test]
+fn elements_have_ids_of_their_own_and_are_few() {
+    let (ids, long_id) = (NewIds::new().with(1, 3), NewIds::new().with(1, 15));
+    let all = in_a_row(17);
+    assert_eq!(HeaderTemplate::MAX_ELEMENTS, 16);
+    assert_eq!(cause(&SAMPLE, &ids, &all[..16], 5000), None);
+    assert_eq!(
+        cause(&SAMPLE, &ids, &all, 5000),
+        Some(NotRouted::ManyElements)
+    );
+    for last in [20, 21, 22] {
+        let elements = [all[0], all[1], all[2], all[3].with_id(last)];
+        let repeated = cause(&SAMPLE, &ids, &elements, 5000);
+        assert_eq!(repeated, Some(NotRouted::RepeatedId), "{last}");
+    }
+    let of_zero = cause(&SAMPLE, &ids, &[place(0, 0, 1)], 5000);
+    assert_eq!(of_zero, Some(NotRouted::NotPut(NotPut::BadId)));
+    // what else may be put, where the packet's own element can't have its id
+    for elements in [&[][..], &all[..16], &[place(30, 45, 255)]] {
+        let refused = cause(&SAMPLE, &long_id, elements, 5000);
+        assert_eq!(refused, Some(NotRouted::BadNewId), "{elements:?}");
+    }
+}
+
+#[test]
+fn data_begin_and_end_in_those_that_are_there() {
+    let ids = NewIds::new().with(1, 3);
+    for (at, len, due) in [
+        (299, 1, None),
+        (300, 0, None),
+        (45, 255, None),
+        (300, 1, BAD),
+        (301, 0, BAD),
+        (usize::MAX, 0, BAD),
+        (0, usize::MAX, BAD),
+        (0, 256, BAD),
+        (46, 255, BAD),
+        (1 << 32, 1, BAD),
+        (0, 1 << 32, BAD),
+    ] {
+        let elements = [place(20, 0, 1), place(30, at, len)];
+        let told = cause(&SAMPLE, &ids, &elements, 5000);
+        assert_eq!(told, due, "{at} {len}");
+    }
+}
+
+#[test]
+fn forms_that_are_not_allowed_and_others() {
+    let ids = NewIds::new().with(1, 3);
+    let elements = in_a_row(1);
+    let mut group = Group {
+        ids: &ids,
+        data: &[0],
+        elements: &elements,
+        allowed: ONE,
+    };
+    let not_allowed = Some(NotRouted::NotPut(NotPut::FormNotAllowed));
+    assert_eq!(made(&SAMPLE, &group, 5000).err(), not_allowed);
+    group.allowed = TWO;
+    let two = made(&SAMPLE, &group, 5000).unwrap();
+    assert_eq!(two.header(), written(0x90, "10000002 0301AA 140100 0000"));
+    let camera = written(0x90, "ABAC0000");
+    assert_eq!(cause(&camera, &ids, &[], 16), None);
+    let other = Some(NotRouted::NotPut(NotPut::OtherForm));
+    assert_eq!(cause(&camera, &ids, &elements, 5000), other);
+}
+
+#[test]
+fn a_block_of_65535_words() {
+    let own = each_its_own();
+    let mut full = written(0x90, &format!("1000FFFF {}", "00".repeat(4 * 65_535)));
+    for at in (16..full.len()).step_by(257) {
+        full[at..at + 2].copy_from_slice(&[2, 255]);
+    }
+    let long = cause(&full, &own, &[place(9, 0, 255)], 600_000);
+    assert_eq!(long, Some(NotRouted::NotPut(NotPut::LongBlock)));
+    let group = Group {
+        ids: &own,
+        data: &[],
+        elements: &[],
+        allowed: None,
+    };
+    let template = made(&full, &group, full.len()).unwrap();
+    assert!(template.header() == full);
+    let buf = at_end(&vec![0; full.len()]);
+    assert_eq!(template.write_header(&NO_FIELDS, &[], buf), Ok(262_156));
+    assert!(buf == full);
+}
+
+#[test]
+fn a_header_has_room_or_not() {
+    let ids = NewIds::new().with(1, 3);
+    // in its twenty bytes; with the element in 24
+    for (elements, room) in [(&[][..], 20), (&[place(4, 0, 3)][..], 24)] {
+        assert_eq!(cause(&SAMPLE, &ids, elements, room), None);
+        assert_eq!(cause(&SAMPLE, &ids, elements, room - 1), SHORT);
+    }
+    assert_eq!(cause(&SAMPLE, &ids, &[], 0), SHORT);
+}
+
+/// Twenty receivers of the template, each with a number and data of its own.
+fn twenty() -> (Vec<RoutedSlot>, Vec<u8>) {
+    let fields = |n| Fields {
+        sequence_number: Some(1000 + n),
+        ..NO_FIELDS
+    };
+    let slot = |n: u16| {
+        let at = usize::from(n);
+        RoutedSlot::new(&fields(n), 2 * at, 24 * at)
+    };
+    ((0..20).map(slot).collect(), (100..140).collect())
+}
+
+#[test]
+fn one_of_twenty_cannot_be_served() {
+    let template = template();
+    let (slots, data) = twenty();
+    let most = usize::MAX;
+    let bad_type = Fields {
+        payload_type: Some(128),
+        ..NO_FIELDS
+    };
+    let bad = Err(NotWritten::BadField);
+    let short = Err(NotWritten::ShortBuffer);
+    let rows = [
+        (RoutedSlot::new(&bad_type, 16, 192), bad),
+        (RoutedSlot::new(&NO_FIELDS, 39, 192), bad),
+        (RoutedSlot::new(&NO_FIELDS, 40, 192), bad),
+        (RoutedSlot::new(&NO_FIELDS, most, 192), bad),
+        (RoutedSlot::new(&NO_FIELDS, most - 1, 192), bad),
+        (RoutedSlot::new(&NO_FIELDS, 1 << 32, 192), bad),
+        (RoutedSlot::new(&NO_FIELDS, 16, 457), short),
+        (RoutedSlot::new(&NO_FIELDS, 16, 480), short),
+        (RoutedSlot::new(&NO_FIELDS, 16, most), short),
+        (RoutedSlot::new(&NO_FIELDS, 16, most - 23), short),
+        (RoutedSlot::new(&NO_FIELDS, 16, 1 << 32), short),
+        (slots[8], Ok(())),
+    ];
+    for (ninth, outcome) in rows {
+        let slots = at_end(&slots);
+        slots[8] = ninth;
+        let buf = at_end(&[0xEE; 480]);
+        let mut wanted = [0xEE; 480];
+        for (n, header) in wanted.chunks_mut(24).enumerate() {
+            if n != 8 || outcome.is_ok() {
+                header.copy_from_slice(template.header());
+                header[2..4].copy_from_slice(&(1000 + n as u16).to_be_bytes());
+                header[19..21].copy_from_slice(&data[2 * n..2 * n + 2]);
+            }
+        }
+        let headers = template.write_headers(at_end(&data), slots, buf);
+        assert_eq!(headers.len(), 20);
+        for (n, (header, due)) in headers.zip(wanted.chunks(24)).enumerate() {
+            let due = if n == 8 {
+                outcome.map(|()| due)
+            } else {
+                Ok(due)
+            };
+            assert_eq!(header, due, "{n}");
+        }
+        for (n, slot) in slots.iter().enumerate() {
+            assert_eq!(slot.written(), if n == 8 { outcome } else { Ok(()) });
+        }
+        assert_eq!(buf, wanted);
+    }
+}
+
+#[test]
+fn a_receiver_alone_is_refused_as_one_of_many() {
+    let template = template();
+    let bad_type = Fields {
+        payload_type: Some(200),
+        ..NO_FIELDS
+    };
+    for (fields, data, room, wanted) in [
+        (bad_type, &NUMBERS[..2], 24, Err(NotWritten::BadField)),
+        (bad_type, &NUMBERS[..2], 0, Err(NotWritten::BadField)),
+        (NO_FIELDS, &NUMBERS[..1], 24, Err(NotWritten::BadField)),
+        (NO_FIELDS, &NUMBERS[..3], 24, Err(NotWritten::BadField)),
+        (NO_FIELDS, &[], 24, Err(NotWritten::BadField)),
+        (NO_FIELDS, &NUMBERS[..2], 23, Err(NotWritten::ShortBuffer)),
+        (NO_FIELDS, &NUMBERS[..2], 0, Err(NotWritten::ShortBuffer)),
+        (NO_FIELDS, &NUMBERS[..2], 24, Ok(24)),
+    ] {
+        let buf = at_end(&vec![0xEE; room]);
+        assert_eq!(template.write_header(&fields, at_end(data), buf), wanted);
+        assert!(wanted.is_ok() || buf.iter().all(|it| *it == 0xEE));
+    }
+}
+
+#[test]
+fn none_are_none() {
+    let template = template();
+    let mut headers = template.write_headers(&[], &mut [], &mut []);
+    assert!(headers.len() == 0 && headers.next().is_none() && headers.next_back().is_none());
+    // without elements no data are due
+    let ids = NewIds::new();
+    let group = Group {
+        ids: &ids,
+        data: &[],
+        elements: &[],
+        allowed: None,
+    };
+    let template = made(&written(0x80, ""), &group, 12).unwrap();
+    assert_eq!((template.header_len(), template.data_len()), (12, 0));
+    let buf = at_end(&[0; 12]);
+    let mut slots = [
+        RoutedSlot::new(&NO_FIELDS, 0, 0),
+        RoutedSlot::new(&NO_FIELDS, 1, 0),
+    ];
+    let headers = template.write_headers(&[], &mut slots, buf);
+    let wanted = written(0x80, "");
+    assert!(headers.eq([Ok(&wanted[..]), Err(NotWritten::BadField)]));
+}
+
+#[test]
+fn where_headers_overlap_the_later_one_stands() {
+    let template = template();
+    let (_, data) = twenty();
+    // the second one lies over the end of the first, and the third over both
+    let number = |n: u16| Fields {
+        sequence_number: Some(n),
+        ..NO_FIELDS
+    };
+    let mut slots = [
+        RoutedSlot::new(&number(1), 0, 0),
+        RoutedSlot::new(&number(2), 2, 10),
+        RoutedSlot::new(&number(3), 4, 5),
+    ];
+    let buf = at_end(&[0xEE; 34]);
+    assert!(template
+        .write_headers(&data, &mut slots, buf)
+        .all(|it| it.is_ok()));
+    let mut wanted = [0; 34];
+    for (n, at) in [(1, 0), (2, 10), (3, 5)] {
+        wanted[at..at + 24].copy_from_slice(template.header());
+        wanted[at + 3] = n;
+        wanted[at + 19..at + 21].copy_from_slice(&data[2 * usize::from(n) - 2..2 * usize::from(n)]);
+    }
+    assert_eq!(buf, wanted);
+    let headers = template.write_headers(&data, &mut slots, &mut buf[..33]);
+    assert!(headers.map(|it| it.is_ok()).eq([true, false, true]));
+}
+
+#[test]
+fn many_receivers_and_slots_that_are_used_again() {
+    let template = template();
+    let data: Vec<u8> = (0..2000_u16).map(|it| (it % 251) as u8).collect();
+    let fields = |n: usize| Fields {
+        ssrc: Some(n as u32),
+        ..NO_FIELDS
+    };
+    let mut slots: Vec<_> = (0..1000)
+        .map(|n| RoutedSlot::new(&fields(n), 2 * n, 24 * n))
+        .collect();
+    assert!(slots
+        .iter()
+        .all(|it| it.written() == Err(NotWritten::BadField))); // not yet
+    let mut buf = vec![0; 24_000];
+    for (room, data_len) in [(24_000, 2000), (24 * 7, 2000), (24_000, 6), (24_000, 2000)] {
+        let headers = template.write_headers(&data[..data_len], &mut slots, &mut buf[..room]);
+        for (n, header) in headers.enumerate() {
+            let mut wanted = template.header().to_vec();
+            wanted[10..12].copy_from_slice(&(n as u16).to_be_bytes());
+            wanted[19..21].copy_from_slice(&data[2 * n..2 * n + 2]);
+            let due = match (2 * n + 2 <= data_len, 24 * n + 24 <= room) {
+                (false, _) => Err(NotWritten::BadField),
+                (_, false) => Err(NotWritten::ShortBuffer),
+                _ => Ok(&wanted[..]),
+            };
+            assert_eq!(header, due, "{n}");
+        }
+    }
+}
+
+#[test]
+fn headers_are_gone_through_as_a_list() {
+    fn is_a_list<T: Clone + ExactSizeIterator + DoubleEndedIterator + FusedIterator>(_: &T) {}
+    fn crosses_threads<T: Send + Sync>(_: &T) {}
+    let template = template();
+    crosses_threads(&template);
+    let (mut slots, data) = twenty();
+    let mut buf = [0; 72];
+    let mut headers = template.write_headers(&data, &mut slots[..4], &mut buf);
+    is_a_list(&headers);
+    crosses_threads(&headers);
+    let again = headers.clone();
+    assert_eq!(
+        (headers.next_back(), headers.len()),
+        (Some(Err(NotWritten::ShortBuffer)), 3)
+    );
+    let low = |it: Option<Result<&[u8], NotWritten>>| it.and_then(Result::ok).map(|it| it[3]);
+    assert_eq!(
+        (low(headers.next()), low(headers.next_back())),
+        (Some(232), Some(234))
+    );
+    assert_eq!(
+        (low(headers.next()), headers.size_hint()),
+        (Some(233), (0, Some(0)))
+    );
+    assert!(headers.next().is_none() && headers.next_back().is_none());
+    // what is lent lives as long as the buffer
+    let lent: Vec<_> = again.filter_map(Result::ok).collect();
+    assert!(lent.iter().map(|it| it[3]).eq([232, 233, 234]));
+}
+
+#[test]
+fn what_the_form_cannot_carry_is_sent_once_it_is_the_other() {
+    let ids = NewIds::new().with(1, 200);
+    let group = Group {
+        ids: &ids,
+        data: &[],
+        elements: &[],
+        allowed: None,
+    };
+    let mut buf = [0; 40];
+    buf[..20].copy_from_slice(&SAMPLE[..20]);
+    let len = change_form(&mut buf, 20, Form::TwoByte).unwrap();
+    let template = made(&buf[..len], &group, 60).unwrap();
+    assert_eq!(template.header(), written(0x90, "10000001 C801AA00"));
+}
+
+#[test]
+fn causes_are_told() {
+    for (cause, text) in [
+        (NotRouted::ManyElements, "more than 16 elements"),
+        (NotRouted::RepeatedId, "two elements of one id"),
+        (NotRouted::BadNewId, "the block's form can't carry a new id"),
+        (
+            NotRouted::NotPut(NotPut::BadId),
+            "an element can't be put, or there is no room",
+        ),
+    ] {
+        assert_eq!(cause.to_string(), text);
+        let source = cause.source().map(ToString::to_string);
+        let is_put = matches!(cause, NotRouted::NotPut(_));
+        assert_eq!(
+            source.as_deref(),
+            is_put.then_some("the id 0, which no element has")
+        );
+    }
+    let (template, (mut slots, data)) = (template(), twenty());
+    let told = format!("{template:?}");
+    assert!(
+        told.starts_with("HeaderTemplate { header: [144, 96, 0, 5"),
+        "{told}"
+    );
+    assert!(told.ends_with("data_len: 2, .. }"), "{told}");
+    let mut buf = [0; 24];
+    let told = format!(
+        "{:?}",
+        template.write_headers(&data, &mut slots[..2], &mut buf)
+    );
+    assert!(told.starts_with("[Ok([144, 96, 3, 232"), "{told}");
+    assert!(told.ends_with("]), Err(ShortBuffer)]"), "{told}");
+}
