@@ -3,17 +3,18 @@
 ghost use Rattle.std.specs.Prelude.{◌≡◌, ◌↔◌, true, false, ◌+◌, ◌*◌, ◌/◌, ◌%◌, ◌<◌, ◌≤◌, ◌∷◌, [], ◌++◌, List, length, drop, map, is_some, IsTrue, IfSome, IfNone};
 ghost use Rattle.std.specs.List.{AllByRecursion, flat_map};
 ghost use Rattle.rtp_base.specs.Overwriting.{overwritten};
-ghost use Rattle.rtp_vla.specs.Allocation.{Layer, Means, IsCounted, count_of};
+ghost use Rattle.rtp_vla.specs.Allocation.{Layer, Means, IsCounted, count_of, mask_of};
 ghost use Rattle.rtp_vla.specs.AllocationWritten as written;
 ghost use Rattle.rtp_vla.specs.AllocationPutting as putting;
 ghost use Rattle.rtp_vla.specs.Leb.{shortest_of};
+ghost use Rattle.rtp_vla.specs.Measuring.{AreMasksOf};
 
 use super::active::ActiveLayers;
 use super::allocation::{ResolutionAndFramerate, TemporalLayerAllocation, VideoLayersAllocation};
 use super::leb::put_leb;
 use super::lent::Layered;
 use super::lent_allocation::LentAllocation;
-use super::measuring::{put_masks_of, shared_of, writable_len};
+use super::measuring::{shared_of, writable_len};
 use super::video_layers::VideoLayers;
 use rtp_base::put;
 
@@ -151,17 +152,15 @@ fn put_masks(buf: &mut [u8], at: usize, masks: &[u8], shared: u8) -> usize
     }
 }
 
-// Puts streams, of which there are some, and returns how many bytes they have.
-fn put_streams<S: Layered>(buf: &mut [u8], index: u8, streams: &[S]) -> usize
+// Puts streams, of which there are some, with these masks, and returns how many bytes they have.
+fn put_streams<S: Layered>(buf: &mut [u8], index: u8, streams: &[S], masks: &[u8]) -> usize
     requires some { 1 ≤ length (map S.stream streams.now) }
+    requires masks { masks.now ≡ map mask_of (map S.stream streams.now) }
     requires fit { written.streams_fit index (map S.stream streams.now) ≡ true }
     requires room { length (written.packed_bytes index (map S.stream streams.now)) ≤ length buf.old }
     ensures written { buf.new ≡ overwritten buf.old 0 (written.packed_bytes index (map S.stream streams.now)) }
     ensures end { result ≡ length (written.packed_bytes index (map S.stream streams.now)) }
 {
-    let mut masks = [0; 4];
-    let masks = &mut masks[..streams.len()];
-    let _ = put_masks_of(streams, masks);
     let shared = shared_of(masks);
     let head = 64 * index + 16 * (streams.len() - 1) as u8 + shared;
     let end = put(buf, 0, &[head]);
@@ -171,17 +170,23 @@ fn put_streams<S: Layered>(buf: &mut [u8], index: u8, streams: &[S]) -> usize
     put_resolutions(buf, end, ActiveLayers::new(streams))
 }
 
-// Puts an allocation, and returns how many bytes it has.
-pub(super) fn put_allocation<S: Layered>(v: &LentAllocation<S>, buf: &mut [u8]) -> usize
+// Puts an allocation with these masks, and returns how many bytes it has.
+pub(super) fn put_allocation<S: Layered>(
+    v: &LentAllocation<S>,
+    masks: &[u8; 4],
+    buf: &mut [u8],
+) -> usize
     requires writable { written.can_be_written v.now ≡ true }
+    requires masks { AreMasksOf v.now masks.now }
     requires room { length (written.written_of v.now) ≤ length buf.old }
     ensures written { buf.new ≡ written.written_of v.now ++ drop result buf.old }
     ensures length { result ≡ length (written.written_of v.now) }
 {
-    if v.streams.len() == 0 {
+    let streams = v.streams.len();
+    if streams == 0 {
         return put(buf, 0, &[0]);
     }
-    put_streams(buf, v.index, v.streams)
+    put_streams(buf, v.index, v.streams, &masks[..streams])
 }
 
 /// Whether the allocation can be written: some bytes mean it, once the layers at the end of each
@@ -235,7 +240,7 @@ pub fn write_to(v: &VideoLayersAllocation, buf: &mut [u8]) -> usize
     ensures length { result ≡ length (written.written_of v.now) }
     ensures means { Means (written.written_of v.now) (written.trimmed v.now) }
 {
-    put_allocation(&LentAllocation::listed(v), buf)
+    LentAllocation::listed(v).write_to(buf)
 }
 
 impl VideoLayers {
@@ -262,6 +267,6 @@ impl VideoLayers {
         ensures length { result ≡ length (written.written_of self.now) }
         ensures means { Means (written.written_of self.now) (written.trimmed self.now) }
     {
-        put_allocation(&LentAllocation::held(self), buf)
+        LentAllocation::held(self).write_to(buf)
     }
 }

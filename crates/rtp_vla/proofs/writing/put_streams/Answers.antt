@@ -3,12 +3,12 @@ use Rattle.rtp_vla.proofs.AllocationWriting.{can_put}
 use Rattle.rtp_vla.proofs.AllocationWritingLemmas.{length-packed_bytes, length-quarters_of}
 use Rattle.rtp_vla.proofs.LeavingLemmas.{overwritten-five}
 use Rattle.rtp_vla.proofs.writing.put_streams.Goals as goal
-use Rattle.rtp_vla.proofs.writing.put_streams.Goals.{After-slice_known-7-1}
+use Rattle.rtp_vla.proofs.writing.put_streams.Goals.{After-slice_known-6-1}
 
 pub put_masks-end-requires-clause-fit : goal.put_masks-end-requires-clause-fit
 put_masks-end-requires-clause-fit g c =
     let can = can_put c.args.index (map g.S.Layered.stream c.args.streams.now) c.requires.some c.requires.fit in
-    let masks = OnTrue_at (c.put_masks_of.ensures.fits.1 can.fits) c.put_masks_of.ensures.masks in
+    let masks = c.requires.masks in
     subst (AllByRecursion (λ mask. mask ≤ 15)) (sym masks) can.masks
 
 pub put_counts-end-requires-clause-fit : goal.put_counts-end-requires-clause-fit
@@ -16,8 +16,7 @@ put_counts-end-requires-clause-fit g c = subst (AllByRecursion IsCounted) (sym c
 
 pub put_counts-end-requires-clause-room : goal.put_counts-end-requires-clause-room
 put_counts-end-requires-clause-room g c =
-    let can = can_put c.args.index (map g.S.Layered.stream c.args.streams.now) c.requires.some c.requires.fit in
-    let masks = OnTrue_at (c.put_masks_of.ensures.fits.1 can.fits) c.put_masks_of.ensures.masks in
+    let masks = c.requires.masks in
     omega (
       arith,
       c.requires.room,
@@ -35,8 +34,7 @@ put_rates-end-requires-clause-small g c = subst (AllByRecursion HasSmallRates) (
 
 pub put_rates-end-requires-clause-room : goal.put_rates-end-requires-clause-room
 put_rates-end-requires-clause-room g c =
-    let can = can_put c.args.index (map g.S.Layered.stream c.args.streams.now) c.requires.some c.requires.fit in
-    let masks = OnTrue_at (c.put_masks_of.ensures.fits.1 can.fits) c.put_masks_of.ensures.masks in
+    let masks = c.requires.masks in
     omega (
       arith,
       c.requires.room,
@@ -60,8 +58,7 @@ put_resolutions-requires-clause-front g c =
 
 pub put_resolutions-requires-clause-room : goal.put_resolutions-requires-clause-room
 put_resolutions-requires-clause-room g c =
-    let can = can_put c.args.index (map g.S.Layered.stream c.args.streams.now) c.requires.some c.requires.fit in
-    let masks = OnTrue_at (c.put_masks_of.ensures.fits.1 can.fits) c.put_masks_of.ensures.masks in
+    let masks = c.requires.masks in
     omega (
       arith,
       c.requires.room,
@@ -79,13 +76,12 @@ put_resolutions-requires-clause-room g c =
     )
 
 -- the five parts
-all_put : (g : _) (c : After-slice_known-7-1 g) → (c.put_resolutions.new.buf ≡ overwritten c.args.buf.now 0 (packed_bytes c.args.index (map g.S.Layered.stream c.args.streams.now))) × (c.put_resolutions.result ≡ length (packed_bytes c.args.index (map g.S.Layered.stream c.args.streams.now)))
+all_put : (g : _) (c : After-slice_known-6-1 g) → (c.put_resolutions.new.buf ≡ overwritten c.args.buf.now 0 (packed_bytes c.args.index (map g.S.Layered.stream c.args.streams.now))) × (c.put_resolutions.result ≡ length (packed_bytes c.args.index (map g.S.Layered.stream c.args.streams.now)))
 all_put g c =
     let streams = map g.S.Layered.stream c.args.streams.now in
-    let can = can_put c.args.index streams c.requires.some c.requires.fit in
-    let masks = OnTrue_at (c.put_masks_of.ensures.fits.1 can.fits) c.put_masks_of.ensures.masks in
+    let masks = c.requires.masks in
     let shared : c.shared_of-shared.result ≡ shared_of (map mask_of streams) = c.shared_of-shared.ensures ∙ ap (λ (ms : List ℕ). shared_of ms) masks in
-    let mask_part : mask_bytes c.put_masks_of.new.masks ≡ mask_bytes (map mask_of streams) = ap (λ (ms : List ℕ). mask_bytes ms) masks in
+    let mask_part : mask_bytes c.args.masks.now ≡ mask_bytes (map mask_of streams) = ap (λ (ms : List ℕ). mask_bytes ms) masks in
     let count_part : quarters_of (map count_of c.new.result) ≡ quarters_of (map count_of (active_layers streams)) = ap (λ (ls : List Layer). quarters_of (map count_of ls)) c.new.ensures in
     let rate_part : flat_map rate_bytes c.new-2.result ≡ flat_map rate_bytes (active_layers streams) = ap (flat_map rate_bytes) c.new-2.ensures in
     let resolution_part : flat_map resolution_bytes c.new-3.result ≡ flat_map resolution_bytes (active_layers streams) = ap (flat_map resolution_bytes) c.new-3.ensures in
