@@ -1,9 +1,8 @@
 -- Layers that are measured from the last one on.
-use Rattle.rtp_vla.proofs.Common.{◌≡◌, ℕ, zero, suc, ◌+◌, ◌*◌, ◌-◌, ◌^◌, ◌<◌, ◌≤◌, ◌⊎◌, inl, inr, ⊎_elim, slice_get, slice_get_within, get_or_from_slice_get, take-append-drop, List, [], ◌∷◌, ◌++◌, length, take, drop, map, get_or, set, Bool, true, false, cond, not, Option, Some, None, refl, sym, ap, ◌∙◌, subst, arith, is_none, is_some, filter, flat_map, list_all, ◌&&◌, IfNone, drop_at, and_left, and_right, and_parts, and_from, false≢true, cases_lt, pow-le-pow_right, append_assoc, drop_more, drop-set-lt, length-set, Layer, Stream, is_active, active_layers, mask_of, bare_or_active, stream_fits, rates_fit, resolution_fits, resolutions_in_front, layers_fit, rate_bytes, resolution_bytes, ResolutionAndFramerate}
+use Rattle.rtp_vla.proofs.Common.{◌≡◌, ℕ, ◌+◌, ◌^◌, ◌<◌, ◌≤◌, ◌⊎◌, inl, inr, ⊎_elim, slice_get, slice_get_within, get_or_from_slice_get, take-append-drop, List, [], ◌∷◌, ◌++◌, length, take, drop, set, Bool, true, false, cond, Option, Some, None, refl, sym, ap, ◌∙◌, arith, is_none, filter, list_all, ◌&&◌, IfNone, drop_at, and_left, and_right, and_parts, and_from, false≢true, cases_lt, pow-le-pow_right, append_assoc, drop_more, drop-set-lt, length-set, Layer, Stream, is_active, active_layers, mask_of, stream_fits, rates_fit, resolution_fits, resolutions_in_front, layers_fit, ResolutionAndFramerate}
 use Rattle.std.proofs.lemmas.List.Elements.{filter-append}
 use Rattle.std.proofs.Common.{get_or-set_same}
 use Rattle.std.proofs.lemmas.List.Concat.{flat_map-append}
-use Rattle.rtp_vla.specs.Measuring.{AreMeasured}
 use Rattle.rtp_vla.proofs.AllocationWritingLemmas.{few_active}
 use Rattle.rtp_vla.proofs.LentLemmas.{list_all-with}
 

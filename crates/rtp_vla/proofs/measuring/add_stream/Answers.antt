@@ -1,4 +1,4 @@
-use Rattle.rtp_vla.proofs.Common.{rules, ◌≡◌, ◌<◌, ◌≤◌, ◌+◌, ◌∷◌, ◌++◌, [], ap, sym, ◌∙◌, subst, length, drop, arith, List, Bool, true, false, length-append, filter, is_active, and_left, Layer}
+use Rattle.rtp_vla.proofs.Common.{rules, ◌≡◌, ◌<◌, ◌≤◌, ◌∷◌, ◌++◌, [], ap, sym, ◌∙◌, subst, length, drop, arith, List, true, false, length-append, filter, is_active, and_left, Layer}
 use Rattle.rtp_vla.specs.declared.measuring.Measure.{Measure}
 use Rattle.rtp_vla.specs.Measuring.{AreMeasured}
 use Rattle.rtp_vla.proofs.AllocationWritingLemmas.{mask_unfit}
@@ -39,25 +39,25 @@ loop-layer-preserved g c =
       fits = search rules;
       small = search rules;
       active = elim c.if-active.branch [
-        then-active+in_ok-add w ↦
-          let active : is_active layer ≡ true = search rules in
-          omega (arith, ap (λ (m : Measure). m.active) w.measure-is, w.in_ok-add.ensures.active, so_far.active, ap (λ (ls : List Layer). length (filter is_active ls)) more.0, ap length (filter_active layer taken active))
-      | else-active+else-is_some w ↦
-          let idle : is_active layer ≡ false = search rules in
-          omega (arith, ap (λ (m : Measure). m.active) w.measure-is, so_far.active, ap (λ (ls : List Layer). length (filter is_active ls)) more.0, ap length (filter_idle layer taken idle))
+        | then-active+in_ok-add w ↦
+            let active : is_active layer ≡ true = search rules in
+            omega (arith, ap (λ (m : Measure). m.active) w.measure-is, w.in_ok-add.ensures.active, so_far.active, ap (λ (ls : List Layer). length (filter is_active ls)) more.0, ap length (filter_active layer taken active))
+        | else-active+else-is_some w ↦
+            let idle : is_active layer ≡ false = search rules in
+            omega (arith, ap (λ (m : Measure). m.active) w.measure-is, so_far.active, ap (λ (ls : List Layer). length (filter is_active ls)) more.0, ap length (filter_idle layer taken idle))
       ];
       few = search rules;
       measured = λ after measured. elim c.if-active.branch [
-        then-active+in_ok-add w ↦
-          let active : is_active layer ≡ true = search rules in
-          subst (λ (ls : List Layer). AreMeasured (ls ++ after) c.if-active.measure.active c.if-active.measure.len c.if-active.measure.is_sized)
-          (sym (ap (filter is_active) more.0 ∙ filter_active layer taken active))
-          (subst (λ (m : Measure). AreMeasured (layer ∷ (filter is_active taken ++ after)) m.active m.len m.is_sized) (sym w.measure-is)
-          (w.in_ok-add.ensures.fits (filter is_active taken ++ after) (so_far.measured after measured)))
-      | else-active+else-is_some w ↦
-          let idle : is_active layer ≡ false = search rules in
-          subst (λ (ls : List Layer). AreMeasured (ls ++ after) c.if-active.measure.active c.if-active.measure.len c.if-active.measure.is_sized)
-          (sym (ap (filter is_active) more.0 ∙ filter_idle layer taken idle))
-          (subst (λ (m : Measure). AreMeasured (filter is_active taken ++ after) m.active m.len m.is_sized) (sym w.measure-is) (so_far.measured after measured))
+        | then-active+in_ok-add w ↦
+            let active : is_active layer ≡ true = search rules in
+            subst (λ (ls : List Layer). AreMeasured (ls ++ after) c.if-active.measure.active c.if-active.measure.len c.if-active.measure.is_sized)
+            (sym (ap (filter is_active) more.0 ∙ filter_active layer taken active))
+            (subst (λ (m : Measure). AreMeasured (layer ∷ (filter is_active taken ++ after)) m.active m.len m.is_sized) (sym w.measure-is)
+            (w.in_ok-add.ensures.fits (filter is_active taken ++ after) (so_far.measured after measured)))
+        | else-active+else-is_some w ↦
+            let idle : is_active layer ≡ false = search rules in
+            subst (λ (ls : List Layer). AreMeasured (ls ++ after) c.if-active.measure.active c.if-active.measure.len c.if-active.measure.is_sized)
+            (sym (ap (filter is_active) more.0 ∙ filter_idle layer taken idle))
+            (subst (λ (m : Measure). AreMeasured (filter is_active taken ++ after) m.active m.len m.is_sized) (sym w.measure-is) (so_far.measured after measured))
       ];
     }

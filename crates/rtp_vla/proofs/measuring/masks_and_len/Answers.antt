@@ -1,4 +1,4 @@
-use Rattle.rtp_vla.proofs.Common.{◌≡◌, ◌∙◌, ◌∷◌, [], true, length, ap, arith, List, ◌<◌, ◌≤◌, ◌+◌, ◌++◌, take, drop, subst, map, ℕ, take_at, length-map, Allocation, mask_of}
+use Rattle.rtp_vla.proofs.Common.{◌≡◌, ◌∙◌, ◌∷◌, [], true, length, ap, arith, List, ◌+◌, ◌++◌, take, drop, subst, map, ℕ, take_at, length-map, Allocation, mask_of}
 use Rattle.rtp_vla.specs.AllocationWritten.{mask_bytes, can_be_written, written_of}
 use Rattle.rtp_vla.specs.Measuring.{AreMasksOf}
 use Rattle.rtp_vla.proofs.AllocationWritingLemmas.{measured}

@@ -1,4 +1,4 @@
-use Rattle.rtp_vla.proofs.Common.{◌≡◌, ◌<◌, ◌≤◌, ◌+◌, ◌-◌, ◌*◌, ◌∷◌, ◌++◌, ap, sym, refl, ◌∙◌, subst, ℕ, List, length, drop, map, arith, Some, slice_get, option_map, and_from, filter, list_all, length-map, Layer, Stream, is_active, active_layers, mask_of, stream_fits, true}
+use Rattle.rtp_vla.proofs.Common.{◌≡◌, ◌+◌, ◌-◌, ◌∷◌, ap, sym, refl, ◌∙◌, subst, ℕ, List, length, drop, map, arith, Some, slice_get, option_map, and_from, list_all, length-map, Stream, active_layers, mask_of, stream_fits, true}
 use Rattle.std.proofs.Common.{length-drop}
 use Rattle.std.proofs.lemmas.Option.{slice_get-map, slice_get_read}
 use Rattle.rtp_vla.specs.Measuring.{AreMeasured}

@@ -1,4 +1,4 @@
-use Rattle.rtp_vla.proofs.Common.{◌≡◌, ◌≤◌, ◌+◌, ◌-◌, ◌*◌, ◌∷◌, [], ◌∙◌, ap, sym, subst, arith, length, map, List, ℕ, true, false, AllByRecursion, flat_map, OnTrue_at, Layer, IsCounted, active_layers, mask_of, count_of, HasSmallRates, HasSizedResolution, shared_of, mask_bytes, quarters_of, rate_bytes, resolution_bytes, resolutions_in_front, packed_bytes, overwritten, length-map}
+use Rattle.rtp_vla.proofs.Common.{◌≡◌, ◌≤◌, ◌+◌, ◌-◌, ◌*◌, ◌∷◌, [], ◌∙◌, ap, sym, subst, arith, length, map, List, ℕ, true, false, AllByRecursion, flat_map, Layer, IsCounted, active_layers, mask_of, count_of, HasSmallRates, HasSizedResolution, shared_of, mask_bytes, quarters_of, rate_bytes, resolution_bytes, resolutions_in_front, packed_bytes, overwritten, length-map}
 use Rattle.rtp_vla.proofs.AllocationWriting.{can_put}
 use Rattle.rtp_vla.proofs.AllocationWritingLemmas.{length-packed_bytes, length-quarters_of}
 use Rattle.rtp_vla.proofs.LeavingLemmas.{overwritten-five}
