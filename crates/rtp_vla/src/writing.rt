@@ -6,6 +6,7 @@ ghost use Rattle.rtp_base.specs.Overwriting.{overwritten};
 ghost use Rattle.rtp_vla.specs.Allocation.{Layer, Means, IsCounted, count_of, mask_of};
 ghost use Rattle.rtp_vla.specs.AllocationWritten as written;
 ghost use Rattle.rtp_vla.specs.AllocationPutting as putting;
+ghost use Rattle.rtp_vla.specs.Leaving.{Leaves};
 ghost use Rattle.rtp_vla.specs.Leb.{shortest_of};
 ghost use Rattle.rtp_vla.specs.Measuring.{AreMasksOf};
 
@@ -15,6 +16,7 @@ use super::leb::put_leb;
 use super::lent::Layered;
 use super::lent_allocation::LentAllocation;
 use super::measuring::{shared_of, writable_len};
+use super::parts::active_count;
 use super::video_layers::VideoLayers;
 use rtp_base::put;
 
@@ -35,39 +37,6 @@ fn put_halves(buf: &mut [u8], at: usize, masks: &[u8]) -> usize
     }
 }
 
-// The next count, and 0 after the last.
-fn next_count<S: Layered>(left: &mut ActiveLayers<S>) -> u8
-    requires { AllByRecursion IsCounted left.old }
-    ensures count { result ≡ putting.first_count left.old }
-    ensures left { left.new ≡ drop 1 left.old }
-    ensures few { result ≤ 3 }
-    ensures fit { AllByRecursion IsCounted left.new }
-{
-    let Some(layer) = left.next() else {
-        return 0;
-    };
-    layer.temporal_layers.len().saturating_sub(1) as u8
-}
-
-// Puts the counts, four in a byte.
-fn put_counts<S: Layered>(buf: &mut [u8], at: usize, mut left: ActiveLayers<S>) -> usize
-    requires fit { AllByRecursion IsCounted left }
-    requires room { at + length (written.quarters_of (map count_of left)) ≤ length buf.old }
-    ensures written { buf.new ≡ overwritten buf.old at (written.quarters_of (map count_of left.entry)) }
-    ensures end { result ≡ at + length (written.quarters_of (map count_of left.entry)) }
-{
-    let mut end = at;
-    while let Some(layer) = left.next() {
-        let first = layer.temporal_layers.len().saturating_sub(1) as u8;
-        let second = next_count(&mut left);
-        let third = next_count(&mut left);
-        let fourth = next_count(&mut left);
-        buf[end] = 64 * first + 16 * second + 4 * third + fourth;
-        end += 1;
-    }
-    end
-}
-
 // Puts the rates of a layer.
 fn put_layer_rates(buf: &mut [u8], at: usize, rates: &[TemporalLayerAllocation]) -> usize
     requires small { AllByRecursion (λ rate. rate < 9223372036854775808) rates.now }
@@ -82,16 +51,57 @@ fn put_layer_rates(buf: &mut [u8], at: usize, rates: &[TemporalLayerAllocation])
     end
 }
 
-// Puts the rates.
-fn put_rates<S: Layered>(buf: &mut [u8], at: usize, mut left: ActiveLayers<S>) -> usize
-    requires small { AllByRecursion putting.HasSmallRates left }
-    requires room { at + length (flat_map written.rate_bytes left) ≤ length buf.old }
-    ensures written { buf.new ≡ overwritten buf.old at (flat_map written.rate_bytes left.entry) }
-    ensures end { result ≡ at + length (flat_map written.rate_bytes left.entry) }
+// Puts the rates of the next layer, and returns its count and the offset after them; after the last
+// layer 0 and the same offset.
+#[inline(always)]
+fn put_next<S: Layered>(buf: &mut [u8], at: usize, left: &mut ActiveLayers<S>) -> (u8, usize)
+    requires fit { AllByRecursion IsCounted left.old }
+    requires small { AllByRecursion putting.HasSmallRates left.old }
+    requires room { at + length (flat_map written.rate_bytes left.old) ≤ length buf.old }
+    ensures count { result.0 ≡ putting.first_count left.old }
+    ensures left { left.new ≡ drop 1 left.old }
+    ensures rates { Leaves buf.new result.1 (flat_map written.rate_bytes left.new)
+        buf.old at (flat_map written.rate_bytes left.old) }
+    ensures few { (result.0 ≤ 3) × (at ≤ result.1) }
+    ensures fit { AllByRecursion IsCounted left.new }
+    ensures small { AllByRecursion putting.HasSmallRates left.new }
 {
-    let mut end = at;
+    let Some(layer) = left.next() else {
+        return (0, at);
+    };
+    let count = layer.temporal_layers.len().saturating_sub(1) as u8;
+    (count, put_layer_rates(buf, at, layer.temporal_layers))
+}
+
+// Puts the counts of the layers, four in a byte, and after them the rates.
+fn put_counts_and_rates<S: Layered>(
+    buf: &mut [u8],
+    at: usize,
+    mut left: ActiveLayers<S>,
+    active: usize,
+) -> usize
+    requires active { active ≡ length left }
+    requires few { active ≤ 16 }
+    requires fit { AllByRecursion IsCounted left }
+    requires small { AllByRecursion putting.HasSmallRates left }
+    requires room { at + length
+        (written.quarters_of (map count_of left) ++ flat_map written.rate_bytes left) ≤ length buf.old }
+    ensures written { buf.new ≡ overwritten buf.old at
+        (written.quarters_of (map count_of left.entry) ++ flat_map written.rate_bytes left.entry) }
+    ensures end { result ≡ at + length
+        (written.quarters_of (map count_of left.entry) ++ flat_map written.rate_bytes left.entry) }
+{
+    let mut end = at + (active + 3) / 4;
+    let mut count_at = at;
     while let Some(layer) = left.next() {
-        end = put_layer_rates(buf, end, layer.temporal_layers);
+        let first = layer.temporal_layers.len().saturating_sub(1) as u8;
+        let after_first = put_layer_rates(buf, end, layer.temporal_layers);
+        let (second, after_second) = put_next(buf, after_first, &mut left);
+        let (third, after_third) = put_next(buf, after_second, &mut left);
+        let (fourth, after_fourth) = put_next(buf, after_third, &mut left);
+        end = after_fourth;
+        buf[count_at] = 64 * first + 16 * second + 4 * third + fourth;
+        count_at += 1;
     }
     end
 }
@@ -165,8 +175,8 @@ fn put_streams<S: Layered>(buf: &mut [u8], index: u8, streams: &[S], masks: &[u8
     let head = 64 * index + 16 * (streams.len() - 1) as u8 + shared;
     let end = put(buf, 0, &[head]);
     let end = put_masks(buf, end, masks, shared);
-    let end = put_counts(buf, end, ActiveLayers::new(streams));
-    let end = put_rates(buf, end, ActiveLayers::new(streams));
+    let active = active_count(masks);
+    let end = put_counts_and_rates(buf, end, ActiveLayers::new(streams), active);
     put_resolutions(buf, end, ActiveLayers::new(streams))
 }
 
