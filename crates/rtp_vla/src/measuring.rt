@@ -81,16 +81,18 @@ impl Measure {
         ensures few { IfSome result (λ _. self.new.len ≤ 41 * self.new.active) }
     {
         let rates = rates_len(layer.temporal_layers)?;
-        let resolution = resolution_len(&layer.resolution_and_framerate)?;
-        let is_sized = layer.resolution_and_framerate.is_some();
-        if !is_sized {
+        if layer.resolution_and_framerate.is_none() {
             if self.is_sized {
                 return None;
             }
+            self.active += 1;
+            self.len += rates;
+            return Some(());
         }
+        let resolution = resolution_len(&layer.resolution_and_framerate)?;
         self.active += 1;
         self.len += rates + resolution;
-        self.is_sized = is_sized;
+        self.is_sized = true;
         Some(())
     }
 }
