@@ -1,9 +1,9 @@
 -- The data that a kind's values are written as, and what they are read as.
-use Rattle.std.proofs.Common.{◌≡◌, ℕ, ◌+◌, ◌*◌, ◌/◌, ◌%◌, ◌<◌, ◌≤◌, ℤ, pos, neg_ℤ, Bool, true, false, List, [], ◌∷◌, ◌++◌, length, Option, Some, None, refl, sym, ap, inl, inr, ◌∙◌, arith, eq-eqb, length-take}
+use Rattle.std.proofs.Common.{◌≡◌, ℕ, ◌+◌, ◌*◌, ◌/◌, ◌%◌, ◌<◌, ◌≤◌, ℤ, pos, neg_ℤ, Bool, true, false, List, [], ◌∷◌, ◌++◌, length, Option, Some, None, refl, sym, ap, inl, inr, ⊎_elim, ◌∙◌, arith, eq-eqb, length-take}
 use Rattle.std.specs.Prelude.{◌&&◌, nat_le, if◌then◌else◌, unsigned_abs, ◌==◌, map, IsUtf8}
 use Rattle.std.specs.Option.{option_map, ForSome}
 use Rattle.std.specs.Str.{chars}
-use Rattle.std.proofs.lemmas.Bool.{ne_eqb, cases_lt, and_parts, and_from, leb-true, le-leb}
+use Rattle.std.proofs.lemmas.Bool.{ne_eqb, cases_lt, cases_Bool, and_parts, and_from, leb-true, le-leb}
 use Rattle.std.proofs.lemmas.Nat.{div-mul-add, mod-mul-add}
 use Rattle.rtp_base.specs.MediaTime.{Fraction}
 use Rattle.rtp_base.specs.Overwriting.{overwritten}
@@ -21,7 +21,7 @@ use Rattle.rtp_values.specs.declared.value.video_orientation.VideoOrientation as
 use Rattle.rtp_values.specs.declared.value.video_orientation.VideoOrientation.TheVariants.{Deg0, Deg90, Deg180, Deg270}
 use Rattle.rtp_base.specs.Flag.{bit}
 use Rattle.rtp_values.specs.Values.{Reads, big_endian, offset_of, orientation_of, hundredths}
-use Rattle.rtp_values.specs.Spelling.{bytes_of_number, spelled_data, HasRoom, carried_values, longest, send_ticks, delay_of, offset_bytes, orientation_bits, timing_bytes}
+use Rattle.rtp_values.specs.Spelling.{element_allocation, bytes_of_number, spelled_data, HasRoom, carried_values, longest, send_ticks, delay_of, offset_bytes, orientation_bits, timing_bytes}
 use Rattle.rtp_values.specs.KindBytes.{WritesData, IsTextOf}
 
 -- ---- what is written
@@ -253,6 +253,14 @@ pub measured-allocation : (values : ExtensionValues) (a : Allocation) (len : ℕ
 measured-allocation values a len is writable len-is few =
     let carried : (can_be_written a && nat_le (length (written_of a)) 255) ≡ true = and_from _ _ (can_be_written-from a writable) (le-leb (length (written_of a)) 255 (omega (arith, len-is, few))) in
     rw (is, carried, len-is) refl
+
+-- where it can't be written in 255 bytes there are no data
+pub not_carried : (a : Allocation) → (Writable a → length (written_of a) ≤ 255 → ⊥) → element_allocation (Some a) ≡ None
+not_carried a never =
+    ⊎_elim
+    (λ yes. let parts = and_parts _ _ yes in absurd (never (Writable-from a parts.0) (leb-true _ _ parts.1)))
+    (λ e. rw e refl)
+    (cases_Bool (can_be_written a && nat_le (length (written_of a)) 255))
 
 module _ {shown values : ExtensionValues} (same : shown ≡ values) {a : Allocation} (is : shown.video_layers_allocation ≡ Some a) {len : ℕ}
     (measured : Some len ≡ option_map length (spelled_data VideoLayersAllocation values)) where

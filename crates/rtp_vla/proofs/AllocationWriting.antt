@@ -1,7 +1,8 @@
 -- What is written means the allocation without its trailing bare layers, and what can be written is what some bytes mean.
-use Rattle.rtp_vla.proofs.Common.{◌≡◌, ℕ, ◌+◌, ◌-◌, ◌*◌, ◌<◌, ◌≤◌, ◌&&◌, inl, inr, ⊎_elim, List, [], ◌∷◌, ◌++◌, length, map, Bool, true, false, not, eqb, leb, ltb, None, Some, Option, refl, sym, ap, ◌∙◌, subst, arith, is_none, is_some, IfSome, IfNone, unwrap_or, AllByRecursion, flat_map, list_all, and_parts, and_from, le-leb, leb-true, ltb-true, eq-eqb, eqb-true, false≢true, length-map, nil_from_length, ResolutionAndFramerate, Layer, Stream, Allocation, active_layers, mask_of, count_of, AreMasks, AreQuarters, AreRates, AreResolutions, IsCounted, IsPacked, Means, without_bare_tail, trimmed, Writable, bare_or_active, stream_fits, resolution_fits, resolutions_in_front, layers_fit, streams_fit, can_be_written, shared_of, mask_bytes, quarters_of, rate_bytes, resolution_field, resolution_bytes, packed_bytes, streams_bytes, written_of, HasSmallRates, IsSized, HasSizedResolution}
+use Rattle.rtp_vla.proofs.Common.{◌≡◌, ℕ, ◌+◌, ◌-◌, ◌*◌, ◌<◌, ◌≤◌, ◌&&◌, inl, inr, ⊎_elim, List, [], ◌∷◌, ◌++◌, length, map, Bool, true, false, not, eqb, leb, ltb, None, Some, Option, refl, sym, ap, ◌∙◌, subst, arith, is_none, is_some, IfSome, IfNone, unwrap_or, AllByRecursion, flat_map, list_all, and_parts, and_from, le-leb, leb-true, ltb-true, eq-eqb, eqb-true, false≢true, length-map, nil_from_length, ResolutionAndFramerate, Layer, Stream, Allocation, active_layers, active_count, mask_of, count_of, AreMasks, AreQuarters, AreRates, AreResolutions, IsCounted, IsPacked, Means, without_bare_tail, trimmed, Writable, bare_or_active, stream_fits, resolution_fits, resolutions_in_front, layers_fit, streams_fit, can_be_written, shared_of, mask_bytes, quarters_of, rate_bytes, resolution_field, resolution_bytes, packed_bytes, streams_bytes, written_of, HasSmallRates, IsSized, HasSizedResolution}
 use Rattle.rtp_vla.proofs.AllocationWritingLemmas.{written-bytes, streams_bytes-some}
 use Rattle.rtp_vla.proofs.AllocationParts.{AreBytes, AreBytes-parts, rates_in, resolutions_of}
+use Rattle.rtp_vla.proofs.AllocationDealing.{dealt_streams-back}
 use Rattle.rtp_vla.proofs.AllocationTrimming.{masks-trimmed, active-trimmed, readable_from, fits_from, none_is}
 use Rattle.rtp_vla.proofs.AllocationSpelling.{shared_small, AreMasks-of, AreQuarters-of, layer_fits, AreRates-layers, counted_from, layers_small, sizes, AreResolutions-of, front_from, AreBytes-append, AreBytes-masks, AreBytes-quarters, AreBytes-layers, AreBytes-resolutions, after_bytes}
 use Rattle.rtp_vla.proofs.AllocationMeaning.{counts_fit}
@@ -180,6 +181,12 @@ pub front_more : (all rest : List Layer) (layer : Layer) → all ≡ layer ∷ r
 front_more all rest layer is some front =
     let parts = and_parts (resolution_fits false layer.resolution_and_framerate) (resolutions_in_front (is_none layer.resolution_and_framerate) rest) (subst (λ (ls : List Layer). resolutions_in_front false ls ≡ true) is front) in
     subst (λ (b : Bool). resolutions_in_front b rest ≡ true) some parts.1
+
+-- as many layers are active as the masks mark
+pub active_masks : (streams : List Stream) → list_all stream_fits streams ≡ true → active_count (map mask_of streams) ≡ length (active_layers streams)
+active_masks streams fits =
+    ap active_count (sym (masks-trimmed streams)) ∙ (dealt_streams-back (map without_bare_tail streams) (readable_from streams fits)).1
+    ∙ ap length (active-trimmed streams)
 
 pub record CanPut (index : ℕ) (streams : List Stream) : Type 0 where
   pub low : index ≤ 3

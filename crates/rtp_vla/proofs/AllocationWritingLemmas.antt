@@ -29,7 +29,7 @@ one_more : (b : Bool) (layer : Layer) (layers : List Layer) (mask : ℕ) → 2 ^
 one_more true layer layers mask h = omega (arith, pow-suc 2 (length layers), h)
 one_more false layer layers mask h = omega (arith, h)
 
-few_active : (stream : Stream) → 2 ^ length (filter is_active stream) ≤ mask_of stream + 1
+pub few_active : (stream : Stream) → 2 ^ length (filter is_active stream) ≤ mask_of stream + 1
 few_active [] = omega arith
 few_active (layer ∷ stream) = one_more (is_active layer) layer (filter is_active stream) (mask_of stream) (few_active stream)
 

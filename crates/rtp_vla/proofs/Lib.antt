@@ -15,4 +15,5 @@ pub mod AllocationSpelling
 pub mod AllocationWriting
 pub mod UpToLemmas
 pub mod LentLemmas
+pub mod MeasuringLemmas
 mod SettingLemmas

@@ -8,4 +8,5 @@ pub mod Leaving
 pub mod AllocationEqual
 pub mod AllocationReading
 pub mod AllocationPutting
+pub mod Measuring
 pub mod UpTo

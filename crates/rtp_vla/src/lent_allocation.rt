@@ -5,7 +5,7 @@ ghost use Rattle.rtp_vla.specs.AllocationWritten as written;
 
 use super::allocation::{SimulcastStreamAllocation, VideoLayersAllocation};
 use super::lent::Layered;
-use super::measuring::writable_len;
+use super::measuring::{masks_and_len, writable_len};
 use super::video_layers::{VideoLayers, VideoStream};
 use super::writing::put_allocation;
 use std::marker::Model;
@@ -88,6 +88,71 @@ impl<'a, S: Layered> LentAllocation<'a, S> {
         ensures written { buf.new ≡ written.written_of self.now ++ drop result buf.old }
         ensures length { result ≡ length (written.written_of self.now) }
     {
-        put_allocation(self, buf)
+        match LentAllocation::new(self.index, self.streams).measure() {
+            Some(measured) => measured.write_to(buf),
+            None => 0,
+        }
+    }
+
+    /// This allocation, measured; `None` exactly when it isn't writable.
+    #[inline(always)]
+    pub fn measure(self) -> Option<MeasuredAllocation<'a, S>>
+        ensures found { IfSome result (λ measured.
+            written.Writable self.entry × (measured ≡ self.entry)) }
+        ensures none { IfNone result (written.Writable self.entry → ⊥) }
+    {
+        let (masks, len) = masks_and_len(&self)?;
+        Some(MeasuredAllocation {
+            allocation: self,
+            masks,
+            len,
+        })
+    }
+}
+
+/// An allocation that can be written, and is measured already, so that it is written without being measured
+/// again. A clause sees the allocation.
+#[derive(Drop)]
+pub struct MeasuredAllocation<'a, S: Layered> {
+    allocation: LentAllocation<'a, S>,
+    // The masks of its streams, and how many bytes it has.
+    masks: [u8; 4],
+    len: usize,
+}
+
+impl<'a, S: Layered> Model for MeasuredAllocation<'a, S> {
+    ghost use Rattle.std.specs.Prelude.{◌≡◌, true, length};
+    ghost use Rattle.rtp_vla.specs.Allocation.{Allocation};
+    ghost use Rattle.rtp_vla.specs.AllocationWritten.{can_be_written, written_of};
+    ghost use Rattle.rtp_vla.specs.Measuring.{AreMasksOf};
+
+    ghost Value = { Allocation };
+
+    ghost view = { λ measured. measured.allocation };
+
+    ghost invariant = { λ measured. (can_be_written measured.allocation ≡ true)
+        × AreMasksOf measured.allocation measured.masks
+        × (measured.len ≡ length (written_of measured.allocation)) };
+}
+
+impl<'a, S: Layered> MeasuredAllocation<'a, S> {
+    /// How many bytes [`write_to`](Self::write_to) writes.
+    #[inline(always)]
+    pub fn wire_len(&self) -> usize
+        ensures writable { written.Writable self.now }
+        ensures length { result ≡ length (written.written_of self.now) }
+    {
+        self.len
+    }
+
+    /// Writes the allocation to the front of the buffer, as [`LentAllocation::write_to`] does, and returns
+    /// how many bytes it has; the bytes after them stay. It requires room for
+    /// [`wire_len`](Self::wire_len) bytes.
+    pub fn write_to(&self, buf: &mut [u8]) -> usize
+        requires { length (written.written_of self.now) ≤ length buf.old }
+        ensures written { buf.new ≡ written.written_of self.now ++ drop result buf.old }
+        ensures length { result ≡ length (written.written_of self.now) }
+    {
+        put_allocation(&self.allocation, &self.masks, buf)
     }
 }

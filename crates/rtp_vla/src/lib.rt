@@ -27,7 +27,7 @@ pub mod vla {
     };
     pub use crate::leb::{encode_leb_u63, parse_leb_u63};
     pub use crate::lent::{Layered, Lendable, LentLayer, LentLayers};
-    pub use crate::lent_allocation::LentAllocation;
+    pub use crate::lent_allocation::{LentAllocation, MeasuredAllocation};
     pub use crate::parsing::{is_allocation, parse, read_into};
     pub use crate::set_layers::SetLayers;
     pub use crate::video_layers::{VideoLayer, VideoLayers, VideoStream};

@@ -1,40 +1,17 @@
 //! Which allocations can be written, and in how many bytes.
 
-ghost use Rattle.std.specs.Prelude.{◌≡◌, ◌↔◌, ◌+◌, ◌*◌, ◌/◌, ◌<◌, ◌≤◌, ◌==◌, true, false, Some, None, length, map, IsTrue, IfSome, IfNone};
+ghost use Rattle.std.specs.Prelude.{◌≡◌, ◌↔◌, ◌+◌, ◌*◌, ◌/◌, ◌<◌, ◌≤◌, ◌==◌, ◌&&◌, ◌∷◌, ◌++◌, true, false, Some, None, List, length, map, IsTrue, IfSome, IfNone};
 ghost use Rattle.std.specs.Bool.{OnTrue};
-ghost use Rattle.std.specs.List.{flat_map, list_all};
-ghost use Rattle.rtp_vla.specs.Allocation.{mask_of};
+ghost use Rattle.std.specs.List.{filter, flat_map, list_all};
+ghost use Rattle.rtp_vla.specs.Allocation.{Layer, is_active, active_layers, mask_of};
 ghost use Rattle.rtp_vla.specs.AllocationWritten as written;
 ghost use Rattle.rtp_vla.specs.Leb.{shortest_of};
+ghost use Rattle.rtp_vla.specs.Measuring.{AreMeasured, AreMasksOf};
 
-use super::active::ActiveLayers;
 use super::allocation::{ResolutionAndFramerate, TemporalLayerAllocation};
 use super::leb::checked_leb_len;
-use super::lent::{Layered, Lendable, LentLayers};
+use super::lent::{Layered, Lendable, LentLayer, LentLayers};
 use super::lent_allocation::LentAllocation;
-
-// The mask of a stream that can be written.
-fn mask_of<L: Lendable>(mut layers: LentLayers<L>) -> Option<u8>
-    ensures fits { IfSome result (λ mask. (written.stream_fits layers.entry ≡ true)
-        × (mask ≡ mask_of layers.entry)) }
-    ensures unfit { IfNone result (written.stream_fits layers.entry ≡ false) }
-    ensures few { IfSome result (λ mask. mask ≤ 15) }
-{
-    let mut mask = 0;
-    while let Some(layer) = layers.next_back() {
-        let active = !layer.temporal_layers.is_empty();
-        if !active {
-            if layer.resolution_and_framerate.is_some() {
-                return None;
-            }
-        }
-        if mask > 7 {
-            return None;
-        }
-        mask = 2 * mask + u8::from(active);
-    }
-    Some(mask)
-}
 
 // How many bytes the rates of a layer have that can be written.
 fn rates_len(rates: &[TemporalLayerAllocation]) -> Option<usize>
@@ -56,12 +33,11 @@ fn rates_len(rates: &[TemporalLayerAllocation]) -> Option<usize>
     Some(len)
 }
 
-// How many bytes the resolution of a layer has that can be written; none can after an active layer
-// without one, which has `ended` them.
-fn resolution_len(resolution: &Option<ResolutionAndFramerate>, ended: bool) -> Option<usize>
-    ensures fits { IfSome result (λ len. (written.resolution_fits ended resolution.now ≡ true)
+// How many bytes the resolution of a layer has that can be written before others with resolutions.
+fn resolution_len(resolution: &Option<ResolutionAndFramerate>) -> Option<usize>
+    ensures fits { IfSome result (λ len. (written.resolution_fits false resolution.now ≡ true)
         × (len ≡ length (written.resolution_field resolution.now))) }
-    ensures unfit { IfNone result (written.resolution_fits ended resolution.now ≡ false) }
+    ensures unfit { IfNone result (written.resolution_fits false resolution.now ≡ false) }
     ensures few { IfSome result (λ len. len ≤ 5) }
 {
     let Some(resolution) = resolution else {
@@ -69,9 +45,6 @@ fn resolution_len(resolution: &Option<ResolutionAndFramerate>, ended: bool) -> O
     };
     // Read for the proof alone, which then knows that it is a byte.
     let _framerate = resolution.framerate;
-    if ended {
-        return None;
-    }
     if resolution.width == 0 {
         return None;
     }
@@ -81,43 +54,111 @@ fn resolution_len(resolution: &Option<ResolutionAndFramerate>, ended: bool) -> O
     Some(5)
 }
 
-// How many bytes the counts, rates and resolutions have of layers that can be written.
-fn layers_len<S: Layered>(mut left: ActiveLayers<S>) -> Option<usize>
-    requires { length left ≤ 16 }
-    ensures fits { IfSome result (λ len. (written.layers_fit left.entry ≡ true)
-        × (len ≡ (length left.entry + 3) / 4
-        + (length (flat_map written.rate_bytes left.entry)
-        + length (flat_map written.resolution_bytes left.entry)))) }
-    ensures unfit { IfNone result (written.layers_fit left.entry ≡ false) }
-    ensures few { IfSome result (λ len. len ≤ 660) }
-{
-    let mut active = 0;
-    let mut len = 0;
-    let mut ended = false;
-    while let Some(layer) = left.next() {
-        let rates = rates_len(layer.temporal_layers)?;
-        let resolution = resolution_len(&layer.resolution_and_framerate, ended)?;
-        ended = layer.resolution_and_framerate.is_none();
-        active += 1;
-        len += rates + resolution;
-    }
-    Some((active + 3) / 4 + len)
+/// What is measured of active layers, from the last one on.
+#[derive(Drop)]
+struct Measure {
+    // How many they are, and how many bytes their rates and resolutions have.
+    active: usize,
+    len: usize,
+    // Whether one of them has a resolution.
+    is_sized: bool,
 }
 
-// Reads off the masks of streams that can be written, and says whether they can.
-pub(super) fn put_masks_of<S: Layered>(streams: &[S], masks: &mut [u8]) -> bool
-    requires { length streams.now ≡ length masks.old }
-    ensures fits { IsTrue result
-        ↔ (list_all written.stream_fits (map S.stream streams.now) ≡ true) }
-    ensures masks { OnTrue result (masks.new ≡ map mask_of (map S.stream streams.now)) }
-{
-    for i in 0..streams.len() {
-        let Some(mask) = mask_of(streams[i].layers()) else {
-            return false;
-        };
-        masks[i] = mask;
+impl Measure {
+    // Measures the layer before them, and returns `None` where it can't be written there: without a
+    // resolution none can follow.
+    #[inline(always)]
+    fn add(&mut self, layer: &LentLayer) -> Option<()>
+        requires active { self.old.active ≤ 15 }
+        requires few { self.old.len ≤ 41 * self.old.active }
+        ensures fits { (layers : List Layer) →
+            AreMeasured layers self.old.active self.old.len self.old.is_sized → IfSome result (λ _.
+            AreMeasured (layer.now ∷ layers) self.new.active self.new.len self.new.is_sized) }
+        ensures unfit { (layers : List Layer) →
+            AreMeasured layers self.old.active self.old.len self.old.is_sized → IfNone result (
+            written.layers_fit (layer.now ∷ layers) ≡ false) }
+        ensures active { IfSome result (λ _. self.new.active ≡ self.old.active + 1) }
+        ensures few { IfSome result (λ _. self.new.len ≤ 41 * self.new.active) }
+    {
+        let rates = rates_len(layer.temporal_layers)?;
+        if layer.resolution_and_framerate.is_none() {
+            if self.is_sized {
+                return None;
+            }
+            self.active += 1;
+            self.len += rates;
+            return Some(());
+        }
+        let resolution = resolution_len(&layer.resolution_and_framerate)?;
+        self.active += 1;
+        self.len += rates + resolution;
+        self.is_sized = true;
+        Some(())
     }
-    true
+}
+
+// Measures a stream before others, and returns its mask; `None` where it can't be written there.
+#[inline(always)]
+fn add_stream<L: Lendable>(mut layers: LentLayers<L>, measure: &mut Measure) -> Option<u8>
+    requires active { measure.old.active ≤ 12 }
+    requires few { measure.old.len ≤ 41 * measure.old.active }
+    ensures fits { (after : List Layer) →
+        AreMeasured after measure.old.active measure.old.len measure.old.is_sized →
+        IfSome result (λ mask. (written.stream_fits layers.entry ≡ true)
+        × (mask ≡ mask_of layers.entry)
+        × AreMeasured (filter is_active layers.entry ++ after)
+        measure.new.active measure.new.len measure.new.is_sized) }
+    ensures unfit { (after : List Layer) →
+        AreMeasured after measure.old.active measure.old.len measure.old.is_sized →
+        IfNone result ((written.stream_fits layers.entry
+        && written.layers_fit (filter is_active layers.entry ++ after)) ≡ false) }
+    ensures few { IfSome result (λ mask. (mask ≤ 15)
+        × (measure.new.len ≤ 41 * measure.new.active)) }
+{
+    let mut mask = 0;
+    while let Some(layer) = layers.next_back() {
+        if mask > 7 {
+            return None;
+        }
+        let active = !layer.temporal_layers.is_empty();
+        if active {
+            measure.add(&layer)?;
+        } else if layer.resolution_and_framerate.is_some() {
+            return None;
+        }
+        mask = 2 * mask + u8::from(active);
+    }
+    Some(mask)
+}
+
+// Measures streams, from the last one on, and puts their masks: how many bytes the counts, rates and
+// resolutions have of those that can be written.
+fn streams_len<S: Layered>(streams: &[S], masks: &mut [u8]) -> Option<usize>
+    requires len { length streams.now ≡ length masks.old }
+    requires few { length streams.now ≤ 4 }
+    ensures fits { IfSome result (λ len.
+        (list_all written.stream_fits (map S.stream streams.now) ≡ true)
+        × (written.layers_fit (active_layers (map S.stream streams.now)) ≡ true)
+        × (len ≡ (length (active_layers (map S.stream streams.now)) + 3) / 4
+        + (length (flat_map written.rate_bytes (active_layers (map S.stream streams.now)))
+        + length (flat_map written.resolution_bytes
+        (active_layers (map S.stream streams.now)))))) }
+    ensures masks { IfSome result (λ _. masks.new ≡ map mask_of (map S.stream streams.now)) }
+    ensures unfit { IfNone result ((list_all written.stream_fits (map S.stream streams.now)
+        && written.layers_fit (active_layers (map S.stream streams.now))) ≡ false) }
+    ensures few { IfSome result (λ len. len ≤ 660) }
+{
+    let mut measure = Measure {
+        active: 0,
+        len: 0,
+        is_sized: false,
+    };
+    let mut i = streams.len();
+    while i > 0 {
+        i -= 1;
+        masks[i] = add_stream(streams[i].layers(), &mut measure)?;
+    }
+    Some((measure.active + 3) / 4 + measure.len)
 }
 
 // Whether all masks are this one.
@@ -150,16 +191,18 @@ fn masks_len(masks: &[u8]) -> usize
     }
 }
 
-// How many bytes the allocation has, where it can be written: the test and the measure in one.
+// The masks of the allocation, and how many bytes it has, where it can be written: the test and the
+// measure in one.
 #[tactic(auto, unfolding(crate::specs::AllocationWritten::written_of))]
-pub(super) fn writable_len<S: Layered>(v: &LentAllocation<S>) -> Option<usize>
-    ensures fits { IfSome result (λ len. (written.can_be_written v.now ≡ true)
-        × (len ≡ length (written.written_of v.now))) }
+pub(super) fn masks_and_len<S: Layered>(v: &LentAllocation<S>) -> Option<([u8; 4], usize)>
+    ensures fits { IfSome result (λ found. (written.can_be_written v.now ≡ true)
+        × AreMasksOf v.now found.0 × (found.1 ≡ length (written.written_of v.now))) }
     ensures unfit { IfNone result (written.can_be_written v.now ≡ false) }
 {
+    let mut masks = [0; 4];
     let streams = v.streams.len();
     if streams == 0 {
-        return if v.index == 0 { Some(1) } else { None };
+        return if v.index == 0 { Some((masks, 1)) } else { None };
     }
     if v.index > 3 {
         return None;
@@ -167,10 +210,17 @@ pub(super) fn writable_len<S: Layered>(v: &LentAllocation<S>) -> Option<usize>
     if streams > 4 {
         return None;
     }
-    let mut masks = [0; 4];
-    if !put_masks_of(v.streams, &mut masks[..streams]) {
-        return None;
-    }
-    let layers = layers_len(ActiveLayers::new(v.streams))?;
-    Some(1 + masks_len(&masks[..streams]) + layers)
+    let layers = streams_len(v.streams, &mut masks[..streams])?;
+    let len = 1 + masks_len(&masks[..streams]) + layers;
+    Some((masks, len))
+}
+
+// How many bytes the allocation has, where it can be written.
+pub(super) fn writable_len<S: Layered>(v: &LentAllocation<S>) -> Option<usize>
+    ensures fits { IfSome result (λ len. (written.can_be_written v.now ≡ true)
+        × (len ≡ length (written.written_of v.now))) }
+    ensures unfit { IfNone result (written.can_be_written v.now ≡ false) }
+{
+    let (_, len) = masks_and_len(v)?;
+    Some(len)
 }

@@ -3,17 +3,20 @@
 ghost use Rattle.std.specs.Prelude.{◌≡◌, ◌↔◌, true, false, ◌+◌, ◌*◌, ◌/◌, ◌%◌, ◌<◌, ◌≤◌, ◌∷◌, [], ◌++◌, List, length, drop, map, is_some, IsTrue, IfSome, IfNone};
 ghost use Rattle.std.specs.List.{AllByRecursion, flat_map};
 ghost use Rattle.rtp_base.specs.Overwriting.{overwritten};
-ghost use Rattle.rtp_vla.specs.Allocation.{Layer, Means, IsCounted, count_of};
+ghost use Rattle.rtp_vla.specs.Allocation.{Layer, Means, IsCounted, count_of, mask_of};
 ghost use Rattle.rtp_vla.specs.AllocationWritten as written;
 ghost use Rattle.rtp_vla.specs.AllocationPutting as putting;
+ghost use Rattle.rtp_vla.specs.Leaving.{Leaves};
 ghost use Rattle.rtp_vla.specs.Leb.{shortest_of};
+ghost use Rattle.rtp_vla.specs.Measuring.{AreMasksOf};
 
 use super::active::ActiveLayers;
 use super::allocation::{ResolutionAndFramerate, TemporalLayerAllocation, VideoLayersAllocation};
 use super::leb::put_leb;
 use super::lent::Layered;
 use super::lent_allocation::LentAllocation;
-use super::measuring::{put_masks_of, shared_of, writable_len};
+use super::measuring::{shared_of, writable_len};
+use super::parts::active_count;
 use super::video_layers::VideoLayers;
 use rtp_base::put;
 
@@ -34,39 +37,6 @@ fn put_halves(buf: &mut [u8], at: usize, masks: &[u8]) -> usize
     }
 }
 
-// The next count, and 0 after the last.
-fn next_count<S: Layered>(left: &mut ActiveLayers<S>) -> u8
-    requires { AllByRecursion IsCounted left.old }
-    ensures count { result ≡ putting.first_count left.old }
-    ensures left { left.new ≡ drop 1 left.old }
-    ensures few { result ≤ 3 }
-    ensures fit { AllByRecursion IsCounted left.new }
-{
-    let Some(layer) = left.next() else {
-        return 0;
-    };
-    layer.temporal_layers.len().saturating_sub(1) as u8
-}
-
-// Puts the counts, four in a byte.
-fn put_counts<S: Layered>(buf: &mut [u8], at: usize, mut left: ActiveLayers<S>) -> usize
-    requires fit { AllByRecursion IsCounted left }
-    requires room { at + length (written.quarters_of (map count_of left)) ≤ length buf.old }
-    ensures written { buf.new ≡ overwritten buf.old at (written.quarters_of (map count_of left.entry)) }
-    ensures end { result ≡ at + length (written.quarters_of (map count_of left.entry)) }
-{
-    let mut end = at;
-    while let Some(layer) = left.next() {
-        let first = layer.temporal_layers.len().saturating_sub(1) as u8;
-        let second = next_count(&mut left);
-        let third = next_count(&mut left);
-        let fourth = next_count(&mut left);
-        buf[end] = 64 * first + 16 * second + 4 * third + fourth;
-        end += 1;
-    }
-    end
-}
-
 // Puts the rates of a layer.
 fn put_layer_rates(buf: &mut [u8], at: usize, rates: &[TemporalLayerAllocation]) -> usize
     requires small { AllByRecursion (λ rate. rate < 9223372036854775808) rates.now }
@@ -81,16 +51,57 @@ fn put_layer_rates(buf: &mut [u8], at: usize, rates: &[TemporalLayerAllocation])
     end
 }
 
-// Puts the rates.
-fn put_rates<S: Layered>(buf: &mut [u8], at: usize, mut left: ActiveLayers<S>) -> usize
-    requires small { AllByRecursion putting.HasSmallRates left }
-    requires room { at + length (flat_map written.rate_bytes left) ≤ length buf.old }
-    ensures written { buf.new ≡ overwritten buf.old at (flat_map written.rate_bytes left.entry) }
-    ensures end { result ≡ at + length (flat_map written.rate_bytes left.entry) }
+// Puts the rates of the next layer, and returns its count and the offset after them; after the last
+// layer 0 and the same offset.
+#[inline(always)]
+fn put_next<S: Layered>(buf: &mut [u8], at: usize, left: &mut ActiveLayers<S>) -> (u8, usize)
+    requires fit { AllByRecursion IsCounted left.old }
+    requires small { AllByRecursion putting.HasSmallRates left.old }
+    requires room { at + length (flat_map written.rate_bytes left.old) ≤ length buf.old }
+    ensures count { result.0 ≡ putting.first_count left.old }
+    ensures left { left.new ≡ drop 1 left.old }
+    ensures rates { Leaves buf.new result.1 (flat_map written.rate_bytes left.new)
+        buf.old at (flat_map written.rate_bytes left.old) }
+    ensures few { (result.0 ≤ 3) × (at ≤ result.1) }
+    ensures fit { AllByRecursion IsCounted left.new }
+    ensures small { AllByRecursion putting.HasSmallRates left.new }
 {
-    let mut end = at;
+    let Some(layer) = left.next() else {
+        return (0, at);
+    };
+    let count = layer.temporal_layers.len().saturating_sub(1) as u8;
+    (count, put_layer_rates(buf, at, layer.temporal_layers))
+}
+
+// Puts the counts of the layers, four in a byte, and after them the rates.
+fn put_counts_and_rates<S: Layered>(
+    buf: &mut [u8],
+    at: usize,
+    mut left: ActiveLayers<S>,
+    active: usize,
+) -> usize
+    requires active { active ≡ length left }
+    requires few { active ≤ 16 }
+    requires fit { AllByRecursion IsCounted left }
+    requires small { AllByRecursion putting.HasSmallRates left }
+    requires room { at + length
+        (written.quarters_of (map count_of left) ++ flat_map written.rate_bytes left) ≤ length buf.old }
+    ensures written { buf.new ≡ overwritten buf.old at
+        (written.quarters_of (map count_of left.entry) ++ flat_map written.rate_bytes left.entry) }
+    ensures end { result ≡ at + length
+        (written.quarters_of (map count_of left.entry) ++ flat_map written.rate_bytes left.entry) }
+{
+    let mut end = at + (active + 3) / 4;
+    let mut count_at = at;
     while let Some(layer) = left.next() {
-        end = put_layer_rates(buf, end, layer.temporal_layers);
+        let first = layer.temporal_layers.len().saturating_sub(1) as u8;
+        let after_first = put_layer_rates(buf, end, layer.temporal_layers);
+        let (second, after_second) = put_next(buf, after_first, &mut left);
+        let (third, after_third) = put_next(buf, after_second, &mut left);
+        let (fourth, after_fourth) = put_next(buf, after_third, &mut left);
+        end = after_fourth;
+        buf[count_at] = 64 * first + 16 * second + 4 * third + fourth;
+        count_at += 1;
     }
     end
 }
@@ -151,37 +162,41 @@ fn put_masks(buf: &mut [u8], at: usize, masks: &[u8], shared: u8) -> usize
     }
 }
 
-// Puts streams, of which there are some, and returns how many bytes they have.
-fn put_streams<S: Layered>(buf: &mut [u8], index: u8, streams: &[S]) -> usize
+// Puts streams, of which there are some, with these masks, and returns how many bytes they have.
+fn put_streams<S: Layered>(buf: &mut [u8], index: u8, streams: &[S], masks: &[u8]) -> usize
     requires some { 1 ≤ length (map S.stream streams.now) }
+    requires masks { masks.now ≡ map mask_of (map S.stream streams.now) }
     requires fit { written.streams_fit index (map S.stream streams.now) ≡ true }
     requires room { length (written.packed_bytes index (map S.stream streams.now)) ≤ length buf.old }
     ensures written { buf.new ≡ overwritten buf.old 0 (written.packed_bytes index (map S.stream streams.now)) }
     ensures end { result ≡ length (written.packed_bytes index (map S.stream streams.now)) }
 {
-    let mut masks = [0; 4];
-    let masks = &mut masks[..streams.len()];
-    let _ = put_masks_of(streams, masks);
     let shared = shared_of(masks);
     let head = 64 * index + 16 * (streams.len() - 1) as u8 + shared;
     let end = put(buf, 0, &[head]);
     let end = put_masks(buf, end, masks, shared);
-    let end = put_counts(buf, end, ActiveLayers::new(streams));
-    let end = put_rates(buf, end, ActiveLayers::new(streams));
+    let active = active_count(masks);
+    let end = put_counts_and_rates(buf, end, ActiveLayers::new(streams), active);
     put_resolutions(buf, end, ActiveLayers::new(streams))
 }
 
-// Puts an allocation, and returns how many bytes it has.
-pub(super) fn put_allocation<S: Layered>(v: &LentAllocation<S>, buf: &mut [u8]) -> usize
+// Puts an allocation with these masks, and returns how many bytes it has.
+pub(super) fn put_allocation<S: Layered>(
+    v: &LentAllocation<S>,
+    masks: &[u8; 4],
+    buf: &mut [u8],
+) -> usize
     requires writable { written.can_be_written v.now ≡ true }
+    requires masks { AreMasksOf v.now masks.now }
     requires room { length (written.written_of v.now) ≤ length buf.old }
     ensures written { buf.new ≡ written.written_of v.now ++ drop result buf.old }
     ensures length { result ≡ length (written.written_of v.now) }
 {
-    if v.streams.len() == 0 {
+    let streams = v.streams.len();
+    if streams == 0 {
         return put(buf, 0, &[0]);
     }
-    put_streams(buf, v.index, v.streams)
+    put_streams(buf, v.index, v.streams, &masks[..streams])
 }
 
 /// Whether the allocation can be written: some bytes mean it, once the layers at the end of each
@@ -235,7 +250,7 @@ pub fn write_to(v: &VideoLayersAllocation, buf: &mut [u8]) -> usize
     ensures length { result ≡ length (written.written_of v.now) }
     ensures means { Means (written.written_of v.now) (written.trimmed v.now) }
 {
-    put_allocation(&LentAllocation::listed(v), buf)
+    LentAllocation::listed(v).write_to(buf)
 }
 
 impl VideoLayers {
@@ -262,6 +277,6 @@ impl VideoLayers {
         ensures length { result ≡ length (written.written_of self.now) }
         ensures means { Means (written.written_of self.now) (written.trimmed self.now) }
     {
-        put_allocation(&LentAllocation::held(self), buf)
+        LentAllocation::held(self).write_to(buf)
     }
 }

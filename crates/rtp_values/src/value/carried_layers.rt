@@ -7,10 +7,10 @@ ghost use Rattle.rtp_values.specs.declared.kind.Extension.TheVariants as kind;
 ghost use Rattle.rtp_values.specs.Spelling.{HasRoom, spelled_data};
 ghost use Rattle.rtp_values.specs.KindBytes.{WritesData};
 
-use super::video_layers_allocation::MAX_LEN;
+use super::video_layers_allocation::carried;
 use super::{ElementValues, ValueKinds};
 use crate::{KindSet, KnownKind};
-use rtp_vla::vla::{Layered, LentAllocation};
+use rtp_vla::vla::{Layered, LentAllocation, MeasuredAllocation};
 use std::marker::Model;
 
 /// Values with an allocation that is lent in place of the one that they have, where an element can
@@ -19,8 +19,7 @@ use std::marker::Model;
 #[derive(Drop)]
 pub struct CarriedLayers<'a, V: ElementValues, S: Layered> {
     values: &'a V,
-    layers: LentAllocation<'a, S>,
-    len: usize,
+    layers: MeasuredAllocation<'a, S>,
 }
 
 impl<'a, V: ElementValues, S: Layered> Model for CarriedLayers<'a, V, S> {
@@ -35,8 +34,7 @@ impl<'a, V: ElementValues, S: Layered> Model for CarriedLayers<'a, V, S> {
     } };
 
     ghost invariant = { λ carried. (Writable carried.layers)
-        × (carried.len ≡ length (written_of carried.layers))
-        × (carried.len ≤ 255) };
+        × (length (written_of carried.layers) ≤ 255) };
 }
 
 impl<'a, V: ElementValues, S: Layered> CarriedLayers<'a, V, S> {
@@ -50,22 +48,15 @@ impl<'a, V: ElementValues, S: Layered> CarriedLayers<'a, V, S> {
         ensures none { IfNone result (Writable layers.entry
             → length (written_of layers.entry) ≤ 255 → ⊥) }
     {
-        let len = layers.checked_wire_len()?;
-        if len > MAX_LEN {
-            return None;
-        }
-        Some(CarriedLayers {
-            values,
-            layers,
-            len,
-        })
+        let layers = carried(layers)?;
+        Some(CarriedLayers { values, layers })
     }
 
     // How many bytes of data the element of the layers has.
     fn layers_len(&self) -> Option<usize>
         ensures { result ≡ option_map length (spelled_data kind.VideoLayersAllocation self.now) }
     {
-        Some(self.len)
+        Some(self.layers.wire_len())
     }
 
     // Writes these data.
@@ -93,7 +84,7 @@ impl<'a, V: ElementValues, S: Layered> ElementValues for CarriedLayers<'a, V, S>
             length bytes ≤ result) }
         ensures few { result ≤ 255 }
     {
-        self.len
+        self.layers.wire_len()
     }
 
     // The data of an allocation are never empty.

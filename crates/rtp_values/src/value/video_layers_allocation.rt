@@ -1,16 +1,17 @@
 //! Video layers allocation (`video-layers-allocation00`): what the module `vla` reads and writes.
 
-ghost use Rattle.std.specs.Prelude.{◌≡◌, ◌≤◌, length, Some, IfOk, IsErr};
+ghost use Rattle.std.specs.Prelude.{◌≡◌, ◌≤◌, length, Some, None, IfSome, IfNone, IfOk, IsErr};
 ghost use Rattle.std.specs.Option.{option_map};
 ghost use Rattle.rtp_values.specs.declared.kind.Extension.TheVariants as kind;
 ghost use Rattle.rtp_vla.specs.Allocation.{Allocation};
-ghost use Rattle.rtp_vla.specs.AllocationWritten.{written_of};
+ghost use Rattle.rtp_vla.specs.AllocationWritten.{Writable, written_of};
 ghost use Rattle.rtp_values.specs.Spelling.{HasRoom, spelled_data, element_allocation};
 ghost use Rattle.rtp_values.specs.WithLayers.{values_with_layers};
 ghost use Rattle.rtp_values.specs.KindBytes.{SetsFields, WritesData, IsWireLen};
 
 use super::{ExtensionValues, SetValues, WithLayers};
 use rtp_vla::vla;
+use rtp_vla::vla::{Layered, LentAllocation, MeasuredAllocation};
 use std::alloc::AllocError;
 
 // The longest data that an element can have (RFC 8285, 4.3).
@@ -40,6 +41,24 @@ fn carried_len(len: Option<usize>) -> Option<usize>
     (len <= MAX_LEN).then_some(len)
 }
 
+// The allocation, measured, where an element can carry it.
+#[inline(always)]
+pub(super) fn carried<'a, S: Layered>(
+    allocation: LentAllocation<'a, S>,
+) -> Option<MeasuredAllocation<'a, S>>
+    ensures found { IfSome result (λ measured. (measured ≡ allocation.entry)
+        × Writable allocation.entry × (length (written_of allocation.entry) ≤ 255)) }
+    ensures none { IfNone result (Writable allocation.entry →
+        length (written_of allocation.entry) ≤ 255 → ⊥) }
+    ensures no_data { IfNone result (element_allocation (Some allocation.entry) ≡ None) }
+{
+    let measured = allocation.measure()?;
+    if measured.wire_len() > MAX_LEN {
+        return None;
+    }
+    Some(measured)
+}
+
 // How many bytes the data have, where an element can carry the allocation.
 pub(super) fn data_len(ev: &ExtensionValues) -> Option<usize>
     ensures { result ≡ option_map length (spelled_data kind.VideoLayersAllocation ev.now) }
@@ -54,8 +73,8 @@ pub(super) fn write(buf: &mut [u8], ev: &ExtensionValues) -> Option<usize>
     ensures { WritesData kind.VideoLayersAllocation ev.now buf.old buf.new result }
 {
     let allocation = ev.video_layers_allocation.as_ref()?;
-    data_len(ev)?;
-    Some(vla::write_to(allocation, buf))
+    let measured = carried(LentAllocation::listed(allocation))?;
+    Some(measured.write_to(buf))
 }
 
 // How many bytes the data have, where an element can carry the layers.
@@ -74,6 +93,6 @@ pub(super) fn write_held(buf: &mut [u8], ev: &WithLayers) -> Option<usize>
         buf.old buf.new result }
 {
     let layers = ev.layers?;
-    held_len(ev)?;
-    Some(layers.write_to(buf))
+    let measured = carried(LentAllocation::held(layers))?;
+    Some(measured.write_to(buf))
 }
