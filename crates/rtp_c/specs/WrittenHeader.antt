@@ -1,5 +1,5 @@
 -- The header that C gives, as it is written (RFC 3550, 5.1; RFC 8285, 4.2 and 4.3).
-use Rattle.std.specs.Prelude.{◌≡◌, ℕ, ◌<◌, List, ◌++◌, length, drop, Option}
+use Rattle.std.specs.Prelude.{◌≡◌, ◌≢◌, ◌↔◌, ◌⊎◌, ℕ, ◌<◌, ◌≤◌, List, ◌++◌, length, drop, Option, ℤ}
 use Rattle.rtp_ext.specs.declared.form.ExtensionsForm.{ExtensionsForm}
 use Rattle.rtp_ext.specs.ExtensionMap.{Slots}
 use Rattle.rtp_ext.specs.ElementsInARow.{form_given, AreNotWritableIn}
@@ -11,6 +11,7 @@ use Rattle.rtp_wire.specs.WrittenWith.{wire_bytes_with, parts_with}
 use Rattle.rtp_c.specs.declared.header.HeaderView.{HeaderView}
 use Rattle.rtp_c.specs.declared.packet.ElementView.{ElementView}
 use Rattle.rtp_c.specs.StoredMap.{HasKinds}
+use Rattle.rtp_c.specs.Status.{ok, short_buffer, bad_field}
 use Rattle.rtp_c.specs.Given.{AreGivenFields}
 use Rattle.rtp_c.specs.WrittenElements.{LieIn, elements_in}
 
@@ -41,6 +42,15 @@ pub record IsTooLong (numbers : List ℕ) (IsGiven : RtpHeader → Type 0) (room
   pub header : RtpHeader
   pub is_given : IsToBeWritten numbers IsGiven slots header
   pub too_long : room < length (wire_bytes slots header)
+
+-- what writing the header comes to: its bytes and their number where the status is `ok`, and else nothing is written
+pub record WritesHeader (numbers : List ℕ) (IsGiven : RtpHeader → Type 0) (old new : List ℕ) (old_len new_len : ℕ) (status : ℤ) : Type 0 where
+  pub written : status ≡ ok → IsWrittenHeader numbers IsGiven old new new_len
+  pub within : status ≡ ok → new_len ≤ length new
+  pub short : status ≡ short_buffer → IsTooLong numbers IsGiven (length old)
+  pub is_bad : (status ≡ bad_field) ↔ ((h : RtpHeader) → IsGiven h → ⊥)
+  pub statuses : (status ≡ ok) ⊎ ((status ≡ short_buffer) ⊎ (status ≡ bad_field))
+  pub unchanged : status ≢ ok → (new ≡ old) × (new_len ≡ old_len)
 
 -- the fields of the header are given, the data of the elements lie within the bytes, and a block can have them in the form that serves for them, or that alone is allowed
 pub record CanBeWrittenWith (allowed : Option ExtensionsForm) (view : HeaderView) (bytes : List ℕ) (views : List ElementView) (header : RtpHeader) : Type 0 where

@@ -7,7 +7,7 @@ ghost use Rattle.rtp_base.specs.Id.{IsIdByte};
 ghost use Rattle.rtp_values.specs.declared.value.video_orientation.VideoOrientation.{VideoOrientation as Orientation};
 ghost use Rattle.rtp_wire.specs.declared.header.rtp_header.RtpHeader.{RtpHeader as Header};
 ghost use Rattle.rtp_c.specs.Told.{degrees_of};
-ghost use Rattle.rtp_c.specs.Given.{given, text_in, turn_of, IsTextIn, CanBeGiven, AreGivenFields};
+ghost use Rattle.rtp_c.specs.Given.{given, text_in, turn_of, is_nonzero, IsTextIn, CanBeGiven, AreGivenFields};
 
 use super::header::HeaderView;
 use super::values::{Time, ValuesView};
@@ -192,11 +192,26 @@ pub fn put_given_fields(view: &HeaderView, header: &mut RtpHeader) -> Option<()>
     ensures none { IfNone result ((header : Header) → AreGivenFields view.now header → ⊥) }
     ensures values { header.new.ext_vals ≡ header.old.ext_vals }
 {
+    put_fields_with_x(view, view.has_extension != 0, header)
+}
+
+// Puts them as `put_given_fields` does, where it is known whether X is set.
+#[inline(always)]
+pub fn put_fields_with_x(
+    view: &HeaderView,
+    has_extension: bool,
+    header: &mut RtpHeader,
+) -> Option<()>
+    requires { has_extension ≡ is_nonzero view.now.has_extension }
+    ensures found { IfSome result (λ _. AreGivenFields view.now header.new) }
+    ensures none { IfNone result ((header : Header) → AreGivenFields view.now header → ⊥) }
+    ensures values { header.new.ext_vals ≡ header.old.ext_vals }
+{
     if view.payload_type > 127 || view.csrc_count > 15 {
         return None;
     }
     header.has_padding = view.has_padding != 0;
-    header.has_extension = view.has_extension != 0;
+    header.has_extension = has_extension;
     header.csrc_count = usize::from(view.csrc_count);
     header.marker = view.marker != 0;
     header.payload_type = Pt::from(view.payload_type);

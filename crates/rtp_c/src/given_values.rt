@@ -1,11 +1,13 @@
 //! The values that C gives to be written, where they lie.
 
-ghost use Rattle.std.specs.Prelude.{◌≡◌, ◌<◌, ◌≤◌, ◌-◌, length, IfSome, IfNone};
+ghost use Rattle.std.specs.Prelude.{◌≡◌, ◌<◌, ◌≤◌, ◌-◌, length, None, IfSome, IfNone};
+ghost use Rattle.std.specs.Bool.{OnTrue};
 ghost use Rattle.std.specs.List.{All};
 ghost use Rattle.std.specs.Option.{option_map};
 ghost use Rattle.rtp_base.specs.Id.{IsIdByte, before_padding, padded};
 ghost use Rattle.rtp_values.specs.declared.value.values.ExtensionValues.{ExtensionValues as Values};
-ghost use Rattle.rtp_values.specs.Spelling.{has_no_data};
+ghost use Rattle.rtp_values.specs.Spelling.{has_no_data, spelled_data};
+ghost use Rattle.rtp_values.specs.KnownKind.{extension_of_kind};
 ghost use Rattle.rtp_c.specs.Told.{degrees_of, fraction_of};
 ghost use Rattle.rtp_c.specs.ValuesView.{timing_in};
 ghost use Rattle.rtp_c.specs.Given.{given, text_in, turn_of, IsTextIn, AreGivenValues, is_nonzero};
@@ -47,6 +49,18 @@ impl<'a> GivenValues<'a> {
             return None;
         }
         Some(GivenValues { view })
+    }
+
+    // Whether the kind is a stream id's, and the id is absent: what writes one is out of line.
+    #[inline(always)]
+    fn is_absent_id(&self, kind: KnownKind) -> bool
+        ensures { OnTrue result (spelled_data (extension_of_kind kind) self.now ≡ None) }
+    {
+        match kind {
+            KnownKind::RtpStreamId => self.view.has_rid == 0,
+            KnownKind::RepairedRtpStreamId => self.view.has_repaired_rid == 0,
+            _ => false,
+        }
     }
 }
 
@@ -278,6 +292,9 @@ impl<'a> ElementValues for GivenValues<'a> {
 
     #[inline(always)]
     fn write_data(&self, kind: KnownKind, buf: &mut [u8]) -> Option<usize> {
+        if self.is_absent_id(kind) {
+            return None;
+        }
         kind.write_to(buf, self)
     }
 }

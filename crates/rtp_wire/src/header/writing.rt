@@ -168,6 +168,7 @@ impl RtpHeader {
 
     // The twelve bytes that every header begins with, with this X. The ranges are those of the
     // types, of which a caller is told that doesn't read the fields itself.
+    #[inline(always)]
     pub(super) fn fixed_bytes(&self, has_extension: bool) -> [u8; 12]
         requires payload_type { self.now.payload_type ≤ 127 }
         requires sources { self.now.csrc_count ≤ 15 }

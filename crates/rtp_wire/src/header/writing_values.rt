@@ -40,6 +40,7 @@ impl RtpHeader {
     /// no memory. `None` where the payload type is above 127, there are more than 15 contributing
     /// sources, or the buffer has fewer than [`values_wire_len`](Self::values_wire_len) bytes, and
     /// then nothing is written.
+    #[inline(always)]
     pub fn try_write_values<K: Kinds, V: ElementValues>(
         &self,
         buf: &mut [u8],
