@@ -1,5 +1,5 @@
 -- The places of a template as C keeps them.
-use Rattle.rtp_c.proofs.Common.{ℤ, w32, to_z, of_z, length-map, take_all}
+use Rattle.rtp_c.proofs.Common.{ℤ, w32, to_z, of_z, length-map}
 use Rattle.std.proofs.Common.{Option, Some, None, ◌≢◌, map, ◌≡◌, ℕ, zero, suc, ◌+◌, ◌<◌, ◌≤◌, List, [], ◌∷◌, ◌++◌, length, take, drop, get_or, set, refl, sym, ap, subst, ◌∙◌, arith}
 use Rattle.std.proofs.lemmas.List.{take_more, take_more_set}
 use Rattle.rtp_route.specs.declared.slots.Slot.{Slot}
