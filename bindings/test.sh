@@ -36,7 +36,7 @@ abi=bindings/test/abi-$(sed -n 's/^#define RTPW_VERSION "\([0-9]*\)\..*/\1/p' bi
 bindings/test/abi.sh || fail "the header file isn't what $abi lists: where that is meant, bindings/test/abi.sh --write"
 mkdir -p "$scratch/bindings"/{c,test}
 cp bindings/test/abi* "$scratch/bindings/test"
-sed -e 's/uint8_t id;/uint16_t id;/' -e '/RTPW_REFUSED/s/10,/16,/' -e '/rtpw_set_marker(/s/bool/uint8_t/' \
+sed -e 's/uint8_t id;/uint16_t id;/' -e '/RTPW_REFUSED/s/10,/17,/' -e '/rtpw_set_marker(/s/bool/uint8_t/' \
     -e 's/^uint32_t rtpw_version(void);/uint32_t rtpw_versions(void);/' bindings/c/rtp_wire.h >"$scratch/bindings/c/rtp_wire.h"
 ! "$scratch/bindings/test/abi.sh" 2>"$scratch/told" || fail 'another ABI passed'
 LC_ALL=C sort >"$scratch/expected" <<'END'
@@ -45,7 +45,7 @@ abi.sh: gone or changed: constant RTPW_REFUSED: 10
 abi.sh: gone or changed: function int32_t rtpw_set_marker(uint8_t *, size_t, _Bool)
 abi.sh: gone or changed: function uint32_t rtpw_version(void)
 abi.sh: new: rtpw_element.id at 24, 2 bytes: uint16_t
-abi.sh: new: constant RTPW_REFUSED: 16
+abi.sh: new: constant RTPW_REFUSED: 17
 abi.sh: new: function int32_t rtpw_set_marker(uint8_t *, size_t, uint8_t)
 abi.sh: new: function uint32_t rtpw_versions(void)
 END

@@ -90,7 +90,8 @@ enum class [[nodiscard]] status : std::int32_t{ok = RTPW_OK,
                                                restarted = RTPW_RESTARTED,
                                                bad_id = RTPW_BAD_ID,
                                                form_not_allowed = RTPW_FORM_NOT_ALLOWED,
-                                               long_block = RTPW_LONG_BLOCK};
+                                               long_block = RTPW_LONG_BLOCK,
+                                               long_id = RTPW_LONG_ID};
 
 inline std::string_view status_text(status it) noexcept {
     return ::rtpw_status_text(static_cast<std::int32_t>(it));

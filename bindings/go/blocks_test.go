@@ -88,7 +88,9 @@ func TestAddElement(t *testing.T) {
 	becomes(t, "90 BEDE0001 F0556677 01", adds(1, "\x07", both), "90 BEDE0001 10070000 01")
 	becomes(t, "90 BEDE0001 10AA2355 01", adds(1, "\x07", both), "90 BEDE0001 10AA1007 01")
 
-	stays(t, "90 BEDE0001 10AA0000 01", adds(15, "\x07", one), rtpwire.ErrFormNotAllowed)
+	stays(t, "90 BEDE0001 10AA0000 01", adds(15, "\x07", one), rtpwire.ErrLongID)
+	stays(t, "90 10000001 01010700 01", adds(255, "", one), rtpwire.ErrLongID)
+	stays(t, "90 ABAC0001 01020304 01", adds(15, "\x07", one), rtpwire.ErrOtherForm)
 	stays(t, "90 BEDE0001 10AA0000 01", adds(2, "", one), rtpwire.ErrFormNotAllowed)
 	stays(t, "90 BEDE0001 10AA0000 01", adds(2, strings.Repeat("7", 17), one), rtpwire.ErrFormNotAllowed)
 	stays(t, "90 10000001 01010700 01", adds(1, "\x08", one), rtpwire.ErrFormNotAllowed)
@@ -147,7 +149,8 @@ func TestChangeForm(t *testing.T) {
 	becomes(t, "80 01", one, "80 01")
 	becomes(t, "80 01", two, "80 01")
 
-	stays(t, "90 10000001 0F01AA00 01", one, rtpwire.ErrFormNotAllowed)
+	stays(t, "90 10000001 0F01AA00 01", one, rtpwire.ErrLongID)
+	stays(t, "90 10000001 0100FF00 01", one, rtpwire.ErrLongID)
 	stays(t, "90 10000001 01000000 01", one, rtpwire.ErrFormNotAllowed)
 	stays(t, "90 10000005 0111"+seventeen+"00 01", one, rtpwire.ErrFormNotAllowed)
 	stays(t, "90 ABAC0001 01020304 01", one, rtpwire.ErrOtherForm)
@@ -161,7 +164,7 @@ func TestChangeForm(t *testing.T) {
 	buf := append(written(t, "90 BEDE0001 10AA0000 01"), make([]byte, 20)...)
 	ids := new(rtpwire.NewIDs)
 	ids.Set(1, 200)
-	same(t, "in the one-byte form", rtpwire.Renumber(buf[:21], ids), rtpwire.ErrBadField)
+	same(t, "in the one-byte form", rtpwire.Renumber(buf[:21], ids), rtpwire.ErrLongID)
 	datagram, err := rtpwire.ChangeForm(buf, 21, rtpwire.TwoByteForm)
 	same(t, "changed", []any{len(datagram), err, rtpwire.Renumber(datagram, ids)}, []any{21, nil, nil})
 	same(t, "renumbered", datagram, written(t, "90 10000001 C801AA00 01"))
@@ -247,13 +250,16 @@ func TestLongBlocks(t *testing.T) {
 	same(t, "the last", []any{len(made), err, made[16+1019*257 : 16+1019*257+3]}, []any{len(full) + 1, nil, []byte{9, 255, 7}})
 }
 
-// PutElement tells a bad id and a form that isn't allowed from other bad fields.
+// PutElement tells a bad id, one above 14 and a form that isn't allowed from other bad fields.
 func TestWhatIsRefusedOfElements(t *testing.T) {
 	stays(t, "90 BEDE0001 10AA0000 01", func(buf []byte, length int) ([]byte, error) {
 		return rtpwire.PutElement(buf, length, 0, nil, rtpwire.AnyForm)
 	}, rtpwire.ErrBadID)
 	stays(t, "90 BEDE0001 10AA0000 01", func(buf []byte, length int) ([]byte, error) {
 		return rtpwire.PutElement(buf, length, 15, nil, rtpwire.OneByteForm)
+	}, rtpwire.ErrLongID)
+	stays(t, "90 BEDE0001 10AA0000 01", func(buf []byte, length int) ([]byte, error) {
+		return rtpwire.PutElement(buf, length, 14, nil, rtpwire.OneByteForm)
 	}, rtpwire.ErrFormNotAllowed)
 	stays(t, "90 10000001 0101AA00 01", func(buf []byte, length int) ([]byte, error) {
 		return rtpwire.PutElement(buf, length, 1, []byte{7}, rtpwire.OneByteForm)

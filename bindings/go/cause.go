@@ -36,6 +36,9 @@ var (
 	// ErrFormNotAllowed: the block has, or an element needs, a form that isn't allowed. By errors.Is it is an
 	// ErrBadField too.
 	ErrFormNotAllowed error = badField("rtpwire: a form of the extension block that isn't allowed")
+	// ErrLongID: an id is above 14, which the one-byte form can't carry. By errors.Is it is an ErrFormNotAllowed and
+	// an ErrBadField too.
+	ErrLongID error = longID("rtpwire: an id above 14, which the one-byte form can't carry")
 	// ErrLongBlock: the block would have more than 65,535 words. By errors.Is it is an ErrBadField too.
 	ErrLongBlock error = badField("rtpwire: an extension block of more than 65,535 words")
 	// ErrRefused: a replay, or too old to tell.
@@ -55,6 +58,19 @@ func (e badField) Error() string {
 // Is makes it an ErrBadField.
 func (e badField) Is(target error) bool {
 	return target == ErrBadField
+}
+
+// A longID is an ErrFormNotAllowed that says why.
+type longID string
+
+// Error says it in words.
+func (e longID) Error() string {
+	return string(e)
+}
+
+// Is makes it an ErrFormNotAllowed, and so an ErrBadField.
+func (e longID) Is(target error) bool {
+	return target == ErrFormNotAllowed || target == ErrBadField
 }
 
 var causes = [...]string{
@@ -99,6 +115,8 @@ func errorOf(status int32) error {
 		return ErrFormNotAllowed
 	case 15:
 		return ErrLongBlock
+	case 16:
+		return ErrLongID
 	default:
 		return Cause(status)
 	}

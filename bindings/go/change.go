@@ -64,7 +64,7 @@ func RemoveElement(datagram []byte, id uint8) error {
 	return removeElement(datagram, id)
 }
 
-// Renumber gives each element its new id, and makes one that has none padding. It returns ErrBadField where the
+// Renumber gives each element its new id, and makes one that has none padding. It returns [ErrLongID] where the
 // packet's form can't carry a new id that an element gets: one above 14 in the one-byte form, of which [ChangeForm]
 // makes the other.
 func Renumber(datagram []byte, ids *NewIDs) error {
@@ -103,10 +103,10 @@ func RemovePadding(datagram []byte) ([]byte, error) {
 //
 // It returns ErrBadField where the length isn't one of the buffer, allowed is none of the three, or there are more than
 // 255 bytes of data; [ErrBadID] where the id is 0; ErrOtherForm where the block has another form, and so carries no
-// elements; [ErrFormNotAllowed] where it has, or the element needs, a form that isn't allowed (OneByteForm alone: it has
-// TwoByteForm, or else the element doesn't fit, by an id above 14, no data or more than 16 bytes of them);
-// [ErrLongBlock] where it would have more than 65,535 words; and ErrShortBuffer where the buffer has no room. Where it
-// returns an error nothing changes.
+// elements; [ErrLongID] where the id is above 14, and OneByteForm alone is allowed; [ErrFormNotAllowed] where else it
+// has, or the element needs, a form that isn't allowed (OneByteForm alone: it has TwoByteForm, or the element has no
+// data or more than 16 bytes of them); [ErrLongBlock] where it would have more than 65,535 words; and ErrShortBuffer
+// where the buffer has no room. Where it returns an error nothing changes.
 func PutElement(buf []byte, length int, id uint8, data []byte, allowed Form) ([]byte, error) {
 	if length < 0 {
 		return nil, ErrBadField
@@ -141,9 +141,10 @@ func AddElement(buf []byte, length int, id uint8, data []byte, allowed Form) ([]
 // data, and more than 16 bytes. A header alone is enough.
 //
 // It returns ErrBadField where the length isn't one of the buffer, or the form is none of the two; ErrOtherForm where
-// the block has another form; [ErrFormNotAllowed] where the one-byte form can't carry an element, which has an id above
-// 14, no data, or more than 16 bytes of them; [ErrLongBlock] where the block would have more than 65,535 words; and
-// ErrShortBuffer where the buffer has no room. Where it returns an error nothing changes.
+// the block has another form; [ErrLongID] where an element has an id above 14, which the one-byte form can't carry;
+// [ErrFormNotAllowed] where none has, and one has no data or more than 16 bytes of them; [ErrLongBlock] where the block
+// would have more than 65,535 words; and ErrShortBuffer where the buffer has no room. Where it returns an error nothing
+// changes.
 func ChangeForm(buf []byte, length int, form Form) ([]byte, error) {
 	if length < 0 {
 		return nil, ErrBadField
@@ -231,9 +232,9 @@ func WriteOriginal(payload []byte, number uint64) error {
 // ([NewIDsToRetransmission]), and as payload the original number in two bytes and the original payload without its
 // padding. All else stays, M and the timestamp too, and so do the bytes behind it.
 //
-// It returns ErrBadField where the payload type is above 127, the length isn't one of the buffer, the padding's last
-// byte counts more bytes than the payload has, or the packet's form can't carry a new id; or else ErrShortBuffer where
-// there is no room for the two bytes. Nothing changes then.
+// It returns ErrBadField where the payload type is above 127, the length isn't one of the buffer, or the padding's last
+// byte counts more bytes than the payload has; [ErrLongID] where the packet's form can't carry a new id; or else
+// ErrShortBuffer where there is no room for the two bytes. Nothing changes then.
 func ToRetransmission(
 	buf []byte, length int, ssrc uint32, payloadType uint8, number uint16, ids *NewIDs,
 ) ([]byte, error) {
@@ -252,7 +253,7 @@ func ToRetransmission(
 // ids ([NewIDsFromRetransmission]), and as payload what follows that number, without padding. All else stays, and so
 // do the bytes behind it.
 //
-// It returns ErrBadField as ToRetransmission, and ErrNotFound where the payload has fewer than the two bytes of a
+// It returns ErrBadField and ErrLongID as ToRetransmission, and ErrNotFound where the payload has fewer than the two bytes of a
 // number. Nothing changes then.
 func FromRetransmission(buf []byte, length int, ssrc uint32, payloadType uint8, ids *NewIDs) ([]byte, error) {
 	if length < 0 {

@@ -85,7 +85,7 @@ func TestNewIDs(t *testing.T) {
 	ids.Set(2, 15)
 	ids.Set(0, 5)
 	same(t, "ids", []uint8{ids.Get(2), ids.Get(0)}, []uint8{15, 0})
-	changed(t, "an id of 15", func(d []byte) error { return rtpwire.Renumber(d, ids) }, rtpwire.ErrBadField, nil)
+	changed(t, "an id of 15", func(d []byte) error { return rtpwire.Renumber(d, ids) }, rtpwire.ErrLongID, nil)
 	same(t, "of no map", *rtpwire.NewIDsBetween(nil, nil), rtpwire.NewIDs{})
 }
 
@@ -105,7 +105,8 @@ func TestPutElement(t *testing.T) {
 	put("longer", 2, []byte{3, 3, 3, 3, 3}, rtpwire.OneByteForm, 41, nil)
 	same(t, "body", datagram[22:36], []byte{0, 3, 0x10, 0xAA, 0x24, 3, 3, 3, 3, 3, 0x10, 0xDD, 0, 0})
 	same(t, "payload", datagram[36:], sample()[32:])
-	put("form not allowed", 15, []byte{4}, rtpwire.OneByteForm, 0, rtpwire.ErrFormNotAllowed)
+	put("form not allowed", 14, nil, rtpwire.OneByteForm, 0, rtpwire.ErrFormNotAllowed)
+	put("long id", 15, []byte{4}, rtpwire.OneByteForm, 0, rtpwire.ErrLongID)
 	put("no such form", 1, []byte{4}, 3, 0, rtpwire.ErrBadField)
 	put("in the two-byte form", 15, []byte{4}, rtpwire.AnyForm, 45, nil)
 	_, err := rtpwire.PutElement(buf[:48], 45, 16, []byte{4, 5, 6}, rtpwire.AnyForm)

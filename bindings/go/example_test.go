@@ -294,7 +294,7 @@ func ExampleAddElement() {
 	datagram, err := rtpwire.AddElement(buf, length, 1, []byte{0xBB}, rtpwire.AnyForm)
 	fmt.Printf("% X %v\n", datagram[12:], err)
 	_, err = rtpwire.AddElement(buf, length, 15, []byte{0xBB}, rtpwire.OneByteForm)
-	fmt.Println(errors.Is(err, rtpwire.ErrFormNotAllowed), errors.Is(err, rtpwire.ErrBadField))
+	fmt.Println(errors.Is(err, rtpwire.ErrLongID), errors.Is(err, rtpwire.ErrFormNotAllowed))
 	// Output:
 	// BE DE 00 01 10 AA 10 BB 01 <nil>
 	// true true

@@ -279,10 +279,10 @@ func TestErrors(t *testing.T) {
 		"CUT_BLOCK_HEADER": rtpwire.CutBlockHeader, "CUT_BLOCK": rtpwire.CutBlock, "UNKNOWN_FORM": rtpwire.ErrOtherForm,
 		"SHORT_BUFFER": rtpwire.ErrShortBuffer, "BAD_FIELD": rtpwire.ErrBadField, "REFUSED": rtpwire.ErrRefused,
 		"NONE": rtpwire.ErrNotFound, "BAD_ID": rtpwire.ErrBadID, "FORM_NOT_ALLOWED": rtpwire.ErrFormNotAllowed,
-		"LONG_BLOCK": rtpwire.ErrLongBlock,
+		"LONG_BLOCK": rtpwire.ErrLongBlock, "LONG_ID": rtpwire.ErrLongID,
 	}
 	// of a bad field these say which one
-	narrow := regexp.MustCompile("BAD_ID|FORM_NOT_ALLOWED|LONG_BLOCK")
+	narrow := regexp.MustCompile("BAD_ID|FORM_NOT_ALLOWED|LONG_BLOCK|LONG_ID")
 	for name, it := range statuses {
 		text := regexp.MustCompile(`case RTPW_` + name + `: return "(.*)";`).FindStringSubmatch(string(header))
 		same(t, name, it.Error(), "rtpwire: "+text[1])
@@ -293,7 +293,8 @@ func TestErrors(t *testing.T) {
 			same(t, name+" has its number", number.Match(header), true)
 		}
 		for other, that := range statuses {
-			same(t, name+" is "+other, errors.Is(it, that), name == other || other == "BAD_FIELD" && narrow.MatchString(name))
+			isNarrow := other == "BAD_FIELD" && narrow.MatchString(name) || other == "FORM_NOT_ALLOWED" && name == "LONG_ID"
+			same(t, name+" is "+other, errors.Is(it, that), name == other || isNarrow)
 		}
 		wrapped := fmt.Errorf("a datagram: %w", it)
 		same(t, "wrapped", []bool{errors.Is(wrapped, it), errors.Is(wrapped, rtpwire.ErrNotAPacket)}, []bool{true, isCause})

@@ -54,12 +54,13 @@ func TestFormsOfAPutElement(t *testing.T) {
 	for before, form := range map[string]rtpwire.Form{
 		"90 10050001 0101AA00 09": two, "90 BEDE0001 10AA0000 09": one,
 	} {
-		stays(t, before, putsElement(15, "\xBB", one), rtpwire.ErrFormNotAllowed)
+		stays(t, before, putsElement(15, "\xBB", one), rtpwire.ErrLongID)
+		stays(t, before, putsElement(14, "", one), rtpwire.ErrFormNotAllowed)
 		found, _ := parsed(t, written(t, before), nil).Block()
 		same(t, before, found, form)
 	}
 	stays(t, "90 BEDE0001 10AA0000 09", putsElement(0, "\xBB", one), rtpwire.ErrBadID)
-	for _, err := range []error{rtpwire.ErrBadID, rtpwire.ErrFormNotAllowed, rtpwire.ErrLongBlock} {
+	for _, err := range []error{rtpwire.ErrBadID, rtpwire.ErrLongID, rtpwire.ErrFormNotAllowed, rtpwire.ErrLongBlock} {
 		same(t, "told apart", []bool{errors.Is(err, rtpwire.ErrBadField), errors.Is(rtpwire.ErrBadField, err)}, []bool{true, false})
 	}
 }
@@ -70,7 +71,7 @@ func TestIDsAbove14AfterAChangeOfForm(t *testing.T) {
 	ids := new(rtpwire.NewIDs)
 	ids.Set(1, 200)
 	ids.Set(2, 15)
-	same(t, "too high", rtpwire.Renumber(buf[:21], ids), rtpwire.ErrBadField)
+	same(t, "too high", rtpwire.Renumber(buf[:21], ids), rtpwire.ErrLongID)
 	datagram, err := rtpwire.ChangeForm(buf, 21, rtpwire.TwoByteForm)
 	same(t, "changed", err, nil)
 	same(t, "renumbered", rtpwire.Renumber(datagram, ids), nil)

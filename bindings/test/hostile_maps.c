@@ -167,7 +167,7 @@ static void renumber(const rtpw_new_ids *ids) {
     int32_t status = it.cause;
     if (it.cause == 0) {
         bool is_renumbered = is_carried(expected + it.body_at, &it, &same);
-        status = is_renumbered ? RTPW_OK : RTPW_BAD_FIELD;
+        status = is_renumbered ? RTPW_OK : RTPW_LONG_ID;
         if (is_renumbered) {
             renumber_in(expected + it.body_at, &it, &same);
         }
@@ -220,7 +220,7 @@ static int32_t retransmitted(uint8_t *bytes, size_t size, size_t *len, uint32_t 
         return RTPW_NONE;
     }
     if (!is_carried(bytes + it.body_at, &it, ids)) {
-        return RTPW_BAD_FIELD;
+        return RTPW_LONG_ID;
     }
     if (!is_back && size - end < 2) {
         return RTPW_SHORT_BUFFER;

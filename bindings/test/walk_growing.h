@@ -38,6 +38,18 @@ static size_t count_of(const walked *it, unsigned id) {
     return count;
 }
 
+/* Whether an element of the packet has an id above 14. */
+static bool has_long_id(const walked *it) {
+    found element;
+    const uint8_t *body = before + it->body_at;
+    bool is_long = false;
+    for (size_t at = 0; walk_on(body, it->body_len, it->form, at, &element);) {
+        at = element.data_at + element.data_len;
+        is_long = is_long || element.id > 14;
+    }
+    return is_long;
+}
+
 /* Puts the packet's elements in a row in the form, with these data in place of the last one of the id, and none of the
  * id 0. With the id 256 it is the elements alone. */
 static void make_row(const walked *it, int form, unsigned id, const uint8_t *data, size_t len) {
@@ -129,6 +141,9 @@ static int32_t form_with(walked *it, int *form, size_t size, size_t len, unsigne
     if (it->form == 3) {
         return RTPW_UNKNOWN_FORM;
     }
+    if (allowed == 1 && id > 14) {
+        return RTPW_LONG_ID;
+    }
     int needed = it->form != 2 && id <= 14 && data_len >= 1 && data_len <= 16 ? 1 : 2;
     *form = allowed == 2 ? 2 : needed;
     return allowed == 1 && needed == 2 ? RTPW_FORM_NOT_ALLOWED : RTPW_OK;
@@ -178,7 +193,10 @@ static int32_t change_form(size_t size, size_t *len, unsigned form) {
     if (it.form == 0 || it.form == (int)form) {
         return RTPW_OK;
     }
-    return make_row_in(&it, (int)form) ? lay_out_within(&it, size, len, (int)form) : RTPW_FORM_NOT_ALLOWED;
+    if (!make_row_in(&it, (int)form)) {
+        return has_long_id(&it) ? RTPW_LONG_ID : RTPW_FORM_NOT_ALLOWED;
+    }
+    return lay_out_within(&it, size, len, (int)form);
 }
 
 /* What it becomes without its block. */

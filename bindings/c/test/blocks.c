@@ -114,8 +114,8 @@ static void forms_are_changed(void) {
     }
 }
 
-/* The id 15, no data, and 17 bytes of them: the one-byte form carries none of these. A block of another form has
- * neither of the two. */
+/* The id 15, no data, and 17 bytes of them: the one-byte form carries none of these, and the id is told first. A block
+ * of another form has neither of the two. */
 static void forms_stay(void) {
     static const struct {
         const uint8_t *packet;
@@ -123,7 +123,9 @@ static void forms_stay(void) {
         uint8_t form;
         int32_t status;
     } ROWS[] = {
-        {BYTES(WITH "\x10\0\0\1\xF\1\xAA\0"), RTPW_ONE_BYTE_FORM, RTPW_FORM_NOT_ALLOWED},
+        {BYTES(WITH "\x10\0\0\1\xF\1\xAA\0"), RTPW_ONE_BYTE_FORM, RTPW_LONG_ID},
+        {BYTES(WITH "\x10\0\0\2\1\1\xAA\2\0\xFF\0\0"), RTPW_ONE_BYTE_FORM, RTPW_LONG_ID},
+        {BYTES(WITH "\x10\0\0\1\xE\0\0\xF"), RTPW_ONE_BYTE_FORM, RTPW_FORM_NOT_ALLOWED},
         {BYTES(WITH "\x10\0\0\1\1\0\0\0"), RTPW_ONE_BYTE_FORM, RTPW_FORM_NOT_ALLOWED},
         {BYTES(WITH "\x10\0\0\5\1\x11klmnopqrstuvwxyz{\0"), RTPW_ONE_BYTE_FORM, RTPW_FORM_NOT_ALLOWED},
         {BYTES(WITH "\xAB\xAC\0\1\1\2\3\4"), RTPW_ONE_BYTE_FORM, RTPW_UNKNOWN_FORM},
@@ -176,8 +178,10 @@ static void elements_are_added(void) {
         {BYTES(WITH "\xBE\xDE\0\2\1\x9\x9\x10\xAA\xF0\7\7\1"), 2, RTPW_ANY_FORM, BYTES("\xBB"), RTPW_OK,
          BYTES(WITH "\xBE\xDE\0\2\x10\xAA\x20\xBB\0\0\0\0\1")},
         {BYTES(WITH "\xBE\xDE\0\1\x10\xAA\0\0\1"), 0, RTPW_ANY_FORM, BYTES("\xBB"), RTPW_BAD_ID, NULL, 0},
-        {BYTES(WITH "\xBE\xDE\0\1\x10\xAA\0\0\1"), 15, RTPW_ONE_BYTE_FORM, BYTES("\xBB"), RTPW_FORM_NOT_ALLOWED, NULL,
-         0},
+        {BYTES(WITH "\xBE\xDE\0\1\x10\xAA\0\0\1"), 15, RTPW_ONE_BYTE_FORM, BYTES("\xBB"), RTPW_LONG_ID, NULL, 0},
+        {BYTES(WITH "\x10\5\0\1\1\1\xAA\0\1"), 255, RTPW_ONE_BYTE_FORM, BYTES(""), RTPW_LONG_ID, NULL, 0},
+        {BYTES(WITH "\xAB\xAC\0\1\1\2\3\4"), 15, RTPW_ONE_BYTE_FORM, BYTES("\xBB"), RTPW_UNKNOWN_FORM, NULL, 0},
+        {BYTES(WITH "\xBE\xDE\0\1\x10\xAA\0\0\1"), 14, RTPW_ONE_BYTE_FORM, BYTES(""), RTPW_FORM_NOT_ALLOWED, NULL, 0},
         {BYTES(WITH "\x10\5\0\1\1\1\xAA\0\1"), 1, RTPW_ONE_BYTE_FORM, BYTES("\xBB"), RTPW_FORM_NOT_ALLOWED, NULL, 0},
         {BYTES(WITH "\xAB\xAC\0\1\1\2\3\4"), 1, RTPW_ANY_FORM, BYTES("\xBB"), RTPW_UNKNOWN_FORM, NULL, 0},
         {BYTES(WITH "\xAB\xAC\0\1\1\2\3\4"), 1, RTPW_OTHER_FORM, BYTES("\xBB"), RTPW_BAD_FIELD, NULL, 0},

@@ -88,6 +88,10 @@ static void retransmissions(void) {
     memcpy(buf, ONE_BYTE, 21);
     len = 21;
     CHECK(rtpw_from_retransmission(buf, 32, &len, 3, 0x60, &HIGH) == RTPW_NONE && len == 21);
+    len = 22;
+    CHECK(rtpw_from_retransmission(buf, 32, &len, 3, 0x60, &HIGH) == RTPW_LONG_ID && len == 22);
+    len = 21;
+    CHECK(rtpw_to_retransmission(buf, 21, &len, 9, 0x61, 7, &HIGH) == RTPW_LONG_ID && memcmp(buf, ONE_BYTE, 21) == 0);
     /* The padding's count of 9 before both, and a count of 1 leaves no byte of the payload. */
     buf[0] |= 0x20;
     buf[20] = 9;

@@ -37,14 +37,14 @@ static void first_fault_is_told(void) {
     CHECK(rtpw_set_element(bytes, 31, 9, data, 1) == RTPW_CUT_BLOCK);
     CHECK(rtpw_remove_element(bytes, 31, 9) == RTPW_CUT_BLOCK);
     CHECK(rtpw_renumber(bytes, 31, &TOO_HIGH) == RTPW_CUT_BLOCK);
-    CHECK(rtpw_renumber(bytes, LEN, &TOO_HIGH) == RTPW_BAD_FIELD);
+    CHECK(rtpw_renumber(bytes, LEN, &TOO_HIGH) == RTPW_LONG_ID);
     size_t len = LEN + 1;
     CHECK(rtpw_to_retransmission(bytes, LEN, &len, 1, 2, 3, &TOO_HIGH) == RTPW_BAD_FIELD && len == LEN + 1);
     len = 31;
     CHECK(rtpw_to_retransmission(bytes, LEN, &len, 1, 128, 3, &TOO_HIGH) == RTPW_BAD_FIELD);
     CHECK(rtpw_to_retransmission(bytes, LEN, &len, 1, 2, 3, &TOO_HIGH) == RTPW_CUT_BLOCK);
     len = LEN;
-    CHECK(rtpw_to_retransmission(bytes, LEN, &len, 1, 2, 3, &TOO_HIGH) == RTPW_BAD_FIELD && len == LEN);
+    CHECK(rtpw_to_retransmission(bytes, LEN, &len, 1, 2, 3, &TOO_HIGH) == RTPW_LONG_ID && len == LEN);
     CHECK(rtpw_next_element(bytes, 0, 3, 1, &element) == RTPW_BAD_FIELD);
     CHECK(rtpw_next_element(bytes, 0, 1, 1, &element) == RTPW_BAD_FIELD);
     CHECK(rtpw_next_element(bytes, 0, 1, 0, &element) == RTPW_NONE);

@@ -509,7 +509,7 @@ static void is_renumbered(void) {
     memcpy(bytes, datagram, sizeof bytes);
     CHECK(rtpw_renumber(bytes, 19, &ids) == RTPW_CUT_BLOCK);
     ids.id[1] = 15;
-    CHECK(rtpw_renumber(bytes, sizeof bytes, &ids) == RTPW_BAD_FIELD);
+    CHECK(rtpw_renumber(bytes, sizeof bytes, &ids) == RTPW_LONG_ID);
     CHECK(memcmp(bytes, datagram, sizeof bytes) == 0);
     ids.id[1] = 0;
     CHECK(rtpw_renumber(bytes, sizeof bytes, &ids) == RTPW_OK);

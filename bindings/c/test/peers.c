@@ -191,7 +191,7 @@ static void ids_above_14_after_a_change_of_form(void) {
     uint8_t buf[25] = {WITH, 0xBE, 0xDE, 0, 1, 0x10, 0xAA, 0x20, 0xBB, 9};
     rtpw_new_ids ids = {{0, 200, 15}};
     size_t len = 21;
-    CHECK(rtpw_renumber(buf, len, &ids) == RTPW_BAD_FIELD);
+    CHECK(rtpw_renumber(buf, len, &ids) == RTPW_LONG_ID);
     CHECK(rtpw_change_form(buf, 25, &len, RTPW_TWO_BYTE_FORM) == RTPW_OK && len == 25);
     CHECK(rtpw_renumber(buf, len, &ids) == RTPW_OK && memcmp(buf, WANTED, 25) == 0);
 }
@@ -204,7 +204,10 @@ static void why_an_element_is_not_put(void) {
     size_t len = 20;
     CHECK(rtpw_put_element(two, 24, &len, 1, DATA, 1, RTPW_ONE_BYTE_FORM) == RTPW_FORM_NOT_ALLOWED);
     CHECK(rtpw_packet_parse(two, len, &packet) == RTPW_OK && packet.block_form == RTPW_TWO_BYTE_FORM);
-    CHECK(rtpw_put_element(one, 24, &len, 15, DATA, 1, RTPW_ONE_BYTE_FORM) == RTPW_FORM_NOT_ALLOWED);
+    CHECK(rtpw_put_element(two, 24, &len, 15, DATA, 1, RTPW_ONE_BYTE_FORM) == RTPW_LONG_ID);
+    CHECK(rtpw_put_element(one, 24, &len, 15, DATA, 1, RTPW_ONE_BYTE_FORM) == RTPW_LONG_ID);
+    CHECK(rtpw_put_element(one, 24, &len, 255, DATA, 17, RTPW_ONE_BYTE_FORM) == RTPW_LONG_ID);
+    CHECK(rtpw_put_element(one, 24, &len, 14, DATA, 17, RTPW_ONE_BYTE_FORM) == RTPW_FORM_NOT_ALLOWED);
     CHECK(rtpw_put_element(one, 24, &len, 1, DATA, 0, RTPW_ONE_BYTE_FORM) == RTPW_FORM_NOT_ALLOWED);
     CHECK(rtpw_put_element(one, 24, &len, 1, DATA, 17, RTPW_ONE_BYTE_FORM) == RTPW_FORM_NOT_ALLOWED);
     CHECK(rtpw_packet_parse(one, len, &packet) == RTPW_OK && packet.block_form == RTPW_ONE_BYTE_FORM);

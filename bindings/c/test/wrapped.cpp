@@ -116,7 +116,7 @@ void grows() {
         CHECK(it.id == 3 || same(it.data, {1, 2}));
     }
     CHECK(ids == 35);
-    CHECK(rtpw::put_element(buf, len, 15, data, RTPW_ONE_BYTE_FORM) == status::form_not_allowed);
+    CHECK(rtpw::put_element(buf, len, 15, data, RTPW_ONE_BYTE_FORM) == status::long_id);
     CHECK(rtpw::put_element(buf, len, 0, data) == status::bad_id);
     CHECK(rtpw::remove_element({buf.data(), len}, 5) == status::ok);
     CHECK(rtpw::compact(buf, len) == status::ok && len == 27);
@@ -147,7 +147,7 @@ void blocks() {
     const std::uint8_t level[] = {0x8b};
     CHECK(rtpw::add_element(buf, len, 3, level) == status::ok && len == 27);
     CHECK(same({buf.data() + 16, 8}, {0xbe, 0xde, 0, 1, 0x30, 0x8a, 0x30, 0x8b}));
-    CHECK(rtpw::add_element(buf, len, 15, level, RTPW_ONE_BYTE_FORM) == status::form_not_allowed);
+    CHECK(rtpw::add_element(buf, len, 15, level, RTPW_ONE_BYTE_FORM) == status::long_id);
     CHECK(rtpw::add_element(buf, len, 0, level) == status::bad_id && len == 27);
     CHECK(rtpw::change_form(buf, len, RTPW_TWO_BYTE_FORM) == status::ok && len == 31);
     CHECK(same({buf.data() + 16, 12}, {0x10, 0, 0, 2, 3, 1, 0x8a, 3, 1, 0x8b, 0, 0}));
@@ -428,7 +428,7 @@ void zeros() {
 
 // Each number of a status is that of C, with its text.
 void statuses() {
-    const std::int32_t numbers[] = {0, 1, 2, 3, 4, 5, 6, 8, 9, 10, 11, 12, 13, 14, 15};
+    const std::int32_t numbers[] = {0, 1, 2, 3, 4, 5, 6, 8, 9, 10, 11, 12, 13, 14, 15, 16};
     const status all[] = {status::ok,
                           status::cut_fixed_part,
                           status::other_version,
@@ -443,7 +443,8 @@ void statuses() {
                           status::restarted,
                           status::bad_id,
                           status::form_not_allowed,
-                          status::long_block};
+                          status::long_block,
+                          status::long_id};
     for (std::size_t i = 0; i < sizeof numbers / sizeof *numbers; i++) {
         CHECK(static_cast<std::int32_t>(all[i]) == numbers[i]);
         CHECK(rtpw::status_text(all[i]) == rtpw_status_text(numbers[i]));
@@ -502,7 +503,8 @@ void forms() {
         const auto call = adds ? rtpw::add_element : rtpw::put_element;
         std::size_t len = datagram.size();
         std::memcpy(buf.data(), datagram.data(), len);
-        CHECK(call(buf, len, 20, data, RTPW_ONE_BYTE_FORM) == status::form_not_allowed && len == 27);
+        CHECK(call(buf, len, 20, data, RTPW_ONE_BYTE_FORM) == status::long_id && len == 27);
+        CHECK(call(buf, len, 14, {}, RTPW_ONE_BYTE_FORM) == status::form_not_allowed && len == 27);
         CHECK((adds ? rtpw::add_element(buf, len, 20, data) : rtpw::put_element(buf, len, 20, data)) == status::ok);
         CHECK(len == 31 && same({buf.data() + 16, 12}, {0x10, 0, 0, 2, 3, 1, 0x8a, 20, 1, 0x8b, 0, 0}));
         len = datagram.size();

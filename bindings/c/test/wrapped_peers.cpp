@@ -141,7 +141,7 @@ void blocks_are_changed() {
     rtpw_new_ids ids{};
     ids.id[1] = 200;
     ids.id[2] = 15;
-    CHECK(rtpw::renumber({buf.data(), len}, ids) == status::bad_field);
+    CHECK(rtpw::renumber({buf.data(), len}, ids) == status::long_id);
     CHECK(rtpw::change_form(buf, len, RTPW_TWO_BYTE_FORM) == status::ok && len == 25);
     CHECK(rtpw::renumber(buf, ids) == status::ok);
     CHECK(buf == joined(with, {0x10, 0, 0, 2, 200, 1, 0xAA, 15, 1, 0xBB, 0, 0, 9}));

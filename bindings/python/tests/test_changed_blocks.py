@@ -12,6 +12,7 @@ from rtp_wire import (
     Form,
     FormNotAllowed,
     LongBlock,
+    LongId,
     NewIds,
     NotAPacket,
     OtherForm,
@@ -97,7 +98,10 @@ class ChangedBlocks(unittest.TestCase):
 
     def test_elements_are_not_added(self) -> None:
         form = "a form of the extension block that isn't allowed"
-        self.stays(PLAIN, self.adds(15, b"\7", ONE), FormNotAllowed, form)
+        long = "an id above 14, which the one-byte form can't carry"
+        self.stays(PLAIN, self.adds(15, b"\7", ONE), LongId, long)
+        self.stays("90 10000001 01010700 01", self.adds(255, b"", ONE), LongId, long)
+        self.stays("90 ABAC0001 01020304 01", self.adds(15, b"\x08", ONE), OtherForm)
         self.stays(PLAIN, self.adds(2, b"", ONE), FormNotAllowed, form)
         self.stays(PLAIN, self.adds(2, b"7" * 17, ONE), FormNotAllowed, form)
         self.stays("90 10000001 01010700 01", self.adds(1, b"\x08", ONE), FormNotAllowed, form)
@@ -114,7 +118,8 @@ class ChangedBlocks(unittest.TestCase):
             return lambda buf, length: put_element(buf, length, id, b"\7", allowed)
 
         self.stays(PLAIN, puts(0), BadId, "id is 0, and not 1 to 255")
-        self.stays(PLAIN, puts(15, ONE), FormNotAllowed)
+        self.stays(PLAIN, puts(15, ONE), LongId)
+        self.stays("90 10000001 0101AA00 01", puts(15, ONE), LongId)
         self.stays("90 10000001 0101AA00 01", puts(1, ONE), FormNotAllowed)
         with self.assertRaises(BadId) as raised:
             puts(0)(memoryview(bytearray(written(PLAIN))), 21)
@@ -153,8 +158,10 @@ class ChangedBlocks(unittest.TestCase):
         ]
         for before, form, after in rows:
             self.becomes(before, self.changes(form), after)
-        for before in ("90 10000001 0F01AA00 01", "90 10000001 01000000 01", f"90 10000005 0111{seventeen}00 01"):
+        for before in ("90 10000001 01000000 01", f"90 10000005 0111{seventeen}00 01"):
             self.stays(before, self.changes(ONE), FormNotAllowed)
+        for before in ("90 10000001 0F01AA00 01", "90 10000001 0100FF00 01"):
+            self.stays(before, self.changes(ONE), LongId)
         for form in (ONE, TWO):
             self.stays("90 ABAC0001 01020304 01", self.changes(form), OtherForm)
             self.stays("90 BEDE0002 10AA0000 01", self.changes(form), NotAPacket)
@@ -167,7 +174,7 @@ class ChangedBlocks(unittest.TestCase):
 
     def test_an_id_above_14_is_put_then(self) -> None:
         buf, ids = bytearray(written(PLAIN)), NewIds({1: 200})
-        with self.assertRaises(BadField):
+        with self.assertRaises(LongId):
             Packet.parse(buf).renumber(ids)
         self.assertEqual(change_form(buf, 21, TWO), 21)
         Packet.parse(buf).renumber(ids)

@@ -379,6 +379,7 @@ class Calls(unittest.TestCase):
         self.assertEqual(bases[NoElement], (RtpError, LookupError))
         for kind in (rtp_wire.BadId, rtp_wire.FormNotAllowed, rtp_wire.LongBlock):
             self.assertEqual(kind.__bases__, (BadField,))
+        self.assertEqual(rtp_wire.LongId.__bases__, (rtp_wire.FormNotAllowed,))
         for status in Status:
             error = _errors.error_of(int(status))
             self.assertEqual((str(error), error.args, error.status), (status.text, (status.text,), status))

@@ -158,6 +158,7 @@ class Library(unittest.TestCase):
             Status.BAD_ID: rtp_wire.BadId,
             Status.FORM_NOT_ALLOWED: rtp_wire.FormNotAllowed,
             Status.LONG_BLOCK: rtp_wire.LongBlock,
+            Status.LONG_ID: rtp_wire.LongId,
             Status.REFUSED: rtp_wire.RtpError,
             **{Status(cause): rtp_wire.NotAPacket for cause in Cause},
         }

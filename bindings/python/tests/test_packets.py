@@ -12,6 +12,7 @@ from rtp_wire import (
     Cause,
     Form,
     Kind,
+    LongId,
     Map,
     NewIds,
     NoElement,
@@ -340,7 +341,7 @@ class Changing(unittest.TestCase):
     def test_new_ids(self) -> None:
         self.packet.renumber(NewIds({1: 5, 3: 7}))
         self.assertEqual(self.datagram[24:32].hex(), "50aa00000050dd00")
-        with self.assertRaises(BadField):
+        with self.assertRaises(LongId):
             self.packet.renumber(NewIds({5: 15}))
         self.assertEqual(self.datagram[24:32].hex(), "50aa00000050dd00")
 

@@ -15,6 +15,7 @@ from rtp_wire import (
     Kind,
     Layer,
     Layers,
+    LongId,
     Map,
     NewIds,
     Orientation,
@@ -84,8 +85,11 @@ class Elements(unittest.TestCase):
         self.becomes("10050001 0101AA00", 1, TWO, "10050001 0101CC00")
         for block, form in (("10050001 0101AA00", TWO), ("BEDE0001 10AA0000", ONE)):
             buf = bytearray(packet(block) + bytes(8))
-            with self.assertRaises(FormNotAllowed):
+            with self.assertRaises(LongId):
                 put_element(buf, 21, 15, b"\xCC", ONE)
+            with self.assertRaises(FormNotAllowed) as raised:
+                put_element(buf, 21, 14, b"", ONE)
+            self.assertIs(type(raised.exception), FormNotAllowed)
             self.assertEqual(buf, packet(block) + bytes(8))
             self.assertEqual(Packet.parse(buf).form, form)
             with self.assertRaises(BadId):
@@ -138,7 +142,7 @@ class Messages(unittest.TestCase):
         buf: Any = bytearray(packet("BEDE0001 10AA0000"))
         padded = bytearray(b"\xA0" + bytes(11) + b"\2")
         long = "the padding is longer than the payload"
-        high = "a new id is above 14, and the block in the one-byte form"
+        high = "an id above 14, which the one-byte form can't carry"
         rows: List[Tuple[Callable[[], Any], str]] = [
             (lambda: Receiver(1 << 48), f"rollover_count is {1 << 48}, and not 0 to {(1 << 48) - 1}"),
             (lambda: WideReceiver(1, 1 << 48), f"rollover_count is {1 << 48}, and not 0 to {(1 << 48) - 1}"),
@@ -159,8 +163,10 @@ class Messages(unittest.TestCase):
             (lambda: layered(Layer((), Resolution(1, 1, 1))), "no element can carry the layers"),
             (lambda: told(layers=Layers((), 1)), "current is 1, and not 0 to 0"),
             (lambda: Packet.parse(buf).renumber(NewIds({1: 15})), high),
-            (lambda: to_retransmission(buf, 21, 1, 2, 3, NewIds({1: 15})), f"{long}, or {high}"),
-            (lambda: from_retransmission(bytearray(buf + b"9"), 22, 1, 2, NewIds({1: 15})), f"{long}, or {high}"),
+            (lambda: to_retransmission(buf, 21, 1, 2, 3, NewIds({1: 15})), high),
+            (lambda: from_retransmission(bytearray(buf + b"9"), 22, 1, 2, NewIds({1: 15})), high),
+            (lambda: to_retransmission(padded, 13, 1, 2, 3, NewIds()), long),
+            (lambda: from_retransmission(padded, 13, 1, 2, NewIds()), long),
             (lambda: Packet.parse(padded).remove_padding(), long),
         ]
         for call, text in rows:

@@ -1,7 +1,7 @@
 -- Causes against a change of the block of the packet in a buffer.
 use Rattle.rtp_c.proofs.Common.{◌≡◌, ℕ, ◌<◌, ◌≤◌, List, length, take, [], ◌∷◌, Option, None, Some, IfSome, refl, sym, ap, subst, ◌∙◌, arith, ExtensionsForm, Element, NotPut, put_status, short_buffer, ℤ, PacketParts, IsPacket, IsNoPacket-applies, no_packet-refused, one_packet, length-packet}
 use Rattle.rtp_wire.specs.declared.packet.not_a_packet.NotAPacket.{NotAPacket}
-use Rattle.rtp_wire.specs.declared.packet.not_put.NotPut.TheVariants.{CutPacket, NotAPacket as NoPacket, ZeroId, LongData, OtherForm, OneByteOnly, LongBlock, NoRoom}
+use Rattle.rtp_wire.specs.declared.packet.not_put.NotPut.TheVariants.{CutPacket, NotAPacket as NoPacket, ZeroId, LongData, OtherForm, LongId, OneByteOnly, LongBlock, NoRoom}
 use Rattle.rtp_wire.specs.declared.packet.block_not_put.BlockNotPut.{BlockNotPut}
 use Rattle.rtp_wire.specs.declared.packet.block_not_put.BlockNotPut.TheVariants.{CutWord, LongBlock as TooLong, NoRoom as BlockNoRoom}
 use Rattle.rtp_wire.specs.declared.packet.rtp_packet_buf.RtpPacketBuf.{RtpPacketBuf}
@@ -27,6 +27,7 @@ module _ (buf : List ℕ) (len : ℕ) (Keeps : NotPut → Type 0) where
     none_before LongData before fact = more fact
     none_before (NoPacket cause) before fact = omega (arith, before)
     none_before OtherForm before fact = omega (arith, before)
+    none_before LongId before fact = omega (arith, before)
     none_before OneByteOnly before fact = omega (arith, before)
     none_before LongBlock before fact = omega (arith, before)
     none_before (NoRoom needed) before fact = omega (arith, before)
@@ -38,6 +39,7 @@ module _ (buf : List ℕ) (len : ℕ) (Keeps : NotPut → Type 0) where
   first-front zero more LongData none = absurd none
   first-front zero more (NoPacket cause) fact = record { applies = fact.1; none_before = none_before (zero fact.0) (more fact.0) fact.0 }
   first-front zero more OtherForm none = absurd none
+  first-front zero more LongId none = absurd none
   first-front zero more OneByteOnly none = absurd none
   first-front zero more LongBlock none = absurd none
   first-front zero more (NoRoom needed) none = absurd none
@@ -50,6 +52,7 @@ module _ (buf : List ℕ) (len : ℕ) (Keeps : NotPut → Type 0) where
     to-buffer LongData fact = fact
     to-buffer (NoPacket cause) fact = absurd (never cause fact)
     to-buffer OtherForm fact = fact
+    to-buffer LongId fact = fact
     to-buffer OneByteOnly fact = fact
     to-buffer LongBlock fact = fact
     to-buffer (NoRoom needed) fact = fact
@@ -60,6 +63,7 @@ module _ (buf : List ℕ) (len : ℕ) (Keeps : NotPut → Type 0) where
     from-buffer LongData fact = fact
     from-buffer (NoPacket cause) fact = absurd (no_packet-refused (take len buf) parts (IsNoPacket-applies (take len buf) cause fact.applies) is)
     from-buffer OtherForm fact = fact
+    from-buffer LongId fact = fact
     from-buffer OneByteOnly fact = fact
     from-buffer LongBlock fact = fact
     from-buffer (NoRoom needed) fact = fact
@@ -201,6 +205,7 @@ fault-front buf body len ZeroId within is-body none = absurd none
 fault-front buf body len LongData within is-body none = absurd none
 fault-front buf body len (NoPacket cause) within is-body fact = no_packet within is-body (record { cause = cause; is_first = fact.1; status_is = refl })
 fault-front buf body len OtherForm within is-body none = absurd none
+fault-front buf body len LongId within is-body none = absurd none
 fault-front buf body len OneByteOnly within is-body none = absurd none
 fault-front buf body len LongBlock within is-body none = absurd none
 fault-front buf body len (NoRoom needed) within is-body none = absurd none

@@ -1,6 +1,6 @@
 -- The statuses of an element that is put into a packet.
 use Rattle.rtp_c.proofs.Common.{◌≡◌, ℤ, ap, ◌∙◌, w32, to_z, of_z, refl, sym, CutFixedPart, OtherVersion, CutSources, CutBlockHeader, CutBlock, NotPut, ok, put_status}
-use Rattle.rtp_wire.specs.declared.packet.not_put.NotPut.TheVariants.{CutPacket, NotAPacket, ZeroId, LongData, OtherForm, OneByteOnly, LongBlock, NoRoom}
+use Rattle.rtp_wire.specs.declared.packet.not_put.NotPut.TheVariants.{CutPacket, NotAPacket, ZeroId, LongData, OtherForm, LongId, OneByteOnly, LongBlock, NoRoom}
 use Rattle.rtp_c.proofs.StatusLemmas.{ok≢cause}
 
 -- no cause has the status of success
@@ -10,6 +10,7 @@ put_status≢ok (NotAPacket cause) same = ok≢cause cause (sym same)
 put_status≢ok ZeroId same = cc
 put_status≢ok LongData same = cc
 put_status≢ok OtherForm same = cc
+put_status≢ok LongId same = cc
 put_status≢ok OneByteOnly same = cc
 put_status≢ok LongBlock same = cc
 put_status≢ok (NoRoom needed) same = cc
@@ -25,6 +26,7 @@ put_status-fits (NotAPacket CutBlock) = refl
 put_status-fits ZeroId = refl
 put_status-fits LongData = refl
 put_status-fits OtherForm = refl
+put_status-fits LongId = refl
 put_status-fits OneByteOnly = refl
 put_status-fits LongBlock = refl
 put_status-fits (NoRoom needed) = refl

@@ -1,7 +1,7 @@
 -- The statuses are different numbers.
 use Rattle.rtp_c.proofs.Common.{◌≡◌, CutFixedPart, OtherVersion, CutSources, CutBlockHeader, CutBlock, ok, none, bad_field, short_buffer, cause_status}
 use Rattle.rtp_wire.specs.declared.packet.not_a_packet.NotAPacket.{NotAPacket}
-use Rattle.rtp_c.specs.Status.{long_block}
+use Rattle.rtp_c.specs.Status.{long_block, long_id}
 
 pub none≢ok : none ≡ ok → ⊥
 none≢ok same = cc
@@ -14,6 +14,9 @@ short_buffer≢ok same = cc
 
 pub long_block≢ok : long_block ≡ ok → ⊥
 long_block≢ok same = cc
+
+pub long_id≢ok : long_id ≡ ok → ⊥
+long_id≢ok same = cc
 
 pub ok≢cause : (cause : NotAPacket) → ok ≡ cause_status cause → ⊥
 ok≢cause CutFixedPart same = cc

@@ -3,7 +3,7 @@ use Rattle.std.specs.Prelude.{◌≡◌, ◌≢◌, ℕ, ◌+◌, ◌*◌, ◌%�
 use Rattle.rtp_ext.specs.declared.form.ExtensionsForm.{ExtensionsForm}
 use Rattle.rtp_ext.specs.Elements.{Element}
 use Rattle.rtp_wire.specs.declared.packet.not_put.NotPut.{NotPut}
-use Rattle.rtp_wire.specs.declared.packet.not_put.NotPut.TheVariants.{CutPacket, ZeroId, LongData, NotAPacket, OtherForm, OneByteOnly, LongBlock, NoRoom}
+use Rattle.rtp_wire.specs.declared.packet.not_put.NotPut.TheVariants.{CutPacket, ZeroId, LongData, NotAPacket, OtherForm, LongId, OneByteOnly, LongBlock, NoRoom}
 use Rattle.rtp_wire.specs.NotAPacket.{IsFirstCause}
 use Rattle.rtp_wire.specs.Packet.{PacketParts, IsPacket}
 use Rattle.rtp_wire.specs.PartsAt.{form_in, profile_in}
@@ -18,6 +18,7 @@ IsNoFront buf len ZeroId = ⊥
 IsNoFront buf len LongData = ⊥
 IsNoFront buf len (NotAPacket cause) = (len ≤ length buf) × IsFirstCause (take len buf) cause
 IsNoFront buf len OtherForm = ⊥
+IsNoFront buf len LongId = ⊥
 IsNoFront buf len OneByteOnly = ⊥
 IsNoFront buf len LongBlock = ⊥
 IsNoFront buf len (NoRoom needed) = ⊥
@@ -29,6 +30,7 @@ KeepsInBuffer buf len Keeps ZeroId = Keeps ZeroId
 KeepsInBuffer buf len Keeps LongData = Keeps LongData
 KeepsInBuffer buf len Keeps (NotAPacket cause) = IsFirstCause (take len buf) cause
 KeepsInBuffer buf len Keeps OtherForm = Keeps OtherForm
+KeepsInBuffer buf len Keeps LongId = Keeps LongId
 KeepsInBuffer buf len Keeps OneByteOnly = Keeps OneByteOnly
 KeepsInBuffer buf len Keeps LongBlock = Keeps LongBlock
 KeepsInBuffer buf len Keeps (NoRoom needed) = Keeps (NoRoom needed)

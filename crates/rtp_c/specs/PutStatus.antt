@@ -3,9 +3,9 @@ use Rattle.std.specs.Prelude.{◌≡◌, ℕ, List, Option, ℤ}
 use Rattle.rtp_ext.specs.declared.form.ExtensionsForm.{ExtensionsForm}
 use Rattle.rtp_ext.specs.Elements.{Element}
 use Rattle.rtp_wire.specs.declared.packet.not_put.NotPut.{NotPut}
-use Rattle.rtp_wire.specs.declared.packet.not_put.NotPut.TheVariants.{CutPacket, ZeroId, LongData, NotAPacket, OtherForm, OneByteOnly, LongBlock, NoRoom}
+use Rattle.rtp_wire.specs.declared.packet.not_put.NotPut.TheVariants.{CutPacket, ZeroId, LongData, NotAPacket, OtherForm, LongId, OneByteOnly, LongBlock, NoRoom}
 use Rattle.rtp_wire.specs.PutIntoPacket.{AppliesToPut, IsFirstNotPut}
-use Rattle.rtp_c.specs.Status.{cause_status, unknown_form, short_buffer, bad_field, bad_id, form_not_allowed, long_block}
+use Rattle.rtp_c.specs.Status.{cause_status, unknown_form, short_buffer, bad_field, bad_id, form_not_allowed, long_block, long_id}
 
 -- the status of each cause for which an element can't be put into a packet
 abbrev pub put_status : NotPut → ℤ
@@ -14,6 +14,7 @@ put_status ZeroId = bad_id
 put_status LongData = bad_field
 put_status (NotAPacket cause) = cause_status cause
 put_status OtherForm = unknown_form
+put_status LongId = long_id
 put_status OneByteOnly = form_not_allowed
 put_status LongBlock = long_block
 put_status (NoRoom needed) = short_buffer

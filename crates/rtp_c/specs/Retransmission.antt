@@ -6,7 +6,7 @@ use Rattle.rtp_ext.specs.NewIds.{AreRenamedIds, ids_in_bytes}
 use Rattle.rtp_wire.specs.declared.packet.not_retransmitted.NotRetransmitted.{NotRetransmitted}
 use Rattle.rtp_wire.specs.declared.packet.not_retransmitted.NotRetransmitted.TheVariants.{CutPacket, NotAPacket, PaddingTooLong, NoOriginalNumber, NewIdTooHigh, NoRoom}
 use Rattle.rtp_wire.specs.Retransmission.{IsFirstOf}
-use Rattle.rtp_c.specs.Status.{bad_field, none, short_buffer, cause_status}
+use Rattle.rtp_c.specs.Status.{bad_field, none, short_buffer, long_id, cause_status}
 use Rattle.rtp_c.specs.StoredMap.{HasKinds}
 
 -- by the bytes elements of one extension become elements of another, under the map of these numbers
@@ -21,7 +21,7 @@ retransmission_status CutPacket = bad_field
 retransmission_status (NotAPacket cause) = cause_status cause
 retransmission_status PaddingTooLong = bad_field
 retransmission_status NoOriginalNumber = none
-retransmission_status NewIdTooHigh = bad_field
+retransmission_status NewIdTooHigh = long_id
 retransmission_status NoRoom = short_buffer
 
 -- the status of the first cause that applies

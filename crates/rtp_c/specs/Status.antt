@@ -59,6 +59,10 @@ form_not_allowed = pos 14
 abbrev pub long_block : ℤ
 long_block = pos 15
 
+-- an id above 14, which the one-byte form can't carry
+abbrev pub long_id : ℤ
+long_id = pos 16
+
 -- the status of the first cause for which these bytes are no packet
 pub record IsCauseStatus (bytes : List ℕ) (status : ℤ) : Type 0 where
   pub cause : NotAPacket

@@ -121,9 +121,10 @@ pub extern "C" fn rtpw_remove_block(buf: &mut [u8], len: &mut usize) -> i32
 ///
 /// `OK`; `BAD_FIELD` where the number is neither of the two, or `len` is past the buffer; the
 /// status of the first cause for which the bytes are no packet; `UNKNOWN_FORM` where the block's
-/// form is another, which carries no elements; `FORM_NOT_ALLOWED` where the one-byte form can't
-/// carry an element; `LONG_BLOCK` where the block would have more than 65,535 words; or
-/// `SHORT_BUFFER` where there is no room behind the packet. Where it isn't `OK` nothing changes.
+/// form is another, which carries no elements; `LONG_ID` where an element has an id above 14, and
+/// `FORM_NOT_ALLOWED` where no data or more than 16 bytes, which the one-byte form can't carry;
+/// `LONG_BLOCK` where the block would have more than 65,535 words; or `SHORT_BUFFER` where there is
+/// no room behind the packet. Where it isn't `OK` nothing changes.
 #[unsafe(no_mangle)]
 pub extern "C" fn rtpw_change_form(buf: &mut [u8], len: &mut usize, form: u8) -> i32
     ensures changed { (f : ExtensionsForm) → form_number (Some f) ≡ form → result ≡ ok →

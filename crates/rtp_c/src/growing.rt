@@ -11,7 +11,8 @@ ghost use Rattle.rtp_c.specs.PutStatus.{put_status, IsPutStatus};
 
 use super::packet::allowed_of;
 use super::status::{
-    BAD_FIELD, BAD_ID, FORM_NOT_ALLOWED, LONG_BLOCK, OK, SHORT_BUFFER, UNKNOWN_FORM, status_of,
+    BAD_FIELD, BAD_ID, FORM_NOT_ALLOWED, LONG_BLOCK, LONG_ID, OK, SHORT_BUFFER, UNKNOWN_FORM,
+    status_of,
 };
 use rtp_wire::{NotPut, compact, put_element};
 
@@ -27,6 +28,7 @@ pub fn put_status_of(cause: NotPut) -> i32
         NotPut::ZeroId => BAD_ID,
         NotPut::NotAPacket(cause) => status_of(cause),
         NotPut::OtherForm => UNKNOWN_FORM,
+        NotPut::LongId => LONG_ID,
         NotPut::OneByteOnly => FORM_NOT_ALLOWED,
         NotPut::LongBlock => LONG_BLOCK,
         NotPut::NoRoom { needed: _ } => SHORT_BUFFER,
@@ -42,8 +44,8 @@ pub fn put_status_of(cause: NotPut) -> i32
 /// `OK`; `BAD_FIELD` where `allowed` is above 2, or `len` is past the buffer; `BAD_ID` where the id
 /// is 0; `BAD_FIELD` where there are more than 255 bytes of data; the status of the first cause for
 /// which the bytes are no packet; `UNKNOWN_FORM` where the block's form is another, which carries
-/// no elements; `FORM_NOT_ALLOWED` where the two-byte form is needed, and isn't allowed;
-/// `LONG_BLOCK` where the block would have more than 65,535 words; or `SHORT_BUFFER` where there is
+/// no elements; `LONG_ID` where the id is above 14, and only the one-byte form is allowed;
+/// `FORM_NOT_ALLOWED` where the two-byte form is else needed, and isn't allowed; `LONG_BLOCK` where the block would have more than 65,535 words; or `SHORT_BUFFER` where there is
 /// no room behind the packet. Where it isn't `OK` nothing changes.
 #[unsafe(no_mangle)]
 pub extern "C" fn rtpw_put_element(

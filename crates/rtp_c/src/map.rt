@@ -16,12 +16,12 @@ ghost use Rattle.rtp_wire.specs.PacketElements.{AreElementsOf, HasValues};
 ghost use Rattle.rtp_c.specs.ChangedElements.{BecomesPacket, GivesValues};
 ghost use Rattle.rtp_c.specs.KindNumbers.{kind_number, last_number, first_own, IsNamed, uri_of};
 ghost use Rattle.rtp_c.specs.StoredMap.{AreStandardNumbers, IsNumberAt, IsIdOf, AreNewIdsOf, CarryKinds};
-ghost use Rattle.rtp_c.specs.Status.{ok, short_buffer, none, bad_field, IsCauseStatus};
+ghost use Rattle.rtp_c.specs.Status.{ok, short_buffer, none, bad_field, long_id, IsCauseStatus};
 
 use super::changing::layout_of;
 use super::kinds::StoredMap;
 use super::numbers::{is_named, kind_numbered, number_of};
-use super::status::{BAD_FIELD, NONE, OK, SHORT_BUFFER};
+use super::status::{BAD_FIELD, LONG_ID, NONE, OK, SHORT_BUFFER};
 use rtp_base::put;
 use rtp_ext::NewIds;
 use rtp_values::{Extension, KnownKind};
@@ -160,9 +160,9 @@ pub extern "C" fn rtpw_new_ids_between(from: &StoredMap, to: &StoredMap, ids: &m
 
 /// Gives each element of the packet in the buffer its new id where it lies, and makes an element
 /// whose id has no new one zeros, which are padding; all other bytes stay (RFC 8285, 4.2 and 4.3).
-/// `OK`, also where X is clear or the form of the block is another; `BAD_FIELD` where the form
-/// can't carry the new id of an element: one above 14 in the one-byte form; or the status of the
-/// first cause for which the buffer holds no packet. Where it isn't `OK` nothing changes.
+/// `OK`, also where X is clear or the form of the block is another; `LONG_ID` where the form can't
+/// carry the new id of an element: one above 14 in the one-byte form; or the status of the first
+/// cause for which the buffer holds no packet. Where it isn't `OK` nothing changes.
 ///
 /// The packet then says under the second map what it said under the first, of the kinds that the
 /// second maps and no other.
@@ -178,7 +178,7 @@ pub extern "C" fn rtpw_renumber(datagram: &mut [u8], ids: &StoredNewIds) -> i32
         (result ≡ ok) ↔ IfSome parts.block (λ block.
         All (CanRenumber block.0 (new_id (ids_in_bytes ids.now.id))) elements) }
     ensures otherwise { (parts : PacketParts) → IsPacket datagram.old parts → result ≢ ok →
-        result ≡ bad_field }
+        result ≡ long_id }
     ensures values { (parts : PacketParts) (from to : Slots) (values : ExtensionValues) →
         IsPacket datagram.old parts → CarriesExtensions from to (ids_in_bytes ids.now.id) →
         HasValues from parts.block values → result ≡ ok →
@@ -194,7 +194,7 @@ pub extern "C" fn rtpw_renumber(datagram: &mut [u8], ids: &StoredNewIds) -> i32
             if packet.renumber(&NewIds::from_ids(&ids.id)) {
                 OK
             } else {
-                BAD_FIELD
+                LONG_ID
             }
         }
     }

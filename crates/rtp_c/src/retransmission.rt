@@ -11,7 +11,7 @@ ghost use Rattle.rtp_c.specs.Status.{ok, bad_field};
 
 use super::kinds::StoredMap;
 use super::map::StoredNewIds;
-use super::status::{BAD_FIELD, NONE, OK, SHORT_BUFFER, status_of};
+use super::status::{BAD_FIELD, LONG_ID, NONE, OK, SHORT_BUFFER, status_of};
 use rtp_base::{Pt, Ssrc};
 use rtp_ext::NewIds;
 use rtp_wire::{
@@ -46,11 +46,10 @@ fn refusal(cause: NotRetransmitted) -> i32
     ensures { result ≡ retransmission_status cause }
 {
     match cause {
-        NotRetransmitted::CutPacket
-        | NotRetransmitted::PaddingTooLong
-        | NotRetransmitted::NewIdTooHigh => BAD_FIELD,
+        NotRetransmitted::CutPacket | NotRetransmitted::PaddingTooLong => BAD_FIELD,
         NotRetransmitted::NotAPacket(cause) => status_of(cause),
         NotRetransmitted::NoOriginalNumber => NONE,
+        NotRetransmitted::NewIdTooHigh => LONG_ID,
         NotRetransmitted::NoRoom => SHORT_BUFFER,
     }
 }
@@ -62,9 +61,10 @@ fn refusal(cause: NotRetransmitted) -> i32
 /// stay, and so do the bytes behind it.
 ///
 /// `OK`; `BAD_FIELD` where the payload type is above 127, the length is greater than the buffer's,
-/// the padding's last byte counts more bytes than the payload has, or the form of the block can't
-/// carry a new id; the status of the first cause for which the bytes are no packet; or
-/// `SHORT_BUFFER` where there is no room for the number. Where it isn't `OK` nothing changes.
+/// or the padding's last byte counts more bytes than the payload has; the status of the first cause
+/// for which the bytes are no packet; `LONG_ID` where a new id is above 14, and the block has the
+/// one-byte form; or `SHORT_BUFFER` where there is no room for the number. Where it isn't `OK`
+/// nothing changes.
 #[unsafe(no_mangle)]
 pub extern "C" fn rtpw_to_retransmission(
     buf: &mut [u8],
@@ -115,9 +115,10 @@ pub extern "C" fn rtpw_to_retransmission(
 /// bytes behind it.
 ///
 /// `OK`; `BAD_FIELD` where the payload type is above 127, the length is greater than the buffer's,
-/// the padding's last byte counts more bytes than the payload has, or the form of the block can't
-/// carry a new id; the status of the first cause for which the bytes are no packet; or `NONE` where
-/// the payload has no original number. Where it isn't `OK` nothing changes.
+/// or the padding's last byte counts more bytes than the payload has; the status of the first cause
+/// for which the bytes are no packet; `NONE` where the payload has no original number; or `LONG_ID`
+/// where a new id is above 14, and the block has the one-byte form. Where it isn't `OK` nothing
+/// changes.
 #[unsafe(no_mangle)]
 pub extern "C" fn rtpw_from_retransmission(
     buf: &mut [u8],

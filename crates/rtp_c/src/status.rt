@@ -35,6 +35,8 @@ pub const BAD_ID: i32 = 13;
 pub const FORM_NOT_ALLOWED: i32 = 14;
 /// The block would have more than 65,535 words.
 pub const LONG_BLOCK: i32 = 15;
+/// An id is above 14, which the one-byte form can't carry.
+pub const LONG_ID: i32 = 16;
 
 // The status of this cause.
 pub fn status_of(cause: NotAPacket) -> i32

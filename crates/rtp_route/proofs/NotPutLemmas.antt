@@ -6,11 +6,11 @@ use Rattle.rtp_ext.specs.Elements.{Element}
 use Rattle.rtp_ext.specs.ElementsInARow.{elements_of}
 use Rattle.rtp_wire.specs.declared.packet.fields.Fields.{Fields}
 use Rattle.rtp_wire.specs.declared.packet.not_put.NotPut.{NotPut}
-use Rattle.rtp_wire.specs.declared.packet.not_put.NotPut.TheVariants.{CutPacket, ZeroId, LongData, NotAPacket, OtherForm, OneByteOnly, LongBlock, NoRoom}
+use Rattle.rtp_wire.specs.declared.packet.not_put.NotPut.TheVariants.{CutPacket, ZeroId, LongData, NotAPacket, OtherForm, LongId, OneByteOnly, LongBlock, NoRoom}
 use Rattle.rtp_wire.specs.Packet.{PacketParts, IsPacket}
 use Rattle.rtp_wire.specs.PutIntoPacket.{PutsElement, IsGrowth, AppliesToPacket, AppliesToPut, IsFirstNotPut}
 use Rattle.rtp_route.specs.declared.not_routed.NotRouted.{NotRouted}
-use Rattle.rtp_route.specs.declared.not_routed.NotRouted.TheVariants.{ManyElements, RepeatedId, LongId, NotPut as NotRouted-NotPut}
+use Rattle.rtp_route.specs.declared.not_routed.NotRouted.TheVariants.{ManyElements, RepeatedId, LongId as NotRouted-LongId, NotPut as NotRouted-NotPut}
 use Rattle.rtp_route.specs.Calls.{ArePut, IsSetAndRenumbered, no_fields}
 use Rattle.rtp_route.specs.NotPutAmong.{AppliesInRoom, ArePutInRoom, IsNotPutAmong, HasSameElements}
 use Rattle.rtp_route.specs.NotRouted.{HasLongId, KeepsFromRouting, AreForTemplate, KeepsFromTemplate}
@@ -25,6 +25,7 @@ applies-same one_buf other_buf one_len other_len element allowed ZeroId same roo
 applies-same one_buf other_buf one_len other_len element allowed LongData same room within fact = fact
 applies-same one_buf other_buf one_len other_len element allowed (NotAPacket cause) same room within fact = subst (λ (b : List ℕ). AppliesToPacket b element allowed (NotAPacket cause)) same fact
 applies-same one_buf other_buf one_len other_len element allowed OtherForm same room within fact = subst (λ (b : List ℕ). AppliesToPacket b element allowed OtherForm) same fact
+applies-same one_buf other_buf one_len other_len element allowed LongId same room within fact = fact
 applies-same one_buf other_buf one_len other_len element allowed OneByteOnly same room within fact = subst (λ (b : List ℕ). AppliesToPacket b element allowed OneByteOnly) same fact
 applies-same one_buf other_buf one_len other_len element allowed LongBlock same room within fact = subst (λ (b : List ℕ). AppliesToPacket b element allowed LongBlock) same fact
 applies-same one_buf other_buf one_len other_len element allowed (NoRoom needed) same room within fact =
@@ -125,7 +126,7 @@ pub none-kept : (old : List ℕ) (fields : Fields) (ids : ℕ → Option ℕ) (n
     → (cause : NotRouted) → KeepsFromRouting old fields ids news allowed room cause → ⊥
 none-kept old fields ids news allowed room start now within is short same put ManyElements kept = kept
 none-kept old fields ids news allowed room start now within is short same put RepeatedId kept = kept
-none-kept old fields ids news allowed room start now within is short same put LongId kept = short kept.1
+none-kept old fields ids news allowed room start now within is short same put NotRouted-LongId kept = short kept.1
 none-kept old fields ids news allowed room start now within is short same put (NotRouted-NotPut cause) (inl none) = omega (arith, within, none.1)
 none-kept old fields ids news allowed room start now within is short same put (NotRouted-NotPut cause) (inr kept) =
     put kept.0 cause (subst (HasSameElements kept.0) (sym same) (start-other old fields ids kept.0 start kept.2 is)) kept.3
@@ -135,12 +136,12 @@ pub kept-template : (old : List ℕ) (ids : ℕ → Option ℕ) (news : List Ele
     → KeepsFromRouting old no_fields ids news allowed room cause → KeepsFromTemplate old ids news allowed room cause
 kept-template old ids news allowed room for ManyElements kept = absurd kept
 kept-template old ids news allowed room for RepeatedId kept = absurd kept
-kept-template old ids news allowed room for LongId kept = (for, kept)
+kept-template old ids news allowed room for NotRouted-LongId kept = (for, kept)
 kept-template old ids news allowed room for (NotRouted-NotPut cause) kept = (for, kept)
 
 pub none-kept_template : (old : List ℕ) (ids : ℕ → Option ℕ) (news : List Element) (allowed : Option ExtensionsForm) (room : ℕ) → AreForTemplate news
     → ((cause : NotRouted) → KeepsFromRouting old no_fields ids news allowed room cause → ⊥) → (cause : NotRouted) → KeepsFromTemplate old ids news allowed room cause → ⊥
 none-kept_template old ids news allowed room for none ManyElements kept = omega (arith, kept, for.0)
 none-kept_template old ids news allowed room for none RepeatedId kept = kept.1 for.1
-none-kept_template old ids news allowed room for none LongId kept = none LongId kept.1
+none-kept_template old ids news allowed room for none NotRouted-LongId kept = none NotRouted-LongId kept.1
 none-kept_template old ids news allowed room for none (NotRouted-NotPut cause) kept = none (NotRouted-NotPut cause) kept.1

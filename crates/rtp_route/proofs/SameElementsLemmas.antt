@@ -9,7 +9,7 @@ use Rattle.rtp_ext.specs.PutElement.{needed_form, allowed_form, row_to}
 use Rattle.rtp_ext.specs.WrittenBlock.{whole_words}
 use Rattle.rtp_wire.specs.declared.packet.fields.Fields.{Fields}
 use Rattle.rtp_wire.specs.declared.packet.not_put.NotPut.{NotPut}
-use Rattle.rtp_wire.specs.declared.packet.not_put.NotPut.TheVariants.{CutPacket, ZeroId, LongData, NotAPacket, OtherForm, OneByteOnly, LongBlock, NoRoom}
+use Rattle.rtp_wire.specs.declared.packet.not_put.NotPut.TheVariants.{CutPacket, ZeroId, LongData, NotAPacket, OtherForm, LongId, OneByteOnly, LongBlock, NoRoom}
 use Rattle.rtp_wire.specs.GivenFields.{with_header_fields}
 use Rattle.rtp_wire.specs.Packet.{PacketParts, IsPacket, block_len}
 use Rattle.rtp_wire.specs.PacketElements.{AreElementsOf}
@@ -66,6 +66,7 @@ applies-other one_buf other_buf one_len other_len element allowed OtherForm same
   other = fact.other;
   other_is = ap (λ (p : PacketParts). p.other_block) (same_parts (take one_len one_buf) same.parts fact.parts same.is_packet fact.is_packet) ∙ fact.other_is;
 }
+applies-other one_buf other_buf one_len other_len element allowed LongId same room within fact = fact
 applies-other one_buf other_buf one_len other_len element allowed OneByteOnly same room within fact =
     let p_is : same.parts ≡ fact.0 = same_parts (take one_len one_buf) same.parts fact.0 same.is_packet fact.1 in (
       other_parts (take one_len one_buf) (take other_len other_buf) same,

@@ -9,7 +9,7 @@ use Rattle.rtp_ext.specs.PutElement.{needed_form, allowed_form}
 use Rattle.rtp_ext.specs.WrittenBlock.{whole_words}
 use Rattle.rtp_wire.specs.declared.packet.putting.Plan.{Plan}
 use Rattle.rtp_wire.specs.declared.packet.not_put.NotPut.{NotPut}
-use Rattle.rtp_wire.specs.declared.packet.not_put.NotPut.TheVariants.{CutPacket, NotAPacket, ZeroId, LongData, OtherForm, OneByteOnly, LongBlock, NoRoom}
+use Rattle.rtp_wire.specs.declared.packet.not_put.NotPut.TheVariants.{CutPacket, NotAPacket, ZeroId, LongData, OtherForm, LongId, OneByteOnly, LongBlock, NoRoom}
 use Rattle.rtp_wire.specs.NotAHeader.{sources_end}
 use Rattle.rtp_wire.specs.Packet.{PacketParts, IsPacket, block_len, header_len_of}
 use Rattle.rtp_wire.specs.PacketElements.{AreElementsOf}
@@ -46,24 +46,26 @@ same-growth bytes element allowed g h =
 module _ (buf : List ℕ) (len : ℕ) (element : Element) (allowed : Option ExtensionsForm) (growth : IsGrowth (take len buf) element allowed) (writable : IsWritable growth.form element)
     (within : len ≤ length buf) where
   -- none applies before the length of the block is looked at
-  pub none_before_length : (cause : NotPut) → put_place cause < 6 → AppliesToPut buf len element allowed cause → ⊥
+  pub none_before_length : (cause : NotPut) → put_place cause < 7 → AppliesToPut buf len element allowed cause → ⊥
   none_before_length CutPacket before fact = omega arith
   none_before_length (NotAPacket cause) before fact = none_of_packet (take len buf) element allowed growth writable (NotAPacket cause) before fact
   none_before_length ZeroId before fact = none_of_packet (take len buf) element allowed growth writable ZeroId before fact
   none_before_length LongData before fact = none_of_packet (take len buf) element allowed growth writable LongData before fact
   none_before_length OtherForm before fact = none_of_packet (take len buf) element allowed growth writable OtherForm before fact
+  none_before_length LongId before fact = none_of_packet (take len buf) element allowed growth writable LongId before fact
   none_before_length OneByteOnly before fact = none_of_packet (take len buf) element allowed growth writable OneByteOnly before fact
   none_before_length LongBlock before fact = omega arith
   none_before_length (NoRoom needed) before fact = omega arith
 
   module _ (few : growth.body_len ≤ 262140) where
     -- nor before the room is looked at
-    pub none_before_room : (cause : NotPut) → put_place cause < 7 → AppliesToPut buf len element allowed cause → ⊥
+    pub none_before_room : (cause : NotPut) → put_place cause < 8 → AppliesToPut buf len element allowed cause → ⊥
     none_before_room CutPacket before fact = none_before_length CutPacket (omega arith) fact
     none_before_room (NotAPacket cause) before fact = none_before_length (NotAPacket cause) (omega arith) fact
     none_before_room ZeroId before fact = none_before_length ZeroId (omega arith) fact
     none_before_room LongData before fact = none_before_length LongData (omega arith) fact
     none_before_room OtherForm before fact = none_before_length OtherForm (omega arith) fact
+    none_before_room LongId before fact = none_before_length LongId (omega arith) fact
     none_before_room OneByteOnly before fact = none_before_length OneByteOnly (omega arith) fact
     none_before_room LongBlock before fact = let same = same-growth (take len buf) element allowed growth fact.0 in omega (arith, same.0, fact.1)
     none_before_room (NoRoom needed) before fact = omega arith
@@ -75,6 +77,7 @@ module _ (buf : List ℕ) (len : ℕ) (element : Element) (allowed : Option Exte
     none_at_all room ZeroId fact = none_before_room ZeroId (omega arith) fact
     none_at_all room LongData fact = none_before_room LongData (omega arith) fact
     none_at_all room OtherForm fact = none_before_room OtherForm (omega arith) fact
+    none_at_all room LongId fact = none_before_room LongId (omega arith) fact
     none_at_all room OneByteOnly fact = none_before_room OneByteOnly (omega arith) fact
     none_at_all room LongBlock fact = none_before_room LongBlock (omega arith) fact
     none_at_all room (NoRoom needed) fact = let same = same-growth (take len buf) element allowed growth fact.0 in omega (arith, same.1, fact.1, fact.2)
@@ -86,6 +89,7 @@ of_the_packet buf len element allowed (NotAPacket cause) fact = fact
 of_the_packet buf len element allowed ZeroId fact = fact
 of_the_packet buf len element allowed LongData fact = fact
 of_the_packet buf len element allowed OtherForm fact = fact
+of_the_packet buf len element allowed LongId fact = fact
 of_the_packet buf len element allowed OneByteOnly fact = fact
 of_the_packet buf len element allowed LongBlock fact = fact
 of_the_packet buf len element allowed (NoRoom needed) fact = absurd fact

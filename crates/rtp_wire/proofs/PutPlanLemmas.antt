@@ -1,9 +1,9 @@
 -- What is known of a packet into which an element is put, and of what it becomes.
-use Rattle.std.proofs.Common.{◌≡◌, ℕ, ◌+◌, ◌-◌, ◌*◌, ◌%◌, ◌<◌, ◌≤◌, Bool, true, false, List, length, drop, max, Option, Some, None, refl, sym, ap, subst, ◌∙◌, arith, length-take, []}
+use Rattle.std.proofs.Common.{◌≡◌, ℕ, ◌+◌, ◌-◌, ◌*◌, ◌%◌, ◌<◌, ◌≤◌, Bool, true, false, List, length, drop, max, Option, Some, None, inl, inr, refl, sym, ap, subst, ◌∙◌, arith, length-take, []}
 use Rattle.std.specs.Prelude.{slice_index, slice_range, option_map, unwrap_or, if◌then◌else◌, ◌↔◌, IsTrue}
 use Rattle.std.specs.Option.{option_eq}
 use Rattle.std.specs.Borrow.{Bor}
-use Rattle.std.proofs.lemmas.Bool.{false≢true}
+use Rattle.std.proofs.lemmas.Bool.{false≢true, cases_lt}
 use denote.Enum.Bare.{sameb}
 use Rattle.rtp_ext.specs.contracts.form.ExtensionsForm.{the_type}
 use Rattle.std.proofs.lemmas.List.{get_or-drop}
@@ -20,7 +20,7 @@ use Rattle.rtp_ext.proofs.RawWritingLemmas.{IsWritable-short}
 use Rattle.rtp_ext.proofs.LastPlaceLemmas.{AreElements-same}
 use Rattle.rtp_wire.specs.declared.packet.rtp_packet.RtpPacket.{RtpPacket}
 use Rattle.rtp_wire.specs.declared.packet.not_put.NotPut.{NotPut}
-use Rattle.rtp_wire.specs.declared.packet.not_put.NotPut.TheVariants.{CutPacket, NotAPacket, ZeroId, LongData, OtherForm, OneByteOnly, LongBlock, NoRoom}
+use Rattle.rtp_wire.specs.declared.packet.not_put.NotPut.TheVariants.{CutPacket, NotAPacket, ZeroId, LongData, OtherForm, LongId, OneByteOnly, LongBlock, NoRoom}
 use Rattle.rtp_wire.specs.Block.{word_at}
 use Rattle.rtp_wire.specs.NotAHeader.{sources_end}
 use Rattle.rtp_wire.specs.PartsAt.{has_block, header_end}
@@ -31,7 +31,7 @@ use Rattle.rtp_wire.proofs.PacketLemmas.{one_packet, no_packet}
 use Rattle.rtp_wire.proofs.PartsLemmas.{block-header, no_other_form}
 use Rattle.rtp_wire.specs.Packet.{PacketParts, IsPacket}
 use Rattle.rtp_wire.specs.PacketElements.{AreElementsOf}
-use Rattle.rtp_wire.specs.PutIntoPacket.{IsGrowth, form_of_block, body_of_block, elements_with, AppliesToPacket, put_place}
+use Rattle.rtp_wire.specs.PutIntoPacket.{IsGrowth, form_of_block, body_of_block, elements_with, IsLongId, AppliesToPacket, IsFirstNotPut, put_place}
 use Rattle.rtp_wire.specs.GrowingPacket.{IsFormOfBody}
 use Rattle.rtp_wire.proofs.ResizedLemmas.{whole-announced}
 use Rattle.rtp_ext.proofs.ServingFormLemmas.{IsWritable-one}
@@ -205,6 +205,31 @@ pub IsWritable-allowed : (block allowed : Option ExtensionsForm) (element : Elem
 IsWritable-allowed block allowed element TwoByte above below short is = (above, (above, below, short))
 IsWritable-allowed block allowed element OneByte above below short is = IsWritable-one element (serves-needed block element (needed-allowed allowed (needed_form block element) is))
 
+-- the one-byte form serves alone only where no other one is needed
+one_byte-alone : (needed form : ExtensionsForm) → allowed_form (Some OneByte) needed ≡ Some form → needed ≡ OneByte
+one_byte-alone OneByte form is = refl
+one_byte-alone TwoByte form is = absurd (none-some form is)
+
+-- where a form serves that is allowed, it can carry the id
+pub no_long_id : (block allowed : Option ExtensionsForm) (element : Element) (form : ExtensionsForm) → allowed_form allowed (needed_form block element) ≡ Some form → IsLongId allowed element.0 → ⊥
+no_long_id block None element form is long = long
+no_long_id block (Some TwoByte) element form is long = long
+no_long_id block (Some OneByte) element form is long =
+    let here : IsWritable OneByte element = IsWritable-one element (serves-needed block element (one_byte-alone (needed_form block element) form is)) in
+    omega (arith, here.1.0, long)
+
+-- only the one-byte form is allowed where no form serves
+pub long_id : (allowed : Option ExtensionsForm) (needed : ExtensionsForm) (id : ℕ) → allowed_form allowed needed ≡ None → 14 < id → IsLongId allowed id
+long_id None needed id is long = absurd (none-some needed (sym is))
+long_id (Some TwoByte) needed id is long = absurd (none-some TwoByte (sym is))
+long_id (Some OneByte) needed id is long = long
+
+-- a short id is none
+pub short_id : (allowed : Option ExtensionsForm) (id : ℕ) → id ≤ 14 → IsLongId allowed id → ⊥
+short_id None id short long = long
+short_id (Some TwoByte) id short long = long
+short_id (Some OneByte) id short long = omega (arith, short, long)
+
 -- ---- the causes
 
 -- of those of a packet none applies before the form that is allowed is looked at
@@ -215,6 +240,7 @@ none_before_form bytes element allowed parts is none some short (NotAPacket caus
 none_before_form bytes element allowed parts is none some short ZeroId before fact = omega arith
 none_before_form bytes element allowed parts is none some short LongData before fact = omega arith
 none_before_form bytes element allowed parts is none some short OtherForm before fact = no_other_form bytes parts is none fact
+none_before_form bytes element allowed parts is none some short LongId before fact = omega arith
 none_before_form bytes element allowed parts is none some short OneByteOnly before fact = omega arith
 none_before_form bytes element allowed parts is none some short LongBlock before fact = omega arith
 none_before_form bytes element allowed parts is none some short (NoRoom needed) before fact = fact
@@ -226,7 +252,8 @@ none_earlier bytes element allowed growth writable cause before fact =
 
 -- nor before its block is found to be too long
 pub none_of_packet : (bytes : List ℕ) (element : Element) (allowed : Option ExtensionsForm) (growth : IsGrowth bytes element allowed) → IsWritable growth.form element
-    → (cause : NotPut) → put_place cause < 6 → AppliesToPacket bytes element allowed cause → ⊥
+    → (cause : NotPut) → put_place cause < 7 → AppliesToPacket bytes element allowed cause → ⊥
+none_of_packet bytes element allowed growth writable LongId before fact = no_long_id (form_of_block growth.parts.block) allowed element growth.form growth.form_is fact
 none_of_packet bytes element allowed growth writable OneByteOnly before fact =
     let same : growth.parts ≡ fact.0 = sym (one_packet bytes growth.parts growth.is_packet) ∙ one_packet bytes fact.0 fact.1 in
     none-some growth.form (sym fact.2 ∙ ap (λ (parts : PacketParts). allowed_form allowed (needed_form (form_of_block parts.block) element)) (sym same) ∙ growth.form_is)
@@ -237,3 +264,25 @@ none_of_packet bytes element allowed growth writable (NotAPacket cause) before f
 none_of_packet bytes element allowed growth writable ZeroId before fact = none_earlier bytes element allowed growth writable ZeroId (omega arith) fact
 none_of_packet bytes element allowed growth writable LongData before fact = none_earlier bytes element allowed growth writable LongData (omega arith) fact
 none_of_packet bytes element allowed growth writable OtherForm before fact = none_earlier bytes element allowed growth writable OtherForm (omega arith) fact
+
+-- nor before the form is found not to be allowed, where the id is short
+none_before_only : (bytes : List ℕ) (element : Element) (allowed : Option ExtensionsForm) (parts : PacketParts) → IsPacket bytes parts → parts.other_block ≡ None → 1 ≤ element.0
+    → length element.1 ≤ 255 → element.0 ≤ 14 → (cause : NotPut) → put_place cause < 6 → AppliesToPacket bytes element allowed cause → ⊥
+none_before_only bytes element allowed parts is none some short low LongId before fact = short_id allowed element.0 low fact
+none_before_only bytes element allowed parts is none some short low cause before fact = none_before_form bytes element allowed parts is none some short cause (omega arith) fact
+
+-- and where no form serves that is allowed, this is the first cause that applies
+pub first-not_allowed : (bytes : List ℕ) (element : Element) (allowed : Option ExtensionsForm) (parts : PacketParts) → IsPacket bytes parts → parts.other_block ≡ None → 1 ≤ element.0
+    → length element.1 ≤ 255 → allowed_form allowed (needed_form (form_of_block parts.block) element) ≡ None → (cause : NotPut) → (14 < element.0 → cause ≡ LongId)
+    → (element.0 ≤ 14 → cause ≡ OneByteOnly) → IsFirstNotPut (AppliesToPacket bytes element allowed) cause
+first-not_allowed bytes element allowed parts is none some short not cause long other =
+    elim (cases_lt 14 element.0) [
+      | inl high ↦ subst (IsFirstNotPut (AppliesToPacket bytes element allowed)) (sym (long high)) (record {
+        applies = long_id allowed (needed_form (form_of_block parts.block) element) element.0 not high;
+        none_before = none_before_form bytes element allowed parts is none some short;
+      })
+      | inr low ↦ subst (IsFirstNotPut (AppliesToPacket bytes element allowed)) (sym (other low)) (record {
+        applies = (parts, is, not);
+        none_before = none_before_only bytes element allowed parts is none some short low;
+      })
+    ]

@@ -1,13 +1,14 @@
 -- A packet in a buffer whose block is made anew: what the buffer then keeps of it, and why it may not be.
-use Rattle.std.proofs.Common.{◌≡◌, ℕ, ◌+◌, ◌-◌, ◌*◌, ◌<◌, ◌≤◌, true, false, List, [], ◌∷◌, length, take, Option, Some, None, refl, sym, ap, subst, ◌∙◌, arith, length-take-le}
+use Rattle.std.proofs.Common.{◌≡◌, ℕ, ◌+◌, ◌-◌, ◌*◌, ◌<◌, ◌≤◌, true, false, List, [], ◌∷◌, length, take, Option, Some, None, inl, inr, refl, sym, ap, subst, ◌∙◌, arith, length-take-le}
 use Rattle.std.specs.Prelude.{Result, IfErr, is_some}
 use Rattle.std.proofs.lemmas.Result.{IfErr-weaker}
 use Rattle.std.specs.List.{AllByRecursion}
+use Rattle.std.proofs.lemmas.Bool.{cases_lt}
 use Rattle.std.proofs.lemmas.Option.{none-some, same_Some}
 use Rattle.rtp_ext.specs.declared.form.ExtensionsForm.{ExtensionsForm}
 use Rattle.rtp_ext.specs.declared.form.ExtensionsForm.TheVariants.{OneByte, TwoByte}
 use Rattle.rtp_ext.specs.ElementsInARow.{IsWritable}
-use Rattle.rtp_ext.specs.PutElement.{without, allowed_form}
+use Rattle.rtp_ext.specs.PutElement.{without, needed_form, allowed_form}
 use Rattle.rtp_ext.proofs.AnewLemmas.{AreElements-each}
 use Rattle.rtp_ext.proofs.NarrowLemmas.{wide_each}
 use Rattle.rtp_ext.proofs.InRowLemmas.{writable_without}
@@ -15,17 +16,18 @@ use Rattle.rtp_ext.specs.Elements.{Element}
 use Rattle.rtp_wire.specs.declared.packet.rtp_packet_buf.RtpPacketBuf.{RtpPacketBuf}
 use Rattle.rtp_wire.specs.declared.packet.remaking_block.Remaking.{Remaking}
 use Rattle.rtp_wire.specs.declared.packet.not_put.NotPut.{NotPut}
-use Rattle.rtp_wire.specs.declared.packet.not_put.NotPut.TheVariants.{CutPacket, ZeroId, LongData, NotAPacket, OtherForm, OneByteOnly, LongBlock, NoRoom}
+use Rattle.rtp_wire.specs.declared.packet.not_put.NotPut.TheVariants.{CutPacket, ZeroId, LongData, NotAPacket, OtherForm, LongId, OneByteOnly, LongBlock, NoRoom}
 use Rattle.rtp_wire.specs.NotAPacket.{IsFirstBy}
 use Rattle.rtp_wire.specs.Packet.{HasOtherForm}
 use Rattle.rtp_wire.specs.PacketElements.{AreElementsOf}
 use Rattle.rtp_wire.specs.PacketBuf.{bytes_of, parts_within}
-use Rattle.rtp_wire.specs.PutIntoPacket.{form_of_block, put_place}
+use Rattle.rtp_wire.specs.PutIntoPacket.{form_of_block, put_place, IsFirstNotPut}
 use Rattle.rtp_wire.specs.GrowingPacket.{IsRemaking}
 use Rattle.rtp_wire.specs.RemadeBlock.{RemakesBlock, HasUncarried, IsTooLong, HasNoRoom, IsInOther, StopsRemaking, KeepsFromForm, form_with, KeepsFromAdding}
 use Rattle.rtp_wire.proofs.PacketBufLemmas.{IsKept, IsKept-parts, is_packet, kept-parts, length-bytes}
 use Rattle.rtp_wire.proofs.PartsLemmas.{some_there, none_there, no_other_form, length-packet}
-use Rattle.rtp_wire.proofs.RemadeLemmas.{none_before_room, none_at_all, remade-len}
+use Rattle.rtp_wire.proofs.RemadeLemmas.{long-uncarried, none_before_room, none_at_all, remade-len}
+use Rattle.rtp_wire.proofs.PutPlanLemmas.{no_long_id, long_id, short_id}
 
 module _ (packet : RtpPacketBuf) (added : List Element) (remaking : Remaking) (is : IsRemaking (bytes_of packet) added remaking) where
   payload-is : remaking.payload_at ≡ packet.header_len
@@ -110,6 +112,7 @@ module _ (bytes : List ℕ) (room : ℕ) (was : Option ExtensionsForm) (form : E
   to-form is LongData fact = fact
   to-form is (NotAPacket cause) fact = fact
   to-form is OtherForm fact = absurd fact
+  to-form is LongId fact = (is, fact)
   to-form is OneByteOnly fact = (is, fact)
   to-form is LongBlock fact = (is, fact)
   to-form is (NoRoom n) fact = (is, fact)
@@ -120,6 +123,7 @@ module _ (bytes : List ℕ) (room : ℕ) (was : Option ExtensionsForm) (form : E
   from-form none LongData fact = fact
   from-form none (NotAPacket cause) fact = fact
   from-form none OtherForm fact = none fact
+  from-form none LongId fact = fact.1
   from-form none OneByteOnly fact = fact.1
   from-form none LongBlock fact = fact.1
   from-form none (NoRoom n) fact = fact.1
@@ -131,6 +135,7 @@ module _ (bytes : List ℕ) (room : ℕ) (was : Option ExtensionsForm) (form : E
   none-form other none LongData fact = fact
   none-form other none (NotAPacket cause) fact = fact
   none-form other none OtherForm fact = none fact
+  none-form other none LongId fact = other fact.0
   none-form other none OneByteOnly fact = other fact.0
   none-form other none LongBlock fact = other fact.0
   none-form other none (NoRoom n) fact = other fact.0
@@ -164,6 +169,7 @@ module _ (packet : RtpPacketBuf) (room : ℕ) (element : Element) (allowed : Opt
   to-adding LongData fact = absurd fact
   to-adding (NotAPacket cause) fact = fact
   to-adding OtherForm fact = absurd fact
+  to-adding LongId fact = absurd (never-uncarried (long-uncarried (bytes_of packet) form fact))
   to-adding OneByteOnly fact = absurd (never-uncarried fact)
   to-adding LongBlock fact = (form, some, fact)
   to-adding (NoRoom n) fact = (form, some, fact)
@@ -175,6 +181,7 @@ module _ (packet : RtpPacketBuf) (room : ℕ) (element : Element) (allowed : Opt
   from-adding above few none LongData fact = omega arith
   from-adding above few none (NotAPacket cause) fact = fact
   from-adding above few none OtherForm fact = none fact
+  from-adding above few none LongId fact = absurd (no_long_id (form_of_block (parts_within packet).block) allowed element form some fact)
   from-adding above few none OneByteOnly fact = absurd (none-some form (sym fact ∙ some))
   from-adding above few none LongBlock fact =
       subst (λ (f : ExtensionsForm). IsTooLong (bytes_of packet) f (element ∷ [])) (same_Some _ _ (sym fact.1 ∙ some)) fact.2
@@ -189,6 +196,29 @@ none_before_form packet room element allowed above few none ZeroId before fact =
 none_before_form packet room element allowed above few none LongData before fact = omega arith
 none_before_form packet room element allowed above few none (NotAPacket cause) before fact = fact
 none_before_form packet room element allowed above few none OtherForm before fact = none fact
+none_before_form packet room element allowed above few none LongId before fact = omega arith
 none_before_form packet room element allowed above few none OneByteOnly before fact = omega arith
 none_before_form packet room element allowed above few none LongBlock before fact = omega arith
 none_before_form packet room element allowed above few none (NoRoom n) before fact = omega arith
+
+-- nor before it is found not to be allowed, where the id is short
+none_before_only : (packet : RtpPacketBuf) (room : ℕ) (element : Element) (allowed : Option ExtensionsForm) → (element.0 ≡ 0 → ⊥) → length element.1 ≤ 255 → (HasOtherForm (bytes_of packet) → ⊥)
+    → element.0 ≤ 14 → (cause : NotPut) → put_place cause < 6 → KeepsFromAdding (bytes_of packet) room (form_of_block (parts_within packet).block) element allowed cause → ⊥
+none_before_only packet room element allowed above few none low LongId before fact = short_id allowed element.0 low fact
+none_before_only packet room element allowed above few none low cause before fact = none_before_form packet room element allowed above few none cause (omega arith) fact
+
+-- and where no form serves that is allowed, this is the first cause
+pub first-not_allowed : (packet : RtpPacketBuf) (room : ℕ) (element : Element) (allowed : Option ExtensionsForm) → (element.0 ≡ 0 → ⊥) → length element.1 ≤ 255 → (HasOtherForm (bytes_of packet) → ⊥)
+    → form_with (form_of_block (parts_within packet).block) element allowed ≡ None → (cause : NotPut) → (14 < element.0 → cause ≡ LongId) → (element.0 ≤ 14 → cause ≡ OneByteOnly)
+    → IsFirstNotPut (KeepsFromAdding (bytes_of packet) room (form_of_block (parts_within packet).block) element allowed) cause
+first-not_allowed packet room element allowed above few none not cause long other =
+    elim (cases_lt 14 element.0) [
+      | inl high ↦ subst (IsFirstNotPut (KeepsFromAdding (bytes_of packet) room (form_of_block (parts_within packet).block) element allowed)) (sym (long high)) (record {
+        applies = long_id allowed (needed_form (form_of_block (parts_within packet).block) element) element.0 not high;
+        none_before = none_before_form packet room element allowed above few none;
+      })
+      | inr low ↦ subst (IsFirstNotPut (KeepsFromAdding (bytes_of packet) room (form_of_block (parts_within packet).block) element allowed)) (sym (other low)) (record {
+        applies = not;
+        none_before = none_before_only packet room element allowed above few none low;
+      })
+    ]

@@ -4,13 +4,14 @@
 use Rattle.std.specs.Prelude.{◌≡◌, ℕ, ◌+◌, ◌*◌, ◌<◌, List, [], length, take, drop, max, true, Option, Some, None, option_map}
 use Rattle.std.specs.Int.{w16, to_be_bytes}
 use Rattle.rtp_ext.specs.declared.form.ExtensionsForm.{ExtensionsForm}
+use Rattle.rtp_ext.specs.declared.form.ExtensionsForm.TheVariants.{OneByte, TwoByte}
 use Rattle.rtp_ext.specs.Form.{form_word}
 use Rattle.rtp_ext.specs.Elements.{Element, AreElements, elements_bytes}
 use Rattle.rtp_ext.specs.ElementsInPlace.{SetsLast}
 use Rattle.rtp_ext.specs.PutElement.{without, put_element, needed_form, allowed_form, row_to, IsSole}
 use Rattle.rtp_ext.specs.WrittenBlock.{whole_words, filled}
 use Rattle.rtp_wire.specs.declared.packet.not_put.NotPut.{NotPut}
-use Rattle.rtp_wire.specs.declared.packet.not_put.NotPut.TheVariants.{CutPacket, ZeroId, LongData, NotAPacket, OtherForm, OneByteOnly, LongBlock, NoRoom}
+use Rattle.rtp_wire.specs.declared.packet.not_put.NotPut.TheVariants.{CutPacket, ZeroId, LongData, NotAPacket, OtherForm, LongId, OneByteOnly, LongBlock, NoRoom}
 use Rattle.rtp_wire.specs.NotAHeader.{sources_end}
 use Rattle.rtp_wire.specs.NotAPacket.{IsFirstBy, IsFirstCause}
 use Rattle.rtp_wire.specs.Packet.{PacketParts, IsPacket, HasOtherForm}
@@ -63,6 +64,12 @@ pub record PutsElement (old : List ℕ) (element : Element) (allowed : Option Ex
   pub word_is : form_of_block growth.parts.block ≡ Some growth.form → take (sources_end old + 2) new ≡ take (sources_end old + 2) old
   pub new_word_is : (form_of_block growth.parts.block ≡ Some growth.form → ⊥) → take 2 (drop (sources_end old) new) ≡ to_be_bytes w16 (form_word growth.form)
 
+-- only the one-byte form is allowed, whose ids are 1 to 14, and the id is above these
+abbrev pub IsLongId : Option ExtensionsForm → ℕ → Type 0
+IsLongId None id = ⊥
+IsLongId (Some OneByte) id = 14 < id
+IsLongId (Some TwoByte) id = ⊥
+
 -- the cause applies to an element that is put into the packet of these bytes
 abbrev pub AppliesToPacket : List ℕ → Element → Option ExtensionsForm → NotPut → Type 0
 AppliesToPacket bytes element allowed CutPacket = ⊥
@@ -70,6 +77,7 @@ AppliesToPacket bytes element allowed ZeroId = element.0 ≡ 0
 AppliesToPacket bytes element allowed LongData = 255 < length element.1
 AppliesToPacket bytes element allowed (NotAPacket cause) = IsFirstCause bytes cause
 AppliesToPacket bytes element allowed OtherForm = HasOtherForm bytes
+AppliesToPacket bytes element allowed LongId = IsLongId allowed element.0
 AppliesToPacket bytes element allowed OneByteOnly = (parts : PacketParts) × IsPacket bytes parts × (allowed_form allowed (needed_form (form_of_block parts.block) element) ≡ None)
 AppliesToPacket bytes element allowed LongBlock = (growth : IsGrowth bytes element allowed) × (4 * 65535 < growth.body_len)
 AppliesToPacket bytes element allowed (NoRoom needed) = ⊥
@@ -81,6 +89,7 @@ AppliesToPut buf len element allowed ZeroId = AppliesToPacket (take len buf) ele
 AppliesToPut buf len element allowed LongData = AppliesToPacket (take len buf) element allowed LongData
 AppliesToPut buf len element allowed (NotAPacket cause) = AppliesToPacket (take len buf) element allowed (NotAPacket cause)
 AppliesToPut buf len element allowed OtherForm = AppliesToPacket (take len buf) element allowed OtherForm
+AppliesToPut buf len element allowed LongId = AppliesToPacket (take len buf) element allowed LongId
 AppliesToPut buf len element allowed OneByteOnly = AppliesToPacket (take len buf) element allowed OneByteOnly
 AppliesToPut buf len element allowed LongBlock = AppliesToPacket (take len buf) element allowed LongBlock
 AppliesToPut buf len element allowed (NoRoom needed) = (growth : IsGrowth (take len buf) element allowed) × (needed ≡ growth.len) × (length buf < needed)
@@ -92,9 +101,10 @@ put_place ZeroId = 1
 put_place LongData = 2
 put_place (NotAPacket cause) = 3
 put_place OtherForm = 4
-put_place OneByteOnly = 5
-put_place LongBlock = 6
-put_place (NoRoom needed) = 7
+put_place LongId = 5
+put_place OneByteOnly = 6
+put_place LongBlock = 7
+put_place (NoRoom needed) = 8
 
 -- of the causes that apply, this one is the first
 abbrev pub IsFirstNotPut : (NotPut → Type 0) → NotPut → Type 0

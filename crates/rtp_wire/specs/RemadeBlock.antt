@@ -1,7 +1,7 @@
 -- A packet whose block is made anew: in its form or the other one, with its elements and maybe one behind them (RFC 3550, 5.3.1; RFC 8285, 4.1.2, 4.2 and 4.3).
 --
 -- The fixed fields but X, the CSRC list and the payload stay. The elements of the id 0, which is padding's, go, and so does what stands where reading ends; the body never becomes shorter.
-use Rattle.std.specs.Prelude.{◌≡◌, ℕ, ◌+◌, ◌*◌, ◌<◌, List, [], ◌∷◌, ◌++◌, length, take, drop, max, true, Option, Some, None}
+use Rattle.std.specs.Prelude.{◌≡◌, ℕ, ◌+◌, ◌*◌, ◌<◌, List, [], ◌∷◌, ◌++◌, length, take, drop, max, true, Option, Some, None, Any}
 use Rattle.std.specs.List.{AllByRecursion}
 use Rattle.std.specs.Int.{w16, to_be_bytes}
 use Rattle.rtp_ext.specs.declared.form.ExtensionsForm.{ExtensionsForm}
@@ -12,11 +12,11 @@ use Rattle.rtp_ext.specs.ElementsInARow.{IsWritable}
 use Rattle.rtp_ext.specs.PutElement.{without, needed_form, allowed_form, row_to}
 use Rattle.rtp_ext.specs.WrittenBlock.{whole_words}
 use Rattle.rtp_wire.specs.declared.packet.not_put.NotPut.{NotPut}
-use Rattle.rtp_wire.specs.declared.packet.not_put.NotPut.TheVariants.{CutPacket, ZeroId, LongData, NotAPacket, OtherForm, OneByteOnly, LongBlock, NoRoom}
+use Rattle.rtp_wire.specs.declared.packet.not_put.NotPut.TheVariants.{CutPacket, ZeroId, LongData, NotAPacket, OtherForm, LongId, OneByteOnly, LongBlock, NoRoom}
 use Rattle.rtp_wire.specs.NotAHeader.{sources_end}
 use Rattle.rtp_wire.specs.Packet.{PacketParts, IsPacket, HasOtherForm}
 use Rattle.rtp_wire.specs.PacketElements.{AreElementsOf}
-use Rattle.rtp_wire.specs.PutIntoPacket.{form_of_block, body_of_block}
+use Rattle.rtp_wire.specs.PutIntoPacket.{form_of_block, body_of_block, IsLongId}
 
 -- a packet whose elements the form can carry, without those of the id 0, and what it becomes once its block is made anew in the form with these elements and others behind them: how many bytes the body has, the elements in whole words, but no fewer than before; and how many the packet has
 pub record IsRemade (bytes : List ℕ) (form : ExtensionsForm) (added : List Element) : Type 0 where
@@ -41,6 +41,14 @@ pub record RemakesBlock (old : List ℕ) (form : ExtensionsForm) (added : List E
   pub are_elements : AreElements form body (without 0 remade.elements ++ added)
   pub word_is : form_of_block remade.parts.block ≡ Some form → take (sources_end old + 2) new ≡ take (sources_end old + 2) old
   pub new_word_is : (form_of_block remade.parts.block ≡ Some form → ⊥) → take 2 (drop (sources_end old) new) ≡ to_be_bytes w16 (form_word form)
+
+-- the packet has an element whose id the form can't carry
+pub record HasLongIds (bytes : List ℕ) (form : ExtensionsForm) : Type 0 where
+  pub parts : PacketParts
+  pub elements : List Element
+  pub is_packet : IsPacket bytes parts
+  pub are_elements : AreElementsOf parts.block elements
+  pub long : Any (λ element. IsLongId (Some form) element.0) elements
 
 -- the packet has an element that the form can't carry
 pub record HasUncarried (bytes : List ℕ) (form : ExtensionsForm) : Type 0 where
@@ -73,6 +81,7 @@ StopsRemaking bytes room form added ZeroId = ⊥
 StopsRemaking bytes room form added LongData = ⊥
 StopsRemaking bytes room form added (NotAPacket cause) = ⊥
 StopsRemaking bytes room form added OtherForm = ⊥
+StopsRemaking bytes room form added LongId = HasLongIds bytes form
 StopsRemaking bytes room form added OneByteOnly = HasUncarried bytes form
 StopsRemaking bytes room form added LongBlock = IsTooLong bytes form added
 StopsRemaking bytes room form added (NoRoom needed) = HasNoRoom bytes room form added needed
@@ -84,6 +93,7 @@ KeepsFromForm bytes room was form ZeroId = ⊥
 KeepsFromForm bytes room was form LongData = ⊥
 KeepsFromForm bytes room was form (NotAPacket cause) = ⊥
 KeepsFromForm bytes room was form OtherForm = HasOtherForm bytes
+KeepsFromForm bytes room was form LongId = IsInOther was form × HasLongIds bytes form
 KeepsFromForm bytes room was form OneByteOnly = IsInOther was form × HasUncarried bytes form
 KeepsFromForm bytes room was form LongBlock = IsInOther was form × IsTooLong bytes form []
 KeepsFromForm bytes room was form (NoRoom needed) = IsInOther was form × HasNoRoom bytes room form [] needed
@@ -99,6 +109,7 @@ KeepsFromAdding bytes room was element allowed (NotAPacket cause) = ⊥
 KeepsFromAdding bytes room was element allowed ZeroId = element.0 ≡ 0
 KeepsFromAdding bytes room was element allowed LongData = 255 < length element.1
 KeepsFromAdding bytes room was element allowed OtherForm = HasOtherForm bytes
+KeepsFromAdding bytes room was element allowed LongId = IsLongId allowed element.0
 KeepsFromAdding bytes room was element allowed OneByteOnly = form_with was element allowed ≡ None
 KeepsFromAdding bytes room was element allowed LongBlock = (form : ExtensionsForm) × (form_with was element allowed ≡ Some form) × IsTooLong bytes form (element ∷ [])
 KeepsFromAdding bytes room was element allowed (NoRoom needed) = (form : ExtensionsForm) × (form_with was element allowed ≡ Some form) × HasNoRoom bytes room form (element ∷ []) needed

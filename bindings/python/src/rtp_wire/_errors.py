@@ -29,6 +29,7 @@ class Status(IntEnum):
     BAD_ID = 13
     FORM_NOT_ALLOWED = 14
     LONG_BLOCK = 15
+    LONG_ID = 16
 
     @property
     def text(self) -> str:
@@ -52,6 +53,7 @@ _TEXTS = {
     Status.BAD_ID: "the id 0, which no element has",
     Status.FORM_NOT_ALLOWED: "a form of the extension block that isn't allowed",
     Status.LONG_BLOCK: "an extension block of more than 65,535 words",
+    Status.LONG_ID: "an id above 14, which the one-byte form can't carry",
 }
 
 
@@ -101,8 +103,12 @@ class BadId(BadField):
 
 class FormNotAllowed(BadField):
     """The block has, or an element needs, a form that isn't allowed; or an element can't be in the form that the block
-    is to get. Where the one-byte form alone is allowed, `Packet.form` tells which: the two-byte form, or else the
-    element doesn't fit, by an id above 14, no data or more than 16 bytes of them."""
+    is to get. Where the one-byte form alone is allowed, and it isn't a `LongId`, `Packet.form` tells which: the
+    two-byte form, or else the element has no data or more than 16 bytes of them."""
+
+
+class LongId(FormNotAllowed):
+    """An id is above 14, which the one-byte form can't carry."""
 
 
 class LongBlock(BadField):
@@ -140,6 +146,7 @@ _KINDS = {
     Status.BAD_ID: BadId,
     Status.FORM_NOT_ALLOWED: FormNotAllowed,
     Status.LONG_BLOCK: LongBlock,
+    Status.LONG_ID: LongId,
 }
 
 
@@ -158,7 +165,6 @@ def check(status: int) -> None:
 
 # Why a packet isn't changed, where all that was given is in its range.
 LONG_PADDING = "the padding is longer than the payload"
-HIGH_ID = "a new id is above 14, and the block in the one-byte form"
 
 
 def checked(status: int, reason: str) -> None:

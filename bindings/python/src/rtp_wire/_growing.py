@@ -31,9 +31,9 @@ def put_element(
     block gets that.
 
     BadField where `length` is past the buffer, or there are more than 255 bytes of data; BadId where the id isn't 1 to
-    255; NotAPacket; OtherForm; FormNotAllowed where the block has, or the element needs, a form that isn't allowed;
-    LongBlock where the block would have more than 65,535 words; ShortBuffer where there is no room. Nothing changes
-    then.
+    255; NotAPacket; OtherForm; LongId where the id is above 14, and the one-byte form alone is allowed; FormNotAllowed
+    where else the block has, or the element needs, a form that isn't allowed; LongBlock where the block would have more
+    than 65,535 words; ShortBuffer where there is no room. Nothing changes then.
     """
     return _put(_library.put_element, buffer, length, id, data, allowed)
 
@@ -78,9 +78,9 @@ def change_form(buffer: WritableBuffer, length: int, form: Form) -> int:
     packet without a block, stay as they are. In the two-byte form elements may have ids above 14, as new ones by
     `Packet.renumber`, no data, and more than 16 bytes. A header alone is enough.
 
-    BadField where `length` is past the buffer, or the form is none of the two; NotAPacket; OtherForm; FormNotAllowed
-    where the one-byte form can't carry an element; LongBlock where the block would have more than 65,535 words;
-    ShortBuffer where there is no room. Nothing changes then.
+    BadField where `length` is past the buffer, or the form is none of the two; NotAPacket; OtherForm; LongId where an
+    element has an id above 14, which the one-byte form can't carry; FormNotAllowed where else it can't carry an element;
+    LongBlock where the block would have more than 65,535 words; ShortBuffer where there is no room. Nothing changes then.
 
     >>> packet = bytearray.fromhex("90600005 00000064 0000002C BEDE0001 10AA0000 01")
     >>> change_form(packet, 21, Form.TWO_BYTE)

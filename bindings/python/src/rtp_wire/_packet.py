@@ -9,7 +9,7 @@ from typing import TYPE_CHECKING, Iterator, NamedTuple, Optional, Tuple, Union
 
 from . import _library
 from ._buffers import address_of, copy_of, place_of, view_of, writable_view_of
-from ._errors import HIGH_ID, LONG_PADDING, Status, check, checked, error_of, unsigned, within
+from ._errors import LONG_PADDING, Status, check, checked, error_of, unsigned, within
 from ._header import read_layers
 from ._library import whole_packet_parse
 from ._map import Map, NewIds, raw_map, raw_new_ids
@@ -312,7 +312,7 @@ class Packet:
         self._set(_library.remove_element, unsigned("an id", id, 8))
 
     def renumber(self, ids: NewIds) -> None:
-        """Gives each element its new id, and makes one that gets none padding. BadField where the form of the block
+        """Gives each element its new id, and makes one that gets none padding. LongId where the form of the block
         can't carry a new id, one above 14 in the one-byte form, of which `change_form` makes the other; then nothing
         changes. To read the values under the receiver's map parse the packet again."""
-        self._set(_library.renumber, raw_new_ids(ids), reason=HIGH_ID)
+        self._set(_library.renumber, raw_new_ids(ids))

@@ -7,7 +7,7 @@ from typing import TYPE_CHECKING
 
 from . import _library
 from ._buffers import address_of, place_of, writable_view_of
-from ._errors import HIGH_ID, LONG_PADDING, check, checked, unsigned, within
+from ._errors import LONG_PADDING, check, checked, unsigned, within
 from ._map import raw_new_ids
 
 if TYPE_CHECKING:
@@ -54,15 +54,15 @@ def to_retransmission(buf: WritableBuffer, length: int, ssrc: int, payload_type:
     (`NewIds.to_retransmission`), and as payload the original number in two bytes and the original payload without its
     padding. All else stays.
 
-    BadField where an argument is out of its range, the length is above that of the buffer, the padding's last byte
-    counts more bytes than the payload has, or the packet's form can't carry a new id; NotAPacket; ShortBuffer where
-    there is no room for the two bytes. Nothing changes then.
+    BadField where an argument is out of its range, the length is above that of the buffer, or the padding's last byte
+    counts more bytes than the payload has; LongId where the packet's form can't carry a new id; NotAPacket; ShortBuffer
+    where there is no room for the two bytes. Nothing changes then.
     """
     view = writable_view_of(buf)
     end = c_size_t(within("length", length, 0, len(view)))
     fields = (unsigned("ssrc", ssrc, 32), unsigned("payload_type", payload_type, 7), unsigned("number", number, 16))
     status = _library.to_retransmission(address_of(view), len(view), end, *fields, raw_new_ids(ids))
-    checked(status, f"{LONG_PADDING}, or {HIGH_ID}")
+    checked(status, LONG_PADDING)
     return end.value
 
 
@@ -71,12 +71,12 @@ def from_retransmission(buf: WritableBuffer, length: int, ssrc: int, payload_typ
     returns its length: it has this SSRC and payload type, the original number, the elements under their new ids
     (`NewIds.from_retransmission`), and as payload what follows that number, without padding. All else stays.
 
-    BadField as `to_retransmission`; NotAPacket; NoElement where the payload has fewer than the two bytes of a number.
+    BadField and LongId as `to_retransmission`; NotAPacket; NoElement where the payload has fewer than the two bytes of a number.
     Nothing changes then.
     """
     view = writable_view_of(buf)
     end = c_size_t(within("length", length, 0, len(view)))
     fields = (unsigned("ssrc", ssrc, 32), unsigned("payload_type", payload_type, 7))
     status = _library.from_retransmission(address_of(view), len(view), end, *fields, raw_new_ids(ids))
-    checked(status, f"{LONG_PADDING}, or {HIGH_ID}")
+    checked(status, LONG_PADDING)
     return end.value

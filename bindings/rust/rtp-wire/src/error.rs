@@ -287,9 +287,12 @@ pub enum NotPut {
     BadField,
     /// The id is 0, which no element has.
     BadId,
+    /// An id is above 14, which the one-byte form can't carry: that of the element, where this form alone is allowed,
+    /// or one of the block's, which is to get this form. It comes before [`NotPut::FormNotAllowed`].
+    LongId,
     /// The block has, or an element needs, a form that isn't allowed; or an element can't be in the form that the
     /// block is to get. Where the one-byte form alone is allowed, [`Packet::form`](crate::Packet::form) tells which:
-    /// the two-byte form, or else the element doesn't fit, by an id above 14, no data or more than 16 bytes of them.
+    /// the two-byte form, or else the element has no data or more than 16 bytes of them.
     FormNotAllowed,
     /// The block would have more than 65,535 words.
     LongBlock,
@@ -306,6 +309,7 @@ impl NotPut {
         match status {
             sys::BAD_FIELD => Err(NotPut::BadField),
             sys::BAD_ID => Err(NotPut::BadId),
+            sys::LONG_ID => Err(NotPut::LongId),
             sys::FORM_NOT_ALLOWED => Err(NotPut::FormNotAllowed),
             sys::LONG_BLOCK => Err(NotPut::LongBlock),
             sys::UNKNOWN_FORM => Err(NotPut::OtherForm),
@@ -320,6 +324,7 @@ impl fmt::Display for NotPut {
         f.write_str(match self {
             NotPut::BadField => "an argument is out of its range",
             NotPut::BadId => "the id 0, which no element has",
+            NotPut::LongId => "an id above 14, which the one-byte form can't carry",
             NotPut::FormNotAllowed => "a form of the extension block that isn't allowed",
             NotPut::LongBlock => "an extension block of more than 65,535 words",
             NotPut::NotAPacket(_) => "no RTP packet",

@@ -82,8 +82,8 @@ fn number_of(allowed: Option<Form>) -> u8 {
 /// stay as they are. A header alone is enough.
 ///
 /// In the two-byte form elements may have ids above 14, as new ones by
-/// [`renumber`](crate::PacketMut::renumber), no data, and more than 16 bytes. The one-byte form is refused, by
-/// [`NotPut::FormNotAllowed`], where an element has such.
+/// [`renumber`](crate::PacketMut::renumber), no data, and more than 16 bytes. The one-byte form is refused where an
+/// element has such: by [`NotPut::LongId`] where an id is above 14, and else by [`NotPut::FormNotAllowed`].
 ///
 /// # Errors
 ///

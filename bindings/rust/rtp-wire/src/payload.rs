@@ -1,6 +1,5 @@
 use crate::error::{NotAPacket, NotRetransmitted, NotWritten};
 use crate::new_ids::NewIds;
-use crate::packet::Packet;
 use crate::sys;
 
 /// Makes a packet of padding alone after its header: sets P, and writes the padding from `header_len`
@@ -87,7 +86,7 @@ pub fn to_retransmission(
     in_range(buf, len, payload_type)?;
     let mut end = len;
     let status = sys::to_retransmission(buf, &mut end, ssrc, payload_type, number, &ids.ids);
-    retransmitted(status, &buf[..len])?;
+    retransmitted(status)?;
     Ok(end)
 }
 
@@ -117,7 +116,7 @@ pub fn from_retransmission(
     in_range(buf, len, payload_type)?;
     let mut end = len;
     let status = sys::from_retransmission(buf, &mut end, ssrc, payload_type, &ids.ids);
-    retransmitted(status, &buf[..len])?;
+    retransmitted(status)?;
     Ok(end)
 }
 
@@ -132,15 +131,13 @@ fn in_range(buf: &[u8], len: usize, payload_type: u8) -> Result<(), NotRetransmi
     Ok(())
 }
 
-/// What the status says. A field that is out of its range is the packet's then: its padding, or a new id.
-fn retransmitted(status: i32, datagram: &[u8]) -> Result<(), NotRetransmitted> {
+/// What the status says. A field that is out of its range is the packet's padding then.
+fn retransmitted(status: i32) -> Result<(), NotRetransmitted> {
     match status {
+        sys::BAD_FIELD => Err(NotRetransmitted::BadPadding),
         sys::NONE => Err(NotRetransmitted::NoNumber),
+        sys::LONG_ID => Err(NotRetransmitted::BadNewId),
         sys::SHORT_BUFFER => Err(NotRetransmitted::ShortBuffer),
-        sys::BAD_FIELD => match Packet::parse(datagram)?.unpadded_payload() {
-            None => Err(NotRetransmitted::BadPadding),
-            Some(_) => Err(NotRetransmitted::BadNewId),
-        },
         other => Ok(NotAPacket::of_status(other)?),
     }
 }

@@ -31,6 +31,7 @@ pub const RESTARTED: i32 = 12;
 pub const BAD_ID: i32 = 13;
 pub const FORM_NOT_ALLOWED: i32 = 14;
 pub const LONG_BLOCK: i32 = 15;
+pub const LONG_ID: i32 = 16;
 
 pub const NO_BLOCK: u8 = 0;
 pub const ONE_BYTE_FORM: u8 = 1;

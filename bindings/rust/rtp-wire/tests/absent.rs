@@ -242,6 +242,10 @@ fn errors_tell_what_they_wrap() {
         (NotPut::BadField, "an argument is out of its range"),
         (NotPut::BadId, "the id 0, which no element has"),
         (
+            NotPut::LongId,
+            "an id above 14, which the one-byte form can't carry",
+        ),
+        (
             NotPut::FormNotAllowed,
             "a form of the extension block that isn't allowed",
         ),

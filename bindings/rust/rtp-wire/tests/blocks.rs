@@ -116,12 +116,18 @@ fn elements_are_added_behind_all_others() {
 #[test]
 fn elements_are_not_added() {
     let plain = "90 BEDE0001 10AA0000 01";
-    stays(plain, adds(15, &[7], ONE), NotPut::FormNotAllowed);
+    stays(plain, adds(15, &[7], ONE), NotPut::LongId);
+    stays(
+        "90 10000001 01010700 01",
+        adds(255, &[], ONE),
+        NotPut::LongId,
+    );
+    let other = "90 ABAC0001 01020304 01";
+    stays(other, adds(15, &[8], ONE), NotPut::OtherForm);
     stays(plain, adds(2, &[], ONE), NotPut::FormNotAllowed);
     stays(plain, adds(2, &[7; 17], ONE), NotPut::FormNotAllowed);
     let two = "90 10000001 01010700 01";
     stays(two, adds(1, &[8], ONE), NotPut::FormNotAllowed);
-    let other = "90 ABAC0001 01020304 01";
     stays(other, adds(1, &[8], None), NotPut::OtherForm);
     stays(plain, adds(0, &[7], None), NotPut::BadId);
     stays(plain, adds(1, &[7; 256], None), NotPut::BadField);
@@ -135,8 +141,9 @@ fn elements_are_not_put() {
     let puts = |id, allowed| move |buf: &mut [u8], len| put_element(buf, len, id, &[7], allowed);
     let plain = "90 BEDE0001 10AA0000 01";
     stays(plain, puts(0, None), NotPut::BadId);
-    stays(plain, puts(15, ONE), NotPut::FormNotAllowed);
+    stays(plain, puts(15, ONE), NotPut::LongId);
     let two = "90 10000001 0101AA00 01";
+    stays(two, puts(15, ONE), NotPut::LongId);
     stays(two, puts(1, ONE), NotPut::FormNotAllowed);
 }
 
@@ -211,12 +218,11 @@ fn forms_are_changed() {
 fn forms_are_kept() {
     let (one, two) = (changes(Form::OneByte), changes(Form::TwoByte));
     let seventeen = format!("90 10000005 0111{}00 01", "07".repeat(17));
-    for before in [
-        "90 10000001 0F01AA00 01",
-        "90 10000001 01000000 01",
-        &seventeen,
-    ] {
+    for before in ["90 10000001 01000000 01", &seventeen] {
         stays(before, &one, NotPut::FormNotAllowed);
+    }
+    for before in ["90 10000001 0F01AA00 01", "90 10000001 0100FF00 01"] {
+        stays(before, &one, NotPut::LongId);
     }
     stays("90 ABAC0001 01020304 01", &one, NotPut::OtherForm);
     stays("90 ABAC0001 01020304 01", &two, NotPut::OtherForm);

@@ -263,6 +263,8 @@ fn elements_are_put() {
     assert_eq!(bytes[36..41], SAMPLE[32..]);
     let one = Some(Form::OneByte);
     let put = put_element(&mut bytes, 41, 15, &[4], one);
+    assert_eq!(put, Err(NotPut::LongId));
+    let put = put_element(&mut bytes, 41, 14, &[], one);
     assert_eq!(put, Err(NotPut::FormNotAllowed));
     let put = put_element(&mut bytes[..44], 41, 15, &[4], None);
     assert_eq!(put, Err(NotPut::ShortBuffer));

@@ -78,6 +78,8 @@ fn forms_of_a_put_element() {
         let before = packet(block);
         let mut buf = [&before[..], &[0; 8]].concat();
         let put = put_element(&mut buf, before.len(), 15, &[0xBB], ONE);
+        assert_eq!(put, Err(NotPut::LongId));
+        let put = put_element(&mut buf, before.len(), 14, &[], ONE);
         assert_eq!(put, Err(NotPut::FormNotAllowed));
         assert_eq!(buf[..before.len()], before);
         assert_eq!(Packet::parse(&before).unwrap().form(), Some(form));

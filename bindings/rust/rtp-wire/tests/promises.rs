@@ -319,6 +319,7 @@ mod may_grow {
             NotPut::NotAPacket(cause) => a_packet(cause),
             NotPut::BadField
             | NotPut::BadId
+            | NotPut::LongId
             | NotPut::FormNotAllowed
             | NotPut::LongBlock
             | NotPut::OtherForm

@@ -152,6 +152,7 @@ fn texts_are_those_of_the_header_file() {
         (NotPut::BadId, 13, "BAD_ID"),
         (NotPut::FormNotAllowed, 14, "FORM_NOT_ALLOWED"),
         (NotPut::LongBlock, 15, "LONG_BLOCK"),
+        (NotPut::LongId, 16, "LONG_ID"),
     ] {
         has(name, number, &told(&cause));
         assert!(cause.source().is_none());

@@ -25,6 +25,10 @@ pub enum NotPut {
     /// The block has another form than the two, and carries no elements.
     #[error("an extension block of another form, which carries no elements")]
     OtherForm,
+    /// The id is above 14, which the one-byte form can't carry, and only that is allowed; or one of
+    /// the block's elements has such an id, and the block is to get that form (RFC 8285, 4.2).
+    #[error("an id above 14, which the one-byte form can't carry")]
+    LongId,
     /// The block needs the two-byte form, and only the one-byte form is allowed.
     #[error("the two-byte form is needed, and only the one-byte form is allowed")]
     OneByteOnly,

@@ -1,6 +1,6 @@
 //! Elements that are put into a packet, which grows where it lies.
 
-ghost use Rattle.std.specs.Prelude.{◌≡◌, ◌↔◌, ◌+◌, ◌-◌, ◌*◌, ◌≤◌, length, take, drop, IsTrue, IsErr, IfOk, IfErr, OnErr, Option};
+ghost use Rattle.std.specs.Prelude.{◌≡◌, ◌↔◌, ◌+◌, ◌-◌, ◌*◌, ◌<◌, ◌≤◌, length, take, drop, IsTrue, IsErr, IfOk, IfErr, OnErr, Option};
 ghost use Rattle.std.specs.Bool.{OnTrue, OnFalse};
 ghost use Rattle.std.specs.List.{copy_within};
 ghost use Rattle.std.specs.Int.{w16, to_be_bytes};
@@ -8,6 +8,7 @@ ghost use Rattle.rtp_base.specs.Overwriting.{overwritten};
 ghost use Rattle.rtp_ext.specs.Form.{form_word};
 ghost use Rattle.rtp_ext.specs.ElementsInARow.{IsWritable};
 ghost use Rattle.rtp_ext.specs.PutElement.{needed_form, allowed_form};
+ghost use Rattle.rtp_wire.specs.declared.packet.not_put.NotPut.TheVariants.{LongId, OneByteOnly};
 ghost use Rattle.rtp_wire.specs.GrowingPacket.{with_extension_bit, resized, IsPlan, MakesAnew};
 ghost use Rattle.rtp_wire.specs.PutIntoPacket.{IsSetInPlace, PutsElement, AppliesToPacket, AppliesToPut, IsFirstNotPut};
 
@@ -15,10 +16,28 @@ use super::rtp_packet::sources_end;
 use super::{NotPut, RtpPacket};
 use crate::header::{BLOCK_HEADER_LEN, in_words};
 use rtp_base::put;
-use rtp_ext::{ExtensionsForm, Survey, form_to_put, put_anew, put_len, set_sole, survey_of};
+use rtp_ext::{
+    ExtensionsForm, MAX_ID_ONE_BYTE_FORM, Survey, form_to_put, put_anew, put_len, set_sole,
+    survey_of,
+};
 
 // The most bytes that the body of a block has: 65,535 words.
 pub(super) const MAX_BODY_LEN: usize = 4 * 65_535;
+
+// Why an element of this id isn't put where only the one-byte form is allowed, and doesn't serve. It
+// stays out of line, so that a call does nothing for it where an element is put.
+#[cold]
+#[inline(never)]
+pub(super) fn not_allowed(id: u8) -> NotPut
+    ensures long { 14 < id → result ≡ LongId }
+    ensures other { id ≤ 14 → result ≡ OneByteOnly }
+{
+    if id > MAX_ID_ONE_BYTE_FORM {
+        NotPut::LongId
+    } else {
+        NotPut::OneByteOnly
+    }
+}
 
 // What is known of a packet, and of its block once an element is put into it.
 #[derive(Clone, Copy, Drop)]
@@ -63,7 +82,7 @@ impl Plan {
             return Err(NotPut::OtherForm);
         }
         let Some(new_form) = form_to_put(packet.form(), allowed, id, data) else {
-            return Err(NotPut::OneByteOnly);
+            return Err(not_allowed(id));
         };
         let (form, body) = packet.block().unwrap_or((new_form, &[]));
         Ok(Plan {

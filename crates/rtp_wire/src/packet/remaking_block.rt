@@ -1,18 +1,21 @@
 //! The block of a packet in a buffer, made anew: in the other form, or with an element behind its
 //! own.
 
-ghost use Rattle.std.specs.Prelude.{◌≡◌, ◌↔◌, ℕ, ◌+◌, ◌-◌, ◌≤◌, length, take, drop, None, [], ◌∷◌, IsTrue, IsErr, IfOk, IfErr, IfSome, OnOk, OnErr};
+ghost use Rattle.std.specs.Prelude.{◌≡◌, ◌↔◌, ℕ, ◌+◌, ◌-◌, ◌<◌, ◌≤◌, List, length, take, drop, None, [], ◌∷◌, Any, IsTrue, IsErr, IfOk, IfErr, IfSome, OnOk, OnErr};
+ghost use Rattle.rtp_ext.specs.Elements.{Element, AreElements};
 ghost use Rattle.rtp_ext.specs.ElementsInARow.{IsWritable, elements_added};
 ghost use Rattle.rtp_wire.specs.declared.packet.not_put.NotPut.{NotPut};
 ghost use Rattle.rtp_wire.specs.GrowingPacket.{IsRemaking};
 ghost use Rattle.rtp_wire.specs.PutIntoPacket.{form_of_block, IsFirstNotPut};
 ghost use Rattle.rtp_wire.specs.RemadeBlock.{IsRemade, RemakesBlock, StopsRemaking, IsInOther, KeepsFromForm, form_with, KeepsFromAdding};
 
-use super::putting::{MAX_BODY_LEN, announce, resize};
+use super::putting::{MAX_BODY_LEN, announce, not_allowed, resize};
 use super::rtp_packet::sources_end;
 use super::{NotPut, RtpPacket, RtpPacketBuf};
 use crate::header::{BLOCK_HEADER_LEN, in_words};
-use rtp_ext::{ExtensionsForm, form_to_put, remade_len, remake_body};
+use rtp_ext::{
+    Elements, ExtensionsForm, MAX_ID_ONE_BYTE_FORM, form_to_put, remade_len, remake_body,
+};
 
 // Whether a block of this form, or none, has the other one of the two forms.
 fn is_in_other(was: Option<ExtensionsForm>, form: ExtensionsForm) -> bool
@@ -23,6 +26,17 @@ fn is_in_other(was: Option<ExtensionsForm>, form: ExtensionsForm) -> bool
         (Some(ExtensionsForm::TwoByte), ExtensionsForm::OneByte) => true,
         _ => false,
     }
+}
+
+// Whether an element of a body has an id above 14, which the one-byte form can't carry. It stays out
+// of line, so that a call does nothing for it where a block is made anew.
+#[cold]
+#[inline(never)]
+fn has_long_id(form: ExtensionsForm, body: &[u8]) -> bool
+    ensures { (elements : List Element) → AreElements form body.now elements →
+        IsTrue result ↔ Any (λ element. 14 < element.0) elements }
+{
+    Elements::new(body, form).any(|(id, _)| id > MAX_ID_ONE_BYTE_FORM)
 }
 
 // What is known of a packet, and of its block once it is made anew.
@@ -62,6 +76,9 @@ impl Remaking {
     {
         let (was, body) = packet.block().unwrap_or((form, &[]));
         let Some(elements_len) = remade_len(was, form, body, added) else {
+            if has_long_id(was, body) {
+                return Err(NotPut::LongId);
+            }
             return Err(NotPut::OneByteOnly);
         };
         let new_body_len = in_words(elements_len).max(body.len());
@@ -141,7 +158,8 @@ impl<'a> RtpPacketBuf<'a> {
     /// are 0. The body never becomes shorter: [`compact`](Self::compact) gives bytes back.
     ///
     /// A packet whose block has the form already, or that has none, stays as it is. The one-byte
-    /// form is refused where an element has an id above 14, or no data, or more than 16 bytes.
+    /// form is refused where an element has an id above 14 ([`NotPut::LongId`]), or no data or more
+    /// than 16 bytes ([`NotPut::OneByteOnly`]).
     ///
     /// The packet `90 60 00 05 00 00 00 64 00 00 00 2C BE DE 00 01 10 AA 00 00 01` (hexadecimal)
     /// becomes `90 60 00 05 00 00 00 64 00 00 00 2C 10 00 00 01 01 01 AA 00 01` in the two-byte
@@ -211,7 +229,7 @@ impl<'a> RtpPacketBuf<'a> {
             return Err(NotPut::OtherForm);
         }
         let Some(form) = form_to_put(self.form, allowed, id, data) else {
-            return Err(NotPut::OneByteOnly);
+            return Err(not_allowed(id));
         };
         self.remake(form, Some((id, data)))
     }

@@ -1,5 +1,5 @@
 use Rattle.rtp_c.proofs.Common.{◌≡◌, ◌<◌, ◌↔◌, ℕ, List, [], Bool, false, IsTrue, Option, Some, None, IfSome, IfNone, All, refl, sym, subst, arith, rules, false≢true, ExtensionsForm, Element, ChangesIds, CanRenumber, new_id, ids_in_bytes, CarriesExtensions, slice_index, RtpPacketMut, ChangesBlock, PacketParts, IsPacket, AreElementsOf, HasValues, parts_in, BecomesPacket, IsPacket-in}
-use Rattle.rtp_c.proofs.StatusLemmas.{bad_field≢ok}
+use Rattle.rtp_c.proofs.StatusLemmas.{long_id≢ok}
 use Rattle.rtp_c.proofs.ChangeLemmas.{parts-in, BecomesPacket-changed}
 use Rattle.rtp_c.proofs.map.rtpw_renumber.Goals as goal
 
@@ -96,4 +96,4 @@ returns-else-renumber-clause-answer c parts elements is are =
     let packet = c.new-packet.result in
     let same = parts-in c.args.datagram.now parts packet is c.new-packet.ensures.same_bytes in
     let answer = answer_of elements _ (parts_in packet) parts c.from_ids.result (ids_in_bytes c.args.ids.now.id) same c.from_ids.ensures (c.if-renumber.ensures.answer elements) are in
-    (λ wrong. absurd (bad_field≢ok wrong), λ has. absurd (false≢true (answer.1 has)))
+    (λ wrong. absurd (long_id≢ok wrong), λ has. absurd (false≢true (answer.1 has)))

@@ -1,6 +1,6 @@
 use Rattle.rtp_wire.proofs.Common.{◌≡◌, ℕ, List, length, Option, Some, arith, refl, sym, ap, ◌∙◌, subst, ◌↔◌, IsTrue, ExtensionsForm, Element, IsSurvey, needed_form, allowed_form, parts_of}
 use Rattle.rtp_wire.proofs.PartsLemmas.{none_there}
-use Rattle.rtp_wire.proofs.PutPlanLemmas.{short-body, here, found-growth, form-tested, IsWritable-allowed, none_before_form}
+use Rattle.rtp_wire.proofs.PutPlanLemmas.{short-body, here, found-growth, form-tested, IsWritable-allowed, first-not_allowed}
 use Rattle.rtp_wire.proofs.packet.putting.Plan.new.Goals as goal
 
 pub returns-in_default-clause-cause : goal.returns-in_default-clause-cause
@@ -8,15 +8,10 @@ returns-in_default-clause-cause c =
     let bytes = c.args.datagram.now in
     let element : Element = (c.args.id, c.args.data.now) in
     let parts = parts_of c.in_ok-packet.packet in
-    record {
-      applies = (
-        parts,
-        c.in_ok-packet.ensures.found,
-        ap (λ (form : Option ExtensionsForm). allowed_form c.args.allowed (needed_form form element)) (sym c.form.ensures) ∙ sym c.form_to_put.ensures ∙ c.in_default.is,
-      );
-      none_before = none_before_form bytes element c.args.allowed parts c.in_ok-packet.ensures.found (none_there _ (sym c.has_other_form.ensures ∙ c.if-has_other_form.false))
-          (let some = c.if-id-eq0.false in omega arith) c.if-data-gt255.false;
-    }
+    first-not_allowed bytes element c.args.allowed parts c.in_ok-packet.ensures.found (none_there _ (sym c.has_other_form.ensures ∙ c.if-has_other_form.false))
+    (let some = c.if-id-eq0.false in omega arith) c.if-data-gt255.false
+    (ap (λ (form : Option ExtensionsForm). allowed_form c.args.allowed (needed_form form element)) (sym c.form.ensures) ∙ sym c.form_to_put.ensures ∙ c.in_default.is)
+    c.not_allowed.result c.not_allowed.ensures.long c.not_allowed.ensures.other
 
 pub returns-clause-found : goal.returns-clause-found
 returns-clause-found c =

@@ -1,22 +1,33 @@
-use Rattle.std.proofs.Common.{◌≡◌, length, Option, Some, arith, refl, ap, subst}
+use Rattle.std.proofs.Common.{◌≡◌, length, Option, Some, arith, refl, sym, ap, ◌∙◌, subst}
+use Rattle.std.proofs.lemmas.Bool.{false≢true}
 use Rattle.std.specs.Prelude.{◌↔◌, IsTrue}
 use Rattle.rtp_ext.specs.declared.form.ExtensionsForm.{ExtensionsForm}
 use Rattle.rtp_ext.specs.ElementsInARow.{elements_added}
 use Rattle.rtp_wire.specs.PartsOf.{datagram_of}
 use Rattle.rtp_wire.specs.RemadeBlock.{IsRemade}
 use Rattle.rtp_wire.proofs.PutPlanLemmas.{form-tested}
-use Rattle.rtp_wire.proofs.RemadeLemmas.{body-found, few-found, are-found, HasUncarried-found, remade-found, body_len-found, none_before_uncarried, none_before_long}
+use Rattle.rtp_wire.proofs.RemadeLemmas.{body-found, few-found, are-found, HasUncarried-found, HasLongIds-found, no_long_ids-found, remade-found, body_len-found, none_before_long_ids, none_before_uncarried, none_before_long}
 use Rattle.rtp_wire.proofs.packet.remaking_block.Remaking.new.Goals as goal
 use Rattle.rtp_wire.proofs.packet.remaking_block.Remaking.new.Goals.{After-max-new_body_len}
 
 pub remade_len-requires-clause-few : goal.remade_len-requires-clause-few
 remade_len-requires-clause-few c = few-found c.args.packet.now c.block.result (c.args.form, _) c.unwrap_or-was.result c.block.ensures.parts c.block.ensures.bytes refl c.unwrap_or-was.ensures
 
+pub returns-then-has_long_id-clause-cause : goal.returns-then-has_long_id-clause-cause
+returns-then-has_long_id-clause-cause c = λ room. record {
+  applies = HasLongIds-found c.args.packet.now c.block.result (c.args.form, _) c.unwrap_or-was.result c.block.ensures.parts c.block.ensures.bytes refl c.unwrap_or-was.ensures
+      (c.in_default.ensures.none _ (are-found c.args.packet.now c.block.result (c.args.form, _) c.unwrap_or-was.result c.block.ensures.parts c.block.ensures.bytes refl c.unwrap_or-was.ensures))
+      ((c.has_long_id.ensures _ (are-found c.args.packet.now c.block.result (c.args.form, _) c.unwrap_or-was.result c.block.ensures.parts c.block.ensures.bytes refl c.unwrap_or-was.ensures)).0 c.if-has_long_id.true);
+  none_before = none_before_long_ids (datagram_of c.args.packet.now) room c.args.form (elements_added c.args.added);
+}
+
 pub returns-in_default-clause-cause : goal.returns-in_default-clause-cause
 returns-in_default-clause-cause c = λ room. record {
   applies = HasUncarried-found c.args.packet.now c.block.result (c.args.form, _) c.unwrap_or-was.result c.block.ensures.parts c.block.ensures.bytes refl c.unwrap_or-was.ensures
       (c.in_default.ensures.none _ (are-found c.args.packet.now c.block.result (c.args.form, _) c.unwrap_or-was.result c.block.ensures.parts c.block.ensures.bytes refl c.unwrap_or-was.ensures));
-  none_before = none_before_uncarried (datagram_of c.args.packet.now) room c.args.form (elements_added c.args.added);
+  none_before = none_before_uncarried (datagram_of c.args.packet.now) room c.args.form (elements_added c.args.added)
+      (no_long_ids-found c.args.packet.now c.block.result (c.args.form, _) c.unwrap_or-was.result c.block.ensures.parts c.block.ensures.bytes refl c.unwrap_or-was.ensures
+      (λ long. false≢true (sym c.if-has_long_id.false ∙ (c.has_long_id.ensures _ (are-found c.args.packet.now c.block.result (c.args.form, _) c.unwrap_or-was.result c.block.ensures.parts c.block.ensures.bytes refl c.unwrap_or-was.ensures)).1 long)));
 }
 
 pub in_words-requires : goal.in_words-requires

@@ -2,12 +2,12 @@ use Rattle.std.proofs.Common.{◌≡◌, Option, Some, [], ◌∷◌, refl, sym,
 use Rattle.std.specs.Prelude.{is_some, IfSome}
 use Rattle.std.proofs.lemmas.Result.{IfOk-weaker}
 use Rattle.rtp_ext.specs.declared.form.ExtensionsForm.{ExtensionsForm}
-use Rattle.rtp_wire.specs.declared.packet.not_put.NotPut.TheVariants.{ZeroId, LongData, OtherForm, OneByteOnly}
+use Rattle.rtp_wire.specs.declared.packet.not_put.NotPut.TheVariants.{ZeroId, LongData, OtherForm}
 use Rattle.rtp_wire.specs.Packet.{PacketParts, HasOtherForm}
 use Rattle.rtp_wire.specs.PacketBuf.{bytes_of, parts_within}
 use Rattle.rtp_wire.specs.PutIntoPacket.{form_of_block}
 use Rattle.rtp_wire.specs.RemadeBlock.{RemakesBlock, form_with}
-use Rattle.rtp_wire.proofs.RemadePacketLemmas.{cause-to, kept-form, other-form, no-other, to-adding, from-adding, none_before_form}
+use Rattle.rtp_wire.proofs.RemadePacketLemmas.{cause-to, kept-form, other-form, no-other, to-adding, from-adding, first-not_allowed}
 use Rattle.rtp_wire.proofs.packet.rtp_packet_buf.RtpPacketBuf.add_element.Goals as goal
 use Rattle.rtp_wire.proofs.packet.rtp_packet_buf.RtpPacketBuf.add_element.Goals.{Else-has_other_form, In-Some}
 
@@ -32,18 +32,20 @@ returns-then-has_other_form-clause-refused c = (
 )
 
 pub returns-in_default-clause-cause : goal.returns-in_default-clause-cause
-returns-in_default-clause-cause c = record {
-  applies = ap (λ (was : Option ExtensionsForm). form_with was (c.args.id, c.args.data.now) c.args.allowed) (sym (kept-form c.args.self.now)) ∙ sym c.form_to_put.ensures ∙ c.in_default.is;
-  none_before =
-      none_before_form c.args.self.now (length c.args.self.now.buf.now) (c.args.id, c.args.data.now) c.args.allowed c.if-id-eq0.false c.if-data-gt255.false
-      (none (goal.at.returns-in_default-clause-cause c).Else-has_other_form);
-}
+returns-in_default-clause-cause c =
+    first-not_allowed c.args.self.now (length c.args.self.now.buf.now) (c.args.id, c.args.data.now) c.args.allowed c.if-id-eq0.false c.if-data-gt255.false
+    (none (goal.at.returns-in_default-clause-cause c).Else-has_other_form)
+    (ap (λ (was : Option ExtensionsForm). form_with was (c.args.id, c.args.data.now) c.args.allowed) (sym (kept-form c.args.self.now)) ∙ sym c.form_to_put.ensures ∙ c.in_default.is)
+    c.not_allowed.result c.not_allowed.ensures.long c.not_allowed.ensures.other
 
 pub returns-in_default-clause-refused : goal.returns-in_default-clause-refused
-returns-in_default-clause-refused c = (
-  λ _. (OneByteOnly, ap (λ (was : Option ExtensionsForm). form_with was (c.args.id, c.args.data.now) c.args.allowed) (sym (kept-form c.args.self.now)) ∙ sym c.form_to_put.ensures ∙ c.in_default.is),
-  λ _. refl,
-)
+returns-in_default-clause-refused c =
+    let first =
+    first-not_allowed c.args.self.now (length c.args.self.now.buf.now) (c.args.id, c.args.data.now) c.args.allowed c.if-id-eq0.false c.if-data-gt255.false
+    (none (goal.at.returns-in_default-clause-refused c).Else-has_other_form)
+    (ap (λ (was : Option ExtensionsForm). form_with was (c.args.id, c.args.data.now) c.args.allowed) (sym (kept-form c.args.self.now)) ∙ sym c.form_to_put.ensures ∙ c.in_default.is)
+    c.not_allowed.result c.not_allowed.ensures.long c.not_allowed.ensures.other in
+    (λ _. (c.not_allowed.result, first.applies), λ _. refl)
 
 pub returns-clause-added : goal.returns-clause-added
 returns-clause-added c =
