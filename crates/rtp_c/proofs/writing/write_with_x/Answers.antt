@@ -1,8 +1,7 @@
-use Rattle.std.proofs.Common.{length}
+use Rattle.std.proofs.Common.{refl, length}
 use Rattle.rtp_wire.specs.Written.{with_values}
 use Rattle.rtp_c.specs.Given.{IsGivenHeader}
 use Rattle.rtp_c.specs.StoredMap.{numbered_slots}
-use Rattle.std.proofs.Common.{refl}
 use Rattle.rtp_c.proofs.NumberedLemmas.{HasKinds-numbered}
 use Rattle.rtp_c.proofs.WrittenHeaderLemmas.{IsGivenHeader-with, IsTooLong-refused, WritesHeader-written, WritesHeader-short, WritesHeader-bad, type_fits, few_sources}
 use Rattle.rtp_c.proofs.writing.write_with_x.Goals as goal
