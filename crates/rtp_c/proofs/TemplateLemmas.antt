@@ -86,7 +86,7 @@ group-of old was ids were news given form allowed len n buf slots places old_is 
 pub not_routed≢ok : (result : ℤ) (cause : NotRouted) → result ≡ not_routed_status cause → to_z w32 (of_z w32 result) ≡ ok → ⊥
 not_routed≢ok result ManyElements is is_ok = let no : bad_field ≡ ok = sym (ap (λ (z : ℤ). to_z w32 (of_z w32 z)) is) ∙ is_ok in cc
 not_routed≢ok result RepeatedId is is_ok = let no : bad_field ≡ ok = sym (ap (λ (z : ℤ). to_z w32 (of_z w32 z)) is) ∙ is_ok in cc
-not_routed≢ok result LongId is is_ok = let no : bad_field ≡ ok = sym (ap (λ (z : ℤ). to_z w32 (of_z w32 z)) is) ∙ is_ok in cc
+not_routed≢ok result LongId is is_ok = let no : long_id ≡ ok = sym (ap (λ (z : ℤ). to_z w32 (of_z w32 z)) is) ∙ is_ok in cc
 not_routed≢ok result (NotPut cause) is is_ok = status≢ok result cause is is_ok
 
 -- the status of a cause

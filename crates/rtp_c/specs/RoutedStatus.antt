@@ -2,13 +2,13 @@
 use Rattle.std.specs.Prelude.{◌≡◌, ℤ}
 use Rattle.rtp_route.specs.declared.not_routed.NotRouted as not_routed
 use Rattle.rtp_c.specs.PutStatus.{put_status}
-use Rattle.rtp_c.specs.Status.{bad_field}
+use Rattle.rtp_c.specs.Status.{bad_field, long_id}
 
 -- the status of each cause for which no header is made
 abbrev pub not_routed_status : not_routed.NotRouted → ℤ
 not_routed_status not_routed.TheVariants.ManyElements = bad_field
 not_routed_status not_routed.TheVariants.RepeatedId = bad_field
-not_routed_status not_routed.TheVariants.LongId = bad_field
+not_routed_status not_routed.TheVariants.LongId = long_id
 not_routed_status (not_routed.TheVariants.NotPut cause) = put_status cause
 
 -- the status of a cause that applies

@@ -19,7 +19,7 @@ use super::growing::put_status_of;
 use super::map::StoredNewIds;
 use super::named_elements::NamedElements;
 use super::packet::{ElementView, allowed_of};
-use super::status::{BAD_FIELD, OK, status_of};
+use super::status::{BAD_FIELD, LONG_ID, OK, status_of};
 use rtp_ext::NewIds;
 use rtp_route::{Group, MAX_ELEMENTS, NotRouted, Slot, TemplateParts, make_template};
 use rtp_wire::RtpPacket;
@@ -97,7 +97,8 @@ fn not_routed_status(cause: NotRouted) -> i32
     ensures { result ≡ not_routed_status cause }
 {
     match cause {
-        NotRouted::ManyElements | NotRouted::RepeatedId | NotRouted::LongId => BAD_FIELD,
+        NotRouted::ManyElements | NotRouted::RepeatedId => BAD_FIELD,
+        NotRouted::LongId => LONG_ID,
         NotRouted::NotPut(cause) => put_status_of(cause),
     }
 }
@@ -110,7 +111,7 @@ fn not_routed_status(cause: NotRouted) -> i32
 /// `OK`; `BAD_FIELD` where `allowed` is above 2, `data_at + data_len` of an element is past
 /// `bytes`, or there are more than 16 elements; the status of the first cause for which the bytes
 /// are no packet; `BAD_FIELD` where two elements have one id; `SHORT_BUFFER` where the packet's
-/// header has no room; `BAD_FIELD` where the form of its block can't carry a new id; and of each
+/// header has no room; `LONG_ID` where the form of its block can't carry a new id; and of each
 /// element in turn what `rtpw_put_element` returns of it. Where it isn't `OK` the buffer may hold
 /// anything, and nothing else is written.
 #[unsafe(no_mangle)]

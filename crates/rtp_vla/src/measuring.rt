@@ -192,7 +192,8 @@ fn masks_len(masks: &[u8]) -> usize
 }
 
 // The masks of the allocation, and how many bytes it has, where it can be written: the test and the
-// measure in one.
+// measure in one. It is inlined, so that nothing sent costs little besides the call.
+#[inline(always)]
 #[tactic(auto, unfolding(crate::specs::AllocationWritten::written_of))]
 pub(super) fn masks_and_len<S: Layered>(v: &LentAllocation<S>) -> Option<([u8; 4], usize)>
     ensures fits { IfSome result (λ found. (written.can_be_written v.now ≡ true)
