@@ -1304,10 +1304,10 @@ typedef struct {
  * RTPW_OK; RTPW_BAD_FIELD, before all else, where `allowed` is none of the three, count is above 16, or the data of an
  * element reach past `data`; the first cause for which the bytes are no packet; RTPW_BAD_FIELD where two of the
  * elements have one id; and then what the first of those calls returns that refuses: RTPW_SHORT_BUFFER where the
- * packet's header has no room; RTPW_BAD_FIELD where the packet's form can't carry a new id that an element gets (one
- * above 14 in the one-byte form); and of the elements in turn, as rtpw_put_element, RTPW_BAD_ID, RTPW_BAD_FIELD of more
- * than 255 bytes of data, RTPW_UNKNOWN_FORM, RTPW_FORM_NOT_ALLOWED, RTPW_LONG_BLOCK or RTPW_SHORT_BUFFER. Where it
- * isn't RTPW_OK *made is as it was, but the buffer may hold anything; so may what lies behind the header where it is. */
+ * packet's header has no room; RTPW_LONG_ID where an element gets a new id above 14, and the packet's form is the
+ * one-byte form; and of the elements in turn, as rtpw_put_element, RTPW_BAD_ID, RTPW_BAD_FIELD of more than 255 bytes of
+ * data, RTPW_UNKNOWN_FORM, RTPW_LONG_ID, RTPW_FORM_NOT_ALLOWED, RTPW_LONG_BLOCK or RTPW_SHORT_BUFFER. Where it isn't
+ * RTPW_OK *made is as it was, but the buffer may hold anything; so may what lies behind the header where it is. */
 RTPW_CHECKED int32_t rtpw_make_template(const uint8_t *datagram, size_t len, const rtpw_new_ids *ids,
                                         const uint8_t *data, size_t data_len, const rtpw_element *elements,
                                         size_t count, uint8_t allowed, uint8_t *buf, size_t size,

@@ -43,9 +43,9 @@ const shortBuffer = 8
 //
 // It returns ErrBadField, before all else, where Allowed is none of the three forms, there are more than 16 elements, or
 // the data of one reach past the data; the first [Cause] for which the datagram is no packet; ErrBadField where two
-// elements have one id; and then what the first of the three calls returns that refuses: ErrBadField where the packet's
+// elements have one id; and then what the first of the three calls returns that refuses: [ErrLongID] where the packet's
 // form can't carry a new id, and of the elements in turn [ErrBadID], ErrBadField of more than 255 bytes of data,
-// ErrOtherForm, [ErrFormNotAllowed] or [ErrLongBlock]. No header is made then.
+// ErrOtherForm, ErrLongID, [ErrFormNotAllowed] or [ErrLongBlock]. No header is made then.
 func (t *HeaderTemplate) Make(datagram []byte, group *Group, data []byte) error {
 	status := t.make(datagram, group, data)
 	for status == shortBuffer && t.grow(datagram, group) {

@@ -178,7 +178,7 @@ func TestHeadersThatAreNotMade(t *testing.T) {
 		{routable(), nil, with(rtpwire.Place{ID: 20, Len: 1}), rtpwire.AnyForm, rtpwire.ErrBadField},
 		{routable(), nil, with(rtpwire.Place{ID: 0, Len: 1}), rtpwire.AnyForm, rtpwire.ErrBadID},
 		{routable(), nil, with(rtpwire.Place{ID: 0, Len: 1}), rtpwire.OneByteForm, rtpwire.ErrFormNotAllowed}, // 20, before that
-		{routable(), newIDs([2]uint8{1, 15}), nil, rtpwire.AnyForm, rtpwire.ErrBadField},
+		{routable(), newIDs([2]uint8{1, 15}), nil, rtpwire.AnyForm, rtpwire.ErrLongID},
 		{routable(), newIDs([2]uint8{1, 14}), nil, rtpwire.AnyForm, nil},
 		{routable(), nil, with(rtpwire.Place{ID: 21, Len: 1}), rtpwire.OneByteForm, rtpwire.ErrFormNotAllowed},
 	}

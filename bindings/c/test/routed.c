@@ -173,7 +173,7 @@ static void refusals(void) {
     elements[1] = element_of(0, 1, 0);
     CHECK(status_of(SAMPLE, sizeof SAMPLE, &ids, elements, 2, RTPW_ANY_FORM, sizeof header) == RTPW_BAD_ID);
     ids = ids_of(1, 15);
-    CHECK(status_of(SAMPLE, sizeof SAMPLE, &ids, elements, 0, RTPW_ANY_FORM, sizeof header) == RTPW_BAD_FIELD);
+    CHECK(status_of(SAMPLE, sizeof SAMPLE, &ids, elements, 0, RTPW_ANY_FORM, sizeof header) == RTPW_LONG_ID);
     /* the header's twenty bytes have room, and one byte less hasn't; then what is put hasn't */
     ids = ids_of(1, 14);
     CHECK(status_of(SAMPLE, sizeof SAMPLE, &ids, elements, 0, RTPW_ANY_FORM, 20) == RTPW_OK);

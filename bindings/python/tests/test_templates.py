@@ -14,6 +14,7 @@ from rtp_wire import (
     Cause,
     Form,
     FormNotAllowed,
+    LongId,
     Header,
     HeaderTemplate,
     LongBlock,
@@ -138,13 +139,14 @@ class Making(unittest.TestCase):
             (BadId, lambda: HeaderTemplate(SAMPLE, ids, [(256, b"a")]), "id is 256, and not 1 to 255"),
             (BadField, lambda: HeaderTemplate(SAMPLE, ids, allowed=wrong_form), "allowed is 3, and not 0 to 2"),
             (
-                BadField,
+                LongId,
                 lambda: HeaderTemplate(SAMPLE, NewIds({1: 15})),
-                "a new id is above 14, and the block in the one-byte form",
+                "an id above 14, which the one-byte form can't carry",
             ),
             (OtherForm, lambda: HeaderTemplate(with_block("ABAC0000"), ids, [(4, b"a")]), "an unknown form"),
             (
                 FormNotAllowed,
+    LongId,
                 lambda: HeaderTemplate(SAMPLE, ids, [(4, b"")], Form.ONE_BYTE),
                 "a form of the extension block that isn't allowed",
             ),
@@ -422,7 +424,7 @@ class ByCalls(unittest.TestCase):
             self.assertEqual(made.write(routes), each)
             buffer = bytearray(len(routes) * made.header_len)
             self.assertEqual(made.write_into(buffer, routes), each)
-        self.assertEqual(causes, {BadField, FormNotAllowed, OtherForm})
+        self.assertEqual(causes, {LongId, FormNotAllowed, OtherForm})
 
     def test_any_places_fields_and_data(self) -> None:
         draw, made = Random(9), template()

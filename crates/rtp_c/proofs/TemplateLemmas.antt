@@ -18,7 +18,7 @@ use Rattle.rtp_wire.specs.PartsOf.{parts_of, datagram_of}
 use Rattle.rtp_c.specs.declared.packet.ElementView.{ElementView}
 use Rattle.rtp_c.specs.ElementView.{element_in}
 use Rattle.rtp_c.specs.RoutedStatus.{not_routed_status}
-use Rattle.rtp_c.specs.Status.{ok, bad_field}
+use Rattle.rtp_c.specs.Status.{ok, bad_field, long_id}
 use Rattle.rtp_c.specs.StoredTemplate.{slots_at}
 use Rattle.rtp_c.specs.WrittenElements.{elements_in}
 use Rattle.rtp_c.proofs.PutLemmas.{status_is, status≢ok}

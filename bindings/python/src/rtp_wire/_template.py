@@ -6,7 +6,7 @@ from typing import TYPE_CHECKING, Iterable, List, NamedTuple, Optional, Sequence
 
 from . import _library
 from ._buffers import address_of, place_of, view_of, writable_view_of
-from ._errors import HIGH_ID, BadField, RtpError, Status, checked, element_id, error_of, unsigned, within
+from ._errors import BadField, RtpError, Status, check, element_id, error_of, unsigned, within
 from ._growing import allowed_forms
 from ._map import NewIds, raw_new_ids
 from ._packet import Form, put_fields
@@ -64,9 +64,10 @@ class HeaderTemplate:
         these, pairs of an id and its data, are put into it in their order, at most 16 of ids of their own, in the forms
         that are allowed, as in `put_element`. Its header alone is enough.
 
-        BadField where there are more elements, two have one id, one has more than 255 bytes of data, or the form of the
-        block can't carry a new id, one above 14 in the one-byte form, of which `change_form` makes the other; BadId
-        where an id isn't 1 to 255; NotAPacket; OtherForm; FormNotAllowed; LongBlock."""
+        BadField where there are more elements, two have one id, or one has more than 255 bytes of data; BadId where an
+        id isn't 1 to 255; LongId where the block has the one-byte form, of which `change_form` makes the other, and an
+        element gets a new id above 14, or where one that is put has such an id, and that form alone is allowed;
+        NotAPacket; OtherForm; FormNotAllowed; LongBlock."""
         data, places = _gather(elements)
         forms, new_ids = allowed_forms(allowed), raw_new_ids(ids)
         packet, at = place_of(datagram)
@@ -85,7 +86,7 @@ class HeaderTemplate:
             len(room),
             self._raw,
         )
-        checked(status, HIGH_ID)
+        check(status)
         self._header = bytes(room[: self._raw.header_len])
 
     @property

@@ -39,11 +39,6 @@ impl Place {
         Place { id, ..self }
     }
 
-    /// Whether so many bytes have its data, and these are no more than an element has.
-    pub(crate) fn is_within(&self, len: usize) -> bool {
-        self.data_len <= 255 && len.checked_sub(self.data_len) >= Some(self.data_at)
-    }
-
     /// Where its data lie: offsets from the first byte of the block's body.
     #[must_use]
     pub fn data(&self) -> Range<usize> {

@@ -357,9 +357,10 @@ pub enum NotRouted {
     ManyElements,
     /// Two of the elements have one id.
     RepeatedId,
-    /// An element of the packet would get an id that the packet's form can't carry: one above 14 in the one-byte form,
-    /// of which [`change_form`](crate::change_form) makes the other.
-    BadNewId,
+    /// An element would have an id above 14, which the one-byte form can't carry: one of the packet's gets it, whose
+    /// block has that form ([`change_form`](crate::change_form) makes it the other), or one that is put has it, and
+    /// that form alone is allowed.
+    LongId,
     /// An element isn't put, or the buffer has no room: [`source`](Error::source) says why. It is
     /// [`NotPut::BadField`] where there are more than 255 bytes of data, or these reach past what they lie in.
     NotPut(NotPut),
@@ -370,7 +371,7 @@ impl fmt::Display for NotRouted {
         f.write_str(match self {
             NotRouted::ManyElements => "more than 16 elements",
             NotRouted::RepeatedId => "two elements of one id",
-            NotRouted::BadNewId => "the block's form can't carry a new id",
+            NotRouted::LongId => "an id above 14, which the one-byte form can't carry",
             NotRouted::NotPut(_) => "an element can't be put, or there is no room",
         })
     }

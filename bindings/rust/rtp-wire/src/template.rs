@@ -231,6 +231,7 @@ impl Group<'_> {
     fn check(&self, status: i32) -> Result<(), NotRouted> {
         match NotPut::of_status(status) {
             Err(NotPut::BadField) => Err(self.bad_field()),
+            Err(NotPut::LongId) => Err(NotRouted::LongId),
             other => other.map_err(NotRouted::NotPut),
         }
     }
@@ -243,8 +244,6 @@ impl Group<'_> {
             NotRouted::ManyElements
         } else if (0..elements.len()).any(is_repeated) {
             NotRouted::RepeatedId
-        } else if elements.iter().all(|it| it.is_within(self.data.len())) {
-            NotRouted::BadNewId
         } else {
             NotRouted::NotPut(NotPut::BadField)
         }

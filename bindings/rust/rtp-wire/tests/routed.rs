@@ -365,7 +365,7 @@ fn elements_have_ids_of_their_own_and_are_few() {
     // what else may be put, where the packet's own element can't have its id
     for elements in [&[][..], &all[..16], &[place(30, 45, 255)]] {
         let refused = cause(&SAMPLE, &long_id, elements, 5000);
-        assert_eq!(refused, Some(NotRouted::BadNewId), "{elements:?}");
+        assert_eq!(refused, Some(NotRouted::LongId), "{elements:?}");
     }
 }
 
@@ -672,7 +672,7 @@ fn causes_are_told() {
     for (cause, text) in [
         (NotRouted::ManyElements, "more than 16 elements"),
         (NotRouted::RepeatedId, "two elements of one id"),
-        (NotRouted::BadNewId, "the block's form can't carry a new id"),
+        (NotRouted::LongId, "an id above 14, which the one-byte form can't carry"),
         (
             NotRouted::NotPut(NotPut::BadId),
             "an element can't be put, or there is no room",

@@ -127,13 +127,16 @@ fn by_calls(
     changed.set_fields(fields).unwrap();
     changed
         .renumber(group.ids)
-        .map_err(|_| NotRouted::BadNewId)?;
+        .map_err(|_| NotRouted::LongId)?;
     let mut left = data;
     for it in elements {
         let (its_data, rest) = left.split_at(it.data().len());
         left = rest;
         len = put_element(&mut buf, len, it.id(), its_data, group.allowed)
-            .map_err(NotRouted::NotPut)?;
+            .map_err(|cause| match cause {
+                NotPut::LongId => NotRouted::LongId,
+                other => NotRouted::NotPut(other),
+            })?;
     }
     assert_eq!(left, [0; 0]);
     len = compact(&mut buf[..len]).unwrap();
@@ -209,7 +212,7 @@ fn each_is_what_the_calls_for_one_packet_make() {
     let not_put = NotRouted::NotPut;
     for cause in [
         NotRouted::RepeatedId,
-        NotRouted::BadNewId,
+        NotRouted::LongId,
         not_put(NotPut::BadId),
         not_put(NotPut::FormNotAllowed),
         not_put(NotPut::OtherForm),
