@@ -24,10 +24,8 @@ use rtp_ext::{
 // The most bytes that the body of a block has: 65,535 words.
 pub(super) const MAX_BODY_LEN: usize = 4 * 65_535;
 
-// Why an element of this id isn't put where only the one-byte form is allowed, and doesn't serve. It
-// stays out of line, so that a call does nothing for it where an element is put.
-#[cold]
-#[inline(never)]
+// Why an element of this id isn't put where only the one-byte form is allowed, and doesn't serve.
+#[inline(always)]
 pub(super) fn not_allowed(id: u8) -> NotPut
     ensures long { 14 < id → result ≡ LongId }
     ensures other { id ≤ 14 → result ≡ OneByteOnly }
@@ -213,6 +211,7 @@ pub(super) fn move_bytes(buf: &mut [u8], start: usize, end: usize, to: usize)
 
 // Gives the block that begins at an offset a body of so many bytes, which are those that stand there: moves
 // the payload behind it, and writes the number of its words.
+#[inline(always)]
 pub(super) fn resize(
     buf: &mut [u8],
     len: usize,
