@@ -1,9 +1,9 @@
 /*
  * rtp_lines for Linux on aarch64: the assembly text that Rattle's compiler makes of the program, each function of which is proved.
  * Made anew by: generated/make
- * kit: rattle-kit-13b logic dac8208d650f15bf
- * sources: 8bf8d894d0e99cb239a6192cefae58d906ab3a654b0cd2b7367ea970c81976bf
- * text: 238d8633e842dab155eed9e30432117cd74b1ed1d491a9a99eda02c1e679c2e0
+ * kit: rattle-kit-13f logic dac8208d650f15bf
+ * sources: 1ac75c60fac541373760da0bb3ac95c40e8e1c20bccb3e79cde41d5081d1a957
+ * text: bc361339bf670430402dc76d6eff394fe835efdacc82cb77abf8793d28acb16a
  * SPDX-License-Identifier: MIT OR Apache-2.0
  * Copyright (c) 2026 The rtp-wire developers (NOTICE)
  */

@@ -1,9 +1,9 @@
 /*
  * rtp_lines for Linux on x86_64: the assembly text that Rattle's compiler makes of the program, each function of which is proved.
  * Made anew by: generated/make
- * kit: rattle-kit-13b logic dac8208d650f15bf
- * sources: 8bf8d894d0e99cb239a6192cefae58d906ab3a654b0cd2b7367ea970c81976bf
- * text: 68b17938d4f068a6005ab429f23169e89e580827ad000cb3845175155b2160b3
+ * kit: rattle-kit-13f logic dac8208d650f15bf
+ * sources: 1ac75c60fac541373760da0bb3ac95c40e8e1c20bccb3e79cde41d5081d1a957
+ * text: fee7c8b9108372e250b4d97272c3a4b762317a0eac1a4eb96ae4f50eca864541
  * SPDX-License-Identifier: MIT OR Apache-2.0
  * Copyright (c) 2026 The rtp-wire developers (NOTICE)
  */

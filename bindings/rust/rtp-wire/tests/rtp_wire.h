@@ -40,7 +40,7 @@
  *      the functions that say so RTPW_BAD_ID or RTPW_LONG_BLOCK;
  *   2. the buffer holds no packet, or the form of its block has to be known and isn't: one of the causes 1 to 6;
  *   3. what is named isn't there, or the packet or an element doesn't allow it: RTPW_NONE, or RTPW_BAD_FIELD, and from
- *      the functions that say so RTPW_FORM_NOT_ALLOWED or RTPW_LONG_BLOCK;
+ *      the functions that say so RTPW_LONG_ID, RTPW_FORM_NOT_ALLOWED or RTPW_LONG_BLOCK;
  *   4. there is no room: RTPW_SHORT_BUFFER.
  */
 #ifndef RTPW_H
@@ -94,7 +94,8 @@ enum {
     RTPW_RESTARTED = 12,        /* a packet is taken, as the first one after its sender has started again */
     RTPW_BAD_ID = 13,           /* the id is 0, which no element has */
     RTPW_FORM_NOT_ALLOWED = 14, /* the block has, or an element needs, a form that isn't allowed */
-    RTPW_LONG_BLOCK = 15        /* the block would have more than 65,535 words */
+    RTPW_LONG_BLOCK = 15,       /* the block would have more than 65,535 words */
+    RTPW_LONG_ID = 16           /* an id is above 14, which the one-byte form can't carry */
 };
 
 /* What a status says, in words. */
@@ -115,6 +116,7 @@ static inline const char *rtpw_status_text(int32_t status) {
     case RTPW_BAD_ID: return "the id 0, which no element has";
     case RTPW_FORM_NOT_ALLOWED: return "a form of the extension block that isn't allowed";
     case RTPW_LONG_BLOCK: return "an extension block of more than 65,535 words";
+    case RTPW_LONG_ID: return "an id above 14, which the one-byte form can't carry";
     default: return "no status of this library";
     }
 }
@@ -251,10 +253,11 @@ enum { RTPW_ANY_FORM = 0 };
  * RTPW_OK; RTPW_BAD_FIELD, before all else, where one of the data lies in the `size` bytes of the buffer, as those of
  * another element of the packet do: copy them first; or where `allowed` is none of the three, or *len is past the
  * buffer; RTPW_BAD_ID where the id is 0; RTPW_BAD_FIELD where there are more than 255 bytes of data; the first cause
- * for which the bytes are no packet; RTPW_UNKNOWN_FORM where the block is of RTPW_OTHER_FORM; RTPW_FORM_NOT_ALLOWED
- * where it has or needs a form that isn't allowed (RTPW_ONE_BYTE_FORM alone: it has RTPW_TWO_BYTE_FORM, or else the
- * element doesn't fit, by an id above 14, no data or more than 16 bytes of them); RTPW_LONG_BLOCK where it would have
- * more than 65,535 words; RTPW_SHORT_BUFFER. */
+ * for which the bytes are no packet; RTPW_UNKNOWN_FORM where the block is of RTPW_OTHER_FORM; RTPW_LONG_ID where the id
+ * is above 14 and RTPW_ONE_BYTE_FORM alone is allowed, whatever the block and the data are; RTPW_FORM_NOT_ALLOWED where
+ * else it has or needs a form that isn't allowed (RTPW_ONE_BYTE_FORM alone: it has RTPW_TWO_BYTE_FORM, or the element
+ * has no data or more than 16 bytes of them); RTPW_LONG_BLOCK where it would have more than 65,535 words;
+ * RTPW_SHORT_BUFFER. */
 RTPW_CHECKED int32_t rtpw_put_element(uint8_t *buf, size_t size, size_t *len, uint8_t id, const uint8_t *data,
                                       size_t data_len, uint8_t allowed);
 
@@ -292,9 +295,10 @@ RTPW_CHECKED int32_t rtpw_compact(uint8_t *buf, size_t size, size_t *len);
  *     }
  *
  * RTPW_OK; RTPW_BAD_FIELD, before all else, where the form is none of the two, or *len is past the buffer; the first
- * cause for which the bytes are no packet; RTPW_UNKNOWN_FORM where the block is of RTPW_OTHER_FORM;
- * RTPW_FORM_NOT_ALLOWED where the one-byte form can't carry an element, which has an id above 14, no data, or more than
- * 16 bytes of them; RTPW_LONG_BLOCK where the block would have more than 65,535 words; RTPW_SHORT_BUFFER. */
+ * cause for which the bytes are no packet; RTPW_UNKNOWN_FORM where the block is of RTPW_OTHER_FORM; RTPW_LONG_ID where
+ * an element has an id above 14, which the one-byte form can't carry; RTPW_FORM_NOT_ALLOWED where none has, and one has
+ * no data or more than 16 bytes of them, which it can't either; RTPW_LONG_BLOCK where the block would have more than
+ * 65,535 words; RTPW_SHORT_BUFFER. */
 RTPW_CHECKED int32_t rtpw_change_form(uint8_t *buf, size_t size, size_t *len, uint8_t form);
 
 /* Takes the block off, of whatever form, and clears X: the payload moves to the end of the CSRC list. Without a block
@@ -880,9 +884,9 @@ typedef struct {
  */
 void rtpw_new_ids_between(const rtpw_map *from, const rtpw_map *to, rtpw_new_ids *ids);
 /* Gives each element of the packet in the buffer its new id, and makes one that gets none padding; no
- * other byte changes. A packet without elements stays as it is. RTPW_OK; RTPW_BAD_FIELD where the packet's
- * form can't carry a new id that an element gets (one above 14 in the one-byte form); or the first cause
- * for which the buffer holds no packet. Where it isn't RTPW_OK nothing changes. */
+ * other byte changes. A packet without elements stays as it is. RTPW_OK; RTPW_LONG_ID where an element would
+ * get an id above 14 in the one-byte form, which can't carry it; or the first cause for which the buffer holds
+ * no packet. Where it isn't RTPW_OK nothing changes. */
 RTPW_CHECKED int32_t rtpw_renumber(uint8_t *datagram, size_t len, const rtpw_new_ids *ids);
 
 /* ---- Padding and retransmissions ---- */
@@ -916,8 +920,8 @@ void rtpw_new_ids_from_retransmission(const rtpw_map *map, rtpw_new_ids *ids);
  * becomes its length, two bytes more than the packet has without its padding; bytes behind it stay. The payload
  * moves within the buffer; `len` and `ids` must not lie there.
  *
- * RTPW_OK; RTPW_BAD_FIELD where payload_type is above 127, *len is above size, padding_fits is 0, or the packet's
- * form can't carry a new id that an element gets; the first cause for which there is no packet; or
+ * RTPW_OK; RTPW_BAD_FIELD where payload_type is above 127, *len is above size, or padding_fits is 0; the first cause
+ * for which there is no packet; RTPW_LONG_ID where an element would get an id above 14 in the one-byte form; or
  * RTPW_SHORT_BUFFER where only room for the two bytes lacks. Where it isn't RTPW_OK nothing changes.
  *
  *     uint8_t datagram[1500];
@@ -937,8 +941,8 @@ RTPW_CHECKED int32_t rtpw_to_retransmission(uint8_t *buf, size_t size, size_t *l
  *
  * RTPW_OK; or the first that applies: RTPW_BAD_FIELD where payload_type is above 127 or *len is above size; the first
  * cause for which there is no packet; RTPW_BAD_FIELD where padding_fits is 0; RTPW_NONE where the payload without its
- * padding has fewer than the two bytes of a number; RTPW_BAD_FIELD where the packet's form can't carry a new id that an
- * element gets. Where it isn't RTPW_OK nothing changes. */
+ * padding has fewer than the two bytes of a number; RTPW_LONG_ID where an element would get an id above 14 in the
+ * one-byte form. Where it isn't RTPW_OK nothing changes. */
 RTPW_CHECKED int32_t rtpw_from_retransmission(uint8_t *buf, size_t size, size_t *len, uint32_t ssrc,
                                               uint8_t payload_type, const rtpw_new_ids *ids);
 
@@ -1300,10 +1304,10 @@ typedef struct {
  * RTPW_OK; RTPW_BAD_FIELD, before all else, where `allowed` is none of the three, count is above 16, or the data of an
  * element reach past `data`; the first cause for which the bytes are no packet; RTPW_BAD_FIELD where two of the
  * elements have one id; and then what the first of those calls returns that refuses: RTPW_SHORT_BUFFER where the
- * packet's header has no room; RTPW_BAD_FIELD where the packet's form can't carry a new id that an element gets (one
- * above 14 in the one-byte form); and of the elements in turn, as rtpw_put_element, RTPW_BAD_ID, RTPW_BAD_FIELD of more
- * than 255 bytes of data, RTPW_UNKNOWN_FORM, RTPW_FORM_NOT_ALLOWED, RTPW_LONG_BLOCK or RTPW_SHORT_BUFFER. Where it
- * isn't RTPW_OK *made is as it was, but the buffer may hold anything; so may what lies behind the header where it is. */
+ * packet's header has no room; RTPW_LONG_ID where an element gets a new id above 14, and the packet's form is the
+ * one-byte form; and of the elements in turn, as rtpw_put_element, RTPW_BAD_ID, RTPW_BAD_FIELD of more than 255 bytes of
+ * data, RTPW_UNKNOWN_FORM, RTPW_LONG_ID, RTPW_FORM_NOT_ALLOWED, RTPW_LONG_BLOCK or RTPW_SHORT_BUFFER. Where it isn't
+ * RTPW_OK *made is as it was, but the buffer may hold anything; so may what lies behind the header where it is. */
 RTPW_CHECKED int32_t rtpw_make_template(const uint8_t *datagram, size_t len, const rtpw_new_ids *ids,
                                         const uint8_t *data, size_t data_len, const rtpw_element *elements,
                                         size_t count, uint8_t allowed, uint8_t *buf, size_t size,
