@@ -100,7 +100,7 @@ static int32_t make(size_t len, const rtpw_new_ids *ids, size_t data_len, const 
         return RTPW_SHORT_BUFFER;
     }
     if (!renumber(&it, ids)) {
-        return RTPW_BAD_FIELD;
+        return RTPW_LONG_ID;
     }
     size_t sources_end = 12 + it.csrc_count * 4, body_len = it.body_len;
     int form = it.form;
@@ -113,6 +113,9 @@ static int32_t make(size_t len, const rtpw_new_ids *ids, size_t data_len, const 
         }
         if (form == 3) {
             return RTPW_UNKNOWN_FORM;
+        }
+        if (allowed == 1 && elements[i].id > 14) {
+            return RTPW_LONG_ID;
         }
         bool is_short = elements[i].id <= 14 && elements[i].data_len >= 1 && elements[i].data_len <= 16;
         int needed = form != 2 && is_short ? 1 : 2;
