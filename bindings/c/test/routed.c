@@ -129,6 +129,8 @@ static void groups(void) {
     elements[0] = element_of(4, 0, 20);
     is_made(three, sizeof three, &same, NUMBERS, sizeof NUMBERS, elements, 1, RTPW_ANY_FORM, two_byte, sizeof two_byte);
     CHECK(made.data_at[0] == 28 && made.data_len[0] == 0);
+    CHECK(status_of(three, sizeof three, &same, elements, 1, RTPW_ONE_BYTE_FORM, sizeof header) == RTPW_LONG_ID);
+    elements[0] = element_of(4, 0, 14);
     CHECK(status_of(three, sizeof three, &same, elements, 1, RTPW_ONE_BYTE_FORM, sizeof header) == RTPW_FORM_NOT_ALLOWED);
     elements[0] = element_of(0, 2, 4);
     is_made(bare, sizeof bare, &same, NUMBERS, sizeof NUMBERS, elements, 1, RTPW_ANY_FORM, with_block, sizeof with_block);
