@@ -401,9 +401,15 @@ fn forms_that_are_not_allowed_and_others() {
         elements: &elements,
         allowed: ONE,
     };
+    assert_eq!(
+        made(&SAMPLE, &group, 5000).err(),
+        Some(NotRouted::LongId)
+    );
+    let of_none = [place(14, 0, 0)];
+    group.elements = &of_none;
     let not_allowed = Some(NotRouted::NotPut(NotPut::FormNotAllowed));
     assert_eq!(made(&SAMPLE, &group, 5000).err(), not_allowed);
-    group.allowed = TWO;
+    (group.elements, group.allowed) = (&elements, TWO);
     let two = made(&SAMPLE, &group, 5000).unwrap();
     assert_eq!(two.header(), written(0x90, "10000002 0301AA 140100 0000"));
     let camera = written(0x90, "ABAC0000");
