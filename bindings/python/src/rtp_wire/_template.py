@@ -6,7 +6,7 @@ from typing import TYPE_CHECKING, Iterable, List, NamedTuple, Optional, Sequence
 
 from . import _library
 from ._buffers import address_of, place_of, view_of, writable_view_of
-from ._errors import BadField, RtpError, Status, check, element_id, error_of, unsigned, within
+from ._errors import BadField, RtpError, Status, check, checked, element_id, error_of, unsigned, within
 from ._growing import allowed_forms
 from ._map import NewIds, raw_new_ids
 from ._packet import Form, put_fields

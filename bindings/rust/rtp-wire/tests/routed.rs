@@ -401,10 +401,7 @@ fn forms_that_are_not_allowed_and_others() {
         elements: &elements,
         allowed: ONE,
     };
-    assert_eq!(
-        made(&SAMPLE, &group, 5000).err(),
-        Some(NotRouted::LongId)
-    );
+    assert_eq!(made(&SAMPLE, &group, 5000).err(), Some(NotRouted::LongId));
     let of_none = [place(14, 0, 0)];
     group.elements = &of_none;
     let not_allowed = Some(NotRouted::NotPut(NotPut::FormNotAllowed));
@@ -678,7 +675,10 @@ fn causes_are_told() {
     for (cause, text) in [
         (NotRouted::ManyElements, "more than 16 elements"),
         (NotRouted::RepeatedId, "two elements of one id"),
-        (NotRouted::LongId, "an id above 14, which the one-byte form can't carry"),
+        (
+            NotRouted::LongId,
+            "an id above 14, which the one-byte form can't carry",
+        ),
         (
             NotRouted::NotPut(NotPut::BadId),
             "an element can't be put, or there is no room",
