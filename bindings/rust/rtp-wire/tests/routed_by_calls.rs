@@ -125,18 +125,17 @@ fn by_calls(
     buf.get_mut(..len).ok_or(short)?.copy_from_slice(header);
     let mut changed = PacketMut::parse(&mut buf[..len]).unwrap();
     changed.set_fields(fields).unwrap();
-    changed
-        .renumber(group.ids)
-        .map_err(|_| NotRouted::LongId)?;
+    changed.renumber(group.ids).map_err(|_| NotRouted::LongId)?;
     let mut left = data;
     for it in elements {
         let (its_data, rest) = left.split_at(it.data().len());
         left = rest;
-        len = put_element(&mut buf, len, it.id(), its_data, group.allowed)
-            .map_err(|cause| match cause {
+        len = put_element(&mut buf, len, it.id(), its_data, group.allowed).map_err(|cause| {
+            match cause {
                 NotPut::LongId => NotRouted::LongId,
                 other => NotRouted::NotPut(other),
-            })?;
+            }
+        })?;
     }
     assert_eq!(left, [0; 0]);
     len = compact(&mut buf[..len]).unwrap();
