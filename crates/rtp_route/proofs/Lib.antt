@@ -1,4 +1,5 @@
 mod LentLemmas
+mod ElementRowLemmas
 mod ByCallsLemmas
 mod WordLemmas
 mod NoZeroLemmas
@@ -13,3 +14,5 @@ mod OnlyLemmas
 mod SlotsFound
 pub mod TemplateLemmas
 mod OneHeaderLemmas
+mod RowRoomLemmas
+mod ByRowLemmas

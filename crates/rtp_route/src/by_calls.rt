@@ -16,6 +16,7 @@ ghost use Rattle.rtp_route.specs.NotRouted.{KeepsFromRouting};
 ghost use Rattle.rtp_route.specs.Routing.{IsRouted};
 
 use super::NotRouted;
+use super::by_row::write_by_row;
 use super::in_place::{renumber, set_fields};
 use rtp_base::put;
 use rtp_ext::{ExtensionsForm, NewIds};
@@ -135,6 +136,9 @@ pub fn route_header(
         × KeepsFromRouting (header_in packet.now) fields.now (new_id group.now.ids.now)
         (elements_of group.now.elements.now) group.now.allowed (length buf.old) cause) }
 {
+    if let Some(len) = write_by_row(packet, fields, group, buf) {
+        return Ok(len);
+    }
     make_header(packet, fields, group, buf)
 }
 

@@ -17,10 +17,12 @@
 #![tactic(auto)]
 
 mod by_calls;
+mod by_row;
 mod in_place;
 mod not_routed;
 mod not_written;
 mod parts;
+mod row;
 mod slots;
 mod template;
 
