@@ -360,6 +360,10 @@ fn elements_have_ids_of_their_own_and_are_few() {
         let repeated = cause(&SAMPLE, &ids, &elements, 5000);
         assert_eq!(repeated, Some(NotRouted::RepeatedId), "{last}");
     }
+    let mut sixteen = [all[0]; 16];
+    sixteen[..15].copy_from_slice(&all[..15]);
+    let repeated = cause(&SAMPLE, &ids, &sixteen, 5000);
+    assert_eq!(repeated, Some(NotRouted::RepeatedId));
     let of_zero = cause(&SAMPLE, &ids, &[place(0, 0, 1)], 5000);
     assert_eq!(of_zero, Some(NotRouted::NotPut(NotPut::BadId)));
     // what else may be put, where the packet's own element can't have its id
