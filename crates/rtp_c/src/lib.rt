@@ -13,6 +13,7 @@ mod data;
 mod datagrams;
 mod given;
 mod given_layers;
+mod given_parts;
 mod given_values;
 mod growing;
 mod header;

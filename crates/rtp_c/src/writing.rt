@@ -1,12 +1,12 @@
 //! What C gives to be written, headers and elements, from fields and values to bytes.
 
-ghost use Rattle.std.specs.Prelude.{◌≡◌, ◌≢◌, ◌↔◌, ◌≤◌, ◌<◌, ◌⊎◌, length, false, true, IsTrue, Option, Some, None};
+ghost use Rattle.std.specs.Prelude.{◌≡◌, ◌≢◌, ◌↔◌, ◌≤◌, ◌<◌, ◌⊎◌, length, IsTrue, Option, Some, None};
 ghost use Rattle.std.specs.List.{All};
 ghost use Rattle.rtp_ext.specs.declared.form.ExtensionsForm.{ExtensionsForm};
 ghost use Rattle.rtp_ext.specs.ElementsInARow.{IsWritable};
 ghost use Rattle.rtp_wire.specs.declared.header.rtp_header.RtpHeader.{RtpHeader as Header};
 ghost use Rattle.rtp_c.specs.Status.{ok, short_buffer, bad_field};
-ghost use Rattle.rtp_c.specs.Given.{is_nonzero, IsGivenHeader};
+ghost use Rattle.rtp_c.specs.Given.{is_nonzero, AreGivenValues, IsGivenHeader};
 ghost use Rattle.rtp_c.specs.PacketView.{form_number};
 ghost use Rattle.rtp_c.specs.WrittenElements.{AreWritable, AreWrittenElements, AreTooLong};
 ghost use Rattle.rtp_c.specs.WrittenHeader.{IsLengthOf, IsWrittenHeader, IsTooLong, WritesHeader, CanBeWrittenWith, IsWrittenWith, IsTooLongWith};
@@ -180,53 +180,35 @@ pub extern "C" fn rtpw_write(
     ensures statuses { (result ≡ ok) ⊎ ((result ≡ short_buffer) ⊎ (result ≡ bad_field)) }
     ensures unchanged { result ≢ ok → (buf.new ≡ buf.old) × (len.new ≡ len.old) }
 {
-    if header.has_extension == 0 {
-        write_without_block(map, header, buf, len)
-    } else {
-        write_with_block(map, header, buf, len)
-    }
-}
-
-// Writes the header as `rtpw_write` does, where X is clear. It stays out of line, so that it saves
-// no register for a block.
-#[inline(never)]
-fn write_without_block(map: &StoredMap, header: &HeaderView, buf: &mut [u8], len: &mut usize) -> i32
-    requires { is_nonzero header.now.has_extension ≡ false }
-    ensures { WritesHeader map.now.kind (IsGivenHeader header.now) buf.old buf.new len.old len.new
-        result }
-{
-    write_with_x(map, header, false, buf, len)
-}
-
-// The same, where X is set.
-#[inline(never)]
-fn write_with_block(map: &StoredMap, header: &HeaderView, buf: &mut [u8], len: &mut usize) -> i32
-    requires { is_nonzero header.now.has_extension ≡ true }
-    ensures { WritesHeader map.now.kind (IsGivenHeader header.now) buf.old buf.new len.old len.new
-        result }
-{
-    write_with_x(map, header, true, buf, len)
-}
-
-// The same, where it is known whether X is set.
-#[inline(always)]
-fn write_with_x(
-    map: &StoredMap,
-    header: &HeaderView,
-    has_extension: bool,
-    buf: &mut [u8],
-    len: &mut usize,
-) -> i32
-    requires { has_extension ≡ is_nonzero header.now.has_extension }
-    ensures { WritesHeader map.now.kind (IsGivenHeader header.now) buf.old buf.new len.old len.new
-        result }
-{
     let Some(values) = GivenValues::of(&header.values) else {
         return BAD_FIELD;
     };
+    if header.has_extension == 0 {
+        write_given::<0>(map, header, values, buf, len)
+    } else {
+        write_given::<1>(map, header, values, buf, len)
+    }
+}
+
+// Writes the header with these values, its own, as `rtpw_write` does, where X is this. It is
+// compiled for each of the two by itself, and stays out of line, so that what writes no block saves
+// no register for one.
+#[inline(never)]
+fn write_given<const X: usize>(
+    map: &StoredMap,
+    header: &HeaderView,
+    values: GivenValues<'_>,
+    buf: &mut [u8],
+    len: &mut usize,
+) -> i32
+    requires extension { is_nonzero header.now.has_extension ≡ is_nonzero X }
+    requires values { AreGivenValues header.now.values values }
+    ensures { WritesHeader map.now.kind (IsGivenHeader header.now) buf.old buf.new len.old len.new
+        result }
+{
     let mut unfreed = ManuallyDrop::new(RtpHeader::default());
     let rtp_header = &mut *unfreed;
-    let Some(()) = put_fields_with_x(header, has_extension, rtp_header) else {
+    let Some(()) = put_fields_with_x(header, X != 0, rtp_header) else {
         return BAD_FIELD;
     };
     let Some(written) = rtp_header.try_write_values(buf, &values, map) else {

@@ -65,9 +65,9 @@ fn put_in_rows(
 
 /// Makes a body anew with the element in it, in this form or the two-byte form (RFC 8285, 4.2 and
 /// 4.3): the elements in a row, without those of the id 0, which is padding's, and zeros to the end
-/// of the slice, at whose front the body lies.
-#[inline(always)]
-pub fn put_anew(
+/// of the slice, at whose front the body lies. It is compiled anew for each `COPY`, so that one that
+/// is called at one place alone is compiled into its caller.
+pub fn put_anew<const COPY: usize>(
     form: ExtensionsForm,
     new_form: ExtensionsForm,
     body: &mut [u8],

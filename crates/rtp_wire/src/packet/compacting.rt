@@ -5,7 +5,7 @@ ghost use Rattle.rtp_wire.specs.NotAHeader.{IsNoPacket};
 ghost use Rattle.rtp_wire.specs.NotAPacket.{IsFirstCause};
 ghost use Rattle.rtp_wire.specs.PutIntoPacket.{Compacts};
 
-use super::putting::resize;
+use super::resizing::resize;
 use super::rtp_packet::sources_end;
 use super::{NotAPacket, RtpPacket};
 use crate::header::{BLOCK_HEADER_LEN, in_words};

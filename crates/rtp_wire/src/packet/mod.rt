@@ -16,6 +16,7 @@ mod padding;
 mod putting;
 mod remaking_block;
 mod replacing_block;
+mod resizing;
 mod retransmission;
 mod rtcp;
 mod rtp_packet;

@@ -9,7 +9,8 @@ ghost use Rattle.rtp_wire.specs.GrowingPacket.{IsRemaking};
 ghost use Rattle.rtp_wire.specs.PutIntoPacket.{form_of_block, IsFirstNotPut};
 ghost use Rattle.rtp_wire.specs.RemadeBlock.{IsRemade, RemakesBlock, StopsRemaking, IsInOther, KeepsFromForm, form_with, KeepsFromAdding};
 
-use super::putting::{MAX_BODY_LEN, announce, not_allowed, resize};
+use super::putting::{MAX_BODY_LEN, not_allowed};
+use super::resizing::{announce, resize};
 use super::rtp_packet::sources_end;
 use super::{NotPut, RtpPacket, RtpPacketBuf};
 use crate::header::{BLOCK_HEADER_LEN, in_words};

@@ -1,6 +1,6 @@
 use Rattle.rtp_wire.proofs.ResizedLemmas.{resized-put}
 use Rattle.std.proofs.Common.{refl}
-use Rattle.rtp_wire.proofs.packet.putting.resize.Goals as goal
+use Rattle.rtp_wire.proofs.packet.resizing.resize.Goals as goal
 
 pub returns : goal.returns
 returns c =

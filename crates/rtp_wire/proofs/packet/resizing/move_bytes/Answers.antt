@@ -1,5 +1,5 @@
 use Rattle.rtp_wire.proofs.Common.{arith, ◌≡◌, ℕ, ◌+◌, ◌-◌, List, drop, ◌++◌, ap, sym, ◌∙◌, subst, take-add, copy_within, take-append-drop}
-use Rattle.rtp_wire.proofs.packet.putting.move_bytes.Goals as goal
+use Rattle.rtp_wire.proofs.packet.resizing.move_bytes.Goals as goal
 
 -- bytes that are copied to where they stand
 copied_there : (xs : List ℕ) (start end : ℕ) → xs ≡ copy_within xs start end start

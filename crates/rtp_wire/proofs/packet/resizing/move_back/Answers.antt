@@ -1,5 +1,5 @@
 use Rattle.rtp_wire.proofs.Common.{◌≡◌, ℕ, ◌+◌, ◌-◌, ◌≤◌, List, [], ◌++◌, length, take, drop, append_assoc, arith, sym, ap, ◌∙◌, take-add, append-nil, take_rest, drop-drop, drop_all, put_mid, mid_of, paste}
-use Rattle.rtp_wire.proofs.packet.putting.move_back.Goals as goal
+use Rattle.rtp_wire.proofs.packet.resizing.move_back.Goals as goal
 
 -- a copy in what follows an offset is one in the whole
 moved_back : (xs new : List ℕ) (start count distance : ℕ) → start ≤ length xs → new ≡ paste (drop start xs) distance (drop start xs) count

@@ -4,15 +4,12 @@ use Rattle.rtp_c.specs.Given.{IsGivenHeader}
 use Rattle.rtp_c.specs.StoredMap.{numbered_slots}
 use Rattle.rtp_c.proofs.NumberedLemmas.{HasKinds-numbered}
 use Rattle.rtp_c.proofs.WrittenHeaderLemmas.{IsGivenHeader-with, IsTooLong-refused, WritesHeader-written, WritesHeader-short, WritesHeader-bad, type_fits, few_sources}
-use Rattle.rtp_c.proofs.writing.write_with_x.Goals as goal
-use Rattle.rtp_c.proofs.writing.write_with_x.Goals.{In-Some-put_fields_with_x}
+use Rattle.rtp_c.proofs.writing.write_given.Goals as goal
+use Rattle.rtp_c.proofs.writing.write_given.Goals.{In-Some-put_fields_with_x}
 
 -- the header that is given
-given_there : (c : In-Some-put_fields_with_x) → IsGivenHeader c.args.header.now (with_values c.put_fields_with_x.new.header c.in-Some.values)
-given_there c = IsGivenHeader-with c.args.header.now c.put_fields_with_x.new.header c.in-Some.values c.in-Some-put_fields_with_x.ensures.found c.in-Some.ensures.found
-
-pub returns-in_default : goal.returns-in_default
-returns-in_default c = WritesHeader-bad (λ h is. c.in_default.ensures.none h.ext_vals is.values)
+given_there : (c : In-Some-put_fields_with_x) → IsGivenHeader c.args.header.now (with_values c.put_fields_with_x.new.header c.args.values)
+given_there c = IsGivenHeader-with c.args.header.now c.put_fields_with_x.new.header c.args.values c.in-Some-put_fields_with_x.ensures.found c.requires.values
 
 pub returns-in_default-put_fields_with_x : goal.returns-in_default-put_fields_with_x
 returns-in_default-put_fields_with_x c = WritesHeader-bad (λ h is. c.in_default-put_fields_with_x.ensures.none h is.fields)
@@ -22,7 +19,7 @@ returns-in_default-try_write_values c =
     let there = given_there (goal.at.returns-in_default-try_write_values c).In-Some-put_fields_with_x in
     let numbers = c.args.map.now.kind in
     rw c.in_default-try_write_values.ensures.unchanged (WritesHeader-short
-    (IsTooLong-refused numbers (IsGivenHeader c.args.header.now) (numbered_slots numbers) (with_values c.put_fields_with_x.new.header c.in-Some.values) (length c.args.buf.now)
+    (IsTooLong-refused numbers (IsGivenHeader c.args.header.now) (numbered_slots numbers) (with_values c.put_fields_with_x.new.header c.args.values) (length c.args.buf.now)
     (record { has_kinds = HasKinds-numbered numbers; is_given = there })
     (type_fits c.args.header.now _ there.fields) (few_sources c.args.header.now _ there.fields)
     (c.in_default-try_write_values.ensures.refused.0 refl)))
@@ -32,7 +29,7 @@ returns c =
     let numbers = c.args.map.now.kind in
     WritesHeader-written (record {
       slots = numbered_slots numbers;
-      header = with_values c.put_fields_with_x.new.header c.in-Some.values;
+      header = with_values c.put_fields_with_x.new.header c.args.values;
       is_given = record { has_kinds = HasKinds-numbered numbers; is_given = given_there (goal.at.returns c).In-Some-put_fields_with_x };
       len_is = c.in-Some-try_write_values.ensures.length;
       written = c.in-Some-try_write_values.ensures.written;
