@@ -1,24 +1,23 @@
 //! The elements of a block, from values to bytes.
 
-ghost use Rattle.std.specs.Prelude.{◌≡◌, ◌⊎◌, ℕ, ◌+◌, ◌*◌, ◌≤◌, ◌∷◌, [], ◌++◌, length, drop, replicate, false, IfSome, IfNone};
-ghost use Rattle.std.specs.List.{list_any};
+ghost use Rattle.std.specs.Prelude.{◌≡◌, ◌⊎◌, ℕ, ◌+◌, ◌*◌, ◌≤◌, ◌∷◌, [], ◌++◌, length, drop, replicate, IfSome, IfNone};
 ghost use Rattle.rtp_ext.specs.declared.form.ExtensionsForm.TheVariants.{OneByte, TwoByte};
 ghost use Rattle.rtp_ext.specs.Elements.{AreElements, elements_bytes};
-ghost use Rattle.rtp_ext.specs.ExtensionMap.{items_from, mapped_count};
+ghost use Rattle.rtp_ext.specs.ExtensionMap.{mapped_count};
 ghost use Rattle.rtp_ext.specs.ElementWriting.{element_header, element_or_nothing, items_bytes, CanCarry, IsCarried};
 ghost use Rattle.rtp_values.specs.Spelling.{spelled_data};
 ghost use Rattle.rtp_values.specs.declared.value.values.ExtensionValues.{ExtensionValues};
 ghost use Rattle.rtp_values.specs.KnownKind.{extension_of_kind};
-ghost use Rattle.rtp_ext.specs.KindsById.{known_slots, has_empty};
+ghost use Rattle.rtp_ext.specs.KindsById.{known_slots};
 ghost use Rattle.rtp_base.specs.Overwriting.{overwritten};
 ghost use Rattle.rtp_ext.specs.BlockValues.{AreValues};
 ghost use Rattle.rtp_values.specs.Values.{no_values};
-ghost use Rattle.rtp_ext.specs.WrittenBlock.{written_elements, form_of, needs_two, image_values, HasFewData, TakesAtMost17Each};
+ghost use Rattle.rtp_ext.specs.WrittenBlock.{written_elements, form_of, image_values, HasFewData, TakesAtMost17Each};
 
 use super::form::{element_header_len, write_header};
 use super::kinds::Kinds;
 use super::known_ids::{KnownIds, KnownItems};
-use super::{ExtensionMap, ExtensionsForm};
+use super::{ExtensionMap, ExtensionsForm, values_form};
 use rtp_values::{ElementValues, ExtensionValues, KnownKind};
 
 // Most buffers have room for so many bytes.
@@ -84,55 +83,6 @@ fn next_within<K: Kinds>(
         return None;
     }
     items.next()
-}
-
-// Whether a text is written that is empty. It stays out of line, since few values have an empty
-// text and its loop would make every other call save registers.
-#[inline(never)]
-fn has_empty_data<K: Kinds, V: ElementValues>(ids: &KnownIds<'_, K>, ev: &V) -> bool
-    ensures { result ≡ has_empty (items_from 0 (known_slots ids.now)) (V.values ev.now) }
-{
-    if ids.are_none() {
-        return false;
-    }
-    let mut items = ids.iter();
-    while let Some((_, kind)) = items.next() {
-        if ev.has_empty_data(kind) {
-            return true;
-        }
-    }
-    false
-}
-
-// Whether the one-byte form doesn't serve.
-#[inline(always)]
-fn needs_two_bytes<K: Kinds, V: ElementValues>(ids: &KnownIds<'_, K>, ev: &V) -> bool
-    ensures needed { result
-        ≡ list_any (needs_two (V.values ev.now)) (items_from 0 ids.now) }
-    ensures short { result ≡ false → TakesAtMost17Each (known_slots ids.now) (V.values ev.now) }
-    ensures few { HasFewData (V.values ev.now) }
-{
-    let has_empty = ev.has_empty_text();
-    if ids.has_long() {
-        return true;
-    }
-    has_empty && has_empty_data(ids, ev)
-}
-
-/// The form that a block of these values needs under any map, as [`ExtensionMap::form`] has it.
-#[inline(always)]
-pub fn values_form<K: Kinds, V: ElementValues>(ids: &KnownIds<'_, K>, ev: &V) -> ExtensionsForm
-    ensures form { result ≡ form_of ids.now (V.values ev.now) }
-    ensures short { result ≡ OneByte → TakesAtMost17Each (known_slots ids.now) (V.values ev.now) }
-
-    // Only a layer allocation has data of more than 16 bytes.
-    ensures few { HasFewData (V.values ev.now) }
-{
-    if needs_two_bytes(ids, ev) {
-        ExtensionsForm::TwoByte
-    } else {
-        ExtensionsForm::OneByte
-    }
 }
 
 // At most how many bytes the elements of the two-byte form take, by their kinds alone: only a layer

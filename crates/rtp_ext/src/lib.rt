@@ -3,6 +3,7 @@
 #![tactic(auto)]
 
 mod block_elements;
+mod block_form;
 mod block_values;
 mod element_data;
 mod element_list;
@@ -26,7 +27,8 @@ mod slots;
 mod survey;
 mod two_byte_rows;
 
-pub use block_elements::{values_form, values_len, values_len_at_most, write_values};
+pub use block_elements::{values_len, values_len_at_most, write_values};
+pub use block_form::values_form;
 pub use block_values::{read_apart, read_layers, read_values};
 pub use element_data::{element_of, set_element, set_sole};
 pub use element_list::ElementList;

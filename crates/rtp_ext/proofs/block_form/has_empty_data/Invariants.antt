@@ -1,5 +1,5 @@
 use Rattle.rtp_ext.proofs.Common.{◌≡◌, length, items_from, has_empty, known_slots}
-use Rattle.rtp_ext.proofs.block_elements.has_empty_data.Given as goal
+use Rattle.rtp_ext.proofs.block_form.has_empty_data.Given as goal
 
 -- the ids that are left decide
 abbrev pub invariant-loop-kind : goal.invariant-loop-kind

@@ -1,7 +1,7 @@
 use Rattle.rtp_ext.proofs.Common.{sym, ◌∙◌, true, false, refl, items_from, known_slots}
 use Rattle.rtp_ext.proofs.KnownItemsLemmas.{needs_two_by, not_long_known, no_empty}
 use Rattle.rtp_ext.proofs.ShortBlockLemmas.{short_block}
-use Rattle.rtp_ext.proofs.block_elements.needs_two_bytes.Goals as goal
+use Rattle.rtp_ext.proofs.block_form.needs_two_bytes.Goals as goal
 
 pub returns-then-has_long-clause-needed : goal.returns-then-has_long-clause-needed
 returns-then-has_long-clause-needed g c =
