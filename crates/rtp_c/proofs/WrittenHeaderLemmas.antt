@@ -1,5 +1,5 @@
 -- The header that C gives, as it is written.
-use Rattle.std.proofs.Common.{◌≡◌, ℕ, ◌<◌, ◌≤◌, List, ◌++◌, length, length-append, drop, Option, inl, inr, refl, sym, ap, ◌∙◌, subst, arith}
+use Rattle.std.proofs.Common.{◌≡◌, ℕ, ℤ, w32, to_z, of_z, ◌<◌, ◌≤◌, List, ◌++◌, length, length-append, drop, Option, inl, inr, refl, sym, ap, ◌∙◌, subst, arith}
 use Rattle.rtp_ext.specs.declared.form.ExtensionsForm.{ExtensionsForm}
 use Rattle.rtp_ext.specs.Elements.{Element}
 use Rattle.rtp_ext.specs.ExtensionMap.{Slots}
@@ -15,6 +15,7 @@ use Rattle.rtp_c.specs.Given.{AreGivenFields, AreGivenValues, IsGivenHeader}
 use Rattle.rtp_c.specs.WrittenElements.{LieIn, elements_in}
 use Rattle.rtp_c.specs.Status.{ok, short_buffer, bad_field}
 use Rattle.rtp_c.specs.WrittenHeader.{IsToBeWritten, IsWrittenHeader, IsTooLong, WritesHeader, CanBeWrittenWith, IsWrittenWith, IsTooLongWith}
+use Rattle.rtp_c.proofs.WritingLemmas.{passed_on}
 
 -- headers of the same fields are written as the same bytes
 wire_bytes_with-given : (allowed : Option ExtensionsForm) (view : HeaderView) (elements : List Element) (h k : RtpHeader)
@@ -166,3 +167,8 @@ module _ {numbers : List ℕ} {IsGiven : RtpHeader → Type 0} {old : List ℕ} 
     statuses = inr (inr refl);
     unchanged = λ _. (refl, refl);
   }
+
+  -- the same of a status that is passed on
+  pub WritesHeader-passed : {new : List ℕ} {new_len : ℕ} {status : ℤ} → WritesHeader numbers IsGiven old new old_len new_len status
+      → WritesHeader numbers IsGiven old new old_len new_len (to_z w32 (of_z w32 status))
+  WritesHeader-passed {new} {new_len} {status} writes = subst (WritesHeader numbers IsGiven old new old_len new_len) (passed_on status writes.statuses) writes

@@ -5,18 +5,13 @@ use Rattle.rtp_c.specs.StoredMap.{numbered_slots}
 use Rattle.rtp_c.proofs.NumberedLemmas.{HasKinds-numbered}
 use Rattle.rtp_c.proofs.WrittenHeaderLemmas.{IsGivenHeader-with, IsTooLong-refused, WritesHeader-written, WritesHeader-short, WritesHeader-bad, type_fits, few_sources}
 use Rattle.rtp_c.proofs.writing.write_given.Goals as goal
-use Rattle.rtp_c.proofs.writing.write_given.Goals.{In-Some-put_fields_with_x}
 
--- the header that is given
-given_there : (c : In-Some-put_fields_with_x) → IsGivenHeader c.args.header.now (with_values c.put_fields_with_x.new.header c.args.values)
-given_there c = IsGivenHeader-with c.args.header.now c.put_fields_with_x.new.header c.args.values c.in-Some-put_fields_with_x.ensures.found c.requires.values
-
-pub returns-in_default-put_fields_with_x : goal.returns-in_default-put_fields_with_x
-returns-in_default-put_fields_with_x c = WritesHeader-bad (λ h is. c.in_default-put_fields_with_x.ensures.none h is.fields)
+pub returns-in_default : goal.returns-in_default
+returns-in_default g c = WritesHeader-bad (λ h is. c.in_default.ensures.none h is.fields)
 
 pub returns-in_default-try_write_values : goal.returns-in_default-try_write_values
-returns-in_default-try_write_values c =
-    let there = given_there (goal.at.returns-in_default-try_write_values c).In-Some-put_fields_with_x in
+returns-in_default-try_write_values g c =
+    let there = IsGivenHeader-with c.args.header.now c.put_fields_with_x.new.header c.args.values c.in-Some.ensures.found c.requires.values in
     let numbers = c.args.map.now.kind in
     rw c.in_default-try_write_values.ensures.unchanged (WritesHeader-short
     (IsTooLong-refused numbers (IsGivenHeader c.args.header.now) (numbered_slots numbers) (with_values c.put_fields_with_x.new.header c.args.values) (length c.args.buf.now)
@@ -25,12 +20,12 @@ returns-in_default-try_write_values c =
     (c.in_default-try_write_values.ensures.refused.0 refl)))
 
 pub returns : goal.returns
-returns c =
+returns g c =
     let numbers = c.args.map.now.kind in
     WritesHeader-written (record {
       slots = numbered_slots numbers;
       header = with_values c.put_fields_with_x.new.header c.args.values;
-      is_given = record { has_kinds = HasKinds-numbered numbers; is_given = given_there (goal.at.returns c).In-Some-put_fields_with_x };
+      is_given = record { has_kinds = HasKinds-numbered numbers; is_given = IsGivenHeader-with c.args.header.now c.put_fields_with_x.new.header c.args.values c.in-Some.ensures.found c.requires.values };
       len_is = c.in-Some-try_write_values.ensures.length;
       written = c.in-Some-try_write_values.ensures.written;
       read_back = c.in-Some-try_write_values.ensures.read_back;
