@@ -73,9 +73,9 @@ pub(super) fn gather_around(
 }
 
 /// Makes a body anew without the elements of the id 0, which is padding's (RFC 8285, 4.2 and 4.3):
-/// the others in a row, and zeros to its end. Returns how many bytes the row takes.
-#[inline(always)]
-pub fn compact_body(form: ExtensionsForm, body: &mut [u8]) -> usize
+/// the others in a row, and zeros to its end. Returns how many bytes the row takes. It is compiled
+/// anew for each `COPY`, as [`put_anew`](super::put_anew) is.
+pub fn compact_body<const COPY: usize>(form: ExtensionsForm, body: &mut [u8]) -> usize
     ensures { IsCompacted form body.old body.new result }
 {
     let len = gather_all(form, body);

@@ -19,7 +19,7 @@ use super::NotRouted;
 use super::in_place::{renumber, set_fields};
 use rtp_base::put;
 use rtp_ext::{ExtensionsForm, NewIds};
-use rtp_wire::{Fields, NotPut, RtpPacket, compact, put_element_copy};
+use rtp_wire::{Fields, NotPut, RtpPacket, compact_copy, put_element_copy};
 
 /// What receivers of a packet have in common.
 #[derive(Clone, Copy)]
@@ -91,7 +91,7 @@ pub(super) fn make_header(
     }
     let len = put_each(buf, needed, group)?;
     // It is still a packet.
-    Ok(compact(&mut buf[..len]).unwrap())
+    Ok(compact_copy::<1>(&mut buf[..len]).unwrap())
 }
 
 /// Writes the header that the packet gets on its way to a receiver with these fields, by the calls

@@ -10,8 +10,8 @@ mod run;
 pub use header::{NotAHeader, RtpHeader};
 pub use packet::{
     BlockNotPut, Csrcs, Fields, NotAPacket, NotInBuffer, NotPut, NotRetransmitted, OriginalFields,
-    RetransmissionFields, RtpPacket, RtpPacketBuf, RtpPacketMut, compact, from_retransmission,
-    is_rtcp, put_element, put_element_copy, to_retransmission,
+    RetransmissionFields, RtpPacket, RtpPacketBuf, RtpPacketMut, compact, compact_copy,
+    from_retransmission, is_rtcp, put_element, put_element_copy, to_retransmission,
 };
 pub use payload::{
     MAX_BLANK_PADDING_PAYLOAD_SIZE, create_padding_packet, read_original_sequence_number,

@@ -24,8 +24,19 @@ use rtp_ext::compact_body;
 ///
 /// The packet `90 60 00 05 00 00 00 64 00 00 00 2C BE DE 00 02 00 00 21 BB CC 00 00 00 01` (hexadecimal)
 /// becomes `90 60 00 05 00 00 00 64 00 00 00 2C BE DE 00 01 21 BB CC 00 01`, and 21 is returned.
-#[inline(always)]
 pub fn compact(datagram: &mut [u8]) -> Result<usize, NotAPacket>
+    ensures compacted { IfOk result (Compacts datagram.old datagram.new) }
+    ensures within { IfOk result (λ len. len ≤ length datagram.old) }
+    ensures cause { IfErr result (IsFirstCause datagram.old) }
+    ensures refused { IsErr result ↔ IsNoPacket datagram.old }
+    ensures unchanged { OnErr result (datagram.new ≡ datagram.old) }
+{
+    compact_copy::<0>(datagram)
+}
+
+/// The same as [`compact`], compiled anew for each `COPY`, as
+/// [`put_element_copy`](super::put_element_copy) is.
+pub fn compact_copy<const COPY: usize>(datagram: &mut [u8]) -> Result<usize, NotAPacket>
     ensures compacted { IfOk result (Compacts datagram.old datagram.new) }
     ensures within { IfOk result (λ len. len ≤ length datagram.old) }
     ensures cause { IfErr result (IsFirstCause datagram.old) }
@@ -41,7 +52,7 @@ pub fn compact(datagram: &mut [u8]) -> Result<usize, NotAPacket>
     };
     let block_at = sources_end(datagram[0]);
     let body = &mut datagram[block_at + BLOCK_HEADER_LEN..payload_at];
-    let elements_len = compact_body(form, body);
+    let elements_len = compact_body::<COPY>(form, body);
     let body_len = in_words(elements_len);
     resize(datagram, len, block_at, payload_at, body_len);
     Ok(block_at + BLOCK_HEADER_LEN + body_len + (len - payload_at))

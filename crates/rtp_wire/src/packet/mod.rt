@@ -24,7 +24,7 @@ mod rtp_packet_buf;
 mod rtp_packet_mut;
 
 pub use block_not_put::BlockNotPut;
-pub use compacting::compact;
+pub use compacting::{compact, compact_copy};
 pub use csrcs::Csrcs;
 pub use fields::Fields;
 pub(crate) use fields::flag;

@@ -4,15 +4,15 @@ use Rattle.rtp_ext.proofs.GatheredLemmas.{others-0}
 use Rattle.rtp_ext.proofs.gathering.compact_body.Goals as goal
 
 pub returns : goal.returns
-returns c =
-    let g = c.gather_all-len.ensures in
-    let row = others-0 g.elements in
-    let count = g.len_is ∙ ap (λ es. length (elements_bytes c.args.form es)) row in
+returns g c =
+    let gathered = c.gather_all-len.ensures in
+    let row = others-0 gathered.elements in
+    let count = gathered.len_is ∙ ap (λ es. length (elements_bytes c.args.form es)) row in
     record {
-      elements = g.elements;
-      are_elements = g.are_elements;
+      elements = gathered.elements;
+      are_elements = gathered.are_elements;
       new_is = c.clear_after.ensures
-          ∙ row_to-zeros c.args.form (without 0 g.elements) c.gather_all-len.new.body c.gather_all-len.result _ g.length_is (g.row_is ∙ ap (elements_bytes c.args.form) row) count g.within;
+          ∙ row_to-zeros c.args.form (without 0 gathered.elements) c.gather_all-len.new.body c.gather_all-len.result _ gathered.length_is (gathered.row_is ∙ ap (elements_bytes c.args.form) row) count gathered.within;
       len_is = count;
-      within = g.within;
+      within = gathered.within;
     }

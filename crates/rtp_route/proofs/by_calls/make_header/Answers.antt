@@ -154,14 +154,14 @@ returns-clause-made c =
     let renumbered : List ℕ = c.renumber.new.header ++ drop (length header) (c.set_fields.new.header ++ drop (length header) c.put.new.buf) in
     let after : take (length header) renumbered ≡ c.renumber.new.header =
     header-after packet c.args.fields.now ids header c.put.new.buf c.set_fields.new.header is_begun c.renumber.new.header c.renumber.auto.header in
-    let is : Compacts (take c.in_ok-len.len c.put_each.new.buf) c.compact.new.datagram c.unwrap.result = rw c.unwrap.ensures at c.compact.ensures.compacted in
-    let within : c.unwrap.result ≤ length (take c.in_ok-len.len c.put_each.new.buf) = rw c.unwrap.ensures at c.compact.ensures.within in
+    let is : Compacts (take c.in_ok-len.len c.put_each.new.buf) c.compact_copy.new.datagram c.unwrap.result = rw c.unwrap.ensures at c.compact_copy.ensures.compacted in
+    let within : c.unwrap.result ≤ length (take c.in_ok-len.len c.put_each.new.buf) = rw c.unwrap.ensures at c.compact_copy.ensures.within in
     record {
       start_bytes = c.renumber.new.header;
       start = start;
       put_bytes = take c.in_ok-len.len c.put_each.new.buf;
       are_put = subst (λ (b : List ℕ). ArePut b (elements_of c.args.group.now.elements.now) c.args.group.now.allowed (take c.in_ok-len.len c.put_each.new.buf)) after c.in_ok-len.ensures.put;
-      compacted = Compacts-front _ c.compact.new.datagram _ c.unwrap.result (omega (arith, within, c.compact.auto.datagram)) is;
+      compacted = Compacts-front _ c.compact_copy.new.datagram _ c.unwrap.result (omega (arith, within, c.compact_copy.auto.datagram)) is;
     }
 
 pub returns-clause-refused : goal.returns-clause-refused
