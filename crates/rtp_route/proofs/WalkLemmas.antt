@@ -125,7 +125,7 @@ placed-all form start written (new ∷ news) (slot ∷ slots) are only = (here a
         absurd cc
     here (inr placed) one = placed
 
-header-length : (form : ExtensionsForm) (id : ℕ) (bytes : List ℕ) → length (element_bytes form (id, bytes)) ≡ length (element_header form id (length bytes)) + length bytes
+pub header-length : (form : ExtensionsForm) (id : ℕ) (bytes : List ℕ) → length (element_bytes form (id, bytes)) ≡ length (element_header form id (length bytes)) + length bytes
 header-length OneByte id bytes = omega arith
 header-length TwoByte id bytes = omega arith
 

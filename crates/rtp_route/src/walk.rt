@@ -2,6 +2,8 @@
 
 ghost use Rattle.std.specs.Prelude.{◌≡◌, ◌+◌, ◌%◌, ◌<◌, ◌≤◌, ◌∷◌, ◌++◌, ℕ, List, [], length, take, drop, replicate, All, IfSome, IfNone};
 ghost use Rattle.rtp_base.specs.Overwriting.{overwritten};
+ghost use Rattle.rtp_ext.specs.declared.form.ExtensionsForm.TheVariants.{OneByte};
+ghost use Rattle.rtp_ext.specs.ElementWriting.{element_header};
 ghost use Rattle.rtp_ext.specs.Elements.{Element, AreElements, element_bytes, elements_bytes};
 ghost use Rattle.rtp_ext.specs.ElementsInARow.{elements_of, IsWritable};
 ghost use Rattle.rtp_ext.specs.ElementsInPlace.{HasNone, CanRenumber};
@@ -14,7 +16,21 @@ ghost use Rattle.rtp_route.specs.Walk.{ArePlaced, AreWritten, AreKept, IsBodyFor
 use super::Group;
 use super::slots::{MAX_ELEMENTS, Slot, index_of};
 use rtp_base::put;
-use rtp_ext::{Elements, ExtensionsForm, put_elements};
+use rtp_ext::{Elements, ExtensionsForm, put_data};
+
+// Puts the header of an element at the offset, and returns where its data begin.
+#[inline(always)]
+fn put_header(buf: &mut [u8], at: usize, form: ExtensionsForm, id: u8, len: u8) -> usize
+    requires room { at + 2 ≤ length buf.old }
+    requires fits { form ≡ OneByte → (id ≤ 14) × (1 ≤ len) × (len ≤ 16) }
+    ensures written { buf.new ≡ overwritten buf.old at (element_header form id len) }
+    ensures end { result ≡ at + length (element_header form id len) }
+{
+    match form {
+        ExtensionsForm::OneByte => put(buf, at, &[id * 16 + (len - 1)]),
+        ExtensionsForm::TwoByte => put(buf, at, &[id, len]),
+    }
+}
 
 // Writes an element behind the bytes before the offset, and returns where it ends; `None` where it
 // may have no room.
@@ -37,9 +53,9 @@ fn write_behind(
     if buf.len() - at < 2 + bytes.len() {
         return None;
     }
-    let element: &[(u8, &[u8])] = &[(id, bytes)];
-    let len = put_elements(&mut buf[at..], form, element);
-    Some(at + len)
+    let data_at = put_header(buf, at, form, id, bytes.len() as u8);
+    put_data(buf, data_at, bytes);
+    Some(data_at + bytes.len())
 }
 
 // Writes the group's element at the index, and keeps the place of its data.
