@@ -1,8 +1,8 @@
 -- A header that is made in one walk is the one that the calls make.
-use Rattle.std.proofs.Common.{◌≡◌, ◌≢◌, ℕ, ◌+◌, ◌-◌, ◌*◌, ◌/◌, ◌%◌, ◌<◌, ◌≤◌, ◌⊎◌, inl, inr, Bool, true, false, if◌then◌else◌, All, List, [], ◌∷◌, ◌++◌, length, take, drop, get_or, replicate, Option, Some, None, refl, sym, ap, subst, ◌∙◌, arith, append_assoc, append-nil, length-append, length-take-le, length-drop, take_at, drop_at}
+use Rattle.std.proofs.Common.{◌≡◌, ◌≢◌, ℕ, ◌+◌, ◌-◌, ◌*◌, ◌/◌, ◌%◌, ◌<◌, ◌≤◌, ◌⊎◌, inl, inr, Bool, true, All, List, [], ◌∷◌, ◌++◌, length, take, drop, get_or, replicate, Option, Some, None, refl, sym, ap, subst, ◌∙◌, arith, append_assoc, append-nil, length-append, length-take-le, length-drop, take_at, drop_at}
 use Rattle.std.specs.Int.{w16, from_be_bytes, to_be_bytes}
 use Rattle.std.specs.List.{concat, filter_map}
-use Rattle.std.proofs.lemmas.List.{take-append-drop, drop-drop, take_all, take-take, length-replicate, map_more}
+use Rattle.std.proofs.lemmas.List.{take-append-drop, take-append-le, drop-append-le, drop-drop, take_all, take-take, map_more}
 use Rattle.std.proofs.Math.Seq.{take-append-add}
 use Rattle.std.proofs.lemmas.List.Elements.{All-nil, All-cons, All-head, All-tail, All-push}
 use Rattle.std.proofs.lemmas.Nat.{from_be_bytes-to_be_bytes_2}
@@ -12,10 +12,10 @@ use Rattle.rtp_ext.specs.declared.form.ExtensionsForm.{ExtensionsForm}
 use Rattle.rtp_ext.specs.declared.form.ExtensionsForm.TheVariants.{OneByte, TwoByte}
 use Rattle.rtp_ext.specs.Form.{form_word, IsFormWord}
 use Rattle.rtp_ext.specs.Elements.{Element, element_bytes, elements_bytes, AreElements}
-use Rattle.rtp_ext.specs.ElementsInARow.{elements_of, IsWritable, serves_one_byte}
-use Rattle.rtp_ext.specs.ElementsInPlace.{HasNone, renumbered}
-use Rattle.rtp_ext.specs.PutElement.{without, needed_form, allowed_form}
-use Rattle.rtp_ext.specs.WrittenBlock.{filled, padding_of, whole_words}
+use Rattle.rtp_ext.specs.ElementsInARow.{elements_of, IsWritable}
+use Rattle.rtp_ext.specs.ElementsInPlace.{renumbered}
+use Rattle.rtp_ext.specs.PutElement.{needed_form, allowed_form}
+use Rattle.rtp_ext.specs.WrittenBlock.{filled, padding_of}
 use Rattle.rtp_ext.proofs.GatheredLemmas.{elements_bytes-append}
 use Rattle.rtp_wire.specs.declared.packet.fields.Fields.{Fields}
 use Rattle.rtp_wire.specs.Block.{IsBlock, word_at}
@@ -28,19 +28,20 @@ use Rattle.rtp_wire.specs.PutIntoPacket.{form_of_block}
 use Rattle.rtp_wire.proofs.PartsLemmas.{length-packet, IsPacket-found}
 use Rattle.rtp_wire.proofs.ResizedLemmas.{head_of, length-head, sources_end-is, extension-announced, no_other-announced, IsFormWord-here}
 use Rattle.rtp_route.specs.Walk.{IsFrontWith, IsBodyFor, IsMadeFor}
-use Rattle.rtp_route.specs.Template.{AreSlots, body_start_of}
+use Rattle.rtp_route.specs.Template.{HaveOwnIds, AreSlots, body_start_of}
+use Rattle.rtp_route.specs.Calls.{no_fields}
+use Rattle.rtp_route.specs.GroupHeader.{IsGroupHeader}
 use Rattle.rtp_route.specs.declared.slots.Slot.{Slot}
 use Rattle.rtp_route.proofs.ByCallsLemmas.{alone_parts}
 use Rattle.rtp_route.proofs.SlotLemmas.{slots-lengths}
 use Rattle.rtp_route.proofs.WalkLemmas.{slots-within}
 use Rattle.rtp_ext.proofs.PutLemmas.{without-none}
-use Rattle.rtp_ext.proofs.ServingFormLemmas.{IsWritable-one}
 use Rattle.rtp_wire.specs.declared.packet.rtp_packet.RtpPacket.{RtpPacket}
 use Rattle.rtp_wire.specs.PartsOf.{parts_of, datagram_of}
-use Rattle.rtp_route.specs.Routing.{put_all, IsFormAfter, extension_after, row_in, routed_elements, routed_parts, word_bytes, KeepsWord, IsRouted}
+use Rattle.rtp_route.specs.Routing.{put_all, IsFormAfter, extension_after, routed_elements, routed_parts, word_bytes, KeepsWord, IsRouted}
 use Rattle.rtp_route.proofs.LentLemmas.{Lent, element_of, elements-at}
-use Rattle.rtp_route.proofs.RoomLemmas.{wide}
-use Rattle.rtp_route.proofs.WordLemmas.{word_in_front, word_in_take, word_within, from_twelve, word_of, either_form}
+use Rattle.rtp_route.proofs.RoomLemmas.{wide, narrow-needed}
+use Rattle.rtp_route.proofs.WordLemmas.{word_in_front, word_in_take, from_twelve, word_of, either_form}
 
 -- ---- the form once each is put
 
@@ -82,7 +83,7 @@ IsFormTo-more allowed was lents index form next left rest room lent is within ca
 -- it carries what the block's form carries, and what is put
 carries-wide : (form : ExtensionsForm) (element : Element) → IsWritable OneByte element → IsWritable form element
 carries-wide OneByte element can = can
-carries-wide TwoByte element can = (can.0, can.0, omega (arith, can.1.0), omega (arith, can.1.2))
+carries-wide TwoByte element can = (can.0, (can.0, omega (arith, can.1.0), omega (arith, can.1.2)))
 
 form-needed : (allowed : Option ExtensionsForm) (needed form : ExtensionsForm) → allowed_form allowed needed ≡ Some form → (form ≡ TwoByte) ⊎ ((needed ≡ OneByte) × (form ≡ OneByte))
 form-needed None OneByte form is = inr (refl, cc)
@@ -94,11 +95,11 @@ form-needed (Some OneByte) TwoByte form is = absurd cc
 
 wide-stays : (allowed : Option ExtensionsForm) (news : List Element) (form : ExtensionsForm) → IsFormAfter allowed (Some TwoByte) news (Some form) → form ≡ TwoByte
 wide-stays allowed [] form is = let same : Some form ≡ Some TwoByte = is in cc
-wide-stays allowed (new ∷ news) form is = by_form (form-needed allowed TwoByte is.0 is.1)
+wide-stays allowed (new ∷ news) form is = by_form (form-needed allowed TwoByte is.0 is.1) (λ wide_is. wide-stays allowed news form (subst (λ (f : ExtensionsForm). IsFormAfter allowed (Some f) news (Some form)) wide_is is.2))
   where
-    by_form : (is.0 ≡ TwoByte) ⊎ ((TwoByte ≡ OneByte) × (is.0 ≡ OneByte)) → form ≡ TwoByte
-    by_form (inl wide_is) = wide-stays allowed news form (subst (λ (f : ExtensionsForm). IsFormAfter allowed (Some f) news (Some form)) wide_is is.2)
-    by_form (inr no) = let never = no.0 in absurd cc
+    by_form : (is.0 ≡ TwoByte) ⊎ ((TwoByte ≡ OneByte) × (is.0 ≡ OneByte)) → (is.0 ≡ TwoByte → form ≡ TwoByte) → form ≡ TwoByte
+    by_form (inl wide_is) stays = stays wide_is
+    by_form (inr narrow) stays = let never = narrow.0 in absurd cc
 
 pub carries-more : (allowed : Option ExtensionsForm) (was form : ExtensionsForm) (news : List Element) → IsFormAfter allowed (Some was) news (Some form) → (element : Element) → IsWritable was element
     → IsWritable form element
@@ -112,17 +113,9 @@ carries-news allowed was form (new ∷ news) is all =
     All-cons (IsWritable form) new news (carries-more allowed is.0 form news is.2 new (here was (form-needed allowed (needed_form (Some was) new) is.0 is.1)))
     (carries-news allowed is.0 form news is.2 (All-tail (IsWritable TwoByte) new news all))
   where
-    by_serving : (b : Bool) → serves_one_byte new ≡ b → (if b then OneByte else TwoByte) ≡ OneByte → IsWritable OneByte new
-    by_serving true serves is_one = IsWritable-one new serves
-    by_serving false serves is_one = absurd cc
-
-    one : (was : ExtensionsForm) → needed_form (Some was) new ≡ OneByte → IsWritable OneByte new
-    one OneByte is_one = by_serving (serves_one_byte new) refl is_one
-    one TwoByte is_one = absurd cc
-
     here : (was : ExtensionsForm) → (is.0 ≡ TwoByte) ⊎ ((needed_form (Some was) new ≡ OneByte) × (is.0 ≡ OneByte)) → IsWritable is.0 new
     here was (inl wide_is) = subst (λ (f : ExtensionsForm). IsWritable f new) (sym wide_is) (All-head (IsWritable TwoByte) new news all)
-    here was (inr narrow) = subst (λ (f : ExtensionsForm). IsWritable f new) (sym narrow.1) (one was narrow.0)
+    here was (inr narrow) = subst (λ (f : ExtensionsForm). IsWritable f new) (sym narrow.1) (narrow-needed (Some was) new narrow.0)
 
 -- ---- what stands before the body
 
@@ -353,62 +346,148 @@ extension-stays : (news : List Element) (extension : Bool) → extension ≡ tru
 extension-stays [] extension is = refl
 extension-stays (new ∷ news) extension is = sym is
 
-pub made-by_walk : (packet : RtpPacket) (fields : Fields) (ids : ℕ → Option ℕ) (news : List Element) (allowed : Option ExtensionsForm) (was form : ExtensionsForm)
-    (header old_body front between new set : List ℕ) (end : ℕ) (elements : List Element) (slots : List Slot) → datagram_of packet ≡ header ++ (parts_of packet).payload
-    → IsPacket header (alone_parts packet) → (parts_of packet).block ≡ Some (was, old_body) → front ≡ take (length header - length old_body) header
-    → IsFormAfter allowed (Some was) news (Some form) → AreElements was old_body elements → IsBodyFor was form ids news elements (length front) slots between end
-    → length front ≤ end → end ≤ length between → end % 4 ≡ 0 → end ≤ 262140 → IsFrontWith front was form (end - length front) (drop (length front) between) new
-    → ((parts : PacketParts) → IsPacket (take end new) parts → IsPacket set (with_header_fields fields parts)) → ChangesOnly 1 12 (take end new) set → length set ≡ end
-    → IsMadeFor (datagram_of packet) fields ids news allowed set slots
-made-by_walk packet fields ids news allowed was form header old_body front between new set end elements slots whole_is is some front-is forms are body_for low within multiple short laid sets only set_long =
-    let parts : PacketParts = parts_of packet in
-    let alone : PacketParts = alone_parts packet in
-    let row : List Element = put_all news (filter_map (renumbered ids) elements) in
-    let body : List ℕ = filled (elements_bytes form row) in
-    let body_len : ℕ = end - length front in
-    let behind : List ℕ = drop (length front) between in
-    let start : length front ≡ 16 + 4 * length parts.sources = omega (arith, long-front header alone is refl was old_body some front front-is) in
-    let long : length body ≡ body_len = sym (ap length body_for.body_is) ∙ length-take-le body_len behind (omega (arith, length-drop (length front) between, within)) in
-    let whole : body_len % 4 ≡ 0 = omega (arith, start, multiple, low) in
-    let few : body_len ≤ 262140 = omega (arith, short) in
-    let sum : length front + body_len ≡ end = omega (arith, low) in
-    let with : PacketParts = record alone { block = Some (form, body) } in
-    let laid_packet : IsPacket (take (length front + body_len) new) with =
-    packet-laid header alone is refl was old_body some front front-is form body_len body behind new laid body_for.body_is long whole few in
-    let is_set : IsPacket set (with_header_fields fields with) = sets with (subst (λ (k : ℕ). IsPacket (take k new) with) sum laid_packet) in
-    let routed : routed_elements ids news elements ≡ row = ap (put_all news) (without-none 0 (filter_map (renumbered ids) elements) body_for.no_zero) in
-    let set_is : IsPacket set (record (with_header_fields fields parts) { payload = []; block = Some (form, filled (elements_bytes form (routed_elements ids news elements))) }) =
-    subst (λ (es : List Element). IsPacket set (record (with_header_fields fields parts) { payload = []; block = Some (form, filled (elements_bytes form es)) })) (sym routed) is_set in
-    let extension : extension_after news parts.has_extension ≡ parts.has_extension =
-    extension-stays news parts.has_extension (extends header alone is refl was old_body some front front-is) in
-    let word : KeepsWord (Some was) (datagram_of packet) (Some form) set =
-    keeps-word header alone is refl was old_body some front front-is form body_len body behind new laid body_for.body_is long whole few (datagram_of packet) parts.payload set parts
-    (IsPacket-found packet) refl whole_is (with_header_fields fields with) is_set refl (subst (λ (k : ℕ). ChangesOnly 1 12 (take k new) set) (sym sum) only) in
-    record {
-      routed = record {
-        parts = parts;
-        elements = elements;
-        form = Some form;
-        was_packet = IsPacket-found packet;
-        were_elements = subst (λ (b : Option (ExtensionsForm × List ℕ)). AreElementsOf b elements) (sym some) are;
-        form_is = subst (λ (b : Option (ExtensionsForm × List ℕ)). IsFormAfter allowed (form_of_block b) news (Some form)) (sym some) forms;
-        is_packet = subst (λ (x : Bool). IsPacket set (record (routed_parts fields ids news (Some form) elements parts) { payload = []; has_extension = x })) (sym extension) set_is;
-        are_elements = subst (λ (es : List Element). AreElements form (filled (elements_bytes form es)) es) (sym routed) body_for.are_elements;
-        word_is = subst (λ (b : Option (ExtensionsForm × List ℕ)). KeepsWord (form_of_block b) (datagram_of packet) (Some form) set) (sym some) word;
-      };
+-- what stands before the body of a header
+abbrev pub front_of : List ℕ → List ℕ → List ℕ
+front_of header body = take (length header - length body) header
+
+pub long-front_of : (packet : RtpPacket) (was : ExtensionsForm) (header body : List ℕ) → IsPacket header (alone_parts packet) → Some (was, body) ≡ (parts_of packet).block
+    → length (front_of header body) ≡ 16 + 4 * length (parts_of packet).sources
+long-front_of packet was header body is some = omega (arith, long-front header (alone_parts packet) is refl was body (sym some) (front_of header body) refl)
+
+pub short-body : (packet : RtpPacket) (was : ExtensionsForm) (header body : List ℕ) → IsPacket header (alone_parts packet) → Some (was, body) ≡ (parts_of packet).block → length body ≤ length header
+short-body packet was header body is some = omega (arith, length-packet header (alone_parts packet) is, ap block_len some)
+
+-- the elements as they go to the receivers
+abbrev pub row_for : (ℕ → Option ℕ) → List Element → List Element → List Element
+row_for ids news elements = put_all news (filter_map (renumbered ids) elements)
+
+-- the body is written, and then what stands before it
+pub record IsLaid (packet : RtpPacket) (ids : ℕ → Option ℕ) (news : List Element) (was form : ExtensionsForm) (header old_body between new : List ℕ) (end : ℕ) (elements : List Element) (slots : List Slot)
+    : Type 0 where
+  pub whole_is : datagram_of packet ≡ header ++ (parts_of packet).payload
+  pub is_packet : IsPacket header (alone_parts packet)
+  pub some : Some (was, old_body) ≡ (parts_of packet).block
+  pub body_for : IsBodyFor was form ids news elements (length (front_of header old_body)) slots between end
+  pub within : end ≤ length between
+  pub short : end ≤ 262140
+  pub laid : IsFrontWith (front_of header old_body) was form (end - length (front_of header old_body)) (drop (length (front_of header old_body)) between) new
+
+module _ (packet : RtpPacket) (ids : ℕ → Option ℕ) (news : List Element) (was form : ExtensionsForm) (header old_body between new : List ℕ) (end : ℕ) (elements : List Element) (slots : List Slot)
+    (is : IsLaid packet ids news was form header old_body between new end elements slots) where
+  abbrev row : List Element
+  row = row_for ids news elements
+
+  abbrev body : List ℕ
+  body = filled (elements_bytes form row)
+
+  abbrev start : ℕ
+  start = length (front_of header old_body)
+
+  abbrev behind_front : List ℕ
+  behind_front = drop start between
+
+  abbrev new_parts : PacketParts
+  new_parts = record (alone_parts packet) { block = Some (form, body) }
+
+  start-is : start ≡ 16 + 4 * length (parts_of packet).sources
+  start-is = long-front_of packet was header old_body is.is_packet is.some
+
+  long-body : length body ≡ end - start
+  long-body = sym (ap length is.body_for.body_is) ∙ length-take-le (end - start) behind_front (omega (arith, length-drop start between, is.within))
+
+  whole-body : (end - start) % 4 ≡ 0
+  whole-body = omega (arith, start-is, is.body_for.whole, is.body_for.after)
+
+  few-bytes : end - start ≤ 262140
+  few-bytes = omega (arith, is.short)
+
+  sum-is : start + (end - start) ≡ end
+  sum-is = omega (arith, is.body_for.after)
+
+  pub laid-packet : IsPacket (take end new) new_parts
+  laid-packet =
+      subst (λ (k : ℕ). IsPacket (take k new) new_parts) sum-is
+      (packet-laid header (alone_parts packet) is.is_packet refl was old_body (sym is.some) (front_of header old_body) refl form (end - start) body behind_front new is.laid is.body_for.body_is
+      long-body whole-body few-bytes)
+
+  module _ (fields : Fields) (allowed : Option ExtensionsForm) (set : List ℕ) (forms : IsFormAfter allowed (Some was) news (Some form)) (are : AreElements was old_body elements)
+      (sets : (parts : PacketParts) → IsPacket (take end new) parts → IsPacket set (with_header_fields fields parts)) (only : ChangesOnly 1 12 (take end new) set) (set_long : length set ≡ end) where
+    abbrev parts : PacketParts
+    parts = parts_of packet
+
+    is-set : IsPacket set (with_header_fields fields new_parts)
+    is-set = sets new_parts laid-packet
+
+    routed-is : routed_elements ids news elements ≡ row
+    routed-is = ap (put_all news) (without-none 0 (filter_map (renumbered ids) elements) is.body_for.no_zero)
+
+    set-is : IsPacket set (record (with_header_fields fields parts) { payload = []; block = Some (form, filled (elements_bytes form (routed_elements ids news elements))) })
+    set-is =
+        subst (λ (es : List Element). IsPacket set (record (with_header_fields fields parts) { payload = []; block = Some (form, filled (elements_bytes form es)) })) (sym routed-is) is-set
+
+    extension-is : extension_after news parts.has_extension ≡ parts.has_extension
+    extension-is =
+        extension-stays news parts.has_extension (extends header (alone_parts packet) is.is_packet refl was old_body (sym is.some) (front_of header old_body) refl)
+
+    word-kept : KeepsWord (Some was) (datagram_of packet) (Some form) set
+    word-kept =
+        keeps-word header (alone_parts packet) is.is_packet refl was old_body (sym is.some) (front_of header old_body) refl form (end - start) body behind_front new is.laid is.body_for.body_is
+        long-body whole-body few-bytes (datagram_of packet) parts.payload set parts (IsPacket-found packet) refl is.whole_is (with_header_fields fields new_parts) is-set refl
+        (subst (λ (k : ℕ). ChangesOnly 1 12 (take k new) set) (sym sum-is) only)
+
+    abbrev routed : IsRouted (datagram_of packet) fields ids news allowed set
+    routed = record {
+      parts = parts;
+      elements = elements;
+      form = Some form;
+      was_packet = IsPacket-found packet;
+      were_elements = subst (λ (b : Option (ExtensionsForm × List ℕ)). AreElementsOf b elements) is.some are;
+      form_is = subst (λ (b : Option (ExtensionsForm × List ℕ)). IsFormAfter allowed (form_of_block b) news (Some form)) is.some forms;
+      is_packet = subst (λ (x : Bool). IsPacket set (record (routed_parts fields ids news (Some form) elements parts) { payload = []; has_extension = x })) (sym extension-is) set-is;
+      are_elements = subst (λ (es : List Element). AreElements form (filled (elements_bytes form es)) es) (sym routed-is) is.body_for.are_elements;
+      word_is = subst (λ (b : Option (ExtensionsForm × List ℕ)). KeepsWord (form_of_block b) (datagram_of packet) (Some form) set) is.some word-kept;
+    }
+
+    pub made-by_walk : IsMadeFor (datagram_of packet) fields ids news allowed set slots
+    made-by_walk = record {
+      routed = routed;
       slots_are = λ f is_form.
           let one : form ≡ f = cc in
           subst (λ (g : ExtensionsForm). AreSlots g (body_start_of parts) (routed_elements ids news elements) news slots) one
-          (subst (λ (k : ℕ). AreSlots form k (routed_elements ids news elements) news slots) start
-          (subst (λ (es : List Element). AreSlots form (length front) es news slots) (sym routed) body_for.slots_are));
-      lengths_are = slots-lengths form (length front) row news slots body_for.slots_are;
+          (subst (λ (k : ℕ). AreSlots form k (routed_elements ids news elements) news slots) start-is
+          (subst (λ (es : List Element). AreSlots form start es news slots) (sym routed-is) is.body_for.slots_are));
+      lengths_are = slots-lengths form start row news slots is.body_for.slots_are;
       within = λ k d there.
           omega (
             arith,
-            slots-within form (length front) row news slots body_for.slots_are k d there,
+            slots-within form start row news slots is.body_for.slots_are k d there,
             length-append (elements_bytes form row) (replicate (padding_of (length (elements_bytes form row))) 0),
-            long,
-            sum,
+            long-body,
+            sum-is,
             set_long,
           );
     }
+
+-- a body in the front of a buffer
+pub body-in_front : (was form : ExtensionsForm) (ids : ℕ → Option ℕ) (news elements : List Element) (start : ℕ) (slots : List Slot) (buf rest : List ℕ) (end : ℕ) → end ≤ length buf
+    → IsBodyFor was form ids news elements start slots buf end → IsBodyFor was form ids news elements start slots (buf ++ rest) end
+body-in_front was form ids news elements start slots buf rest end within is = record {
+  after = is.after;
+  whole = is.whole;
+  carried = is.carried;
+  no_zero = is.no_zero;
+  body_is = ap (take (end - start)) (drop-append-le start buf rest (omega (arith, is.after, within)))
+      ∙ take-append-le (end - start) (drop start buf) rest (omega (arith, length-drop start buf, within)) ∙ is.body_is;
+  are_elements = is.are_elements;
+  slots_are = is.slots_are;
+}
+
+-- so it is the header of a group
+pub group-by_walk : (old : List ℕ) (ids : ℕ → Option ℕ) (news : List Element) (allowed : Option ExtensionsForm) (header : List ℕ) (slots : List Slot) → HaveOwnIds news
+    → IsMadeFor old no_fields ids news allowed header slots → IsGroupHeader old ids news allowed header slots
+group-by_walk old ids news allowed header slots own made = record {
+  routed = made.routed;
+  own = own;
+  lengths_are = made.lengths_are;
+  slots_are = made.slots_are;
+}

@@ -1,5 +1,5 @@
 -- Where there is room for each step of the calls, none of them is refused.
-use Rattle.std.proofs.Common.{◌≡◌, ◌≢◌, ℕ, ◌+◌, ◌-◌, ◌*◌, ◌<◌, ◌≤◌, inl, inr, Bool, true, false, not, cond, All, List, [], ◌∷◌, ◌++◌, length, length-append, take, max, replicate, Option, Some, None, IfSome, option_map, refl, sym, ap, subst, ◌∙◌, arith}
+use Rattle.std.proofs.Common.{◌≡◌, ◌≢◌, ℕ, ◌+◌, ◌-◌, ◌*◌, ◌≤◌, inl, inr, Bool, true, false, not, cond, if◌then◌else◌, All, List, [], ◌∷◌, ◌++◌, length, length-append, take, replicate, Option, Some, None, IfSome, option_map, refl, sym, ap, subst, ◌∙◌, arith}
 use Rattle.std.specs.List.{filter_map, flat_map, list_any, cons_option}
 use Rattle.std.proofs.lemmas.List.{length-replicate}
 use Rattle.std.proofs.lemmas.List.Elements.{All-head, All-tail}
@@ -8,20 +8,21 @@ use Rattle.rtp_ext.specs.declared.form.ExtensionsForm.{ExtensionsForm}
 use Rattle.rtp_ext.specs.declared.form.ExtensionsForm.TheVariants.{OneByte, TwoByte}
 use Rattle.rtp_ext.specs.Elements.{Element, element_bytes, elements_bytes, piece_bytes, AreElements}
 use Rattle.rtp_ext.specs.ElementsInPlace.{HasNone, renumbered, CanRenumber}
-use Rattle.rtp_ext.specs.PutElement.{has_id, without, put_element, needed_form, allowed_form, row_to}
-use Rattle.rtp_ext.specs.WrittenBlock.{whole_words}
+use Rattle.rtp_ext.specs.PutElement.{has_id, without, put_element, needed_form, allowed_form}
+use Rattle.rtp_ext.specs.ElementsInARow.{IsWritable, serves_one_byte}
+use Rattle.rtp_ext.proofs.ServingFormLemmas.{IsWritable-one}
 use Rattle.rtp_wire.specs.declared.packet.fields.Fields.{Fields}
 use Rattle.rtp_wire.specs.declared.packet.not_put.NotPut.{NotPut}
-use Rattle.rtp_wire.specs.declared.packet.not_put.NotPut.TheVariants.{CutPacket, ZeroId, LongData, NotAPacket, OtherForm, OneByteOnly, LongBlock, NoRoom}
+use Rattle.rtp_wire.specs.declared.packet.not_put.NotPut.TheVariants.{CutPacket, ZeroId, LongData, NotAPacket, OtherForm, LongId, OneByteOnly, LongBlock, NoRoom}
 use Rattle.rtp_wire.specs.GivenFields.{with_header_fields}
 use Rattle.rtp_wire.specs.Packet.{PacketParts, IsPacket, block_len}
 use Rattle.rtp_wire.specs.PacketElements.{AreElementsOf}
-use Rattle.rtp_wire.specs.PutIntoPacket.{form_of_block, body_of_block, elements_with, IsGrowth, IsBodyWith, in_place, anew, PutsElement, AppliesToPut}
+use Rattle.rtp_wire.specs.PutIntoPacket.{form_of_block, body_of_block, elements_with, IsGrowth, IsBodyWith, in_place, anew, PutsElement, IsLongId, AppliesToPut}
 use Rattle.rtp_wire.proofs.PacketLemmas.{no_packet}
 use Rattle.rtp_wire.proofs.PartsLemmas.{length-packet, no_other_form}
 use Rattle.rtp_wire.proofs.ResizedLemmas.{no_other-announced}
 use Rattle.rtp_route.specs.declared.not_routed.NotRouted.{NotRouted}
-use Rattle.rtp_route.specs.declared.not_routed.NotRouted.TheVariants.{ManyElements, RepeatedId, LongId, NotPut as NotRouted-NotPut}
+use Rattle.rtp_route.specs.declared.not_routed.NotRouted.TheVariants.{ManyElements, RepeatedId, LongId as NotRouted-LongId, NotPut as NotRouted-NotPut}
 use Rattle.rtp_route.specs.NotPutAmong.{AppliesInRoom, ArePutInRoom, IsNotPutAmong}
 use Rattle.rtp_route.specs.NotRouted.{KeepsFromRouting}
 use Rattle.rtp_route.specs.Routing.{put_all, IsFormAfter}
@@ -114,6 +115,32 @@ wide-put_all (new ∷ news) elements = omega (arith, wide-put_all news (put_elem
 wide-with : (new : Element) (elements : List Element) → wide (elements_with new elements) ≤ wide elements + wide_of new
 wide-with new elements = omega (arith, wide-put new (without 0 elements), wide-without 0 elements)
 
+-- ---- the form that an element needs
+
+pub narrow-needed : (block : Option ExtensionsForm) (new : Element) → needed_form block new ≡ OneByte → IsWritable OneByte new
+narrow-needed block new narrow = by_block block narrow
+  where
+    by_serving : (serves : Bool) → serves_one_byte new ≡ serves → (if serves then OneByte else TwoByte) ≡ OneByte → IsWritable OneByte new
+    by_serving true is one = IsWritable-one new is
+    by_serving false is one = absurd cc
+
+    by_block : (b : Option ExtensionsForm) → needed_form b new ≡ OneByte → IsWritable OneByte new
+    by_block None one = by_serving (serves_one_byte new) refl one
+    by_block (Some OneByte) one = by_serving (serves_one_byte new) refl one
+    by_block (Some TwoByte) one = absurd cc
+
+-- no id is too long for the one form that is allowed
+no-long_id : (allowed block : Option ExtensionsForm) (new : Element) (form : ExtensionsForm) → allowed_form allowed (needed_form block new) ≡ Some form → IsLongId allowed new.0 → ⊥
+no-long_id None block new form is long = long
+no-long_id (Some TwoByte) block new form is long = long
+no-long_id (Some OneByte) block new form is long = by_needed (needed_form block new) refl is
+  where
+    by_needed : (needed : ExtensionsForm) → needed_form block new ≡ needed → allowed_form (Some OneByte) needed ≡ Some form → ⊥
+    by_needed OneByte one served =
+        let can = narrow-needed block new one in
+        omega (arith, can.1.0, long)
+    by_needed TwoByte two served = absurd cc
+
 -- ---- room for all steps
 
 -- a packet with these elements, into which these others are put: no body has more than so many bytes
@@ -172,6 +199,7 @@ module _ (room most : ℕ) (bytes : List ℕ) (parts : PacketParts) (elements : 
   none-applies form LongData some short can buf len long within here grows fact = omega (arith, short, fact)
   none-applies form (NotAPacket cause) some short can buf len long within here grows fact = no_packet (take len buf) cause parts fact.applies here
   none-applies form OtherForm some short can buf len long within here grows fact = no_other_form (take len buf) parts here has.no_other fact
+  none-applies form LongId some short can buf len long within here grows fact = no-long_id allowed (form_of_block parts.block) new form can fact
   none-applies form OneByteOnly some short can buf len long within here grows fact =
       let none : Some form ≡ None =
       sym can ∙ ap (λ (p : PacketParts). allowed_form allowed (needed_form (form_of_block p.block) new)) (same_parts (take len buf) parts fact.0 here fact.1) ∙ fact.2 in
@@ -272,7 +300,7 @@ module _ (old : List ℕ) (parts : PacketParts) (is : IsPacket old parts) (no_pa
   pub none-kept : (cause : NotRouted) → KeepsFromRouting old fields ids news allowed room cause → ⊥
   none-kept ManyElements kept = kept
   none-kept RepeatedId kept = kept
-  none-kept LongId kept =
+  none-kept NotRouted-LongId kept =
       let long = kept.1 in
       let parts_are : parts ≡ long.parts = same_parts old parts long.parts is long.is_packet in
       let there : AreElementsOf parts.block long.elements = subst (λ (p : PacketParts). AreElementsOf p.block long.elements) (sym parts_are) long.are_elements in

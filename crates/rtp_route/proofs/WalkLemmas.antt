@@ -1,9 +1,9 @@
 -- The elements of a group's block, as they are written one after another.
-use Rattle.std.proofs.Common.{◌≡◌, ◌≢◌, ℕ, zero, suc, ◌+◌, ◌-◌, ◌%◌, ◌<◌, ◌≤◌, inl, inr, Bool, true, false, cond, List, [], ◌∷◌, ◌++◌, length, take, drop, get_or, set, map, replicate, Option, Some, None, IfSome, option_map, All, refl, sym, ap, subst, ◌∙◌, arith, append_assoc, append-nil, length-append, length-take-le, length-drop, take_at, drop_at}
+use Rattle.std.proofs.Common.{◌≡◌, ◌≢◌, ℕ, zero, suc, ◌+◌, ◌-◌, ◌%◌, ◌<◌, ◌≤◌, inl, inr, Bool, true, false, cond, List, [], ◌∷◌, ◌++◌, length, take, drop, get_or, set, replicate, Option, Some, None, IfSome, option_map, All, refl, sym, ap, subst, ◌∙◌, arith, append_assoc, append-nil, length-append, length-take-le, take_at, drop_at}
 use Rattle.std.specs.List.{filter_map, list_any, AllByRecursion, cons_option}
-use Rattle.std.proofs.lemmas.Bool.{eq-eqb, eqb-true, ne_eqb, false≢true}
+use Rattle.std.proofs.lemmas.Bool.{eq-eqb, false≢true}
 use Rattle.std.proofs.lemmas.List.{length-replicate, map-append}
-use Rattle.std.proofs.lemmas.List.Elements.{All-nil, All-cons, All-head, All-tail, All-push, All-append, filter_map-append}
+use Rattle.std.proofs.lemmas.List.Elements.{All-nil, All-cons, All-head, All-tail, All-push, filter_map-append}
 use Rattle.rtp_base.specs.Overwriting.{overwritten}
 use Rattle.rtp_base.proofs.OverwritingLemmas.{overwritten-overwritten, overwritten-nil}
 use Rattle.rtp_ext.specs.declared.form.ExtensionsForm.{ExtensionsForm}
@@ -12,7 +12,7 @@ use Rattle.rtp_ext.specs.Elements.{Element, IsElement, element_bytes, elements_b
 use Rattle.rtp_ext.specs.ElementWriting.{element_header}
 use Rattle.rtp_ext.specs.ElementsInARow.{elements_of, IsWritable}
 use Rattle.rtp_ext.specs.ElementsInPlace.{HasNone, renumbered, CanRenumber}
-use Rattle.rtp_ext.specs.PutElement.{has_id, without, put_element}
+use Rattle.rtp_ext.specs.PutElement.{has_id, put_element}
 use Rattle.rtp_ext.specs.WrittenBlock.{filled, padding_of}
 use Rattle.rtp_ext.proofs.GatheredLemmas.{elements_bytes-append}
 use Rattle.rtp_ext.proofs.PutLemmas.{without-none, put_element-none, put_element-last}

@@ -103,8 +103,7 @@ pub(super) fn write_by_walk(
     let room = most.checked_sub(2 * header.len() + 3)?;
     let form = form_after(was, group, room)?;
     let front = &header[..header.len() - body.len()];
-    let buf = &mut buf[..most];
-    let len = write_body(buf, front.len(), was, form, body, group, slots)?;
+    let len = write_body(&mut buf[..most], front.len(), was, form, body, group, slots)?;
     put_front(buf, front, was, form, len - front.len());
     set_fields(&mut buf[..len], len, Some(form), fields);
     Some(len)

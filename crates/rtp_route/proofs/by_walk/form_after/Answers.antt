@@ -1,4 +1,4 @@
-use Rattle.std.proofs.Common.{◌≡◌, arith, refl}
+use Rattle.std.proofs.Common.{arith, refl}
 use Rattle.rtp_route.proofs.ByWalkLemmas.{IsFormTo-more}
 use Rattle.rtp_route.proofs.by_walk.form_after.Goals as goal
 

@@ -1,4 +1,4 @@
-use Rattle.std.proofs.Common.{◌≡◌, ◌-◌, ◌∙◌, length, arith, refl, sym}
+use Rattle.std.proofs.Common.{◌-◌, ◌∙◌, length, arith, sym}
 use denote.Enum.Bare.{differs_true, differs_false}
 use Rattle.rtp_ext.specs.contracts.form.ExtensionsForm.{the_type}
 use Rattle.rtp_route.proofs.ByWalkLemmas.{front-same, front-other}

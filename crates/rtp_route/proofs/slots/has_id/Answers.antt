@@ -1,9 +1,8 @@
-use Rattle.std.proofs.Common.{◌≡◌, ℕ, List, Bool, true, false, refl, sym, ◌∙◌, Option, Some, None, IfSome}
+use Rattle.std.proofs.Common.{◌≡◌, ℕ, Bool, true, false, refl, sym, Option, Some, None, IfSome}
 use Rattle.std.specs.Bool.{OnTrue}
 use Rattle.std.specs.Option.{is_some}
 use Rattle.std.proofs.lemmas.Bool.{false≢true}
 use Rattle.rtp_ext.specs.ElementsInARow.{elements_of}
-use Rattle.rtp_ext.specs.ElementsInPlace.{HasNone}
 use Rattle.rtp_route.proofs.WalkLemmas.{OfOther, at-index}
 use Rattle.rtp_route.proofs.slots.has_id.Goals as goal
 

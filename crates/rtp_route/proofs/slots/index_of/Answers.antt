@@ -2,7 +2,7 @@ use Rattle.std.proofs.Common.{arith, subst}
 use Rattle.std.proofs.lemmas.List.{take_all}
 use Rattle.rtp_ext.specs.ElementsInARow.{elements_of}
 use Rattle.rtp_ext.specs.ElementsInPlace.{HasNone}
-use Rattle.rtp_route.proofs.LentLemmas.{none-more, found-at}
+use Rattle.rtp_route.proofs.LentLemmas.{found-at}
 use Rattle.rtp_route.proofs.slots.index_of.Goals as goal
 
 pub returns-then-elements-index-clause-found : goal.returns-then-elements-index-clause-found

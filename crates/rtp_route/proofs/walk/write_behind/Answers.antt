@@ -1,9 +1,8 @@
-use Rattle.std.proofs.Common.{rules, ◌≡◌, ◌∙◌, ◌≤◌, ℕ, List, ◌++◌, length, ap, sym, arith}
+use Rattle.std.proofs.Common.{◌∙◌, ℕ, List, length, ap, sym, arith}
 use Rattle.rtp_base.specs.Overwriting.{overwritten}
 use Rattle.rtp_base.proofs.OverwritingLemmas.{overwritten-overwritten}
 use Rattle.rtp_ext.specs.ElementWriting.{element_header}
 use Rattle.rtp_ext.proofs.PlaceLemmas.{element_bytes-split}
-use Rattle.rtp_ext.proofs.RawWritingLemmas.{IsWritable-short}
 use Rattle.rtp_route.proofs.WalkLemmas.{header-length, header-short}
 use Rattle.rtp_route.proofs.walk.write_behind.Goals as goal
 

@@ -1,7 +1,6 @@
-use Rattle.std.proofs.Common.{rules, ◌≡◌, ◌∙◌, ◌+◌, ◌≤◌, ℕ, List, [], ◌∷◌, ◌++◌, length, drop, get_or, set, refl, sym, subst, arith}
+use Rattle.std.proofs.Common.{rules, get_or, refl}
 use Rattle.rtp_ext.specs.Elements.{Element}
 use Rattle.rtp_ext.specs.ElementsInARow.{elements_of}
-use Rattle.rtp_ext.specs.ElementsInPlace.{HasNone}
 use Rattle.rtp_route.specs.declared.slots.Slot.{Slot}
 use Rattle.rtp_route.proofs.WalkLemmas.{OfOther, at-index, placed-at, placed-others, no_place, written-more, on-some}
 use Rattle.rtp_route.proofs.walk.write_next.Goals as goal

@@ -1,5 +1,4 @@
-use Rattle.std.specs.Borrow.{Bor}
-use Rattle.std.proofs.Common.{rules, ◌≡◌, ◌∙◌, ◌+◌, ◌-◌, ◌≤◌, ℕ, List, [], ◌∷◌, ◌++◌, length, drop, get_or, set, refl, sym, subst, arith}
+use Rattle.std.proofs.Common.{rules, ◌≡◌, ◌∙◌, ◌+◌, ◌-◌, [], ◌∷◌, ◌++◌, length, drop, get_or, set, refl, sym, subst, arith}
 use Rattle.rtp_ext.specs.Elements.{Element}
 use Rattle.rtp_ext.specs.ElementsInARow.{elements_of, IsWritable}
 use Rattle.rtp_ext.specs.ElementsInPlace.{HasNone}
