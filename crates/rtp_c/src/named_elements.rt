@@ -37,14 +37,12 @@ impl<'a> NamedElements<'a> {
         Some(NamedElements { bytes, views })
     }
 
-    /// The elements in a list of fixed size, and behind the last any. Requires at most 16.
-    pub fn lent(&self) -> [(u8, &'a [u8]); MAX_ELEMENTS]
+    /// Puts the elements at the front of a list of fixed size. Requires at most 16.
+    pub fn lend(&self, lent: &mut [(u8, &'a [u8]); MAX_ELEMENTS])
         requires { length self.now.views.now ≤ 16 }
-        ensures elements { elements_of (take (length self.now.views.now) result)
+        ensures { elements_of (take (length self.now.views.now) lent.new)
             ≡ elements_in self.now.bytes.now self.now.views.now }
-        ensures long { length result ≡ 16 }
     {
-        let mut lent: [(u8, &'a [u8]); MAX_ELEMENTS] = [(0, &[]); MAX_ELEMENTS];
         for index in 0..self.views.len() {
             let view = &self.views[index];
             lent[index] = (
@@ -52,7 +50,6 @@ impl<'a> NamedElements<'a> {
                 &self.bytes[view.data_at..view.data_at + view.data_len],
             );
         }
-        lent
     }
 }
 

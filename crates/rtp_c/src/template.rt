@@ -61,31 +61,25 @@ impl StoredTemplate {
             count,
         }
     }
-}
 
-// The parts of a template as C keeps them.
-fn stored(parts: &TemplateParts) -> StoredTemplate
-    requires { parts.now.count ≤ 16 }
-    ensures header_len { result.header_len ≡ parts.now.header_len }
-    ensures slots { slots_of result ≡ take parts.now.count parts.now.slots }
-    ensures count { result.count ≡ parts.now.count }
-    ensures total { result.data_total ≡ total_of (take parts.now.count parts.now.slots) }
-{
-    let mut data_at = [0; MAX_ELEMENTS];
-    let mut data_len = [0; MAX_ELEMENTS];
-    let mut data_total = 0;
-    for index in 0..parts.count {
-        let slot = parts.slots[index];
-        data_at[index] = slot.start;
-        data_len[index] = slot.len;
-        data_total += slot.len as u16;
-    }
-    StoredTemplate {
-        header_len: parts.header_len,
-        data_at,
-        data_total,
-        count: parts.count as u8,
-        data_len,
+    // Keeps the parts of a template.
+    fn store(&mut self, parts: &TemplateParts)
+        requires { parts.now.count ≤ 16 }
+        ensures header_len { self.new.header_len ≡ parts.now.header_len }
+        ensures slots { slots_of self.new ≡ take parts.now.count parts.now.slots }
+        ensures count { self.new.count ≡ parts.now.count }
+        ensures total { self.new.data_total ≡ total_of (take parts.now.count parts.now.slots) }
+    {
+        let mut total = 0;
+        for index in 0..parts.count {
+            let slot = parts.slots[index];
+            self.data_at[index] = slot.start;
+            self.data_len[index] = slot.len;
+            total += slot.len as u16;
+        }
+        self.header_len = parts.header_len;
+        self.data_total = total;
+        self.count = parts.count as u8;
     }
 }
 
@@ -163,7 +157,8 @@ pub extern "C" fn rtpw_make_template(
         Ok(packet) => packet,
         Err(cause) => return status_of(cause),
     };
-    let lent = named.lent();
+    let mut lent: [(u8, &[u8]); MAX_ELEMENTS] = [(0, &[]); MAX_ELEMENTS];
+    named.lend(&mut lent);
     let group = Group {
         ids: &NewIds::from_ids(&ids.id),
         elements: &lent[..elements.len()],
@@ -171,7 +166,7 @@ pub extern "C" fn rtpw_make_template(
     };
     match make_template(&packet, &group, buf) {
         Ok(parts) => {
-            *made = stored(&parts);
+            made.store(&parts);
             OK
         }
         Err(cause) => not_routed_status(cause),

@@ -2,7 +2,7 @@
 use Rattle.std.proofs.Common.{◌≡◌, ◌≢◌, ℕ, zero, suc, ◌+◌, ◌<◌, List, [], ◌∷◌, ◌++◌, length, take, drop, get_or, map, sym, ap, ◌∙◌, subst, arith}
 use Rattle.std.specs.Borrow.{Bor}
 use Rattle.std.proofs.Math.Seq.{take-suc}
-use Rattle.std.proofs.lemmas.List.{drop_more, map-append}
+use Rattle.std.proofs.lemmas.List.{drop_more, drop-map, map-append}
 use Rattle.std.proofs.lemmas.List.Elements.{All-head, All-tail, All-push}
 use Rattle.rtp_ext.specs.Elements.{Element}
 use Rattle.rtp_ext.specs.ElementsInARow.{elements_of}
@@ -31,3 +31,17 @@ pub none-at : (lents : List Lent) (place id : ℕ) (lent : Lent) → place < len
 none-at [] place id lent within none = absurd (omega (arith, within))
 none-at (first ∷ lents) zero id lent within none = All-head (λ (e : Element). e.0 ≢ id) (element_of first) (elements_of lents) none
 none-at (first ∷ lents) (suc place) id lent within none = none-at lents place id lent (omega (arith, within)) (All-tail (λ (e : Element). e.0 ≢ id) (element_of first) (elements_of lents) none)
+
+pub split-at : (lents : List Lent) (place : ℕ) (lent : Lent) → place < length lents
+    → drop place (elements_of lents) ≡ element_of (get_or lents place lent) ∷ drop (place + 1) (elements_of lents)
+split-at lents place lent within =
+    drop-map element_of place lents
+    ∙ (elements-at lents place lent within
+    ∙ ap (λ (es : List Element). element_of (get_or lents place lent) ∷ es) (sym (drop-map element_of (place + 1) lents)))
+
+pub found-at : (lents : List Lent) (place id : ℕ) (lent : Lent) → place < length lents → (get_or lents place lent).0 ≡ id
+    → (was : List ℕ) × (drop place (elements_of lents) ≡ (id, was) ∷ drop (place + 1) (elements_of lents))
+found-at lents place id lent within is = (
+  (get_or lents place lent).1.now,
+  split-at lents place lent within ∙ ap (λ (k : ℕ). (k, (get_or lents place lent).1.now) ∷ drop (place + 1) (elements_of lents)) is,
+)

@@ -13,3 +13,6 @@ mod OnlyLemmas
 mod SlotsFound
 pub mod TemplateLemmas
 mod OneHeaderLemmas
+mod RoomLemmas
+mod WalkLemmas
+mod ByWalkLemmas

@@ -82,7 +82,7 @@ applies-other one_buf other_buf one_len other_len element allowed (NoRoom needed
 
 -- ---- the same once elements are put
 
-set-length : (form : ExtensionsForm) (id : ℕ) (bytes old new : List ℕ) → SetsLast form id bytes old new → length new ≡ length old
+pub set-length : (form : ExtensionsForm) (id : ℕ) (bytes old new : List ℕ) → SetsLast form id bytes old new → length new ≡ length old
 set-length form id bytes old new set =
     omega (arith, ap length set.old_is, ap length set.new_is, set.as_many, length-append set.front (set.was ++ set.rest), length-append set.was set.rest, length-append set.front (bytes ++ set.rest), length-append bytes set.rest)
 
@@ -146,21 +146,21 @@ put_all-other (new ∷ news) allowed one other one_new other_new same p q =
 
 -- ---- what is put into: the packet with its fields and its new ids
 
-bodies-alike : (a b : Option (ExtensionsForm × List ℕ)) → form_of_block a ≡ form_of_block b → block_len a ≡ block_len b → length (body_of_block a) ≡ length (body_of_block b)
+pub bodies-alike : (a b : Option (ExtensionsForm × List ℕ)) → form_of_block a ≡ form_of_block b → block_len a ≡ block_len b → length (body_of_block a) ≡ length (body_of_block b)
 bodies-alike None None same long = refl
 bodies-alike None (Some b) same long = absurd cc
 bodies-alike (Some a) None same long = absurd cc
 bodies-alike (Some a) (Some b) same long = omega (arith, long)
 
 -- the packet, and that its block is as long as it was
-record IsStarted (fields : Fields) (ids : ℕ → Option ℕ) (was : PacketParts) (elements : List Element) (bytes : List ℕ) : Type 0 where
+pub record IsStarted (fields : Fields) (ids : ℕ → Option ℕ) (was : PacketParts) (elements : List Element) (bytes : List ℕ) : Type 0 where
   pub block : Option (ExtensionsForm × List ℕ)
   pub is_packet : IsPacket bytes (record (with_header_fields fields was) { block = block })
   pub same_form : form_of_block block ≡ form_of_block was.block
   pub same_len : block_len block ≡ block_len was.block
   pub are_elements : AreElementsOf block (filter_map (renumbered ids) elements)
 
-started : (old : List ℕ) (fields : Fields) (ids : ℕ → Option ℕ) (new : List ℕ) (is : IsSetAndRenumbered old fields ids new) → IsStarted fields ids is.parts is.elements new
+pub started : (old : List ℕ) (fields : Fields) (ids : ℕ → Option ℕ) (new : List ℕ) (is : IsSetAndRenumbered old fields ids new) → IsStarted fields ids is.parts is.elements new
 started old fields ids new is =
     let was : PacketParts = with_header_fields fields is.parts in
     let has : HasNewIds ids is.elements was is.renumbered.parts =

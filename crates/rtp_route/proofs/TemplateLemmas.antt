@@ -1,5 +1,5 @@
 -- A header that is made once, and what other fields and data make of it.
-use Rattle.std.proofs.Common.{◌≡◌, ℕ, ◌+◌, ◌-◌, ◌*◌, Bool, true, false, ◌&&◌, nat_le, cond, List, [], ◌∷◌, ◌++◌, length, take, drop, map, Option, Some, None, IsSome, refl, sym, ap, subst, ◌∙◌, arith, append-nil, take_at}
+use Rattle.std.proofs.Common.{◌≡◌, ℕ, ◌+◌, ◌-◌, ◌*◌, Bool, true, false, ◌&&◌, nat_le, cond, List, [], ◌∷◌, ◌++◌, length, take, drop, map, Option, Some, None, IsSome, refl, sym, ap, subst, ◌∙◌, arith, take_at}
 use Rattle.std.specs.List.{AllByRecursion, filter_map}
 use Rattle.std.proofs.lemmas.List.{length-map, take_all}
 use Rattle.std.proofs.lemmas.Option.{none-some}
@@ -14,7 +14,6 @@ use Rattle.rtp_ext.specs.WrittenBlock.{filled}
 use Rattle.rtp_ext.proofs.NewIdLemmas.{All-IsElement}
 use Rattle.rtp_wire.specs.declared.packet.fields.Fields.{Fields}
 use Rattle.rtp_wire.specs.ChangedPacket.{ChangesOnly}
-use Rattle.rtp_wire.specs.GivenFields.{with_header_fields}
 use Rattle.rtp_wire.specs.Packet.{PacketParts, IsPacket, header_len_of}
 use Rattle.rtp_wire.specs.PacketElements.{AreElementsOf}
 use Rattle.rtp_wire.specs.PutIntoPacket.{form_of_block}

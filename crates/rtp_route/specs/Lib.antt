@@ -6,3 +6,5 @@ pub mod NotRouted
 pub mod Template
 pub mod GroupHeader
 pub mod TemplateOf
+-- What the inside promises itself.
+pub mod Walk

@@ -16,7 +16,9 @@ ghost use Rattle.rtp_route.specs.NotRouted.{KeepsFromRouting};
 ghost use Rattle.rtp_route.specs.Routing.{IsRouted};
 
 use super::NotRouted;
+use super::by_walk::write_by_walk;
 use super::in_place::{renumber, set_fields};
+use super::slots::{MAX_ELEMENTS, Slot, have_own_ids};
 use rtp_base::put;
 use rtp_ext::{ExtensionsForm, NewIds};
 use rtp_wire::{Fields, NotPut, RtpPacket, compact_copy, put_element_copy};
@@ -135,6 +137,12 @@ pub fn route_header(
         × KeepsFromRouting (header_in packet.now) fields.now (new_id group.now.ids.now)
         (elements_of group.now.elements.now) group.now.allowed (length buf.old) cause) }
 {
+    if group.elements.len() <= MAX_ELEMENTS && have_own_ids(group.elements) {
+        let mut slots = [Slot { start: 0, len: 0 }; MAX_ELEMENTS];
+        if let Some(len) = write_by_walk(packet, fields, group, buf, &mut slots) {
+            return Ok(len);
+        }
+    }
     make_header(packet, fields, group, buf)
 }
 

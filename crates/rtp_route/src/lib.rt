@@ -17,12 +17,14 @@
 #![tactic(auto)]
 
 mod by_calls;
+mod by_walk;
 mod in_place;
 mod not_routed;
 mod not_written;
 mod parts;
 mod slots;
 mod template;
+mod walk;
 
 pub use by_calls::{Group, route_header, routes_as_the_calls_do};
 pub use not_routed::NotRouted;

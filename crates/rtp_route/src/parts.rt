@@ -11,6 +11,7 @@ ghost use Rattle.rtp_route.specs.NotRouted.{KeepsFromTemplate};
 ghost use Rattle.rtp_route.specs.Template.{total_of};
 
 use super::by_calls::make_header;
+use super::by_walk::write_by_walk;
 use super::slots::{MAX_ELEMENTS, Slot, have_own_ids, lie_within, slots_of, total_len};
 use super::{Group, NotRouted};
 use rtp_wire::{Fields, RtpPacket};
@@ -78,13 +79,24 @@ pub fn make_template(
     if !have_own_ids(group.elements) {
         return Err(NotRouted::RepeatedId);
     }
-    let len = make_header(packet, &Fields::default(), group, buf)?;
+    let fields = Fields::default();
+    let count = group.elements.len();
+    let mut slots = [Slot { start: 0, len: 0 }; MAX_ELEMENTS];
+    if let Some(len) = write_by_walk(packet, &fields, group, buf, &mut slots) {
+        let header_len = len as u32;
+        return Ok(TemplateParts {
+            header_len,
+            slots,
+            count,
+        });
+    }
+    let len = make_header(packet, &fields, group, buf)?;
     // The calls made a packet, in which each element is.
     let header = RtpPacket::parse(&buf[..len]).unwrap();
     let slots = slots_of(&header, group.elements).unwrap();
     Ok(TemplateParts {
         header_len: header.header_len() as u32,
         slots,
-        count: group.elements.len(),
+        count,
     })
 }

@@ -1,6 +1,6 @@
 //! Where the data of elements lie in a header.
 
-ghost use Rattle.std.specs.Prelude.{◌≡◌, ◌↔◌, ◌+◌, ◌≤◌, ℕ, List, [], Some, length, map, take, All, IsTrue, IsSome, IfSome};
+ghost use Rattle.std.specs.Prelude.{◌≡◌, ◌↔◌, ◌+◌, ◌<◌, ◌≤◌, ◌∷◌, ℕ, List, [], Some, length, map, take, drop, All, IsTrue, IsSome, IfSome, IfNone};
 ghost use Rattle.std.specs.Bool.{OnTrue, OnFalse};
 ghost use Rattle.std.specs.List.{AllByRecursion};
 ghost use Rattle.rtp_ext.specs.declared.form.ExtensionsForm.{ExtensionsForm};
@@ -26,17 +26,29 @@ pub struct Slot {
     pub len: u8,
 }
 
+// Which of the elements has the id.
+#[inline(always)]
+pub(super) fn index_of(elements: &[(u8, &[u8])], id: u8) -> Option<usize>
+    ensures within { IfSome result (λ index. index < length elements.now) }
+    ensures found { IfSome result (λ index. (was : List ℕ) × (drop index (elements_of elements.now)
+        ≡ (id, was) ∷ drop (index + 1) (elements_of elements.now))) }
+    ensures none { IfNone result (HasNone (elements_of elements.now) id) }
+{
+    for index in 0..elements.len() {
+        if elements[index].0 == id {
+            return Some(index);
+        }
+    }
+    None
+}
+
 // Whether one of the elements has the id.
+#[inline(always)]
 fn has_id(elements: &[(u8, &[u8])], id: u8) -> bool
     ensures none { OnFalse result (HasNone (elements_of elements.now) id) }
     ensures some { OnTrue result (HasNone (elements_of elements.now) id → ⊥) }
 {
-    for index in 0..elements.len() {
-        if elements[index].0 == id {
-            return true;
-        }
-    }
-    false
+    index_of(elements, id).is_some()
 }
 
 // Whether no two of the elements have one id.

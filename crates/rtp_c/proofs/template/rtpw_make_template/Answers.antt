@@ -13,20 +13,20 @@ pub returns-in-Ok-make_template-clause-made : goal.returns-in-Ok-make_template-c
 returns-in-Ok-make_template-clause-made c form same is_ok =
     let named = c.in-Some-new.named in
     let number = named-length c.args.bytes.now named.bytes.now named.views.now c.args.elements.now c.in-Some-new.ensures.elements in
-    group-of c.args.datagram.now _ _ _ _ _ form c.in-Some.allowed c.stored.result.header_len _ c.make_template.new.buf _ _ c.in-Ok.ensures.bytes c.from_ids.ensures
-    (ap (λ (n : ℕ). elements_of (take n c.lent-lent.result)) (sym number) ∙ c.lent-lent.ensures.elements ∙ c.in-Some-new.ensures.elements)
-    (one_allowed c.in-Some.allowed form (c.in-Some.ensures.found ∙ sym same)) (sym c.stored.ensures.header_len) (sym c.stored.ensures.slots) c.in-Ok-make_template.ensures.made
+    group-of c.args.datagram.now _ _ _ _ _ form c.in-Some.allowed c.store.new.self.header_len _ c.make_template.new.buf _ _ c.in-Ok.ensures.bytes c.from_ids.ensures
+    (ap (λ (n : ℕ). elements_of (take n c.lend.new.lent)) (sym number) ∙ c.lend.ensures ∙ c.in-Some-new.ensures.elements)
+    (one_allowed c.in-Some.allowed form (c.in-Some.ensures.found ∙ sym same)) (sym c.store.ensures.header_len) (sym c.store.ensures.slots) c.in-Ok-make_template.ensures.made
 
 pub returns-in-Ok-make_template-clause-in_range : goal.returns-in-Ok-make_template-clause-in_range
 returns-in-Ok-make_template-clause-in_range c is_ok =
     let parts = c.in-Ok-make_template.parts in
     let ensures = c.in-Ok-make_template.ensures in
     record {
-      few = omega (arith, c.stored.ensures.count, ensures.few);
-      there = omega (arith, c.stored.ensures.header_len, ensures.room);
-      within = subst (λ (ss : List Slot). All (λ (s : Slot). s.start + s.len ≤ c.stored.result.header_len) ss) (sym c.stored.ensures.slots)
-          (subst (λ (n : ℕ). All (λ (s : Slot). s.start + s.len ≤ n) (take parts.count parts.slots)) (sym c.stored.ensures.header_len) ensures.within);
-      total_is = c.stored.ensures.total ∙ ap total_of (sym c.stored.ensures.slots);
+      few = omega (arith, c.store.ensures.count, ensures.few);
+      there = omega (arith, c.store.ensures.header_len, ensures.room);
+      within = subst (λ (ss : List Slot). All (λ (s : Slot). s.start + s.len ≤ c.store.new.self.header_len) ss) (sym c.store.ensures.slots)
+          (subst (λ (n : ℕ). All (λ (s : Slot). s.start + s.len ≤ n) (take parts.count parts.slots)) (sym c.store.ensures.header_len) ensures.within);
+      total_is = c.store.ensures.total ∙ ap total_of (sym c.store.ensures.slots);
     }
 
 pub returns-in-Err-make_template-clause-made : goal.returns-in-Err-make_template-clause-made
@@ -43,7 +43,7 @@ returns-in-Err-make_template-clause-refusal c form same within few not_ok parts 
       cause = c.in-Err-make_template.cause;
       applies = kept-of (take (header_len_of parts) c.args.datagram.now) _ _ _ _ _ form c.in-Some.allowed (length c.args.buf.now) c.in-Err-make_template.cause
           (header-of c.in-Ok.packet c.args.datagram.now parts c.in-Ok.ensures.bytes (c.in-Ok.ensures.only parts is)) c.from_ids.ensures
-          (ap (λ (n : ℕ). elements_of (take n c.lent-lent.result)) (sym number) ∙ c.lent-lent.ensures.elements ∙ c.in-Some-new.ensures.elements)
+          (ap (λ (n : ℕ). elements_of (take n c.lend.new.lent)) (sym number) ∙ c.lend.ensures ∙ c.in-Some-new.ensures.elements)
           (one_allowed c.in-Some.allowed form (c.in-Some.ensures.found ∙ sym same)) c.in-Err-make_template.ensures.cause;
       status_is = not_routed-is c.not_routed_status.result c.in-Err-make_template.cause c.not_routed_status.ensures;
     }
@@ -56,7 +56,7 @@ returns-in-Err-make_template-clause-refused c form same within few parts is =
         c.in-Err-make_template.cause,
         kept-of (take (header_len_of parts) c.args.datagram.now) _ _ _ _ _ form c.in-Some.allowed (length c.args.buf.now) c.in-Err-make_template.cause
             (header-of c.in-Ok.packet c.args.datagram.now parts c.in-Ok.ensures.bytes (c.in-Ok.ensures.only parts is)) c.from_ids.ensures
-            (ap (λ (n : ℕ). elements_of (take n c.lent-lent.result)) (sym number) ∙ c.lent-lent.ensures.elements ∙ c.in-Some-new.ensures.elements)
+            (ap (λ (n : ℕ). elements_of (take n c.lend.new.lent)) (sym number) ∙ c.lend.ensures ∙ c.in-Some-new.ensures.elements)
             (one_allowed c.in-Some.allowed form (c.in-Some.ensures.found ∙ sym same)) c.in-Err-make_template.ensures.cause,
       ),
       λ _ is_ok. not_routed≢ok c.not_routed_status.result c.in-Err-make_template.cause c.not_routed_status.ensures is_ok,
@@ -71,7 +71,7 @@ returns-in-Ok-make_template-clause-refused c form same within few parts is =
         kept.0,
         kept-of _ (take (header_len_of parts) c.args.datagram.now) _ _ _ _ c.in-Some.allowed form (length c.args.buf.now) kept.0
             (sym (header-of c.in-Ok.packet c.args.datagram.now parts c.in-Ok.ensures.bytes (c.in-Ok.ensures.only parts is))) (sym c.from_ids.ensures)
-            (sym (ap (λ (n : ℕ). elements_of (take n c.lent-lent.result)) (sym number) ∙ c.lent-lent.ensures.elements ∙ c.in-Some-new.ensures.elements))
+            (sym (ap (λ (n : ℕ). elements_of (take n c.lend.new.lent)) (sym number) ∙ c.lend.ensures ∙ c.in-Some-new.ensures.elements))
             (sym (one_allowed c.in-Some.allowed form (c.in-Some.ensures.found ∙ sym same))) kept.1,
       )),
     )

@@ -1,6 +1,6 @@
-use Rattle.std.proofs.Common.{List, [], arith, sym, ap, ◌∙◌}
+use Rattle.std.proofs.Common.{arith}
 use Rattle.rtp_route.specs.declared.slots.Slot.{Slot}
-use Rattle.rtp_route.proofs.LengthLemmas.{joined-total, joined-next}
+use Rattle.rtp_route.proofs.LengthLemmas.{joined-total}
 use Rattle.rtp_route.proofs.slots.fill_joined.Goals as goal
 
 abbrev no_slot : Slot

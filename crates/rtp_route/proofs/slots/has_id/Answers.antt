@@ -1,14 +1,18 @@
-use Rattle.std.proofs.Common.{arith, subst}
-use Rattle.std.proofs.lemmas.List.{take_all}
+use Rattle.std.proofs.Common.{◌≡◌, ℕ, Bool, true, false, refl, sym, Option, Some, None, IfSome}
+use Rattle.std.specs.Bool.{OnTrue}
+use Rattle.std.specs.Option.{is_some}
+use Rattle.std.proofs.lemmas.Bool.{false≢true}
 use Rattle.rtp_ext.specs.ElementsInARow.{elements_of}
-use Rattle.rtp_ext.specs.ElementsInPlace.{HasNone}
-use Rattle.rtp_route.proofs.LentLemmas.{none-at}
+use Rattle.rtp_route.proofs.WalkLemmas.{OfOther, at-index}
 use Rattle.rtp_route.proofs.slots.has_id.Goals as goal
 
-pub returns-then-elements-index-clause-some : goal.returns-then-elements-index-clause-some
-returns-then-elements-index-clause-some c none =
-    none-at c.args.elements.now c.loop-index.index c.args.id _ (omega (arith, c.loop-index-test.true)) none c.if-elements-index.true
+some-told : (found : Option ℕ) (P : ℕ → Type 0) (Q : Type 0) (some : Bool) → some ≡ is_some found → IfSome found P → ((index : ℕ) → P index → Q) → OnTrue some Q
+some-told None P Q true is p gives = absurd (false≢true (sym is))
+some-told None P Q false is p gives = tt
+some-told (Some index) P Q true is p gives = gives index p
+some-told (Some index) P Q false is p gives = tt
 
-pub returns-clause-none : goal.returns-clause-none
-returns-clause-none c =
-    subst (λ lents. HasNone (elements_of lents) c.args.id) (take_all _ _ (omega (arith, c.loop-index-test.false))) c.loop-index.invariant
+pub returns-clause-some : goal.returns-clause-some
+returns-clause-some c =
+    some-told c.index_of.result _ _ c.is_some.result c.is_some.ensures c.index_of.ensures.found
+    (λ index found none. at-index (OfOther c.args.id) (elements_of c.args.elements.now) index _ _ none found.1 refl)

@@ -1,10 +1,8 @@
-use Rattle.std.proofs.Common.{◌≡◌, ℕ, List, [], length, take, sym, ap, subst, ◌∙◌, arith, take_at}
+use Rattle.std.proofs.Common.{ℕ, List, [], length, sym, ap, subst, arith}
 use Rattle.rtp_wire.specs.ChangedPacket.{ChangesOnly}
-use Rattle.rtp_wire.specs.GivenFields.{with_header_fields}
-use Rattle.rtp_wire.specs.Packet.{PacketParts, IsPacket, header_len_of}
+use Rattle.rtp_wire.specs.Packet.{IsPacket}
 use Rattle.rtp_wire.specs.PartsOf.{parts_of}
 use Rattle.rtp_wire.proofs.PartsLemmas.{length-packet}
-use Rattle.rtp_route.specs.Calls.{header_in}
 use Rattle.rtp_route.proofs.TemplateLemmas.{whole-put, copied-header}
 use Rattle.rtp_route.proofs.template.copy_header.Goals as goal
 

@@ -1,8 +1,8 @@
-use Rattle.std.proofs.Common.{rules, ◌≡◌, ap, ℕ, List, length, take, Result, Ok, Err, IsOk, sym, subst, arith, refl, length-take}
+use Rattle.std.proofs.Common.{◌≡◌, ap, ℕ, List, length, take, Result, Ok, Err, IsOk, sym, subst, arith, refl, length-take}
 use Rattle.std.specs.Result.{IsOkAnd}
 use Rattle.rtp_ext.specs.ElementsInARow.{elements_of}
 use Rattle.rtp_ext.specs.NewIds.{new_id}
-use Rattle.rtp_wire.specs.PartsOf.{datagram_of, parts_of}
+use Rattle.rtp_wire.specs.PartsOf.{datagram_of}
 use Rattle.rtp_route.specs.GroupHeader.{IsGroupHeader}
 use Rattle.rtp_route.proofs.TemplateLemmas.{group-length}
 use Rattle.rtp_route.proofs.template.HeaderTemplate.new.Goals as goal

@@ -1,7 +1,7 @@
 use Rattle.std.proofs.Common.{take}
 use Rattle.rtp_ext.specs.ElementsInARow.{elements_of}
 use Rattle.rtp_ext.specs.ElementsInPlace.{HasNone}
-use Rattle.rtp_route.proofs.slots.has_id.Given as goal
+use Rattle.rtp_route.proofs.slots.index_of.Given as goal
 
 -- none before the index has the id
 abbrev pub invariant-loop-index : goal.invariant-loop-index

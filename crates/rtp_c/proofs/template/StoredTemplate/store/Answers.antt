@@ -3,7 +3,7 @@ use Rattle.std.proofs.Math.ListN.{length-set}
 use Rattle.std.proofs.lemmas.List.Sums.{sum_by_more}
 use Rattle.rtp_route.specs.declared.slots.Slot.{Slot}
 use Rattle.rtp_c.proofs.TemplateLemmas.{stored-more}
-use Rattle.rtp_c.proofs.template.stored.Goals as goal
+use Rattle.rtp_c.proofs.template.StoredTemplate.store.Goals as goal
 
 pub loop-index-preserved : goal.loop-index-preserved
 loop-index-preserved c =
@@ -12,9 +12,9 @@ loop-index-preserved c =
     let slots = c.args.parts.now.slots in
     let there : at.index < length slots = omega (arith, c.args.parts.now.long, c.requires, c.loop-index-test.true) in
     let more = sum_by_more (λ (s : Slot). s.len) slots at.index none there in (
-      stored-more slots at.data_at at.data_len at.index none (omega (arith, at.invariant.1, at.invariant.2)) (omega (arith, at.invariant.1, c.args.parts.now.long, there)) there at.invariant.0,
-      length-set at.data_at at.index _ ∙ at.invariant.1,
-      length-set at.data_len at.index _ ∙ at.invariant.2,
+      stored-more slots at.self.data_at at.self.data_len at.index none (omega (arith, at.invariant.1, at.invariant.2)) (omega (arith, at.invariant.1, c.args.parts.now.long, there)) there at.invariant.0,
+      length-set at.self.data_at at.index _ ∙ at.invariant.1,
+      length-set at.self.data_len at.index _ ∙ at.invariant.2,
       omega (arith, more, at.invariant.3),
       omega (arith, at.invariant.4, c.type_inv.parts),
     )

@@ -1,0 +1,73 @@
+-- A header that is made in one walk over the packet's elements: the elements and their places, and what stands before them.
+use Rattle.std.specs.Prelude.{◌≡◌, ℕ, ◌+◌, ◌-◌, ◌/◌, ◌%◌, ◌≤◌, ◌⊎◌, List, [], ◌∷◌, ◌++◌, length, take, drop, Option, Some, All}
+use Rattle.std.specs.Int.{w16, to_be_bytes}
+use Rattle.std.specs.List.{filter_map}
+use Rattle.rtp_base.specs.Overwriting.{overwritten}
+use Rattle.rtp_ext.specs.declared.form.ExtensionsForm.{ExtensionsForm}
+use Rattle.rtp_ext.specs.Form.{form_word}
+use Rattle.rtp_ext.specs.Elements.{Element, elements_bytes, AreElements}
+use Rattle.rtp_ext.specs.ElementsInARow.{IsWritable}
+use Rattle.rtp_ext.specs.ElementsInPlace.{HasNone, renumbered, CanRenumber}
+use Rattle.rtp_ext.specs.WrittenBlock.{filled}
+use Rattle.rtp_wire.specs.declared.packet.fields.Fields.{Fields}
+use Rattle.rtp_route.specs.declared.slots.Slot.{Slot}
+use Rattle.rtp_route.specs.Routing.{IsRouted, put_all, routed_elements}
+use Rattle.rtp_route.specs.Template.{IsSlot, AreSlots, data_lengths, slot_lengths, body_start_of}
+
+-- the place of an element among these in a row, or 0 where none has its id
+abbrev pub IsPlaced : ExtensionsForm → ℕ → List Element → Element → Slot → Type 0
+IsPlaced form start written new slot = ((slot.start ≡ 0) × HasNone written new.0) ⊎ IsSlot form start written new slot
+
+-- so is the place of each
+abbrev pub ArePlaced : ExtensionsForm → ℕ → List Element → List Element → List Slot → Type 0
+ArePlaced form start written [] slots = Unit {0}
+ArePlaced form start written (new ∷ news) [] = ⊥
+ArePlaced form start written (new ∷ news) (slot ∷ slots) = IsPlaced form start written new slot × ArePlaced form start written news slots
+
+-- the buffer has these elements in a row between the two offsets, where each of the group's is placed, and its other bytes are the old ones
+pub record AreWritten (form : ExtensionsForm) (start : ℕ) (news : List Element) (old : List ℕ) (written : List Element) (slots : List Slot) (buf : List ℕ) (at : ℕ) : Type 0 where
+  pub bytes_are : buf ≡ overwritten old start (elements_bytes form written)
+  pub as_long : length buf ≡ length old
+  pub at_is : at ≡ start + length (elements_bytes form written)
+  pub writable : All (IsWritable form) written
+  pub placed : ArePlaced form start written news slots
+
+-- the first elements have the ids of the others in turn, and are these, but for those of the ids of the group's
+abbrev pub AreLike : List Element → List Element → List Element → Type 0
+AreLike news [] [] = Unit {0}
+AreLike news [] (other ∷ others) = ⊥
+AreLike news (element ∷ elements) [] = ⊥
+AreLike news (element ∷ elements) (other ∷ others) = (element.0 ≡ other.0) × (HasNone news other.0 → element ≡ other) × AreLike news elements others
+
+-- a block of this form can carry its elements under their new ids, and they are written, but for those of the ids of the group's
+pub record AreKept (was form : ExtensionsForm) (ids : ℕ → Option ℕ) (news elements : List Element) (start : ℕ) (old : List ℕ) (slots : List Slot) (buf : List ℕ) (at : ℕ) : Type 0 where
+  pub written : List Element
+  pub like : AreLike news written (filter_map (renumbered ids) elements)
+  pub carried : All (CanRenumber was ids) elements
+  pub are_written : AreWritten form start news old written slots buf at
+
+-- between the offsets, of whole words, lies the body of a block with its elements under their new ids, none of them 0, which the block's form can carry, and with those of the group, whose data lie at the places
+pub record IsBodyFor (was form : ExtensionsForm) (ids : ℕ → Option ℕ) (news elements : List Element) (start : ℕ) (slots : List Slot) (buf : List ℕ) (end : ℕ) : Type 0 where
+  pub after : start ≤ end
+  pub whole : end % 4 ≡ 0
+  pub carried : All (CanRenumber was ids) elements
+  pub no_zero : HasNone (filter_map (renumbered ids) elements) 0
+  pub body_is : take (end - start) (drop start buf) ≡ filled (elements_bytes form (put_all news (filter_map (renumbered ids) elements)))
+  pub are_elements : AreElements form (filled (elements_bytes form (put_all news (filter_map (renumbered ids) elements)))) (put_all news (filter_map (renumbered ids) elements))
+  pub slots_are : AreSlots form start (put_all news (filter_map (renumbered ids) elements)) news slots
+
+-- the buffer begins with what stands before a body of so many bytes: these bytes, of which the last four begin a block; their word stays where the form does, and else that of the form is written; and behind them stands this
+pub record IsFrontWith (front : List ℕ) (was form : ExtensionsForm) (body_len : ℕ) (behind new : List ℕ) : Type 0 where
+  pub word : List ℕ
+  pub two : length word ≡ 2
+  pub same : form ≡ was → word ≡ take 2 (drop (length front - 4) front)
+  pub other : (form ≡ was → ⊥) → word ≡ to_be_bytes w16 (form_word form)
+  pub new_is : new ≡ take (length front - 4) front ++ (word ++ (to_be_bytes w16 (body_len / 4) ++ behind))
+
+-- the bytes are the header of the packet as it goes to the receivers with these fields, and the data of the group's elements lie at the places in it
+pub record IsMadeFor (old : List ℕ) (fields : Fields) (ids : ℕ → Option ℕ) (news : List Element) (allowed : Option ExtensionsForm) (header : List ℕ) (slots : List Slot) : Type 0 where
+  pub routed : IsRouted old fields ids news allowed header
+  pub slots_are : (form : ExtensionsForm) → routed.form ≡ Some form
+      → AreSlots form (body_start_of routed.parts) (routed_elements ids news routed.elements) news slots
+  pub lengths_are : slot_lengths slots ≡ data_lengths news
+  pub within : All (λ (slot : Slot). slot.start + slot.len ≤ length header) slots

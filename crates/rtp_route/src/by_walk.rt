@@ -1,0 +1,110 @@
+//! A packet's header for a group of receivers, made in one walk over its elements.
+
+ghost use Rattle.std.specs.Prelude.{◌≡◌, ◌+◌, ◌-◌, ◌*◌, ◌≤◌, Some, length, take, drop, All, IfSome};
+ghost use Rattle.rtp_ext.specs.declared.form.ExtensionsForm.TheVariants.{TwoByte};
+ghost use Rattle.rtp_ext.specs.Elements.{elements_bytes};
+ghost use Rattle.rtp_ext.specs.ElementsInARow.{elements_of, IsWritable};
+ghost use Rattle.rtp_ext.specs.NewIds.{new_id};
+ghost use Rattle.rtp_wire.specs.PartsOf.{datagram_of};
+ghost use Rattle.rtp_route.specs.declared.not_routed.NotRouted.{NotRouted};
+ghost use Rattle.rtp_route.specs.Calls.{header_in};
+ghost use Rattle.rtp_route.specs.NotRouted.{KeepsFromRouting};
+ghost use Rattle.rtp_route.specs.Routing.{IsFormAfter};
+ghost use Rattle.rtp_route.specs.Template.{HaveOwnIds};
+ghost use Rattle.rtp_route.specs.Walk.{IsFrontWith, IsMadeFor};
+
+use super::Group;
+use super::in_place::set_fields;
+use super::slots::{MAX_ELEMENTS, Slot};
+use super::walk::write_body;
+use rtp_base::put;
+use rtp_ext::{ExtensionsForm, form_to_put};
+use rtp_wire::{Fields, RtpPacket};
+
+// The most bytes of a header that is made so: as many as the body of a block may have.
+const MAX_LEN: usize = 4 * 65_535;
+
+// The form that a block of this form gets with the group's elements put into it one after another.
+// `None` where one can't be put, or they take more than the room in the two-byte form.
+#[inline(always)]
+fn form_after(was: ExtensionsForm, group: &Group<'_>, room: usize) -> Option<ExtensionsForm>
+    ensures form { IfSome result (λ form.
+        IsFormAfter group.now.allowed (Some was) (elements_of group.now.elements.now) (Some form)) }
+    ensures carried { IfSome result (λ _.
+        All (IsWritable TwoByte) (elements_of group.now.elements.now)) }
+    ensures room { IfSome result (λ _.
+        length (elements_bytes TwoByte (elements_of group.now.elements.now)) ≤ room) }
+{
+    let mut form = was;
+    let mut left = room;
+    for (id, data) in group.elements {
+        if !ExtensionsForm::TwoByte.can_carry(*id, data) {
+            return None;
+        }
+        form = form_to_put(Some(form), group.allowed, *id, data)?;
+        left = left.checked_sub(2 + data.len())?;
+    }
+    Some(form)
+}
+
+// Puts what stands before the body of a packet at the front: these bytes, of which the last four
+// begin a block, with the word of the form where the block had another one, and the number of words
+// of its body.
+#[inline(always)]
+fn put_front(
+    buf: &mut [u8],
+    front: &[u8],
+    was: ExtensionsForm,
+    form: ExtensionsForm,
+    body_len: usize,
+)
+    requires some { 4 ≤ length front.now }
+    requires few { body_len ≤ 4 * 65535 }
+    requires room { length front.now ≤ length buf.old }
+    ensures { IsFrontWith front.now was form body_len (drop (length front.now) buf.old) buf.new }
+{
+    let block_at = front.len() - 4;
+    put(buf, 0, front);
+    if form != was {
+        put(buf, block_at, &form.serialize());
+    }
+    put(buf, block_at + 2, &((body_len / 4) as u16).to_be_bytes());
+}
+
+// Writes the header that the packet gets with these fields for the group, as
+// [`route_header`](super::route_header) does, in one walk over its elements: it returns how many
+// bytes it has, and the places are those of the data of the group's elements. `None` where another
+// way has to be taken: without a block of one of the two forms, for several elements of the id of
+// one that is put, or little room, and where one can't be put. The buffer and the places then are
+// any.
+#[inline(always)]
+pub(super) fn write_by_walk(
+    packet: &RtpPacket<'_>,
+    fields: &Fields,
+    group: &Group<'_>,
+    buf: &mut [u8],
+    slots: &mut [Slot; MAX_ELEMENTS],
+) -> Option<usize>
+    requires payload_type { IfSome fields.now.payload_type (λ pt. pt ≤ 127) }
+    requires few { length group.now.elements.now ≤ 16 }
+    requires own { HaveOwnIds (elements_of group.now.elements.now) }
+    ensures made { IfSome result (λ len. IsMadeFor (datagram_of packet.now) fields.now
+        (new_id group.now.ids.now) (elements_of group.now.elements.now) group.now.allowed
+        (take len buf.new) (take (length group.now.elements.now) slots.new)) }
+    ensures within { IfSome result (λ len. len ≤ length buf.new) }
+    ensures short { IfSome result (λ len. len ≤ 262140) }
+    ensures none_refused { IfSome result (λ _. (cause : NotRouted) →
+        KeepsFromRouting (header_in packet.now) fields.now (new_id group.now.ids.now)
+        (elements_of group.now.elements.now) group.now.allowed (length buf.old) cause → ⊥) }
+{
+    let (was, body) = packet.block()?;
+    let header = packet.header_bytes();
+    let most = buf.len().min(MAX_LEN);
+    let room = most.checked_sub(2 * header.len() + 3)?;
+    let form = form_after(was, group, room)?;
+    let front = &header[..header.len() - body.len()];
+    let len = write_body(&mut buf[..most], front.len(), was, form, body, group, slots)?;
+    put_front(buf, front, was, form, len - front.len());
+    set_fields(&mut buf[..len], len, Some(form), fields);
+    Some(len)
+}

@@ -1,0 +1,262 @@
+//! The body of a group's block, written while the packet's elements are read.
+
+ghost use Rattle.std.specs.Prelude.{◌≡◌, ◌+◌, ◌%◌, ◌<◌, ◌≤◌, ◌∷◌, ◌++◌, ℕ, List, [], length, take, drop, replicate, All, IfSome, IfNone};
+ghost use Rattle.rtp_base.specs.Overwriting.{overwritten};
+ghost use Rattle.rtp_ext.specs.declared.form.ExtensionsForm.TheVariants.{OneByte};
+ghost use Rattle.rtp_ext.specs.ElementWriting.{element_header};
+ghost use Rattle.rtp_ext.specs.Elements.{Element, AreElements, element_bytes, elements_bytes};
+ghost use Rattle.rtp_ext.specs.ElementsInARow.{elements_of, IsWritable};
+ghost use Rattle.rtp_ext.specs.ElementsInPlace.{HasNone, CanRenumber};
+ghost use Rattle.rtp_ext.specs.NewIds.{new_id};
+ghost use Rattle.rtp_ext.specs.WrittenBlock.{filled};
+ghost use Rattle.rtp_route.specs.Routing.{put_all};
+ghost use Rattle.rtp_route.specs.Template.{HaveOwnIds, AreSlots};
+ghost use Rattle.rtp_route.specs.Walk.{ArePlaced, AreWritten, AreKept, IsBodyFor};
+
+use super::Group;
+use super::slots::{MAX_ELEMENTS, Slot, index_of};
+use rtp_base::put;
+use rtp_ext::{Elements, ExtensionsForm, put_data};
+
+// Puts the header of an element at the offset, and returns where its data begin.
+#[inline(always)]
+fn put_header(buf: &mut [u8], at: usize, form: ExtensionsForm, id: u8, len: u8) -> usize
+    requires room { at + 2 ≤ length buf.old }
+    requires fits { form ≡ OneByte → (id ≤ 14) × (1 ≤ len) × (len ≤ 16) }
+    ensures written { buf.new ≡ overwritten buf.old at (element_header form id len) }
+    ensures end { result ≡ at + length (element_header form id len) }
+{
+    match form {
+        ExtensionsForm::OneByte => put(buf, at, &[id * 16 + (len - 1)]),
+        ExtensionsForm::TwoByte => put(buf, at, &[id, len]),
+    }
+}
+
+// Writes an element behind the bytes before the offset, and returns where it ends; `None` where it
+// may have no room.
+#[inline(always)]
+fn write_behind(
+    buf: &mut [u8],
+    at: usize,
+    form: ExtensionsForm,
+    id: u8,
+    bytes: &[u8],
+) -> Option<usize>
+    requires room { at ≤ length buf.old }
+    requires writable { IsWritable form (id, bytes.now) }
+    ensures written { IfSome result (λ _.
+        buf.new ≡ overwritten buf.old at (element_bytes form (id, bytes.now))) }
+    ensures end { IfSome result (λ end. end ≡ at + length (element_bytes form (id, bytes.now))) }
+    ensures within { IfSome result (λ end. end ≤ length buf.old) }
+{
+    // With the longer header of the two.
+    if buf.len() - at < 2 + bytes.len() {
+        return None;
+    }
+    let data_at = put_header(buf, at, form, id, bytes.len() as u8);
+    put_data(buf, data_at, bytes);
+    Some(data_at + bytes.len())
+}
+
+// Writes the group's element at the index, and keeps the place of its data.
+#[inline(always)]
+fn write_own(
+    buf: &mut [u8],
+    at: usize,
+    form: ExtensionsForm,
+    elements: &[(u8, &[u8])],
+    index: usize,
+    slots: &mut [Slot; MAX_ELEMENTS],
+) -> Option<usize>
+    requires index { index < length elements.now }
+    requires writable { All (IsWritable form) (elements_of elements.now) }
+    requires few { length elements.now ≤ 16 }
+    requires room { at ≤ length buf.old }
+    requires short { length buf.old ≤ 262140 }
+    requires own { HaveOwnIds (elements_of elements.now) }
+    ensures written { IfSome result (λ end. (start : ℕ) (old : List ℕ) (written : List Element)
+        (element : Element) →
+        drop index (elements_of elements.now)
+        ≡ element ∷ drop (index + 1) (elements_of elements.now) →
+        AreWritten form start (elements_of elements.now) old written slots.old buf.old at →
+        HasNone written element.0 →
+        AreWritten form start (elements_of elements.now) old (written ++ element ∷ [])
+        slots.new buf.new end) }
+    ensures within { IfSome result (λ end. end ≤ length buf.old) }
+{
+    let (id, bytes) = elements[index];
+    let end = write_behind(buf, at, form, id, bytes)?;
+    slots[index] = Slot {
+        start: (end - bytes.len()) as u32,
+        len: bytes.len() as u8,
+    };
+    Some(end)
+}
+
+// Writes an element of the packet under its new id, or in its place the group's element of that id;
+// `None` where this one is written before it.
+#[inline(always)]
+fn write_next(
+    buf: &mut [u8],
+    at: usize,
+    form: ExtensionsForm,
+    elements: &[(u8, &[u8])],
+    slots: &mut [Slot; MAX_ELEMENTS],
+    id: u8,
+    bytes: &[u8],
+) -> Option<usize>
+    requires few { length elements.now ≤ 16 }
+    requires room { at ≤ length buf.old }
+    requires short { length buf.old ≤ 262140 }
+    requires own { HaveOwnIds (elements_of elements.now) }
+    requires writable { IsWritable form (id, bytes.now) }
+    requires all { All (IsWritable form) (elements_of elements.now) }
+    ensures written { IfSome result (λ end. (start : ℕ) (old : List ℕ) (written : List Element) →
+        1 ≤ start →
+        AreWritten form start (elements_of elements.now) old written slots.old buf.old at →
+        (element : Element) × (element.0 ≡ id)
+        × (HasNone (elements_of elements.now) id → element ≡ (id, bytes.now))
+        × AreWritten form start (elements_of elements.now) old (written ++ element ∷ [])
+        slots.new buf.new end) }
+    ensures within { IfSome result (λ end. end ≤ length buf.old) }
+{
+    match index_of(elements, id) {
+        None => write_behind(buf, at, form, id, bytes),
+        Some(index) => {
+            if slots[index].start != 0 {
+                return None;
+            }
+            write_own(buf, at, form, elements, index, slots)
+        }
+    }
+}
+
+// Writes the elements of a block's body under their new ids, those without one left out, and the
+// group's elements in the place of those of their ids; returns where they end. `None` where the
+// block's form can't carry one, or two have the id of one of the group's elements.
+#[inline(always)]
+fn write_kept(
+    buf: &mut [u8],
+    at: usize,
+    was: ExtensionsForm,
+    form: ExtensionsForm,
+    body: &[u8],
+    group: &Group<'_>,
+    slots: &mut [Slot; MAX_ELEMENTS],
+) -> Option<usize>
+    requires some { 1 ≤ at }
+    requires few { length group.now.elements.now ≤ 16 }
+    requires room { at ≤ length buf.old }
+    requires short { length buf.old ≤ 262140 }
+    requires own { HaveOwnIds (elements_of group.now.elements.now) }
+    requires all { All (IsWritable form) (elements_of group.now.elements.now) }
+    requires carries { (element : Element) → IsWritable was element → IsWritable form element }
+    requires fresh { ArePlaced form at [] (elements_of group.now.elements.now) slots.old }
+    ensures kept { IfSome result (λ end. (elements : List Element) →
+        AreElements was body.now elements →
+        AreKept was form (new_id group.now.ids.now) (elements_of group.now.elements.now)
+        elements at buf.old slots.new buf.new end) }
+    ensures within { IfSome result (λ end. end ≤ length buf.old) }
+{
+    let mut end = at;
+    for (id, bytes) in Elements::new(body, was) {
+        if let Some(new) = group.ids.new_id(id) {
+            if !was.can_carry(new, bytes) {
+                return None;
+            }
+            end = write_next(buf, end, form, group.elements, slots, new, bytes)?;
+        }
+    }
+    Some(end)
+}
+
+// Writes those of the group's elements that have no place yet, and returns where they end.
+#[inline(always)]
+fn write_lacking(
+    buf: &mut [u8],
+    at: usize,
+    form: ExtensionsForm,
+    elements: &[(u8, &[u8])],
+    slots: &mut [Slot; MAX_ELEMENTS],
+) -> Option<usize>
+    requires few { length elements.now ≤ 16 }
+    requires room { at ≤ length buf.old }
+    requires short { length buf.old ≤ 262140 }
+    requires own { HaveOwnIds (elements_of elements.now) }
+    requires all { All (IsWritable form) (elements_of elements.now) }
+    ensures written { IfSome result (λ end. (start : ℕ) (old : List ℕ) (written : List Element) →
+        1 ≤ start →
+        AreWritten form start (elements_of elements.now) old written slots.old buf.old at →
+        AreWritten form start (elements_of elements.now) old
+        (put_all (elements_of elements.now) written) slots.new buf.new end
+        × AreSlots form start (put_all (elements_of elements.now) written)
+        (elements_of elements.now) (take (length elements.now) slots.new)) }
+    ensures within { IfSome result (λ end. end ≤ length buf.old) }
+{
+    let mut end = at;
+    for index in 0..elements.len() {
+        if slots[index].start == 0 {
+            end = write_own(buf, end, form, elements, index, slots)?;
+        }
+    }
+    Some(end)
+}
+
+// Puts up to three zeros at the offset.
+#[inline(always)]
+fn put_padding(buf: &mut [u8], at: usize, count: usize)
+    requires room { at + count ≤ length buf.old }
+    requires few { count ≤ 3 }
+    ensures { buf.new ≡ overwritten buf.old at (replicate count 0) }
+{
+    match count {
+        0 => {}
+        1 => {
+            put(buf, at, &[0]);
+        }
+        2 => {
+            put(buf, at, &[0, 0]);
+        }
+        _ => {
+            put(buf, at, &[0, 0, 0]);
+        }
+    }
+}
+
+// Writes the body that a block's body becomes for the group at the offset, which is of whole words,
+// and returns where it ends; the places are those of the group's elements. `None` where another way
+// has to be taken. The places before are passed over.
+#[inline(always)]
+pub(super) fn write_body(
+    buf: &mut [u8],
+    at: usize,
+    was: ExtensionsForm,
+    form: ExtensionsForm,
+    body: &[u8],
+    group: &Group<'_>,
+    slots: &mut [Slot; MAX_ELEMENTS],
+) -> Option<usize>
+    requires some { 1 ≤ at }
+    requires whole { at % 4 ≡ 0 }
+    requires few { length group.now.elements.now ≤ 16 }
+    requires room { at ≤ length buf.old }
+    requires short { length buf.old ≤ 262140 }
+    requires own { HaveOwnIds (elements_of group.now.elements.now) }
+    requires all { All (IsWritable form) (elements_of group.now.elements.now) }
+    requires carries { (element : Element) → IsWritable was element → IsWritable form element }
+    ensures written { IfSome result (λ end. (elements : List Element) →
+        AreElements was body.now elements →
+        IsBodyFor was form (new_id group.now.ids.now) (elements_of group.now.elements.now)
+        elements at (take (length group.now.elements.now) slots.new) buf.new end) }
+    ensures within { IfSome result (λ end. end ≤ length buf.old) }
+{
+    *slots = [Slot { start: 0, len: 0 }; MAX_ELEMENTS];
+    let kept = write_kept(buf, at, was, form, body, group, slots)?;
+    let len = write_lacking(buf, kept, form, group.elements, slots)?;
+    let end = len.next_multiple_of(4);
+    if end > buf.len() {
+        return None;
+    }
+    put_padding(buf, len, end - len);
+    Some(end)
+}
