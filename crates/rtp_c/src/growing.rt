@@ -37,16 +37,19 @@ pub fn put_status_of(cause: NotPut) -> i32
 
 /// Puts an element into the packet in the first `len` bytes of the buffer, which grows where it
 /// lies: the packet then has exactly one element of this id, with these data, in place of the last
-/// one of the id or as the last of all, and all else is as it was (RFC 8285, 4.2 and 4.3). `len`
-/// becomes its new length. Of the block's forms the number `allowed` allows both where it is 0, the
-/// one-byte form alone where it is 1, and the two-byte form alone where it is 2.
+/// one of the id or as the last of all (RFC 8285, 4.2 and 4.3). The other elements stay, in order,
+/// but those of the id 0, which is padding's: they go, and so does what stands where reading ends.
+/// The other fields, the CSRC list and the payload stay. `len` becomes its new length. Of the
+/// block's forms the number `allowed` allows both where it is 0, the one-byte form alone where it is
+/// 1, and the two-byte form alone where it is 2.
 ///
 /// `OK`; `BAD_FIELD` where `allowed` is above 2, or `len` is past the buffer; `BAD_ID` where the id
 /// is 0; `BAD_FIELD` where there are more than 255 bytes of data; the status of the first cause for
 /// which the bytes are no packet; `UNKNOWN_FORM` where the block's form is another, which carries
 /// no elements; `LONG_ID` where the id is above 14, and only the one-byte form is allowed;
-/// `FORM_NOT_ALLOWED` where the two-byte form is else needed, and isn't allowed; `LONG_BLOCK` where the block would have more than 65,535 words; or `SHORT_BUFFER` where there is
-/// no room behind the packet. Where it isn't `OK` nothing changes.
+/// `FORM_NOT_ALLOWED` where the two-byte form is else needed, and isn't allowed; `LONG_BLOCK` where
+/// the block would have more than 65,535 words; or `SHORT_BUFFER` where there is no room behind the
+/// packet. Where it isn't `OK` nothing changes.
 #[unsafe(no_mangle)]
 pub extern "C" fn rtpw_put_element(
     buf: &mut [u8],

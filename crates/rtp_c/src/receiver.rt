@@ -111,10 +111,10 @@ fn receive_any(receiver: &mut StoredReceiver, sequence_number: u16, number: &mut
 }
 
 /// Makes the receiver one that has taken nothing yet, whose first packet has this rollover count:
-/// below 2^48, and 0 for a stream that is received from its beginning. `highest` becomes 65,536
-/// times the count, and all else 0. With a count of 1 or more a packet from before the first one
-/// has a number too. `OK`, or `BAD_FIELD` where the count is 2^48 or more, and then nothing is
-/// written.
+/// below 2^48. In SRTP it is the sender's, 0 at the beginning of its stream. Where nothing is
+/// authenticated it is 1, so that a packet from before the first one has a number too; with 0 it has
+/// one near 2^64. `highest` becomes 65,536 times the count, and all else 0. `OK`, or `BAD_FIELD`
+/// where the count is 2^48 or more, and then nothing is written.
 #[unsafe(no_mangle)]
 pub extern "C" fn rtpw_receiver_start(receiver: &mut StoredReceiver, rollover_count: u64) -> i32
     ensures started { rollover_count < 2 ^ 48 → (taken : Numbers) → IsNothing taken →

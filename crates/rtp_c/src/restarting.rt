@@ -31,9 +31,10 @@ pub struct StoredRestarting {
     pub max_dropout: u16,
     /// The 16 bits of the number after the last packet outside of the stream.
     pub next: u16,
-    /// With how many packets in a row a new source is valid; 0 is the same as 1.
+    /// With how many packets in a row, each with the number after that of the one before, a new
+    /// source is valid; 0 is the same as 1.
     pub min_sequential: u8,
-    /// How many packets outside of the stream came last in a row, at most 255.
+    /// How many packets outside of the stream came last in such a row, at most 255.
     pub in_row: u8,
     /// 0 where nothing is taken yet, and 1 afterwards.
     pub started: u8,

@@ -134,8 +134,8 @@ impl<W: ReplayWindow> RestartingStreamReceiver<W> {
         &self.receiver
     }
 
-    /// How many packets outside of the stream came last in a row, at most 255, and the 16 bits of
-    /// the number after the last of them.
+    /// How many packets outside of the stream came last in a row, each with the number after that of
+    /// the one before, at most 255, and the 16 bits of the number after the last of them.
     pub fn row(&self) -> (u8, u16)
         ensures { (result.0 ≡ self.now.row.len) × (result.1 ≡ self.now.row.next) }
     {
@@ -266,7 +266,8 @@ impl NarrowRestartingReceiver {
     /// A receiver that has taken nothing yet, with these bounds in place of RFC 3550's. A packet of
     /// the stream is less than `max_dropout` above the highest number taken; 32,768 or more is as
     /// far as 16 bits tell. A source is valid, and its first packet is taken, with the last of
-    /// `min_sequential` packets in a row; 0 is the same as 1.
+    /// `min_sequential` packets in a row, each with the number after that of the one before; 0 is
+    /// the same as 1.
     pub fn with_bounds(max_dropout: u16, min_sequential: u8) -> Self
         ensures bounds { bounds_of_size window_size result ≡ record {
           max_dropout = max_dropout;

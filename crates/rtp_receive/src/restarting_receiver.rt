@@ -43,7 +43,8 @@ impl<const N: usize> RestartingReceiver<N> {
     /// A receiver that has taken nothing yet, with these bounds in place of RFC 3550's. A packet of
     /// the stream is less than `max_dropout` above the highest number taken; 32,768 or more is as
     /// far as 16 bits tell. A source is valid, and its first packet is taken, with the last of
-    /// `min_sequential` packets in a row; 0 is the same as 1. Precondition: N is at least 1.
+    /// `min_sequential` packets in a row, each with the number after that of the one before; 0 is
+    /// the same as 1. Precondition: N is at least 1.
     pub fn with_bounds(max_dropout: u16, min_sequential: u8) -> Self
         requires { 0 < N }
         ensures bounds { bounds_of N result ≡ record {

@@ -18,9 +18,9 @@ use std::fmt;
 /// 1,024 numbers, which are 16 words.
 ///
 /// ```
-/// let mut receiver = WideReceiver::<16>::new();
-/// assert_eq!(receiver.receive(5000), Verdict::Taken(SeqNo::from(5000)));
-/// assert_eq!(receiver.receive(3977), Verdict::Taken(SeqNo::from(3977)));
+/// let mut receiver = WideReceiver::<16>::starting_at(1); // 1, as no packet is authenticated
+/// assert_eq!(receiver.receive(5000), Verdict::Taken(SeqNo::from(70_536)));
+/// assert_eq!(receiver.receive(3977), Verdict::Taken(SeqNo::from(69_513)));
 /// assert_eq!(receiver.receive(3977), Verdict::Refused);
 /// assert_eq!(receiver.receive(3976), Verdict::Refused);
 /// ```

@@ -173,8 +173,8 @@ impl Plan {
 /// all. The other elements stay, in order, but those of the id 0, which is padding's: they go, since a
 /// receiver that reads as the RFC says ends at one. The other fields, the CSRC list and the payload stay.
 ///
-/// Where the element is the only one of its id, has as many bytes, and none is of the id 0, only these bytes
-/// change. Else the block is made anew where it lies: its padding is used up, and where that isn't enough
+/// Where the element is the only one of its id, has as many bytes, none is of the id 0, and the block keeps
+/// its form, only these bytes change. Else the block is made anew where it lies: its padding is used up, and where that isn't enough
 /// the payload moves by whole words. Without X the packet gets a block. The body never becomes shorter:
 /// [`compact`](super::compact) gives bytes back.
 /// What stands where reading ends, an element that is cut short or what follows the id 15, is no element,
