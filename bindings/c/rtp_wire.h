@@ -453,9 +453,9 @@ typedef struct {
     uint8_t video_content_type;   /* 0 unspecified, 1 a screen */
     int8_t audio_level;           /* dB relative to the overload point, -127 to 0 */
     uint8_t voice_activity;       /* 0 or 1 */
-    char mid[17];                 /* the media section, up to 16 characters (RFC 9143) */
-    char rid[9];                  /* the stream, up to 8 characters (RFC 8852) */
-    char repaired_rid[9];         /* the stream that this one repairs, up to 8 characters (RFC 8852) */
+    char mid[17];                 /* the media section, up to 16 characters (RFC 9143); as it lies: rtpw_is_token */
+    char rid[9];                  /* the stream, up to 8 characters (RFC 8852); as it lies: rtpw_is_token */
+    char repaired_rid[9];         /* the stream that this one repairs, up to 8 characters (RFC 8852); as it lies the same */
     uint8_t has_send_time;
     uint8_t has_capture_time;
     uint8_t has_capture_offset;
@@ -1080,8 +1080,10 @@ typedef struct {
     uint64_t words[2];      /* bit n % 64 of words[n / 64 % 2]: whether the number n is taken in the epoch */
     uint16_t max_dropout;   /* 0 stands for 3,000 */
     uint16_t next;          /* the 16 bits after those of the last packet outside of the stream */
-    uint8_t min_sequential; /* a new source's first packet is taken with the last of so many in a row; 0 is as 1 */
-    uint8_t in_row;         /* how many packets outside of the stream came last in a row, at most 255 */
+    uint8_t min_sequential; /* a new source's first packet is taken with the last of so many in a row, each with the
+                             * number after that of the one before; 0 is as 1 */
+    uint8_t in_row;         /* how many packets outside of the stream came last in such a row, at most 255: 1 after one
+                             * that has another number than `next` said; before any is taken all are outside */
     uint8_t started;        /* 0 where nothing is taken yet, and then 1 */
 } rtpw_restarting_receiver;
 
@@ -1167,8 +1169,10 @@ typedef struct {
     uint16_t max_dropout;   /* 0 stands for 3,000 */
     uint16_t max_misorder;  /* 0 stands for 3,000, or for 64 * count where that is more */
     uint16_t next;          /* the 16 bits after those of the last packet outside of the stream */
-    uint8_t min_sequential; /* a new source's first packet is taken with the last of so many in a row; 0 is as 1 */
-    uint8_t in_row;         /* how many packets outside of the stream came last in a row, at most 255 */
+    uint8_t min_sequential; /* a new source's first packet is taken with the last of so many in a row, each with the
+                             * number after that of the one before; 0 is as 1 */
+    uint8_t in_row;         /* how many packets outside of the stream came last in such a row, at most 255: 1 after one
+                             * that has another number than `next` said; before any is taken all are outside */
     uint8_t started;        /* 0 where nothing is taken yet, and then 1 */
 } rtpw_wide_restarting_receiver;
 

@@ -127,6 +127,28 @@ static void late_packets_are_no_restart(void) {
     CHECK(rtpw_wide_restarting_receive(&receiver, words, 513, 9, &number) == RTPW_BAD_FIELD && receiver.highest == 105536);
 }
 
+/* Of a row each packet has the number after that of the one before; another one outside of the stream begins a row. */
+static void rows_have_numbers_one_after_another(void) {
+    static const struct {
+        uint16_t low;
+        int32_t status;
+        uint8_t in_row;
+    } ROWS[] = {{5, RTPW_REFUSED, 1},  {9, RTPW_REFUSED, 1},     {10, RTPW_REFUSED, 2},    {20, RTPW_REFUSED, 1},
+                {21, RTPW_REFUSED, 2}, {22, RTPW_OK, 0},         {30000, RTPW_REFUSED, 1}, {40000, RTPW_REFUSED, 1},
+                {22, RTPW_REFUSED, 0}, {40001, RTPW_REFUSED, 1}, {40002, RTPW_RESTARTED, 0}};
+    rtpw_restarting_receiver receiver = {0};
+    rtpw_wide_restarting_receiver wide = {0};
+    uint64_t words[16], number;
+    size_t i;
+    receiver.min_sequential = wide.min_sequential = 3;
+    for (i = 0; i < sizeof ROWS / sizeof *ROWS; i++) {
+        CHECK(rtpw_restarting_receive(&receiver, ROWS[i].low, &number) == ROWS[i].status);
+        CHECK(receiver.in_row == ROWS[i].in_row);
+        CHECK(rtpw_wide_restarting_receive(&wide, words, 16, ROWS[i].low, &number) == ROWS[i].status);
+        CHECK(wide.in_row == ROWS[i].in_row);
+    }
+}
+
 /* What is known of numbers at the ends of the window. */
 static void numbers_are_told_apart(void) {
     rtpw_receiver receiver;
@@ -151,6 +173,7 @@ int main(void) {
     counts_of_words();
     senders_start_again();
     late_packets_are_no_restart();
+    rows_have_numbers_one_after_another();
     numbers_are_told_apart();
     return failed;
 }

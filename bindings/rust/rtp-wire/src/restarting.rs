@@ -84,8 +84,8 @@ impl<const WORDS: usize> WideRestartingReceiver<WORDS> {
 
     /// A receiver that has taken nothing yet, with other bounds. A packet of the stream is less than
     /// `max_dropout` above the highest number taken; 0 stands for 3,000. A source is valid, and its first
-    /// packet is taken, with the last of `min_sequential` packets in a row; 0 is the same as 1, and RFC
-    /// 3550's `MIN_SEQUENTIAL` is 2.
+    /// packet is taken, with the last of `min_sequential` packets in a row, each with the number after that
+    /// of the one before; 0 is the same as 1, and RFC 3550's `MIN_SEQUENTIAL` is 2.
     #[must_use]
     pub fn with_bounds(max_dropout: u16, min_sequential: u8) -> Self {
         let mut receiver = Self::new();
@@ -118,8 +118,8 @@ impl<const WORDS: usize> WideRestartingReceiver<WORDS> {
         (self.state.started != 0).then_some(self.state.highest)
     }
 
-    /// How many packets outside of the stream came last in a row, up to 255, and 0 where the last packet was of
-    /// the stream or taken.
+    /// How many packets outside of the stream came last in a row, each with the number after that of the one
+    /// before, up to 255, and 0 where the last packet was of the stream or taken.
     ///
     /// So it tells why a packet was refused just now: where it is 0 the packet is of the stream, and a replay or
     /// too old ([`standing_of`](Self::standing_of)), and counts in
