@@ -1156,7 +1156,8 @@ RTPW_CHECKED int32_t rtpw_write_report(const rtpw_report *report, uint32_t ssrc,
  *
  * Choose the window longer than a packet can be late, so that retransmissions are taken, and max_misorder so that none
  * comes later still. A sender that starts again with a number that is less than max_misorder below the highest one, or
- * less than max_dropout above it, isn't seen: its packets are refused until they pass the highest number.
+ * less than max_dropout above it, isn't seen: until its packets pass the highest number they are judged as late ones,
+ * and refused where their numbers were taken or are too old to tell.
  *
  * 24 bytes of plain memory, of which each value is a state, with whatever words: these are written with the first
  * number that is taken, and not read before. {0} has taken nothing yet, with bounds that are safe where packets are

@@ -14,9 +14,10 @@ package rtpwire
 //
 // The zero RestartingReceiver has taken nothing yet, with bounds that are safe where packets are sent again under the
 // stream's own SSRC: late packets are no restart, copies are refused, and no packet of a source is lost. A sender that
-// starts again less than MaxMisorder below the highest number, or less than MaxDropout above it, isn't seen: its packets
-// are refused until they pass the highest number. RFC 3550 has a MAX_MISORDER of 100 and a MIN_SEQUENTIAL of 2. It is
-// plain memory, and may be copied and compared; [WideRestartingReceiver] has a window of another size.
+// starts again less than MaxMisorder below the highest number, or less than MaxDropout above it, isn't seen: until its
+// packets pass the highest number they are judged as late ones, and refused where their numbers were taken or are too old
+// to tell. RFC 3550 has a MAX_MISORDER of 100 and a MIN_SEQUENTIAL of 2. It is plain memory, and may be copied and
+// compared; [WideRestartingReceiver] has a window of another size.
 type RestartingReceiver struct {
 	highest uint64
 	// MaxDropout is by how much a number has to be above the highest to be outside of the stream; 0 stands for 3,000.

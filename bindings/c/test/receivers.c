@@ -127,6 +127,15 @@ static void late_packets_are_no_restart(void) {
     CHECK(rtpw_wide_restarting_receive(&receiver, words, 513, 9, &number) == RTPW_BAD_FIELD && receiver.highest == 105536);
 }
 
+/* A sender that starts again at 4,999 after 5,000 and 5,002 isn't seen: what was taken is refused, and all else is late. */
+static void a_restart_that_is_not_seen(void) {
+    static const row ROWS[] = {{5000, RTPW_OK, 70536}, {5002, RTPW_OK, 70538}, {4999, RTPW_OK, 70535},   {5000, RTPW_REFUSED, 7},
+                               {5001, RTPW_OK, 70537}, {5002, RTPW_REFUSED, 7}, {5003, RTPW_OK, 70539}};
+    rtpw_wide_restarting_receiver receiver = {0};
+    uint64_t words[16];
+    judged_by_words(&receiver, words, 16, ROWS, sizeof ROWS / sizeof *ROWS);
+}
+
 /* Of a row each packet has the number after that of the one before; another one outside of the stream begins a row. */
 static void rows_have_numbers_one_after_another(void) {
     static const struct {
@@ -173,6 +182,7 @@ int main(void) {
     counts_of_words();
     senders_start_again();
     late_packets_are_no_restart();
+    a_restart_that_is_not_seen();
     rows_have_numbers_one_after_another();
     numbers_are_told_apart();
     return failed;

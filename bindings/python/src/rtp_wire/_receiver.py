@@ -191,8 +191,9 @@ class RestartingReceiver(_State):
 
     The bounds are safe where packets are sent again under the stream's own SSRC: late packets are no restart, copies
     are refused, and no packet of a source is lost. A sender that starts again less than max_misorder below the highest
-    number, or less than max_dropout above it, isn't seen: its packets are refused until they pass the highest number.
-    RFC 3550 has a MAX_MISORDER of 100 and a MIN_SEQUENTIAL of 2.
+    number, or less than max_dropout above it, isn't seen: until its packets pass the highest number they are judged as
+    late ones, and refused where their numbers were taken or are too old to tell. RFC 3550 has a MAX_MISORDER of 100 and
+    a MIN_SEQUENTIAL of 2.
 
     The first packet of all has the rollover count 1, and the first one of each later epoch 2 more than the highest
     number before it, so all numbers of an epoch are above those of the epochs before it.

@@ -27,7 +27,8 @@ pub enum Arrival {
 /// The bounds are safe where packets are sent again under the stream's own SSRC: `max_misorder` is 3,000,
 /// or the size of the window where that is more, so late packets are no restart, and copies are refused.
 /// A sender that starts again less than that below the highest number, or less than `max_dropout` above it,
-/// isn't seen: its packets are refused until they pass the highest number.
+/// isn't seen: until its packets pass the highest number they are judged as late ones, and refused where
+/// their numbers were taken or are too old to tell.
 ///
 /// Don't use it for SRTP: there a packet that isn't authentic must change nothing, and a sender that
 /// starts again would use the numbers of its key anew.
