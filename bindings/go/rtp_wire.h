@@ -42,6 +42,7 @@
  *   3. what is named isn't there, or the packet or an element doesn't allow it: RTPW_NONE, or RTPW_BAD_FIELD, and from
  *      the functions that say so RTPW_LONG_ID, RTPW_FORM_NOT_ALLOWED or RTPW_LONG_BLOCK;
  *   4. there is no room: RTPW_SHORT_BUFFER.
+ * rtpw_make_template stands for several calls, one after another: there the first of these that refuses tells its own.
  */
 #ifndef RTPW_H
 #define RTPW_H
