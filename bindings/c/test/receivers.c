@@ -111,7 +111,7 @@ static void late_packets_are_no_restart(void) {
     static const row RFC[] = {
         {999, RTPW_REFUSED, 7},  {1000, RTPW_OK, 66536},  {901, RTPW_OK, 66437}, {900, RTPW_REFUSED, 7}, {902, RTPW_OK, 66438},
         {899, RTPW_REFUSED, 7},  {900, RTPW_RESTARTED, 197508}};
-    uint64_t words[512], number = 7;
+    uint64_t words[513], number = 7;
     rtpw_wide_restarting_receiver receiver = NEW;
     judged_by_words(&receiver, words, 16, SAFE, sizeof SAFE / sizeof *SAFE);
     CHECK(receiver.highest == 198609 && receiver.started == 1 && receiver.in_row == 0);
@@ -162,7 +162,7 @@ static void rows_have_numbers_one_after_another(void) {
 static void numbers_are_told_apart(void) {
     rtpw_receiver receiver;
     rtpw_wide_receiver wide;
-    uint64_t words[16], number;
+    uint64_t words[513], number;
     CHECK(rtpw_receiver_start(&receiver, 1) == RTPW_OK && rtpw_wide_receiver_start(&wide, 1) == RTPW_OK);
     CHECK(rtpw_receiver_standing_of(&receiver, 0) == RTPW_NEW);
     CHECK(rtpw_wide_receiver_standing_of(&wide, words, 16, 0) == RTPW_NEW);
