@@ -230,7 +230,7 @@ func WriteOriginal(payload []byte, number uint64) error {
 // ToRetransmission makes the packet in the first length bytes of the buffer a retransmission, in place, and returns its
 // bytes (RFC 4588, 4): it has this SSRC, payload type and number of its own, the elements under their new ids
 // ([NewIDsToRetransmission]), and as payload the original number in two bytes and the original payload without its
-// padding. All else stays, M and the timestamp too, and so do the bytes behind it.
+// padding. P becomes clear, and all else stays, M and the timestamp too, and so do the bytes behind it.
 //
 // It returns ErrBadField where the payload type is above 127, the length isn't one of the buffer, or the padding's last
 // byte counts more bytes than the payload has; [ErrLongID] where the packet's form can't carry a new id; or else
@@ -250,8 +250,8 @@ func ToRetransmission(
 
 // FromRetransmission makes the retransmission in the first length bytes of the buffer the packet that it repeats, in
 // place, and returns its bytes: it has this SSRC and payload type, the original number, the elements under their new
-// ids ([NewIDsFromRetransmission]), and as payload what follows that number, without padding. All else stays, and so
-// do the bytes behind it.
+// ids ([NewIDsFromRetransmission]), and as payload what follows that number, without padding. P becomes clear, and all
+// else stays, and so do the bytes behind it.
 //
 // It returns ErrBadField and ErrLongID as ToRetransmission, and ErrNotFound where the payload has fewer than the two bytes of a
 // number. Nothing changes then.

@@ -47,7 +47,8 @@ func (p *Packet) Parse(datagram []byte, m *Map) error {
 
 // Datagram is the whole datagram.
 func (p *Packet) Datagram() []byte {
-	return p.datagram
+	size := len(p.datagram)
+	return p.datagram[:size:size]
 }
 
 // HeaderLen is how many bytes the header takes: 12 to 262,216.

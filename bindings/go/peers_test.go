@@ -119,6 +119,8 @@ func TestAppendsToAPacket(t *testing.T) {
 	packet := parsed(t, buf[:37], nil)
 	payload := append(packet.Payload(), 0x77)
 	same(t, "appended", []any{payload[5], len(payload), buf}, []any{byte(0x77), 6, append(sample(), 0xEE, 0xEE)})
+	whole := append(packet.Datagram(), 0x77)
+	same(t, "appended to the whole", []any{whole, buf}, []any{append(sample(), 0x77), append(sample(), 0xEE, 0xEE)})
 	packet.Payload()[4] = 0x66
 	same(t, "shared, but for the copy", []byte{buf[36], payload[4]}, []byte{0x66, 2})
 	same(t, "of no packet", len(new(rtpwire.Packet).Payload()), 0)

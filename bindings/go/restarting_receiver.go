@@ -14,9 +14,10 @@ package rtpwire
 //
 // The zero RestartingReceiver has taken nothing yet, with bounds that are safe where packets are sent again under the
 // stream's own SSRC: late packets are no restart, copies are refused, and no packet of a source is lost. A sender that
-// starts again less than MaxMisorder below the highest number, or less than MaxDropout above it, isn't seen: its packets
-// are refused until they pass the highest number. RFC 3550 has a MAX_MISORDER of 100 and a MIN_SEQUENTIAL of 2. It is
-// plain memory, and may be copied and compared; [WideRestartingReceiver] has a window of another size.
+// starts again less than MaxMisorder below the highest number, or less than MaxDropout above it, isn't seen: until its
+// packets pass the highest number they are judged as late ones, and refused where their numbers were taken or are too old
+// to tell. RFC 3550 has a MAX_MISORDER of 100 and a MIN_SEQUENTIAL of 2. It is plain memory, and may be copied and
+// compared; [WideRestartingReceiver] has a window of another size.
 type RestartingReceiver struct {
 	highest uint64
 	// MaxDropout is by how much a number has to be above the highest to be outside of the stream; 0 stands for 3,000.
@@ -24,8 +25,8 @@ type RestartingReceiver struct {
 	// MaxMisorder is by how much a number has to be below the highest to be outside of the stream; 0 stands for 3,000.
 	MaxMisorder uint16
 	next        uint16
-	// MinSequential is how many packets in a row a new source needs: its first packet is taken with the last of them.
-	// 0 is as 1.
+	// MinSequential is how many packets in a row, each with the number after that of the one before, a new source needs:
+	// its first packet is taken with the last of them. 0 is as 1.
 	MinSequential uint8
 	inRow         uint8
 	started       bool
@@ -83,10 +84,10 @@ func (r *RestartingReceiver) Highest() (number uint64, ok bool) {
 	return r.highest, true
 }
 
-// InRow is how many packets outside of the stream came last in a row, up to 255, and 0 where the last packet was of the
-// stream or taken. So it tells why a packet was refused just now: where it is 0 the packet is of the stream, and a replay
-// or too old (StandingOf), and counts in [ReceptionStatistics]; else the packet is far from the stream, and remembered as
-// what may lead up to a new epoch.
+// InRow is how many packets outside of the stream came last in a row, each with the number after that of the one before,
+// up to 255, and 0 where the last packet was of the stream or taken. So it tells why a packet was refused just now: where
+// it is 0 the packet is of the stream, and a replay or too old (StandingOf), and counts in [ReceptionStatistics]; else the
+// packet is far from the stream, and remembered as what may lead up to a new epoch.
 func (r *RestartingReceiver) InRow() int {
 	return int(r.inRow)
 }

@@ -87,6 +87,21 @@ func TestLatePackets(t *testing.T) {
 	judges(t, wideRestarting(t, 512, rtpwire.RestartBounds{}), []judged{{40000, 105536, rtpwire.Taken}, {7233, 72769, rtpwire.Taken}})
 }
 
+// A sender that starts again at 4,999 after 5,000 and 5,002 isn't seen: what was taken is refused, and all else is late.
+func TestARestartThatIsNotSeen(t *testing.T) {
+	rows := []judged{
+		{5000, 70536, rtpwire.Taken},
+		{5002, 70538, rtpwire.Taken},
+		{4999, 70535, rtpwire.Taken},
+		{5000, 0, rtpwire.Refused},
+		{5001, 70537, rtpwire.Taken},
+		{5002, 0, rtpwire.Refused},
+		{5003, 70539, rtpwire.Taken},
+	}
+	judges(t, new(rtpwire.RestartingReceiver), rows)
+	judges(t, wideRestarting(t, 16, rtpwire.RestartBounds{}), rows)
+}
+
 // By RFC 3550's bounds 99 below is of the stream and 100 isn't, and a source is valid with its second packet.
 func TestBoundsOfTheRFC(t *testing.T) {
 	rows := []judged{

@@ -42,6 +42,7 @@
  *   3. what is named isn't there, or the packet or an element doesn't allow it: RTPW_NONE, or RTPW_BAD_FIELD, and from
  *      the functions that say so RTPW_LONG_ID, RTPW_FORM_NOT_ALLOWED or RTPW_LONG_BLOCK;
  *   4. there is no room: RTPW_SHORT_BUFFER.
+ * rtpw_make_template stands for several calls, one after another: there the first of these that refuses tells its own.
  */
 #ifndef RTPW_H
 #define RTPW_H
@@ -453,9 +454,9 @@ typedef struct {
     uint8_t video_content_type;   /* 0 unspecified, 1 a screen */
     int8_t audio_level;           /* dB relative to the overload point, -127 to 0 */
     uint8_t voice_activity;       /* 0 or 1 */
-    char mid[17];                 /* the media section, up to 16 characters (RFC 9143) */
-    char rid[9];                  /* the stream, up to 8 characters (RFC 8852) */
-    char repaired_rid[9];         /* the stream that this one repairs, up to 8 characters (RFC 8852) */
+    char mid[17];                 /* the media section, up to 16 characters (RFC 9143); as it lies: rtpw_is_token */
+    char rid[9];                  /* the stream, up to 8 characters (RFC 8852); as it lies: rtpw_is_token */
+    char repaired_rid[9];         /* the stream that this one repairs, up to 8 characters (RFC 8852); as it lies the same */
     uint8_t has_send_time;
     uint8_t has_capture_time;
     uint8_t has_capture_offset;
@@ -1080,8 +1081,10 @@ typedef struct {
     uint64_t words[2];      /* bit n % 64 of words[n / 64 % 2]: whether the number n is taken in the epoch */
     uint16_t max_dropout;   /* 0 stands for 3,000 */
     uint16_t next;          /* the 16 bits after those of the last packet outside of the stream */
-    uint8_t min_sequential; /* a new source's first packet is taken with the last of so many in a row; 0 is as 1 */
-    uint8_t in_row;         /* how many packets outside of the stream came last in a row, at most 255 */
+    uint8_t min_sequential; /* a new source's first packet is taken with the last of so many in a row, each with the
+                             * number after that of the one before; 0 is as 1 */
+    uint8_t in_row;         /* how many packets outside of the stream came last in such a row, at most 255: 1 after one
+                             * that has another number than `next` said; before any is taken all are outside */
     uint8_t started;        /* 0 where nothing is taken yet, and then 1 */
 } rtpw_restarting_receiver;
 
@@ -1154,7 +1157,8 @@ RTPW_CHECKED int32_t rtpw_write_report(const rtpw_report *report, uint32_t ssrc,
  *
  * Choose the window longer than a packet can be late, so that retransmissions are taken, and max_misorder so that none
  * comes later still. A sender that starts again with a number that is less than max_misorder below the highest one, or
- * less than max_dropout above it, isn't seen: its packets are refused until they pass the highest number.
+ * less than max_dropout above it, isn't seen: until its packets pass the highest number they are judged as late ones,
+ * and refused where their numbers were taken or are too old to tell.
  *
  * 24 bytes of plain memory, of which each value is a state, with whatever words: these are written with the first
  * number that is taken, and not read before. {0} has taken nothing yet, with bounds that are safe where packets are
@@ -1167,8 +1171,10 @@ typedef struct {
     uint16_t max_dropout;   /* 0 stands for 3,000 */
     uint16_t max_misorder;  /* 0 stands for 3,000, or for 64 * count where that is more */
     uint16_t next;          /* the 16 bits after those of the last packet outside of the stream */
-    uint8_t min_sequential; /* a new source's first packet is taken with the last of so many in a row; 0 is as 1 */
-    uint8_t in_row;         /* how many packets outside of the stream came last in a row, at most 255 */
+    uint8_t min_sequential; /* a new source's first packet is taken with the last of so many in a row, each with the
+                             * number after that of the one before; 0 is as 1 */
+    uint8_t in_row;         /* how many packets outside of the stream came last in such a row, at most 255: 1 after one
+                             * that has another number than `next` said; before any is taken all are outside */
     uint8_t started;        /* 0 where nothing is taken yet, and then 1 */
 } rtpw_wide_restarting_receiver;
 

@@ -8,8 +8,8 @@ type RestartBounds struct {
 	// MaxMisorder is by how much a number has to be below the highest to be outside of the stream; 0 stands for 3,000,
 	// or for the size of the window where that is more.
 	MaxMisorder uint16
-	// MinSequential is how many packets in a row a new source needs: its first packet is taken with the last of them.
-	// 0 is as 1.
+	// MinSequential is how many packets in a row, each with the number after that of the one before, a new source needs:
+	// its first packet is taken with the last of them. 0 is as 1.
 	MinSequential uint8
 }
 

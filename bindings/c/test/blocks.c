@@ -246,7 +246,7 @@ static void blocks_are_put(void) {
 
 /* The longest block has 65,535 words. */
 static void blocks_have_room(void) {
-    static uint8_t body[4 * 65536], whole[12 + 4 + sizeof body];
+    static uint8_t body[4 * 65536 + 1], whole[12 + 4 + sizeof body];
     size_t row, whole_len = 12;
     static const size_t CUT[] = {1, 2, 3, 5, 262141, 262143, 262145};
     begin(BYTES(WITHOUT));

@@ -111,7 +111,7 @@ static void late_packets_are_no_restart(void) {
     static const row RFC[] = {
         {999, RTPW_REFUSED, 7},  {1000, RTPW_OK, 66536},  {901, RTPW_OK, 66437}, {900, RTPW_REFUSED, 7}, {902, RTPW_OK, 66438},
         {899, RTPW_REFUSED, 7},  {900, RTPW_RESTARTED, 197508}};
-    uint64_t words[512], number = 7;
+    uint64_t words[513], number = 7;
     rtpw_wide_restarting_receiver receiver = NEW;
     judged_by_words(&receiver, words, 16, SAFE, sizeof SAFE / sizeof *SAFE);
     CHECK(receiver.highest == 198609 && receiver.started == 1 && receiver.in_row == 0);
@@ -127,11 +127,42 @@ static void late_packets_are_no_restart(void) {
     CHECK(rtpw_wide_restarting_receive(&receiver, words, 513, 9, &number) == RTPW_BAD_FIELD && receiver.highest == 105536);
 }
 
+/* A sender that starts again at 4,999 after 5,000 and 5,002 isn't seen: what was taken is refused, and all else is late. */
+static void a_restart_that_is_not_seen(void) {
+    static const row ROWS[] = {{5000, RTPW_OK, 70536}, {5002, RTPW_OK, 70538}, {4999, RTPW_OK, 70535},   {5000, RTPW_REFUSED, 7},
+                               {5001, RTPW_OK, 70537}, {5002, RTPW_REFUSED, 7}, {5003, RTPW_OK, 70539}};
+    rtpw_wide_restarting_receiver receiver = {0};
+    uint64_t words[16];
+    judged_by_words(&receiver, words, 16, ROWS, sizeof ROWS / sizeof *ROWS);
+}
+
+/* Of a row each packet has the number after that of the one before; another one outside of the stream begins a row. */
+static void rows_have_numbers_one_after_another(void) {
+    static const struct {
+        uint16_t low;
+        int32_t status;
+        uint8_t in_row;
+    } ROWS[] = {{5, RTPW_REFUSED, 1},  {9, RTPW_REFUSED, 1},     {10, RTPW_REFUSED, 2},    {20, RTPW_REFUSED, 1},
+                {21, RTPW_REFUSED, 2}, {22, RTPW_OK, 0},         {30000, RTPW_REFUSED, 1}, {40000, RTPW_REFUSED, 1},
+                {22, RTPW_REFUSED, 0}, {40001, RTPW_REFUSED, 1}, {40002, RTPW_RESTARTED, 0}};
+    rtpw_restarting_receiver receiver = {0};
+    rtpw_wide_restarting_receiver wide = {0};
+    uint64_t words[16], number;
+    size_t i;
+    receiver.min_sequential = wide.min_sequential = 3;
+    for (i = 0; i < sizeof ROWS / sizeof *ROWS; i++) {
+        CHECK(rtpw_restarting_receive(&receiver, ROWS[i].low, &number) == ROWS[i].status);
+        CHECK(receiver.in_row == ROWS[i].in_row);
+        CHECK(rtpw_wide_restarting_receive(&wide, words, 16, ROWS[i].low, &number) == ROWS[i].status);
+        CHECK(wide.in_row == ROWS[i].in_row);
+    }
+}
+
 /* What is known of numbers at the ends of the window. */
 static void numbers_are_told_apart(void) {
     rtpw_receiver receiver;
     rtpw_wide_receiver wide;
-    uint64_t words[16], number;
+    uint64_t words[513], number;
     CHECK(rtpw_receiver_start(&receiver, 1) == RTPW_OK && rtpw_wide_receiver_start(&wide, 1) == RTPW_OK);
     CHECK(rtpw_receiver_standing_of(&receiver, 0) == RTPW_NEW);
     CHECK(rtpw_wide_receiver_standing_of(&wide, words, 16, 0) == RTPW_NEW);
@@ -151,6 +182,8 @@ int main(void) {
     counts_of_words();
     senders_start_again();
     late_packets_are_no_restart();
+    a_restart_that_is_not_seen();
+    rows_have_numbers_one_after_another();
     numbers_are_told_apart();
     return failed;
 }

@@ -183,6 +183,14 @@ static void refusals(void) {
     elements[0] = element_of(0, 3, 4);
     CHECK(status_of(SAMPLE, sizeof SAMPLE, &ids, elements, 1, RTPW_ANY_FORM, 24) == RTPW_OK);
     CHECK(status_of(SAMPLE, sizeof SAMPLE, &ids, elements, 1, RTPW_ANY_FORM, 23) == RTPW_SHORT_BUFFER);
+    /* the first call that refuses tells its own: the first element has no room, and then the second has the id 0; the
+     * header has no room, and then an element would get the id 15 */
+    elements[1] = element_of(0, 1, 0);
+    CHECK(status_of(SAMPLE, sizeof SAMPLE, &ids, elements, 2, RTPW_ANY_FORM, 23) == RTPW_SHORT_BUFFER);
+    CHECK(status_of(SAMPLE, sizeof SAMPLE, &ids, elements, 2, RTPW_ANY_FORM, 24) == RTPW_BAD_ID);
+    ids = ids_of(1, 15);
+    CHECK(status_of(SAMPLE, sizeof SAMPLE, &ids, elements, 2, RTPW_ANY_FORM, 19) == RTPW_SHORT_BUFFER);
+    CHECK(status_of(SAMPLE, sizeof SAMPLE, &ids, elements, 2, RTPW_ANY_FORM, 20) == RTPW_LONG_ID);
 }
 
 /* Twenty receivers, of which the ninth can't be served, each for another cause; and places that overlap. */

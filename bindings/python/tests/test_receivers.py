@@ -305,6 +305,12 @@ class RestartingReceivers(unittest.TestCase):
                 self.assertRaises(BadField, call, number)
         self.assertRaises(BadField, receiver.number_of, 65536)
 
+    def test_a_restart_that_is_not_seen(self) -> None:
+        # at 4,999 after 5,000 and 5,002: what was taken is refused, and all else is late
+        numbers = [(5000, 70536), (5002, 70538), (4999, 70535), (5000, 0), (5001, 70537), (5002, 0), (5003, 70539)]
+        rows = [(low, Taken(number, False) if number else None) for low, number in numbers]
+        self.judges(RestartingReceiver(), rows)
+
     def test_packets_before_a_source_is_valid(self) -> None:
         # they are outside of the stream, and count too
         for words in (1, 16):

@@ -52,7 +52,7 @@ def to_retransmission(buf: WritableBuffer, length: int, ssrc: int, payload_type:
     """Makes the packet in the first `length` bytes of the buffer a retransmission, in place, and returns its length
     (RFC 4588, 4): it has this SSRC, payload type and number of its own, the elements under their new ids
     (`NewIds.to_retransmission`), and as payload the original number in two bytes and the original payload without its
-    padding. All else stays.
+    padding. P becomes clear, and all else stays.
 
     BadField where an argument is out of its range, the length is above that of the buffer, or the padding's last byte
     counts more bytes than the payload has; LongId where the packet's form can't carry a new id; NotAPacket; ShortBuffer
@@ -69,7 +69,8 @@ def to_retransmission(buf: WritableBuffer, length: int, ssrc: int, payload_type:
 def from_retransmission(buf: WritableBuffer, length: int, ssrc: int, payload_type: int, ids: NewIds) -> int:
     """Makes the retransmission in the first `length` bytes of the buffer the packet that it repeats, in place, and
     returns its length: it has this SSRC and payload type, the original number, the elements under their new ids
-    (`NewIds.from_retransmission`), and as payload what follows that number, without padding. All else stays.
+    (`NewIds.from_retransmission`), and as payload what follows that number, without padding. P
+    becomes clear, and all else stays.
 
     BadField and LongId as `to_retransmission`; NotAPacket; NoElement where the payload has fewer than the two bytes of a number.
     Nothing changes then.

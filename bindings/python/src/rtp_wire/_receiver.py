@@ -191,8 +191,9 @@ class RestartingReceiver(_State):
 
     The bounds are safe where packets are sent again under the stream's own SSRC: late packets are no restart, copies
     are refused, and no packet of a source is lost. A sender that starts again less than max_misorder below the highest
-    number, or less than max_dropout above it, isn't seen: its packets are refused until they pass the highest number.
-    RFC 3550 has a MAX_MISORDER of 100 and a MIN_SEQUENTIAL of 2.
+    number, or less than max_dropout above it, isn't seen: until its packets pass the highest number they are judged as
+    late ones, and refused where their numbers were taken or are too old to tell. RFC 3550 has a MAX_MISORDER of 100 and
+    a MIN_SEQUENTIAL of 2.
 
     The first packet of all has the rollover count 1, and the first one of each later epoch 2 more than the highest
     number before it, so all numbers of an epoch are above those of the epochs before it.
@@ -207,7 +208,8 @@ class RestartingReceiver(_State):
         max_misorder: Optional[int] = None,
         words: int = 16,
     ) -> None:
-        """A new source's first packet is taken with the last of min_sequential packets in a row, up to 255; 0 is as 1.
+        """A new source's first packet is taken with the last of min_sequential packets in a row, each with the number
+        after that of the one before, up to 255; 0 is as 1.
         Without a max_misorder it is 3,000, or the size of the window where that is more. BadField where min_sequential
         is more, max_dropout or max_misorder isn't 1 to 65,535, or words isn't 1 to 512."""
         self._words = (c_uint64 * within("words", words, 1, MOST_WORDS))()
@@ -238,10 +240,10 @@ class RestartingReceiver(_State):
 
     @property
     def in_row(self) -> int:
-        """How many packets outside of the stream came last in a row, up to 255, and 0 where the last packet was of the
-        stream or taken. So it tells why `receive` returned None just now: where it is 0 the packet is of the stream, and
-        a replay or too old (`standing_of`), and counts in `ReceptionStatistics`; else the packet is far from the stream,
-        and remembered as what may lead up to a new epoch.
+        """How many packets outside of the stream came last in a row, each with the number after that of the one before,
+        up to 255, and 0 where the last packet was of the stream or taken. So it tells why `receive` returned None just
+        now: where it is 0 the packet is of the stream, and a replay or too old (`standing_of`), and counts in
+        `ReceptionStatistics`; else the packet is far from the stream, and remembered as what may lead up to a new epoch.
 
         >>> receiver = RestartingReceiver()
         >>> for low in (60000, 60000, 58000, 7, 8):

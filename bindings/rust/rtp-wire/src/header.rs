@@ -76,7 +76,9 @@ impl Header {
         }
     }
 
-    /// Reads the header that the datagram begins with, and the values of its block under the map.
+    /// Reads the header that the datagram begins with, and the values of its block under the map: all but a layer
+    /// allocation ([`parse_with_layers`](Header::parse_with_layers)), which [`left_out`](Header::left_out) then doesn't
+    /// know of.
     ///
     /// # Errors
     ///

@@ -61,7 +61,8 @@ pub fn write_original(payload: &mut [u8], number: u64) -> Result<(), NotWritten>
 /// Makes the packet in the first `len` bytes of the buffer a retransmission, in place, and returns the length
 /// of that (RFC 4588, 4): it has this SSRC, payload type and number of its own, the elements under their new ids
 /// ([`NewIds::to_retransmission`]), and as payload the original number in two bytes and the original payload
-/// without its padding. All else stays, M and the timestamp too, and so do the bytes behind it.
+/// without its padding. P becomes clear, and all else stays, M and the timestamp too, and so do the bytes behind
+/// it.
 ///
 /// # Errors
 ///
@@ -92,8 +93,8 @@ pub fn to_retransmission(
 
 /// Makes the retransmission in the first `len` bytes of the buffer the packet that it repeats, in place, and
 /// returns the length of that: it has this SSRC and payload type, the original number, the elements under their
-/// new ids ([`NewIds::from_retransmission`]), and as payload what follows that number, without padding. All else
-/// stays, and so do the bytes behind it.
+/// new ids ([`NewIds::from_retransmission`]), and as payload what follows that number, without padding. P
+/// becomes clear, and all else stays, and so do the bytes behind it.
 ///
 /// # Errors
 ///

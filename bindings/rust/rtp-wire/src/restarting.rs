@@ -27,7 +27,8 @@ pub enum Arrival {
 /// The bounds are safe where packets are sent again under the stream's own SSRC: `max_misorder` is 3,000,
 /// or the size of the window where that is more, so late packets are no restart, and copies are refused.
 /// A sender that starts again less than that below the highest number, or less than `max_dropout` above it,
-/// isn't seen: its packets are refused until they pass the highest number.
+/// isn't seen: until its packets pass the highest number they are judged as late ones, and refused where
+/// their numbers were taken or are too old to tell.
 ///
 /// Don't use it for SRTP: there a packet that isn't authentic must change nothing, and a sender that
 /// starts again would use the numbers of its key anew.
@@ -84,8 +85,8 @@ impl<const WORDS: usize> WideRestartingReceiver<WORDS> {
 
     /// A receiver that has taken nothing yet, with other bounds. A packet of the stream is less than
     /// `max_dropout` above the highest number taken; 0 stands for 3,000. A source is valid, and its first
-    /// packet is taken, with the last of `min_sequential` packets in a row; 0 is the same as 1, and RFC
-    /// 3550's `MIN_SEQUENTIAL` is 2.
+    /// packet is taken, with the last of `min_sequential` packets in a row, each with the number after that
+    /// of the one before; 0 is the same as 1, and RFC 3550's `MIN_SEQUENTIAL` is 2.
     #[must_use]
     pub fn with_bounds(max_dropout: u16, min_sequential: u8) -> Self {
         let mut receiver = Self::new();
@@ -118,8 +119,8 @@ impl<const WORDS: usize> WideRestartingReceiver<WORDS> {
         (self.state.started != 0).then_some(self.state.highest)
     }
 
-    /// How many packets outside of the stream came last in a row, up to 255, and 0 where the last packet was of
-    /// the stream or taken.
+    /// How many packets outside of the stream came last in a row, each with the number after that of the one
+    /// before, up to 255, and 0 where the last packet was of the stream or taken.
     ///
     /// So it tells why a packet was refused just now: where it is 0 the packet is of the stream, and a replay or
     /// too old ([`standing_of`](Self::standing_of)), and counts in

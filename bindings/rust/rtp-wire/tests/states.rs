@@ -268,6 +268,24 @@ fn late_packets_are_no_restart() {
     );
 }
 
+/// A sender that starts again at 4,999 after 5,000 and 5,002: what was taken is refused, and all else is late.
+#[test]
+fn a_restart_that_is_not_seen() {
+    use Arrival::{Refused, Taken};
+    let mut receiver = RestartingReceiver::new();
+    for (low, arrival) in [
+        (5_000, Taken(70_536)),
+        (5_002, Taken(70_538)),
+        (4_999, Taken(70_535)),
+        (5_000, Refused),
+        (5_001, Taken(70_537)),
+        (5_002, Refused),
+        (5_003, Taken(70_539)),
+    ] {
+        assert_eq!(receiver.receive(low), arrival);
+    }
+}
+
 #[test]
 fn refused_packets_are_of_the_stream_or_not() {
     use Arrival::{Refused, Restarted, Taken};
