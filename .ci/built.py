@@ -163,7 +163,7 @@ def part_of(edit):
 def last_of(said):
     """The line that says best why a test failed."""
     lines = [it.strip() for it in said.splitlines() if it.strip()]
-    words = r"Error|panicked|_test.go:|differ:|runtime error|examples.sh|apart.c:|wrapped\w*.cpp:"
+    words = r"Error|error\[|panicked|_test.go:|differ:|runtime error|examples.sh|apart.c:|wrapped\w*.cpp:"
     telling = [it for it in lines if re.search(words, it)]
     return (telling or lines or ["it said nothing"])[0]
 
