@@ -1,0 +1,177 @@
+"""How the code of each language that isn't proved is copied, built and tested, for `.ci/wrong_edits`."""
+
+import os
+import re
+import shutil
+import subprocess
+import sys
+from pathlib import Path
+
+TOP = Path(__file__).resolve().parent.parent
+# What comes of the proved code, or of a build: nothing here is about it.
+MADE = re.compile(r"(rtp_wire\.h|\.s|\.S|\.so)$|(^|/)(out|target|__pycache__|wrong)/")
+COMMON = ("bindings/c/rtp_wire.h", "bindings/c/rtp_wire_sanitized.h", "bindings/test", "captures")
+# What the examples are compared by.
+BESIDE = ("captures", *(f"bindings/test/{it}" for it in ("examples.sh", "sanitized.sh", "sfu_*.c", "by_hand.*")))
+TEXT = f"generated/rtp_wire-{os.uname().machine}.s"
+LIBRARY = (
+    "import platform, rtp_wire_backend as it; from pathlib import Path; "
+    "Path('../src/rtp_wire/librtp_wire.so').write_bytes(it.library(platform.machine()))"
+)
+# Compares the examples in `out` one by one, or the one that TEST names, which isn't there where the edit has no part in
+# it.
+EXAMPLES = (
+    "all=$(find out -type f -printf '%d%P\\n' | sort | cut -c 2-); "
+    "for it in ${TEST:-$all}; do [ -e out/$it ] || continue; rm -rf one; mkdir one; cp out/$it one; "
+    "udp=$(dirname out/$it)/udp; [ ! -e $udp ] || cp $udp one; "
+    "bindings/test/examples.sh one || { echo FAIL: $it; exit 1; }; done"
+)
+GO_TESTS = "go test -vet=off -gcflags='-N -l -dwarf=false' -ldflags='-s -w' -c -o ../../out/tests ."
+# By language: what is needed of tools, what it is made of, the commands, in the copy, that build it and test it, and
+# how the second one tells the name of a test that fails. Where TEST has such a name they are about that test alone, and
+# the first one about several where it has those.
+# What is built and tested is the library or, for an edit of an example, that, and in C what stands in front of the
+# library, and the header file of C++17, too. An example in C is tested as it is, and then under sanitizers, by a name
+# that begins with `sanitized/`. In Rust all tests are one program, and where the library builds and they don't they
+# have failed, by the name of the file; in Python those of what makes the packages are run for an edit of that alone.
+LANGUAGES = {
+    "c": (
+        ("cc", "c++"),
+        (
+            *("bindings/examples", "bindings/c/test/apart.c", "bindings/test/apart.sh", "generated/apart.c"),
+            *("bindings/c/rtp_wire.hpp", "bindings/c/test/wrapped.cpp", "bindings/c/test/wrapped_alike.cpp"),
+        ),
+        "of=(bindings/c text.o \"${EDITED##*/}\"); "
+        "if [[ $EDITED == generated/* ]]; then bindings/test/apart.sh out/apart; elif [[ $EDITED == *.hpp ]]; then "
+        "mkdir -p out && for it in ${TEST:-wrapped wrapped_alike}; do "
+        "c++ -std=c++17 bindings/c/test/$it.cpp text.o -o out/$it || exit; done; "
+        "else for it in ${TEST:-/ sanitized/}; do case $it in "
+        "sanitized/*) bindings/test/sanitized.sh out/sanitized \"${of[@]}\" \"${it#*/}\" ;; "
+        "*) SANITIZERS= bindings/test/sanitized.sh out \"${of[@]}\" \"${it#/}\" ;; esac || exit; done; fi",
+        "case $(echo out/*) in out/apart | out/wrapped*) for it in $(ls out); do [ ${TEST:-$it} != $it ] || out/$it || "
+        f"{{ echo FAIL: $it; exit 1; }}; done ;; *) {EXAMPLES} ;; esac",
+        r"^FAIL: ([\w/.]+)$",
+    ),
+    "go": (
+        ("go", "cc"),
+        ("bindings/go",),
+        f"mkdir -p out && cd bindings/go && case $EDITED in */sfu/*) {GO_TESTS}/examples/sfu ;; "
+        f"*/lines/*) go build -o ../../out/lines_go ./examples/lines ;; *) {GO_TESTS} ;; esac",
+        'if [ -e out/tests ]; then cd bindings/go && ../../out/tests -test.run "^${TEST:-.*}\\$"; '
+        f"else {EXAMPLES}; fi",
+        r"^(?:--- FAIL|FAIL): (\w+)",
+    ),
+    "python": (
+        ("python3", "cc"),
+        ("bindings/python",),
+        'cd bindings/python/backend && for it in whole_packet columns; do '
+        f'[ ../src/$it.c -ot ../src/rtp_wire/librtp_wire.so ] || {{ "$PYTHON" -c "{LIBRARY}"; break; }}; done && '
+        '"$PYTHON" -m compileall -q --invalidation-mode checked-hash .. && "$PYTHON" -c "import rtp_wire"',
+        'cd bindings/python && if [ -n "$TEST" ]; then PYTHONPATH+=:$PWD/tests "$PYTHON" -m unittest "$TEST"; '
+        "else of=[!b]*; [[ $EDITED != */backend/* ]] || of=build; "
+        '"$PYTHON" -m unittest discover -f -s tests -p "test_$of.py"; fi',
+        r"^(?:FAIL|ERROR): (\w+) \(([\w.]+)\)",
+    ),
+    "rust": (
+        ("cargo",),
+        ("bindings/rust",),
+        "out=$PWD/out && mkdir -p $out && cd bindings/rust/rtp-wire && if [[ $EDITED == */examples/* ]]; then "
+        "for it in ${TEST:-lines_rust sfu_rust receive_rust}; do cargo build --quiet --example ${it%_rust} && "
+        "cp $CARGO_TARGET_DIR/debug/examples/${it%_rust} $out/$it || exit; done; "
+        "else mkdir -p tests/all && for it in ${TEST:-tests/*.rs}; do it=${it#tests/} it=${it%%[.:]*}; "
+        "[ ! -e tests/$it.rs ] || echo \"#[path = \\\"../$it.rs\\\"] mod $it;\"; done | sort -u >tests/all/main.rs && "
+        "cargo build --quiet && it=$(cargo test --no-run --test all 2>&1 | tee $out/said | "
+        "sed -n 's/^ *Executable .*(\\(.*\\))$/\\1/p') && ln -s ${it:-nowhere} $out/tests; fi",
+        "if [[ -e out/said ]]; then cd bindings/rust/rtp-wire && cat ../../../out/said && "
+        f"../../../out/tests ${{TEST:+--exact}} $TEST; else {EXAMPLES}; fi",
+        r"^(?:FAIL: |---- )(\S+?)(?: stdout ----)?$|--> tests/all/../(\w+)\.rs:",
+    ),
+}
+# A test that goes on for longer has seen the edit.
+SECONDS = 120
+
+
+def files_of(language):
+    """What the edits of a language stand on."""
+    for place in (*LANGUAGES[language][1], *BESIDE):
+        for file in (TOP / place).rglob("*") if (TOP / place).is_dir() else TOP.glob(place):
+            if file.is_file() and not MADE.search(str(file.relative_to(TOP))):
+                yield file
+
+
+def copy_of(language, room):
+    """Copies what the language is made of, without what was built."""
+    left_out = shutil.ignore_patterns("out", "target", "__pycache__", "wrong")
+    for place in (*LANGUAGES[language][1], *COMMON, "generated", "LICENSE-MIT", "LICENSE-APACHE", "NOTICE"):
+        if (TOP / place).is_dir():
+            shutil.copytree(TOP / place, room / place, ignore=left_out, dirs_exist_ok=True)
+        elif (TOP / place).exists():
+            (room / place).parent.mkdir(parents=True, exist_ok=True)
+            shutil.copy2(TOP / place, room / place)
+
+
+def prepare(language, room):
+    """What makes the copy ready for its first build."""
+    if language == "c":
+        run(f"cc -c {TEXT} -o text.o", room)
+    if language == "python":  # what says the version of the package, and what of it is compiled
+        run('"$PYTHON" -m pip install -q --no-index --target site bindings/python', room)
+        run('"$PYTHON" -m compileall -q --invalidation-mode checked-hash site', room)
+
+
+def run(command, room, edited="", test="", name=""):
+    """Whether a command succeeds in the copy, where this file is edited and this test is run, and what it says. Of
+    edits that were built together the one of this name is done.
+    """
+    environment = {
+        **os.environ,
+        "PYTHONPATH": f"{room}/bindings/python/src:{room}/site",
+        "PYTHONDONTWRITEBYTECODE": "1",
+        "PYTHON": sys.executable,
+        "EDITED": edited,
+        "TEST": test,
+        "PLANTED": name,
+        "CARGO_TARGET_DIR": f"{room}/cargo",
+        "CARGO_NET_OFFLINE": "true",
+        "CARGO_BUILD_JOBS": "1",
+        "CARGO_INCREMENTAL": "1",
+        "RUST_BACKTRACE": "0",
+        "GOCACHE": f"{TOP}/bindings/out/gocache",
+        "GOTMPDIR": str(room),
+        "GOPROXY": "off",
+        "GOTOOLCHAIN": "local",
+        "GOFLAGS": "",
+        "CGO_CFLAGS": "-O0",
+    }
+    how = {"stdin": subprocess.DEVNULL, "stdout": subprocess.PIPE, "stderr": subprocess.STDOUT, "errors": "replace"}
+    begun = subprocess.Popen(["bash", "-c", command], cwd=room, env=environment, start_new_session=True, **how)
+    try:
+        said = begun.communicate(timeout=SECONDS)[0]
+    except subprocess.TimeoutExpired:
+        os.killpg(begun.pid, 9)
+        return False, f"{begun.communicate()[0]}\nstill going after {SECONDS} seconds"
+    return begun.returncode == 0, said
+
+
+def part_of(edit):
+    """Which of the programs of a language an edit is a part of."""
+    examples = "/examples/lines/", "/examples/sfu/", "/examples/"
+    parts = ("/backend/",) if edit.language == "python" else (*examples, "generated/", ".hpp")
+    return next((it for it in parts if it in edit.file), "")
+
+
+def last_of(said):
+    """The line that says best why a test failed."""
+    lines = [it.strip() for it in said.splitlines() if it.strip()]
+    words = r"Error|error\[|panicked|_test.go:|differ:|runtime error|examples.sh|apart.c:|wrapped\w*.cpp:"
+    telling = [it for it in lines if re.search(words, it)]
+    return (telling or lines or ["it said nothing"])[0]
+
+
+def failed_in(language, said):
+    """The name of the first test that failed, by which it is run alone; none where it isn't told."""
+    found = re.search(LANGUAGES[language][4], said, re.M)
+    if not found:
+        return ""
+    name, *of = filter(None, found.groups())  # in Python the class follows, which since 3.11 ends in the name
+    return ".".join([*(it.removesuffix(f".{name}") for it in of), name])
