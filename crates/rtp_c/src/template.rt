@@ -159,8 +159,9 @@ pub extern "C" fn rtpw_make_template(
     };
     let mut lent: [(u8, &[u8]); MAX_ELEMENTS] = [(0, &[]); MAX_ELEMENTS];
     named.lend(&mut lent);
+    let ids = NewIds::from_ids(&ids.id);
     let group = Group {
-        ids: &NewIds::from_ids(&ids.id),
+        ids: &ids,
         elements: &lent[..elements.len()],
         allowed,
     };

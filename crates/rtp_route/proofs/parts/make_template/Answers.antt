@@ -1,33 +1,19 @@
-use Rattle.std.proofs.Common.{rules, ◌≡◌, ◌∙◌, ap, ℕ, List, Some, All, IfSome, length, length-take, take, Result, Ok, Err, IsOk, sym, subst, arith, refl}
-use Rattle.std.specs.Result.{IsOkAnd}
+use Rattle.std.proofs.Common.{rules, ℕ, IfErr, length, length-take, take, sym, subst, arith, refl}
 use Rattle.std.proofs.lemmas.Bool.{false≢true}
 use Rattle.std.proofs.lemmas.List.{length-map}
-use Rattle.std.proofs.lemmas.Result.{err_from_is_err_and}
 use Rattle.rtp_ext.specs.ElementsInARow.{elements_of}
 use Rattle.rtp_ext.specs.NewIds.{new_id}
 use Rattle.rtp_wire.specs.declared.packet.fields.Fields.{Fields}
-use Rattle.rtp_wire.specs.Packet.{header_len_of}
-use Rattle.rtp_wire.specs.PartsOf.{datagram_of, parts_of}
-use Rattle.rtp_wire.proofs.PartsLemmas.{length-packet, IsPacket-found}
-use Rattle.rtp_route.specs.declared.slots.Slot.{Slot}
-use Rattle.rtp_route.specs.GroupHeader.{IsGroupHeader}
+use Rattle.rtp_wire.specs.PartsOf.{datagram_of}
 use Rattle.rtp_route.specs.Walk.{IsMadeFor}
-use Rattle.rtp_route.proofs.LengthLemmas.{short-header}
 use Rattle.rtp_route.specs.declared.not_routed.NotRouted.{NotRouted}
-use Rattle.rtp_route.specs.Calls.{IsRoutedByCalls, no_fields, header_in}
-use Rattle.rtp_route.specs.NotRouted.{KeepsFromRouting, AreForTemplate, KeepsFromTemplate}
-use Rattle.rtp_route.specs.Routing.{IsRouted}
-use Rattle.rtp_route.specs.Template.{HaveOwnIds, LiesInHeader}
+use Rattle.rtp_route.specs.Calls.{no_fields, header_in}
+use Rattle.rtp_route.specs.NotRouted.{KeepsFromRouting, AreForTemplate}
+use Rattle.rtp_route.specs.Template.{HaveOwnIds}
 use Rattle.rtp_route.proofs.ByWalkLemmas.{group-by_walk}
 use Rattle.rtp_route.proofs.LentLemmas.{element_of}
-use Rattle.rtp_route.proofs.NotPutLemmas.{kept-template, none-kept_template}
-use Rattle.rtp_route.proofs.RoutingLemmas.{routed-of}
-use Rattle.rtp_route.proofs.TemplateLemmas.{slots-there, group-made, group-length}
+use Rattle.rtp_route.proofs.NotPutLemmas.{kept-template, kept-routing, none-kept_template, on-err}
 use Rattle.rtp_route.proofs.parts.make_template.Goals as goal
-
-is-ok : {A E : Type 0} (result : Result A E) (P : A → Type 0) → IsOkAnd result P → IsOk result
-is-ok (Ok value) P is = refl
-is-ok (Err cause) P is = absurd is
 
 pub returns-in-Some-clause-made : goal.returns-in-Some-clause-made
 returns-in-Some-clause-made c =
@@ -58,113 +44,31 @@ returns-in-Some-clause-refused c =
     λ cause kept. c.in-Some.ensures.none_refused cause (subst (λ (fields : Fields). KeepsFromRouting (header_in packet) fields ids news allowed room cause) (search rules) kept) in
     (λ no_error. absurd (false≢true no_error), λ kept. absurd (none-kept_template (header_in packet) ids news allowed room few none kept.0 kept.1))
 
-pub unwrap-header-requires : goal.unwrap-header-requires
-unwrap-header-requires c =
+pub returns-in-None-clause-cause : goal.returns-in-None-clause-cause
+returns-in-None-clause-cause c =
     let packet = c.args.packet.now in
     let ids = new_id c.args.group.now.ids.now in
     let news = elements_of c.args.group.now.elements.now in
     let allowed = c.args.group.now.allowed in
-    let calls = subst (λ (fields : Fields). IsRoutedByCalls (header_in packet) fields ids news allowed c.make_header.new.buf c.in_ok-len.len) (search rules) c.in_ok-len.ensures.made in
-    let routed = routed-of packet c.make_header.new.buf c.in_ok-len.len no_fields ids news allowed c.in_ok-len.ensures.ids calls in
-    is-ok c.parse.result _ (c.parse.ensures.only _ routed.is_packet)
-
-pub unwrap-slots-requires : goal.unwrap-slots-requires
-unwrap-slots-requires c =
-    let packet = c.args.packet.now in
-    let ids = new_id c.args.group.now.ids.now in
-    let news = elements_of c.args.group.now.elements.now in
-    let allowed = c.args.group.now.allowed in
-    let calls = subst (λ (fields : Fields). IsRoutedByCalls (header_in packet) fields ids news allowed c.make_header.new.buf c.in_ok-len.len) (search rules) c.in_ok-len.ensures.made in
-    let routed = routed-of packet c.make_header.new.buf c.in_ok-len.len no_fields ids news allowed c.in_ok-len.ensures.ids calls in
-    let bytes : datagram_of c.unwrap-header.result ≡ take c.in_ok-len.len c.make_header.new.buf = rw c.unwrap-header.ensures at c.parse.ensures.bytes in
-    let of_header : IsRouted (datagram_of packet) no_fields ids news allowed (datagram_of c.unwrap-header.result) = subst (IsRouted (datagram_of packet) no_fields ids news allowed) (sym bytes) routed in
     let own : HaveOwnIds news = c.if-not-have_own_ids.ensures.0 refl in
-    slots-there (datagram_of packet) ids news allowed c.unwrap-header.result (length c.args.group.now.elements.now) c.slots_of.result of_header own c.slots_of.ensures.found c.slots_of.ensures.none
+    let few : AreForTemplate news = (omega (arith, c.if-group-gt-MAX_ELEMENTS.false, length-map c.args.group.now.elements.now element_of), own) in
+    on-err c.make_by_calls.result _ _ (kept-template (header_in packet) ids news allowed (length c.args.buf.now) few)
+    (subst (λ (k : ℕ). IfErr c.make_by_calls.result (KeepsFromRouting (header_in packet) no_fields ids news allowed k)) c.write_by_walk.auto.buf c.make_by_calls.ensures.cause)
 
-pub returns-clause-made : goal.returns-clause-made
-returns-clause-made c =
+pub returns-in-None-clause-refused : goal.returns-in-None-clause-refused
+returns-in-None-clause-refused c =
     let packet = c.args.packet.now in
     let ids = new_id c.args.group.now.ids.now in
     let news = elements_of c.args.group.now.elements.now in
     let allowed = c.args.group.now.allowed in
-    let calls = subst (λ (fields : Fields). IsRoutedByCalls (header_in packet) fields ids news allowed c.make_header.new.buf c.in_ok-len.len) (search rules) c.in_ok-len.ensures.made in
-    let routed = routed-of packet c.make_header.new.buf c.in_ok-len.len no_fields ids news allowed c.in_ok-len.ensures.ids calls in
-    let bytes : datagram_of c.unwrap-header.result ≡ take c.in_ok-len.len c.make_header.new.buf = rw c.unwrap-header.ensures at c.parse.ensures.bytes in
-    let of_header : IsRouted (datagram_of packet) no_fields ids news allowed (datagram_of c.unwrap-header.result) = subst (IsRouted (datagram_of packet) no_fields ids news allowed) (sym bytes) routed in
     let own : HaveOwnIds news = c.if-not-have_own_ids.ensures.0 refl in
-    let header = c.unwrap-header.result in
-    let slots = take (length c.args.group.now.elements.now) c.unwrap-slots.result in
-    let group : IsGroupHeader (datagram_of packet) ids news allowed (datagram_of header) slots =
-    group-made (datagram_of packet) ids news allowed header c.unwrap-slots.result (length c.args.group.now.elements.now) of_header own (sym (length-map c.args.group.now.elements.now element_of))
-    (rw c.unwrap-slots.ensures at c.slots_of.ensures.found) in
-    let long : header_len_of (parts_of header) ≡ length (datagram_of header) = group-length (datagram_of packet) ids news allowed header slots group in
-    let all : c.header_len.result ≡ c.in_ok-len.len = omega (arith, c.header_len.ensures, long, ap length bytes, length-take c.in_ok-len.len c.make_header.new.buf, c.in_ok-len.ensures.within) in
-    subst (λ (b : List ℕ). IsGroupHeader (datagram_of packet) ids news allowed b slots) (bytes ∙ sym (ap (λ (k : ℕ). take k c.make_header.new.buf) all)) group
-
-pub overflow_cast-result : goal.overflow_cast-result
-overflow_cast-result c = omega (arith, c.header_len.ensures, short-header c.unwrap-header.result)
-
-pub returns-clause-room : goal.returns-clause-room
-returns-clause-room c =
-    let header = c.unwrap-header.result in
-    let bytes : datagram_of header ≡ take c.in_ok-len.len c.make_header.new.buf = rw c.unwrap-header.ensures at c.parse.ensures.bytes in
-    omega (
-      arith,
-      c.header_len.ensures,
-      length-packet header.datagram.now (parts_of header) (IsPacket-found header),
-      ap length bytes,
-      length-take c.in_ok-len.len c.make_header.new.buf,
-      c.in_ok-len.ensures.within,
+    let few : AreForTemplate news = (omega (arith, c.if-group-gt-MAX_ELEMENTS.false, length-map c.args.group.now.elements.now element_of), own) in
+    let room : ℕ = length c.args.buf.now in
+    let long = c.write_by_walk.auto.buf in (
+      λ refused.
+          let kept = c.make_by_calls.ensures.refused.0 refused in
+          (kept.0, kept-template (header_in packet) ids news allowed room few kept.0 (subst (λ (k : ℕ). KeepsFromRouting (header_in packet) no_fields ids news allowed k kept.0) long kept.1)),
+      λ kept.
+          c.make_by_calls.ensures.refused.1
+          (kept.0, subst (λ (k : ℕ). KeepsFromRouting (header_in packet) no_fields ids news allowed k kept.0) (sym long) (kept-routing (header_in packet) ids news allowed room few kept.0 kept.1)),
     )
-
-pub returns-clause-within : goal.returns-clause-within
-returns-clause-within c k d there =
-    let within : IfSome (Some c.unwrap-slots.result) (λ (slots : List Slot). All (LiesInHeader (parts_of c.unwrap-header.result)) (take (length c.args.group.now.elements.now) slots)) = rw c.unwrap-slots.ensures at c.slots_of.ensures.within in
-    omega (arith, c.header_len.ensures, within k d there)
-
-pub returns-in_err-len-clause-cause : goal.returns-in_err-len-clause-cause
-returns-in_err-len-clause-cause c =
-    let packet = c.args.packet.now in
-    let ids = new_id c.args.group.now.ids.now in
-    let news = elements_of c.args.group.now.elements.now in
-    let allowed = c.args.group.now.allowed in
-    let own : HaveOwnIds news = c.if-not-have_own_ids.ensures.0 refl in
-    let few : AreForTemplate news = (omega (arith, c.if-group-gt-MAX_ELEMENTS.false, length-map c.args.group.now.elements.now element_of), own) in
-    let room : ℕ = length c.args.buf.now in
-    let p = err_from_is_err_and c.from_residual.result c.from_residual.ensures.1 in
-    let kept : KeepsFromRouting (header_in packet) no_fields ids news allowed room c.in_err-len.field-0.0 =
-    subst (λ (fields : Fields). KeepsFromRouting (header_in packet) fields ids news allowed room c.in_err-len.field-0.0) (search rules)
-    (subst (λ (k : ℕ). KeepsFromRouting (header_in packet) c.default-fields.result ids news allowed k c.in_err-len.field-0.0) c.write_by_walk.auto.buf c.in_err-len.ensures.cause) in
-    let refused : KeepsFromTemplate (header_in packet) ids news allowed room c.in_err-len.field-0.0 = kept-template (header_in packet) ids news allowed room few c.in_err-len.field-0.0 kept in
-    rw (p.1, p.2) refused
-
-pub returns-in_err-len-clause-refused : goal.returns-in_err-len-clause-refused
-returns-in_err-len-clause-refused c =
-    let packet = c.args.packet.now in
-    let ids = new_id c.args.group.now.ids.now in
-    let news = elements_of c.args.group.now.elements.now in
-    let allowed = c.args.group.now.allowed in
-    let own : HaveOwnIds news = c.if-not-have_own_ids.ensures.0 refl in
-    let few : AreForTemplate news = (omega (arith, c.if-group-gt-MAX_ELEMENTS.false, length-map c.args.group.now.elements.now element_of), own) in
-    let room : ℕ = length c.args.buf.now in
-    let kept : KeepsFromRouting (header_in packet) no_fields ids news allowed room c.in_err-len.field-0.0 =
-    subst (λ (fields : Fields). KeepsFromRouting (header_in packet) fields ids news allowed room c.in_err-len.field-0.0) (search rules)
-    (subst (λ (k : ℕ). KeepsFromRouting (header_in packet) c.default-fields.result ids news allowed k c.in_err-len.field-0.0) c.write_by_walk.auto.buf c.in_err-len.ensures.cause) in
-    (λ _. (c.in_err-len.field-0.0, kept-template (header_in packet) ids news allowed room few c.in_err-len.field-0.0 kept), λ _. c.from_residual.ensures.0)
-
-pub returns-clause-refused : goal.returns-clause-refused
-returns-clause-refused c =
-    let packet = c.args.packet.now in
-    let ids = new_id c.args.group.now.ids.now in
-    let news = elements_of c.args.group.now.elements.now in
-    let allowed = c.args.group.now.allowed in
-    let own : HaveOwnIds news = c.if-not-have_own_ids.ensures.0 refl in
-    let few : AreForTemplate news = (omega (arith, c.if-group-gt-MAX_ELEMENTS.false, length-map c.args.group.now.elements.now element_of), own) in
-    let room : ℕ = length c.args.buf.now in
-    let none : (cause : NotRouted) → KeepsFromRouting (header_in packet) no_fields ids news allowed room cause → ⊥ =
-    λ cause kept. false≢true (c.in_ok-len.ensures.refused.1 (
-      cause,
-      subst (λ (k : ℕ). KeepsFromRouting (header_in packet) c.default-fields.result ids news allowed k cause) (sym c.write_by_walk.auto.buf)
-          (subst (λ (fields : Fields). KeepsFromRouting (header_in packet) fields ids news allowed room cause) (search rules) kept),
-    )) in
-    (λ no_error. absurd (false≢true no_error), λ kept. absurd (none-kept_template (header_in packet) ids news allowed room few none kept.0 kept.1))
