@@ -58,16 +58,17 @@ fn make_by_calls(
     packet: &RtpPacket<'_>,
     group: &Group<'_>,
     buf: &mut [u8],
-) -> Result<TemplateParts, NotRouted>
+    parts: &mut TemplateParts,
+) -> Result<(), NotRouted>
     requires few { length group.now.elements.now ≤ 16 }
     requires own { HaveOwnIds (elements_of group.now.elements.now) }
-    ensures made { IfOk result (λ parts. IsGroupHeader (datagram_of packet.now)
+    ensures made { IfOk result (λ _. IsGroupHeader (datagram_of packet.now)
         (new_id group.now.ids.now) (elements_of group.now.elements.now) group.now.allowed
-        (take parts.header_len buf.new) (take parts.count parts.slots)) }
-    ensures count { IfOk result (λ parts. parts.count ≡ length group.now.elements.now) }
-    ensures room { IfOk result (λ parts. parts.header_len ≤ length buf.new) }
-    ensures within { IfOk result (λ parts. All (λ slot. slot.start + slot.len ≤ parts.header_len)
-        (take parts.count parts.slots)) }
+        (take parts.new.header_len buf.new) (take parts.new.count parts.new.slots)) }
+    ensures count { IfOk result (λ _. parts.new.count ≡ length group.now.elements.now) }
+    ensures room { IfOk result (λ _. parts.new.header_len ≤ length buf.new) }
+    ensures within { IfOk result (λ _. All (λ slot. slot.start + slot.len ≤ parts.new.header_len)
+        (take parts.new.count parts.new.slots)) }
     ensures cause { IfErr result (KeepsFromRouting (header_in packet.now) no_fields
         (new_id group.now.ids.now) (elements_of group.now.elements.now) group.now.allowed
         (length buf.old)) }
@@ -79,11 +80,53 @@ fn make_by_calls(
     // The calls made a packet, in which each element is.
     let header = RtpPacket::parse(&buf[..len]).unwrap();
     let slots = slots_of(&header, group.elements).unwrap();
-    Ok(TemplateParts {
+    *parts = TemplateParts {
         header_len: header.header_len() as u32,
         slots,
         count: group.elements.len(),
-    })
+    };
+    Ok(())
+}
+
+/// Makes the header that the packet gets for the group at the front of the buffer, and keeps where
+/// its parts lie. It is refused as [`HeaderTemplate::new`](super::HeaderTemplate::new) is, and the
+/// buffer and the parts then are any, as the buffer is behind the header.
+#[inline(always)]
+pub fn make_template_into(
+    packet: &RtpPacket<'_>,
+    group: &Group<'_>,
+    buf: &mut [u8],
+    parts: &mut TemplateParts,
+) -> Result<(), NotRouted>
+    ensures made { IfOk result (λ _. IsGroupHeader (datagram_of packet.now)
+        (new_id group.now.ids.now) (elements_of group.now.elements.now) group.now.allowed
+        (take parts.new.header_len buf.new) (take parts.new.count parts.new.slots)) }
+    ensures count { IfOk result (λ _. parts.new.count ≡ length group.now.elements.now) }
+    ensures few { IfOk result (λ _. parts.new.count ≤ 16) }
+    ensures room { IfOk result (λ _. parts.new.header_len ≤ length buf.new) }
+    ensures within { IfOk result (λ _. All (λ slot. slot.start + slot.len ≤ parts.new.header_len)
+        (take parts.new.count parts.new.slots)) }
+    ensures cause { IfErr result (KeepsFromTemplate (header_in packet.now)
+        (new_id group.now.ids.now) (elements_of group.now.elements.now) group.now.allowed
+        (length buf.old)) }
+    ensures refused { IsErr result ↔ ((cause : NotRouted)
+        × KeepsFromTemplate (header_in packet.now) (new_id group.now.ids.now)
+        (elements_of group.now.elements.now) group.now.allowed (length buf.old) cause) }
+{
+    if group.elements.len() > MAX_ELEMENTS {
+        return Err(NotRouted::ManyElements);
+    }
+    if !have_own_ids(group.elements) {
+        return Err(NotRouted::RepeatedId);
+    }
+    match write_by_walk(packet, &Fields::default(), group, buf, &mut parts.slots) {
+        Some(len) => {
+            parts.header_len = len as u32;
+            parts.count = group.elements.len();
+            Ok(())
+        }
+        None => make_by_calls(packet, group, buf, parts),
+    }
 }
 
 /// Makes the header that the packet gets for the group at the front of the buffer, and returns
@@ -109,19 +152,11 @@ pub fn make_template(
         × KeepsFromTemplate (header_in packet.now) (new_id group.now.ids.now)
         (elements_of group.now.elements.now) group.now.allowed (length buf.old) cause) }
 {
-    if group.elements.len() > MAX_ELEMENTS {
-        return Err(NotRouted::ManyElements);
-    }
-    if !have_own_ids(group.elements) {
-        return Err(NotRouted::RepeatedId);
-    }
-    let mut slots = [Slot { start: 0, len: 0 }; MAX_ELEMENTS];
-    match write_by_walk(packet, &Fields::default(), group, buf, &mut slots) {
-        Some(len) => Ok(TemplateParts {
-            header_len: len as u32,
-            slots,
-            count: group.elements.len(),
-        }),
-        None => make_by_calls(packet, group, buf),
-    }
+    let mut parts = TemplateParts {
+        header_len: 0,
+        slots: [Slot { start: 0, len: 0 }; MAX_ELEMENTS],
+        count: 0,
+    };
+    make_template_into(packet, group, buf, &mut parts)?;
+    Ok(parts)
 }

@@ -13,7 +13,7 @@ pub returns-in-Ok-make_template-clause-made : goal.returns-in-Ok-make_template-c
 returns-in-Ok-make_template-clause-made c form same is_ok =
     let named = c.in-Some-new.named in
     let number = named-length c.args.bytes.now named.bytes.now named.views.now c.args.elements.now c.in-Some-new.ensures.elements in
-    group-of c.args.datagram.now _ _ _ _ _ form c.in-Some.allowed c.store.new.self.header_len _ c.make_template.new.buf _ _ c.in-Ok.ensures.bytes c.from_ids.ensures
+    group-of c.args.datagram.now _ _ _ _ _ form c.in-Some.allowed c.store.new.self.header_len _ c.make_template.new.buf _ _ c.in-Ok.ensures.bytes c.from_ids-ids.ensures
     (ap (λ (n : ℕ). elements_of (take n c.lend.new.lent)) (sym number) ∙ c.lend.ensures ∙ c.in-Some-new.ensures.elements)
     (one_allowed c.in-Some.allowed form (c.in-Some.ensures.found ∙ sym same)) (sym c.store.ensures.header_len) (sym c.store.ensures.slots) c.in-Ok-make_template.ensures.made
 
@@ -42,7 +42,7 @@ returns-in-Err-make_template-clause-refusal c form same within few not_ok parts 
     record {
       cause = c.in-Err-make_template.cause;
       applies = kept-of (take (header_len_of parts) c.args.datagram.now) _ _ _ _ _ form c.in-Some.allowed (length c.args.buf.now) c.in-Err-make_template.cause
-          (header-of c.in-Ok.packet c.args.datagram.now parts c.in-Ok.ensures.bytes (c.in-Ok.ensures.only parts is)) c.from_ids.ensures
+          (header-of c.in-Ok.packet c.args.datagram.now parts c.in-Ok.ensures.bytes (c.in-Ok.ensures.only parts is)) c.from_ids-ids.ensures
           (ap (λ (n : ℕ). elements_of (take n c.lend.new.lent)) (sym number) ∙ c.lend.ensures ∙ c.in-Some-new.ensures.elements)
           (one_allowed c.in-Some.allowed form (c.in-Some.ensures.found ∙ sym same)) c.in-Err-make_template.ensures.cause;
       status_is = not_routed-is c.not_routed_status.result c.in-Err-make_template.cause c.not_routed_status.ensures;
@@ -55,7 +55,7 @@ returns-in-Err-make_template-clause-refused c form same within few parts is =
       λ _. (
         c.in-Err-make_template.cause,
         kept-of (take (header_len_of parts) c.args.datagram.now) _ _ _ _ _ form c.in-Some.allowed (length c.args.buf.now) c.in-Err-make_template.cause
-            (header-of c.in-Ok.packet c.args.datagram.now parts c.in-Ok.ensures.bytes (c.in-Ok.ensures.only parts is)) c.from_ids.ensures
+            (header-of c.in-Ok.packet c.args.datagram.now parts c.in-Ok.ensures.bytes (c.in-Ok.ensures.only parts is)) c.from_ids-ids.ensures
             (ap (λ (n : ℕ). elements_of (take n c.lend.new.lent)) (sym number) ∙ c.lend.ensures ∙ c.in-Some-new.ensures.elements)
             (one_allowed c.in-Some.allowed form (c.in-Some.ensures.found ∙ sym same)) c.in-Err-make_template.ensures.cause,
       ),
@@ -70,7 +70,7 @@ returns-in-Ok-make_template-clause-refused c form same within few parts is =
       λ kept _. false≢true (c.in-Ok-make_template.ensures.refused.1 (
         kept.0,
         kept-of _ (take (header_len_of parts) c.args.datagram.now) _ _ _ _ c.in-Some.allowed form (length c.args.buf.now) kept.0
-            (sym (header-of c.in-Ok.packet c.args.datagram.now parts c.in-Ok.ensures.bytes (c.in-Ok.ensures.only parts is))) (sym c.from_ids.ensures)
+            (sym (header-of c.in-Ok.packet c.args.datagram.now parts c.in-Ok.ensures.bytes (c.in-Ok.ensures.only parts is))) (sym c.from_ids-ids.ensures)
             (sym (ap (λ (n : ℕ). elements_of (take n c.lend.new.lent)) (sym number) ∙ c.lend.ensures ∙ c.in-Some-new.ensures.elements))
             (sym (one_allowed c.in-Some.allowed form (c.in-Some.ensures.found ∙ sym same))) kept.1,
       )),

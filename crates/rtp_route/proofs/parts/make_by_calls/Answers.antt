@@ -69,8 +69,8 @@ returns-clause-made c =
     let all : c.header_len.result ≡ c.in_ok-len.len = omega (arith, c.header_len.ensures, long, ap length bytes, length-take c.in_ok-len.len c.make_header.new.buf, c.in_ok-len.ensures.within) in
     subst (λ (b : List ℕ). IsGroupHeader (datagram_of packet) ids news allowed b slots) (bytes ∙ sym (ap (λ (k : ℕ). take k c.make_header.new.buf) all)) group
 
-pub overflow_cast-result : goal.overflow_cast-result
-overflow_cast-result c = omega (arith, c.header_len.ensures, short-header c.unwrap-header.result)
+pub overflow_cast-parts : goal.overflow_cast-parts
+overflow_cast-parts c = omega (arith, c.header_len.ensures, short-header c.unwrap-header.result)
 
 pub returns-clause-room : goal.returns-clause-room
 returns-clause-room c =

@@ -13,7 +13,7 @@ use Rattle.rtp_route.specs.Template.{HaveOwnIds}
 use Rattle.rtp_route.proofs.ByWalkLemmas.{group-by_walk}
 use Rattle.rtp_route.proofs.LentLemmas.{element_of}
 use Rattle.rtp_route.proofs.NotPutLemmas.{kept-template, kept-routing, none-kept_template, on-err}
-use Rattle.rtp_route.proofs.parts.make_template.Goals as goal
+use Rattle.rtp_route.proofs.parts.make_template_into.Goals as goal
 
 pub returns-in-Some-clause-made : goal.returns-in-Some-clause-made
 returns-in-Some-clause-made c =
@@ -72,3 +72,9 @@ returns-in-None-clause-refused c =
           c.make_by_calls.ensures.refused.1
           (kept.0, subst (λ (k : ℕ). KeepsFromRouting (header_in packet) no_fields ids news allowed k kept.0) (sym long) (kept-routing (header_in packet) ids news allowed room few kept.0 kept.1)),
     )
+
+pub invariant_of-parts : goal.invariant_of-parts
+invariant_of-parts c = record { long = c.write_by_walk.ensures.places }
+
+pub invariant_of-parts-in-None : goal.invariant_of-parts-in-None
+invariant_of-parts-in-None c = record { long = c.write_by_walk.ensures.places }
