@@ -21,7 +21,7 @@ use super::named_elements::NamedElements;
 use super::packet::{ElementView, allowed_of};
 use super::status::{BAD_FIELD, LONG_ID, OK, status_of};
 use rtp_ext::NewIds;
-use rtp_route::{Group, MAX_ELEMENTS, NotRouted, Slot, TemplateParts, make_template};
+use rtp_route::{Group, MAX_ELEMENTS, NotRouted, Slot, TemplateParts, make_template_into};
 use rtp_wire::RtpPacket;
 
 /// How long a group's header is, and where in it the data of the group's elements lie:
@@ -159,13 +159,19 @@ pub extern "C" fn rtpw_make_template(
     };
     let mut lent: [(u8, &[u8]); MAX_ELEMENTS] = [(0, &[]); MAX_ELEMENTS];
     named.lend(&mut lent);
+    let ids = NewIds::from_ids(&ids.id);
     let group = Group {
-        ids: &NewIds::from_ids(&ids.id),
+        ids: &ids,
         elements: &lent[..elements.len()],
         allowed,
     };
-    match make_template(&packet, &group, buf) {
-        Ok(parts) => {
+    let mut parts = TemplateParts {
+        header_len: 0,
+        slots: [Slot { start: 0, len: 0 }; MAX_ELEMENTS],
+        count: 0,
+    };
+    match make_template_into(&packet, &group, buf, &mut parts) {
+        Ok(()) => {
             made.store(&parts);
             OK
         }

@@ -1,5 +1,5 @@
 -- Elements of which each is put, and the one that isn't.
-use Rattle.std.proofs.Common.{◌≡◌, ℕ, ◌+◌, ◌<◌, ◌≤◌, ◌⊎◌, inl, inr, List, [], ◌∷◌, ◌++◌, length, take, drop, get_or, Option, refl, sym, ap, subst, ◌∙◌, arith}
+use Rattle.std.proofs.Common.{◌≡◌, ℕ, ◌+◌, ◌<◌, ◌≤◌, ◌⊎◌, inl, inr, List, [], ◌∷◌, ◌++◌, length, take, drop, get_or, Option, Result, Ok, Err, IfErr, refl, sym, ap, subst, ◌∙◌, arith}
 use Rattle.std.proofs.lemmas.List.{take-append-drop, map-append}
 use Rattle.rtp_ext.specs.declared.form.ExtensionsForm.{ExtensionsForm}
 use Rattle.rtp_ext.specs.Elements.{Element}
@@ -145,3 +145,16 @@ none-kept_template old ids news allowed room for none ManyElements kept = omega 
 none-kept_template old ids news allowed room for none RepeatedId kept = kept.1 for.1
 none-kept_template old ids news allowed room for none NotRouted-LongId kept = none NotRouted-LongId kept.1
 none-kept_template old ids news allowed room for none (NotRouted-NotPut cause) kept = none (NotRouted-NotPut cause) kept.1
+
+-- what keeps a template from being made keeps its header
+pub kept-routing : (old : List ℕ) (ids : ℕ → Option ℕ) (news : List Element) (allowed : Option ExtensionsForm) (room : ℕ) → AreForTemplate news → (cause : NotRouted)
+    → KeepsFromTemplate old ids news allowed room cause → KeepsFromRouting old no_fields ids news allowed room cause
+kept-routing old ids news allowed room few ManyElements kept = absurd (omega (arith, few.0, kept))
+kept-routing old ids news allowed room few RepeatedId kept = absurd (kept.1 few.1)
+kept-routing old ids news allowed room few NotRouted-LongId kept = kept.1
+kept-routing old ids news allowed room few (NotRouted-NotPut cause) kept = kept.1
+
+-- what is so of a cause where another thing is
+pub on-err : {A E : Type 0} (result : Result A E) (P Q : E → Type 0) → ((e : E) → P e → Q e) → IfErr result P → IfErr result Q
+on-err (Ok a) P Q gives p = p
+on-err (Err e) P Q gives p = gives e p

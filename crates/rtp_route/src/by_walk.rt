@@ -93,6 +93,7 @@ pub(super) fn write_by_walk(
         (take len buf.new) (take (length group.now.elements.now) slots.new)) }
     ensures within { IfSome result (λ len. len ≤ length buf.new) }
     ensures short { IfSome result (λ len. len ≤ 262140) }
+    ensures places { length slots.new ≡ 16 }
     ensures none_refused { IfSome result (λ _. (cause : NotRouted) →
         KeepsFromRouting (header_in packet.now) fields.now (new_id group.now.ids.now)
         (elements_of group.now.elements.now) group.now.allowed (length buf.old) cause → ⊥) }

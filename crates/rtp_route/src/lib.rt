@@ -29,6 +29,6 @@ mod walk;
 pub use by_calls::{Group, route_header, routes_as_the_calls_do};
 pub use not_routed::NotRouted;
 pub use not_written::NotWritten;
-pub use parts::{TemplateParts, make_template};
+pub use parts::{TemplateParts, make_template, make_template_into};
 pub use slots::{MAX_ELEMENTS, Slot};
 pub use template::{HeaderTemplate, write_joined};

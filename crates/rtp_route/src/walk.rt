@@ -133,8 +133,9 @@ fn write_next(
 
 // Writes the elements of a block's body under their new ids, those without one left out, and the
 // group's elements in the place of those of their ids; returns where they end. `None` where the
-// block's form can't carry one, or two have the id of one of the group's elements.
-#[inline(always)]
+// block's form can't carry one, or two have the id of one of the group's elements. It stays out of
+// line, so that the walk has the registers to itself.
+#[inline(never)]
 fn write_kept(
     buf: &mut [u8],
     at: usize,

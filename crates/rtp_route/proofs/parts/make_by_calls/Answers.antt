@@ -11,52 +11,20 @@ use Rattle.rtp_wire.specs.PartsOf.{datagram_of, parts_of}
 use Rattle.rtp_wire.proofs.PartsLemmas.{length-packet, IsPacket-found}
 use Rattle.rtp_route.specs.declared.slots.Slot.{Slot}
 use Rattle.rtp_route.specs.GroupHeader.{IsGroupHeader}
-use Rattle.rtp_route.specs.Walk.{IsMadeFor}
 use Rattle.rtp_route.proofs.LengthLemmas.{short-header}
 use Rattle.rtp_route.specs.declared.not_routed.NotRouted.{NotRouted}
 use Rattle.rtp_route.specs.Calls.{IsRoutedByCalls, no_fields, header_in}
-use Rattle.rtp_route.specs.NotRouted.{KeepsFromRouting, AreForTemplate, KeepsFromTemplate}
+use Rattle.rtp_route.specs.NotRouted.{KeepsFromRouting}
 use Rattle.rtp_route.specs.Routing.{IsRouted}
 use Rattle.rtp_route.specs.Template.{HaveOwnIds, LiesInHeader}
-use Rattle.rtp_route.proofs.ByWalkLemmas.{group-by_walk}
 use Rattle.rtp_route.proofs.LentLemmas.{element_of}
-use Rattle.rtp_route.proofs.NotPutLemmas.{kept-template, none-kept_template}
 use Rattle.rtp_route.proofs.RoutingLemmas.{routed-of}
 use Rattle.rtp_route.proofs.TemplateLemmas.{slots-there, group-made, group-length}
-use Rattle.rtp_route.proofs.parts.make_template.Goals as goal
+use Rattle.rtp_route.proofs.parts.make_by_calls.Goals as goal
 
 is-ok : {A E : Type 0} (result : Result A E) (P : A → Type 0) → IsOkAnd result P → IsOk result
 is-ok (Ok value) P is = refl
 is-ok (Err cause) P is = absurd is
-
-pub returns-in-Some-clause-made : goal.returns-in-Some-clause-made
-returns-in-Some-clause-made c =
-    let packet = c.args.packet.now in
-    let ids = new_id c.args.group.now.ids.now in
-    let news = elements_of c.args.group.now.elements.now in
-    let allowed = c.args.group.now.allowed in
-    let header = take c.in-Some.len c.write_by_walk.new.buf in
-    let slots = take (length c.args.group.now.elements.now) c.write_by_walk.new.slots in
-    let made : IsMadeFor (datagram_of packet) no_fields ids news allowed header slots =
-    subst (λ (fields : Fields). IsMadeFor (datagram_of packet) fields ids news allowed header slots) (search rules) c.in-Some.ensures.made in
-    group-by_walk (datagram_of packet) ids news allowed header slots (c.if-not-have_own_ids.ensures.0 refl) made
-
-pub returns-in-Some-clause-within : goal.returns-in-Some-clause-within
-returns-in-Some-clause-within c k d there =
-    omega (arith, c.in-Some.ensures.made.within k d there, length-take c.in-Some.len c.write_by_walk.new.buf)
-
-pub returns-in-Some-clause-refused : goal.returns-in-Some-clause-refused
-returns-in-Some-clause-refused c =
-    let packet = c.args.packet.now in
-    let ids = new_id c.args.group.now.ids.now in
-    let news = elements_of c.args.group.now.elements.now in
-    let allowed = c.args.group.now.allowed in
-    let own : HaveOwnIds news = c.if-not-have_own_ids.ensures.0 refl in
-    let few : AreForTemplate news = (omega (arith, c.if-group-gt-MAX_ELEMENTS.false, length-map c.args.group.now.elements.now element_of), own) in
-    let room : ℕ = length c.args.buf.now in
-    let none : (cause : NotRouted) → KeepsFromRouting (header_in packet) no_fields ids news allowed room cause → ⊥ =
-    λ cause kept. c.in-Some.ensures.none_refused cause (subst (λ (fields : Fields). KeepsFromRouting (header_in packet) fields ids news allowed room cause) (search rules) kept) in
-    (λ no_error. absurd (false≢true no_error), λ kept. absurd (none-kept_template (header_in packet) ids news allowed room few none kept.0 kept.1))
 
 pub unwrap-header-requires : goal.unwrap-header-requires
 unwrap-header-requires c =
@@ -78,7 +46,7 @@ unwrap-slots-requires c =
     let routed = routed-of packet c.make_header.new.buf c.in_ok-len.len no_fields ids news allowed c.in_ok-len.ensures.ids calls in
     let bytes : datagram_of c.unwrap-header.result ≡ take c.in_ok-len.len c.make_header.new.buf = rw c.unwrap-header.ensures at c.parse.ensures.bytes in
     let of_header : IsRouted (datagram_of packet) no_fields ids news allowed (datagram_of c.unwrap-header.result) = subst (IsRouted (datagram_of packet) no_fields ids news allowed) (sym bytes) routed in
-    let own : HaveOwnIds news = c.if-not-have_own_ids.ensures.0 refl in
+    let own : HaveOwnIds news = c.requires.own in
     slots-there (datagram_of packet) ids news allowed c.unwrap-header.result (length c.args.group.now.elements.now) c.slots_of.result of_header own c.slots_of.ensures.found c.slots_of.ensures.none
 
 pub returns-clause-made : goal.returns-clause-made
@@ -91,7 +59,7 @@ returns-clause-made c =
     let routed = routed-of packet c.make_header.new.buf c.in_ok-len.len no_fields ids news allowed c.in_ok-len.ensures.ids calls in
     let bytes : datagram_of c.unwrap-header.result ≡ take c.in_ok-len.len c.make_header.new.buf = rw c.unwrap-header.ensures at c.parse.ensures.bytes in
     let of_header : IsRouted (datagram_of packet) no_fields ids news allowed (datagram_of c.unwrap-header.result) = subst (IsRouted (datagram_of packet) no_fields ids news allowed) (sym bytes) routed in
-    let own : HaveOwnIds news = c.if-not-have_own_ids.ensures.0 refl in
+    let own : HaveOwnIds news = c.requires.own in
     let header = c.unwrap-header.result in
     let slots = take (length c.args.group.now.elements.now) c.unwrap-slots.result in
     let group : IsGroupHeader (datagram_of packet) ids news allowed (datagram_of header) slots =
@@ -101,8 +69,8 @@ returns-clause-made c =
     let all : c.header_len.result ≡ c.in_ok-len.len = omega (arith, c.header_len.ensures, long, ap length bytes, length-take c.in_ok-len.len c.make_header.new.buf, c.in_ok-len.ensures.within) in
     subst (λ (b : List ℕ). IsGroupHeader (datagram_of packet) ids news allowed b slots) (bytes ∙ sym (ap (λ (k : ℕ). take k c.make_header.new.buf) all)) group
 
-pub overflow_cast-result : goal.overflow_cast-result
-overflow_cast-result c = omega (arith, c.header_len.ensures, short-header c.unwrap-header.result)
+pub overflow_cast-parts : goal.overflow_cast-parts
+overflow_cast-parts c = omega (arith, c.header_len.ensures, short-header c.unwrap-header.result)
 
 pub returns-clause-room : goal.returns-clause-room
 returns-clause-room c =
@@ -128,15 +96,11 @@ returns-in_err-len-clause-cause c =
     let ids = new_id c.args.group.now.ids.now in
     let news = elements_of c.args.group.now.elements.now in
     let allowed = c.args.group.now.allowed in
-    let own : HaveOwnIds news = c.if-not-have_own_ids.ensures.0 refl in
-    let few : AreForTemplate news = (omega (arith, c.if-group-gt-MAX_ELEMENTS.false, length-map c.args.group.now.elements.now element_of), own) in
     let room : ℕ = length c.args.buf.now in
     let p = err_from_is_err_and c.from_residual.result c.from_residual.ensures.1 in
     let kept : KeepsFromRouting (header_in packet) no_fields ids news allowed room c.in_err-len.field-0.0 =
-    subst (λ (fields : Fields). KeepsFromRouting (header_in packet) fields ids news allowed room c.in_err-len.field-0.0) (search rules)
-    (subst (λ (k : ℕ). KeepsFromRouting (header_in packet) c.default-fields.result ids news allowed k c.in_err-len.field-0.0) c.write_by_walk.auto.buf c.in_err-len.ensures.cause) in
-    let refused : KeepsFromTemplate (header_in packet) ids news allowed room c.in_err-len.field-0.0 = kept-template (header_in packet) ids news allowed room few c.in_err-len.field-0.0 kept in
-    rw (p.1, p.2) refused
+    subst (λ (fields : Fields). KeepsFromRouting (header_in packet) fields ids news allowed room c.in_err-len.field-0.0) (search rules) c.in_err-len.ensures.cause in
+    rw (p.1, p.2) kept
 
 pub returns-in_err-len-clause-refused : goal.returns-in_err-len-clause-refused
 returns-in_err-len-clause-refused c =
@@ -144,13 +108,10 @@ returns-in_err-len-clause-refused c =
     let ids = new_id c.args.group.now.ids.now in
     let news = elements_of c.args.group.now.elements.now in
     let allowed = c.args.group.now.allowed in
-    let own : HaveOwnIds news = c.if-not-have_own_ids.ensures.0 refl in
-    let few : AreForTemplate news = (omega (arith, c.if-group-gt-MAX_ELEMENTS.false, length-map c.args.group.now.elements.now element_of), own) in
     let room : ℕ = length c.args.buf.now in
     let kept : KeepsFromRouting (header_in packet) no_fields ids news allowed room c.in_err-len.field-0.0 =
-    subst (λ (fields : Fields). KeepsFromRouting (header_in packet) fields ids news allowed room c.in_err-len.field-0.0) (search rules)
-    (subst (λ (k : ℕ). KeepsFromRouting (header_in packet) c.default-fields.result ids news allowed k c.in_err-len.field-0.0) c.write_by_walk.auto.buf c.in_err-len.ensures.cause) in
-    (λ _. (c.in_err-len.field-0.0, kept-template (header_in packet) ids news allowed room few c.in_err-len.field-0.0 kept), λ _. c.from_residual.ensures.0)
+    subst (λ (fields : Fields). KeepsFromRouting (header_in packet) fields ids news allowed room c.in_err-len.field-0.0) (search rules) c.in_err-len.ensures.cause in
+    (λ _. (c.in_err-len.field-0.0, kept), λ _. c.from_residual.ensures.0)
 
 pub returns-clause-refused : goal.returns-clause-refused
 returns-clause-refused c =
@@ -158,13 +119,7 @@ returns-clause-refused c =
     let ids = new_id c.args.group.now.ids.now in
     let news = elements_of c.args.group.now.elements.now in
     let allowed = c.args.group.now.allowed in
-    let own : HaveOwnIds news = c.if-not-have_own_ids.ensures.0 refl in
-    let few : AreForTemplate news = (omega (arith, c.if-group-gt-MAX_ELEMENTS.false, length-map c.args.group.now.elements.now element_of), own) in
     let room : ℕ = length c.args.buf.now in
     let none : (cause : NotRouted) → KeepsFromRouting (header_in packet) no_fields ids news allowed room cause → ⊥ =
-    λ cause kept. false≢true (c.in_ok-len.ensures.refused.1 (
-      cause,
-      subst (λ (k : ℕ). KeepsFromRouting (header_in packet) c.default-fields.result ids news allowed k cause) (sym c.write_by_walk.auto.buf)
-          (subst (λ (fields : Fields). KeepsFromRouting (header_in packet) fields ids news allowed room cause) (search rules) kept),
-    )) in
-    (λ no_error. absurd (false≢true no_error), λ kept. absurd (none-kept_template (header_in packet) ids news allowed room few none kept.0 kept.1))
+    λ cause kept. false≢true (c.in_ok-len.ensures.refused.1 (cause, subst (λ (fields : Fields). KeepsFromRouting (header_in packet) fields ids news allowed room cause) (search rules) kept)) in
+    (λ no_error. absurd (false≢true no_error), λ kept. absurd (none kept.0 kept.1))
