@@ -86,7 +86,7 @@ fn has_layers(values: &ValuesView) -> bool
     values.has_layers != 0
 }
 
-/// Which kinds [`rtpw_write`](crate::writing::rtpw_write) leaves out: those of which a value is
+/// Which kinds [`rtpw_write`](crate::writing_values::rtpw_write) leaves out: those of which a value is
 /// given and that no element carries which it writes under the map. Each has the bit at the place
 /// of its number, as 8 is the audio level, and no other bit is set. They are all that are given
 /// where `has_extension` is 0; else those that no id means, those of which a second value is absent

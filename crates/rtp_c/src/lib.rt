@@ -42,6 +42,7 @@ mod wide_receiver;
 mod wide_restarting;
 mod writing;
 mod writing_layers;
+mod writing_values;
 
 /// The version of the library: 65,536 times its major number, 256 times the minor one, and the
 /// patch. That of the header file is `RTPW_VERSION`.

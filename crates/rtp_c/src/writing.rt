@@ -1,4 +1,4 @@
-//! What C gives to be written, headers and elements, from fields and values to bytes.
+//! Elements that C gives to be written, behind a header and by themselves.
 
 ghost use Rattle.std.specs.Prelude.{◌≡◌, ◌≢◌, ◌↔◌, ◌≤◌, ◌<◌, ◌⊎◌, length, IsTrue, Option, Some, None};
 ghost use Rattle.std.specs.List.{All};
@@ -6,15 +6,12 @@ ghost use Rattle.rtp_ext.specs.declared.form.ExtensionsForm.{ExtensionsForm};
 ghost use Rattle.rtp_ext.specs.ElementsInARow.{IsWritable};
 ghost use Rattle.rtp_wire.specs.declared.header.rtp_header.RtpHeader.{RtpHeader as Header};
 ghost use Rattle.rtp_c.specs.Status.{ok, short_buffer, bad_field};
-ghost use Rattle.rtp_c.specs.Given.{is_nonzero, AreGivenValues, IsGivenHeader};
 ghost use Rattle.rtp_c.specs.PacketView.{form_number};
 ghost use Rattle.rtp_c.specs.WrittenElements.{AreWritable, AreWrittenElements, AreTooLong};
-ghost use Rattle.rtp_c.specs.WrittenHeader.{IsLengthOf, IsWrittenHeader, IsTooLong, WritesHeader, CanBeWrittenWith, IsWrittenWith, IsTooLongWith};
+ghost use Rattle.rtp_c.specs.WrittenHeader.{CanBeWrittenWith, IsWrittenWith, IsTooLongWith};
 
-use super::given::{put_fields_with_x, put_given_fields};
-use super::given_values::GivenValues;
+use super::given::put_given_fields;
 use super::header::HeaderView;
-use super::kinds::StoredMap;
 use super::named_elements::NamedElements;
 use super::packet::{ElementView, allowed_of, form_of};
 use super::status::{BAD_FIELD, OK, SHORT_BUFFER};
@@ -127,95 +124,6 @@ pub extern "C" fn rtpw_write_with_form(
         Some(allowed) => write_header_with(header, bytes, elements, allowed, buf, len),
         None => BAD_FIELD,
     }
-}
-
-/// How many bytes [`rtpw_write`] writes of the header: a multiple of four, 12 without CSRC list and
-/// block. `OK`, and the number is written; `BAD_FIELD` for the causes of [`rtpw_write`], and then
-/// nothing is written.
-#[unsafe(no_mangle)]
-pub extern "C" fn rtpw_wire_len(map: &StoredMap, header: &HeaderView, len: &mut usize) -> i32
-    ensures length { result ≡ ok → IsLengthOf map.now.kind (IsGivenHeader header.now) len.new }
-    ensures bad_field { (result ≡ bad_field) ↔ ((h : Header) → IsGivenHeader header.now h → ⊥) }
-    ensures statuses { (result ≡ ok) ⊎ (result ≡ bad_field) }
-    ensures unchanged { result ≢ ok → len.new ≡ len.old }
-{
-    let Some(values) = GivenValues::of(&header.values) else {
-        return BAD_FIELD;
-    };
-    let mut unfreed = ManuallyDrop::new(RtpHeader::default());
-    let rtp_header = &mut *unfreed;
-    let Some(()) = put_given_fields(header, rtp_header) else {
-        return BAD_FIELD;
-    };
-    *len = rtp_header.values_wire_len(&values, map);
-    OK
-}
-
-/// Writes the header to the front of the buffer (RFC 3550, 5.1; RFC 8285, 4.2 and 4.3). A flag
-/// counts as set where it isn't 0, and a value as absent where its `has_` is 0; `header_len` and
-/// `has_layers` are not looked at. Where `has_extension` is set a block is written, with an element
-/// for each mapped id, by rising id, whose value is there: in the two-byte form exactly where an id
-/// above 14 is mapped, the layer allocation is mapped, or a text that is written is empty. Zeros
-/// fill its last word. Where `has_extension` is clear nothing is written of the values, which are
-/// looked at all the same.
-///
-/// `OK`, and how many bytes the header takes is written too. `BAD_FIELD` where the payload type is
-/// above 127, there are more than 15 contributing sources, a text has another character than
-/// letters, digits and underscores before its first zero or has no zero, an orientation is none of
-/// 0, 90, 180 and 270, or a delay has 0 ticks in a second; of these values only where they are
-/// there. `SHORT_BUFFER` where only the room is short. Where it isn't `OK` nothing is written.
-#[unsafe(no_mangle)]
-pub extern "C" fn rtpw_write(
-    map: &StoredMap,
-    header: &HeaderView,
-    buf: &mut [u8],
-    len: &mut usize,
-) -> i32
-    ensures written { result ≡ ok →
-        IsWrittenHeader map.now.kind (IsGivenHeader header.now) buf.old buf.new len.new }
-    ensures within { result ≡ ok → len.new ≤ length buf.new }
-    ensures short { result ≡ short_buffer →
-        IsTooLong map.now.kind (IsGivenHeader header.now) (length buf.old) }
-    ensures bad_field { (result ≡ bad_field) ↔ ((h : Header) → IsGivenHeader header.now h → ⊥) }
-    ensures statuses { (result ≡ ok) ⊎ ((result ≡ short_buffer) ⊎ (result ≡ bad_field)) }
-    ensures unchanged { result ≢ ok → (buf.new ≡ buf.old) × (len.new ≡ len.old) }
-{
-    let Some(values) = GivenValues::of(&header.values) else {
-        return BAD_FIELD;
-    };
-    if header.has_extension == 0 {
-        write_given::<0>(map, header, values, buf, len)
-    } else {
-        write_given::<1>(map, header, values, buf, len)
-    }
-}
-
-// Writes the header with these values, its own, as `rtpw_write` does, where X is this. It is
-// compiled for each of the two by itself, and stays out of line, so that what writes no block saves
-// no register for one.
-#[inline(never)]
-fn write_given<const X: usize>(
-    map: &StoredMap,
-    header: &HeaderView,
-    values: GivenValues<'_>,
-    buf: &mut [u8],
-    len: &mut usize,
-) -> i32
-    requires extension { is_nonzero header.now.has_extension ≡ is_nonzero X }
-    requires values { AreGivenValues header.now.values values }
-    ensures { WritesHeader map.now.kind (IsGivenHeader header.now) buf.old buf.new len.old len.new
-        result }
-{
-    let mut unfreed = ManuallyDrop::new(RtpHeader::default());
-    let rtp_header = &mut *unfreed;
-    let Some(()) = put_fields_with_x(header, X != 0, rtp_header) else {
-        return BAD_FIELD;
-    };
-    let Some(written) = rtp_header.try_write_values(buf, &values, map) else {
-        return SHORT_BUFFER;
-    };
-    *len = written;
-    OK
 }
 
 // Whether the form can carry each of the elements.

@@ -48,7 +48,7 @@ pub extern "C" fn rtpw_wire_len_layers(
     OK
 }
 
-/// Writes the header as [`rtpw_write`](crate::writing::rtpw_write) does, and these layers as its
+/// Writes the header as [`rtpw_write`](crate::writing_values::rtpw_write) does, and these layers as its
 /// layer allocation (`video-layers-allocation00`): an element for each id that the map has for it.
 /// So what `rtpw_parse_layers` read is written again. `has_layers` isn't looked at, and of the
 /// layers those that count alone.

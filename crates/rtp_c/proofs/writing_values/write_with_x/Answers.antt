@@ -4,13 +4,13 @@ use Rattle.rtp_c.specs.Given.{IsGivenHeader}
 use Rattle.rtp_c.specs.StoredMap.{numbered_slots}
 use Rattle.rtp_c.proofs.NumberedLemmas.{HasKinds-numbered}
 use Rattle.rtp_c.proofs.WrittenHeaderLemmas.{IsGivenHeader-with, IsTooLong-refused, WritesHeader-written, WritesHeader-short, WritesHeader-bad, type_fits, few_sources}
-use Rattle.rtp_c.proofs.writing.write_given.Goals as goal
+use Rattle.rtp_c.proofs.writing_values.write_with_x.Goals as goal
 
 pub returns-in_default : goal.returns-in_default
-returns-in_default g c = WritesHeader-bad (λ h is. c.in_default.ensures.none h is.fields)
+returns-in_default c = WritesHeader-bad (λ h is. c.in_default.ensures.none h is.fields)
 
 pub returns-in_default-try_write_values : goal.returns-in_default-try_write_values
-returns-in_default-try_write_values g c =
+returns-in_default-try_write_values c =
     let there = IsGivenHeader-with c.args.header.now c.put_fields_with_x.new.header c.args.values c.in-Some.ensures.found c.requires.values in
     let numbers = c.args.map.now.kind in
     rw c.in_default-try_write_values.ensures.unchanged (WritesHeader-short
@@ -20,7 +20,7 @@ returns-in_default-try_write_values g c =
     (c.in_default-try_write_values.ensures.refused.0 refl)))
 
 pub returns : goal.returns
-returns g c =
+returns c =
     let numbers = c.args.map.now.kind in
     WritesHeader-written (record {
       slots = numbered_slots numbers;

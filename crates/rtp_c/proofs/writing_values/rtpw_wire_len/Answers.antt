@@ -4,7 +4,7 @@ use Rattle.rtp_c.specs.Status.{ok, bad_field}
 use Rattle.rtp_c.specs.StoredMap.{numbered_slots}
 use Rattle.rtp_c.proofs.NumberedLemmas.{HasKinds-numbered}
 use Rattle.rtp_c.proofs.WrittenHeaderLemmas.{IsGivenHeader-with}
-use Rattle.rtp_c.proofs.writing.rtpw_wire_len.Goals as goal
+use Rattle.rtp_c.proofs.writing_values.rtpw_wire_len.Goals as goal
 
 pub returns-clause-length : goal.returns-clause-length
 returns-clause-length c is_ok = record {
