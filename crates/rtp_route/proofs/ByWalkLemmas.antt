@@ -51,13 +51,6 @@ pub record IsFormTo (allowed : Option ExtensionsForm) (was : ExtensionsForm) (le
   pub carried : All (IsWritable TwoByte) (elements_of (take index lents))
   pub room_is : wide (elements_of (take index lents)) + left ≡ room
 
-pub IsFormTo-start : (allowed : Option ExtensionsForm) (was : ExtensionsForm) (lents : List Lent) (room : ℕ) → IsFormTo allowed was lents 0 was room room
-IsFormTo-start allowed was lents room = record {
-  forms = λ after is. is;
-  carried = All-nil (IsWritable TwoByte);
-  room_is = omega arith;
-}
-
 pub IsFormTo-more : (allowed : Option ExtensionsForm) (was : ExtensionsForm) (lents : List Lent) (index : ℕ) (form next : ExtensionsForm) (left rest room : ℕ) (lent : Lent)
     → IsFormTo allowed was lents index form left room → index < length lents → IsWritable TwoByte (element_of (get_or lents index lent))
     → Some next ≡ allowed_form allowed (needed_form (Some form) (element_of (get_or lents index lent))) → rest + (2 + length (get_or lents index lent).1.now) ≡ left

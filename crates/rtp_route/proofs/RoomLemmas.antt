@@ -108,10 +108,6 @@ wide-put new (element ∷ elements) =
       wide-more element elements,
     )
 
-pub wide-put_all : (news elements : List Element) → wide (put_all news elements) ≤ wide elements + wide news
-wide-put_all [] elements = omega arith
-wide-put_all (new ∷ news) elements = omega (arith, wide-put_all news (put_element new elements), wide-put new elements, wide-more new news)
-
 wide-with : (new : Element) (elements : List Element) → wide (elements_with new elements) ≤ wide elements + wide_of new
 wide-with new elements = omega (arith, wide-put new (without 0 elements), wide-without 0 elements)
 

@@ -96,10 +96,10 @@ pub(super) fn make_header(
     Ok(compact_copy::<1>(&mut buf[..len]).unwrap())
 }
 
-/// Writes the header that the packet gets on its way to a receiver with these fields, by the calls
-/// for one packet, and returns how many bytes it has: each element gets its new id, and one without
-/// goes; each of the group's elements is put among them; and the block is as short as they allow
-/// (RFC 7667, 3.7; RFC 8285, 4.1.2 to 4.3 and 5). Requires a payload type of at most 127.
+/// Writes the header that the packet gets on its way to a receiver with these fields, as the calls
+/// for one packet make it, and returns how many bytes it has: each element gets its new id, and one
+/// without goes; each of the group's elements is put among them; and the block is as short as they
+/// allow (RFC 7667, 3.7; RFC 8285, 4.1.2 to 4.3 and 5). Requires a payload type of at most 127.
 ///
 /// The cause is the first of these, and the buffer then has any bytes:
 /// - [`NotRouted::NotPut`] of [`NotPut::NoRoom`], where the buffer is shorter than the packet's own
