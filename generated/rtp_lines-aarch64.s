@@ -2,8 +2,8 @@
  * rtp_lines for Linux on aarch64: the assembly text that Rattle's compiler makes of the program, each function of which is proved.
  * Made anew by: generated/make
  * kit: rattle-kit-13f logic dac8208d650f15bf
- * sources: 1ac75c60fac541373760da0bb3ac95c40e8e1c20bccb3e79cde41d5081d1a957
- * text: bc361339bf670430402dc76d6eff394fe835efdacc82cb77abf8793d28acb16a
+ * sources: 8ca67c27cee320bf6ed81956160ade0d5d00de7f9235ca1aa773e98b19324bae
+ * text: f6c5584727f04d87af5f833ec1e55076b845ab3d41ea308fa7b46f1e58b52a11
  * SPDX-License-Identifier: MIT OR Apache-2.0
  * Copyright (c) 2026 The rtp-wire developers (NOTICE)
  */

@@ -2,8 +2,8 @@
  * rtp_lines for Linux on x86_64: the assembly text that Rattle's compiler makes of the program, each function of which is proved.
  * Made anew by: generated/make
  * kit: rattle-kit-13f logic dac8208d650f15bf
- * sources: 1ac75c60fac541373760da0bb3ac95c40e8e1c20bccb3e79cde41d5081d1a957
- * text: fee7c8b9108372e250b4d97272c3a4b762317a0eac1a4eb96ae4f50eca864541
+ * sources: 8ca67c27cee320bf6ed81956160ade0d5d00de7f9235ca1aa773e98b19324bae
+ * text: b648ec7b91cfab1bac79ff5f00476d78361e751f6fcde6820492b9dbc138da8a
  * SPDX-License-Identifier: MIT OR Apache-2.0
  * Copyright (c) 2026 The rtp-wire developers (NOTICE)
  */
