@@ -168,6 +168,11 @@ static void make_template(void) {
     status = rtpw_make_template(datagram, few_elements(), &ids, data, sizeof data, many + 1, 16, RTPW_ANY_FORM, headers,
                                 sizeof headers, &made);
 }
+static void make_template_long(void) { /* whose block is too long for one walk */
+    datagram[74] = datagram[75] = 0xFF;
+    status = rtpw_make_template(datagram, sizeof datagram, &ids, data, sizeof data, many + 1, 16, RTPW_ANY_FORM, headers,
+                                sizeof headers, &made);
+}
 static void write_headers(void) { /* from what was made before */
     status = rtpw_write_headers(&made, headers, sizeof headers, zeros, sizeof zeros, routed, 2, written_headers,
                                 sizeof written_headers);
@@ -295,7 +300,7 @@ int main(void) {
         CALL(new_ids_between), CALL(renumber), CALL(pad), CALL(read_original), CALL(write_original), CALL(version),
         CALL(new_ids_to_retransmission), CALL(new_ids_from_retransmission), CALL(to_retransmission),
         CALL(from_retransmission), CALL(packet_parse_many), CALL(parse_many), CALL(receive_many),
-        CALL(make_template), CALL(write_headers),
+        CALL(make_template), CALL(make_template_long), CALL(write_headers),
         CALL(read_transmission_offset), CALL(write_transmission_offset), CALL(read_frame_marking), CALL(write_frame_marking),
         CALL(read_orientation), CALL(write_orientation), CALL(is_token), CALL(read_timing), CALL(write_timing),
         CALL(read_transport_number), CALL(write_transport_number), CALL(read_mixer_level), CALL(write_mixer_levels),
