@@ -31,13 +31,13 @@ use rtp_wire::RtpPacket;
 pub struct StoredTemplate {
     /// How many bytes the header has, 12 to 262,216.
     pub header_len: u32,
-    /// Where the data of each element begin in the header; after the last not looked at.
+    /// Where the data of each element begin in the header; after the last made 0, and not looked at.
     pub data_at: [u32; MAX_ELEMENTS],
     /// How many bytes of data the elements have together.
     pub data_total: u16,
     /// How many elements there are, 0 to 16.
     pub count: u8,
-    /// How many bytes of data each element has; after the last not looked at.
+    /// How many bytes of data each element has; after the last made 0, and not looked at.
     pub data_len: [u8; MAX_ELEMENTS],
 }
 
@@ -62,7 +62,7 @@ impl StoredTemplate {
         }
     }
 
-    // Keeps the parts of a template.
+    // Keeps the parts of a template, and zeros after the last place.
     fn store(&mut self, parts: &TemplateParts)
         requires { parts.now.count ≤ 16 }
         ensures header_len { self.new.header_len ≡ parts.now.header_len }
@@ -71,6 +71,8 @@ impl StoredTemplate {
         ensures total { self.new.data_total ≡ total_of (take parts.now.count parts.now.slots) }
     {
         let mut total = 0;
+        self.data_at = [0; MAX_ELEMENTS];
+        self.data_len = [0; MAX_ELEMENTS];
         for index in 0..parts.count {
             let slot = parts.slots[index];
             self.data_at[index] = slot.start;
