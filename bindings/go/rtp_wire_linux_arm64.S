@@ -2,8 +2,8 @@
  * rtp_wire for Linux on aarch64: the assembly text that Rattle's compiler makes of the library for C, each function of which but those at its end is proved.
  * Made anew by: generated/make
  * kit: rattle-kit-13f logic dac8208d650f15bf
- * sources: 1085675535b2643e9610ccbd47f144651194d6003ec1400fcb348ab1b518769d
- * text: c500478d77c6c9579fcbe506ee9529edaea638e3035df1a2351a4ccd9a4a84f3
+ * sources: 2e29874a07e377751361afdf741f7bc89e85010b1a2cd0f38eac841b8c6ab208
+ * text: afff8deabd98ca76d5dba6d72338cfe468f000e4be4dcb7921893eb3aa7daee1
  * SPDX-License-Identifier: MIT OR Apache-2.0
  * Copyright (c) 2026 The rtp-wire developers (NOTICE)
  */
@@ -24936,15 +24936,21 @@ rtpw_make_template:
 	bfxil	w9, w22, #10, #8
 	sturh	w9, [x10, #-2]
 .Lrtp_BB135_98:
+	movi	v0.2d, #0000000000000000
 	ldr	x18, [sp, #112]
+	mov	x10, x17
+	str	q0, [x10, #4]!
+	mov	x9, x10
+	stp	q0, q0, [x10, #32]
+	str	q0, [x10, #16]
+	str	xzr, [x9, #67]!
+	stur	xzr, [x10, #75]
 	cbz	x8, .Lrtp_BB135_104
 	cmp	x8, #8
-	add	x9, x17, #71
 	b.lo	.Lrtp_BB135_102
-	add	x10, x17, x8
-	add	x11, x17, #4
-	add	x10, x10, #71
-	cmp	x11, x10
+	add	x11, x17, x8
+	add	x11, x11, #71
+	cmp	x10, x11
 	b.hs	.Lrtp_BB135_114
 	add	x10, x17, x8, lsl #2
 	add	x10, x10, #4
@@ -25020,7 +25026,6 @@ rtpw_make_template:
 	movi	v2.2d, #0000000000000000
 	add	x14, sp, #160
 	movi	v4.2d, #0000000000000000
-	movi	v0.2d, #0000000000000000
 	and	x11, x8, #0x18
 	and	x10, x8, #0xffffffffffffffe0
 	add	x12, x17, #87

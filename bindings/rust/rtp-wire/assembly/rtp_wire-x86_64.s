@@ -2,8 +2,8 @@
  * rtp_wire for Linux on x86_64: the assembly text that Rattle's compiler makes of the library for C, each function of which but those at its end is proved.
  * Made anew by: generated/make
  * kit: rattle-kit-13f logic dac8208d650f15bf
- * sources: 1085675535b2643e9610ccbd47f144651194d6003ec1400fcb348ab1b518769d
- * text: 69e78db16fe4cf0927c1e6b77470983316c828a4363c8571f88e4b6097f6788a
+ * sources: 2e29874a07e377751361afdf741f7bc89e85010b1a2cd0f38eac841b8c6ab208
+ * text: 2b1ca41bf720d0fc399082b6253e41d7c29b29c783a8ac6455201696483330ad
  * SPDX-License-Identifier: MIT OR Apache-2.0
  * Copyright (c) 2026 The rtp-wire developers (NOTICE)
  */
@@ -27980,6 +27980,12 @@ rtpw_make_template:
 	movq	%r13, 344(%rsp)
 .Lrtp_BB135_114:
 	movq	1120(%rsp), %rbx
+	pxor	%xmm0, %xmm0
+	movdqu	%xmm0, 52(%rbx)
+	movdqu	%xmm0, 36(%rbx)
+	movdqu	%xmm0, 20(%rbx)
+	movdqu	%xmm0, 4(%rbx)
+	movdqu	%xmm0, 71(%rbx)
 	xorl	%eax, %eax
 	testq	%r13, %r13
 	je	.Lrtp_BB135_120
@@ -28084,7 +28090,6 @@ rtpw_make_template:
 .Lrtp_BB135_132:
 	movq	%r13, %rsi
 	andq	$-4, %rsi
-	pxor	%xmm0, %xmm0
 	xorl	%edi, %edi
 	pxor	%xmm1, %xmm1
 .Lrtp_BB135_133:
