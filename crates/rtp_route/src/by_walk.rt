@@ -18,7 +18,7 @@ use super::in_place::set_fields;
 use super::slots::{MAX_ELEMENTS, Slot};
 use super::walk::write_body;
 use rtp_base::put;
-use rtp_ext::{ExtensionsForm, MAX_ID_ONE_BYTE_FORM, NewIds, form_to_put};
+use rtp_ext::{ExtensionsForm, form_to_put};
 use rtp_wire::{Fields, RtpPacket};
 
 // The most bytes of a header that is made so: as many as the body of a block may have.
@@ -45,17 +45,6 @@ fn form_after(was: ExtensionsForm, group: &Group<'_>, room: usize) -> Option<Ext
         left = left.checked_sub(2 + data.len())?;
     }
     Some(form)
-}
-
-// Whether one of the ids up to 14 has a new one above 14. Nothing hangs on it but how long a refusal
-// takes: the calls look for such an id before anything is written.
-#[inline(always)]
-fn has_long(ids: &NewIds) -> bool {
-    let mut most = 0;
-    for new in &ids.ids()[1..15] {
-        most = most.max(*new);
-    }
-    most > MAX_ID_ONE_BYTE_FORM
 }
 
 // Puts what stands before the body of a packet at the front: these bytes, of which the last four
@@ -110,9 +99,6 @@ pub(super) fn write_by_walk(
         (elements_of group.now.elements.now) group.now.allowed (length buf.old) cause → ⊥) }
 {
     let (was, body) = packet.block()?;
-    if was == ExtensionsForm::OneByte && has_long(group.ids) {
-        return None;
-    }
     let header = packet.header_bytes();
     let most = buf.len().min(MAX_LEN);
     let room = most.checked_sub(2 * header.len() + 3)?;
