@@ -21,6 +21,10 @@ use rtp_base::put;
 use rtp_ext::{ExtensionsForm, form_to_put};
 use rtp_wire::{Fields, RtpPacket};
 
+// A block with a longer body is left to the calls, which look for an id that can't be carried before
+// they write: so a refusal takes long for no packet.
+const LONG_BODY: usize = 256;
+
 // The most bytes of a header that is made so: as many as the body of a block may have.
 const MAX_LEN: usize = 4 * 65_535;
 
@@ -74,8 +78,8 @@ fn put_front(
 // Writes the header that the packet gets with these fields for the group, as
 // [`route_header`](super::route_header) does, in one walk over its elements: it returns how many
 // bytes it has, and the places are those of the data of the group's elements. `None` where another
-// way has to be taken: without a block of one of the two forms, for several elements of the id of
-// one that is put, or little room, and where one can't be put. The buffer and the places then are
+// way has to be taken: without a block of one of the two forms, for a long one, several elements of
+// the id of one that is put, or little room, and where one can't be put. The buffer and the places then are
 // any.
 #[inline(always)]
 pub(super) fn write_by_walk(
@@ -99,6 +103,9 @@ pub(super) fn write_by_walk(
         (elements_of group.now.elements.now) group.now.allowed (length buf.old) cause → ⊥) }
 {
     let (was, body) = packet.block()?;
+    if body.len() > LONG_BODY {
+        return None;
+    }
     let header = packet.header_bytes();
     let most = buf.len().min(MAX_LEN);
     let room = most.checked_sub(2 * header.len() + 3)?;
