@@ -2,8 +2,8 @@
  * rtp_wire for Linux on aarch64: the assembly text that Rattle's compiler makes of the library for C, each function of which but those at its end is proved.
  * Made anew by: generated/make
  * kit: rattle-kit-13f logic dac8208d650f15bf
- * sources: 2e29874a07e377751361afdf741f7bc89e85010b1a2cd0f38eac841b8c6ab208
- * text: afff8deabd98ca76d5dba6d72338cfe468f000e4be4dcb7921893eb3aa7daee1
+ * sources: 0f9a6424fc19ca9d5b917871773bcc8b2c649509a4a9bf3761ba40a3f68cf827
+ * text: 8cf167f57c7c2603ed7ca24575af8b884679d4b640a884d95c26c1ebb617ce01
  * SPDX-License-Identifier: MIT OR Apache-2.0
  * Copyright (c) 2026 The rtp-wire developers (NOTICE)
  */
@@ -24413,9 +24413,9 @@ rtpw_make_template:
 	cmn	w9, #65
 	b.gt	.Lrtp_BB135_13
 	and	x26, x9, #0xff
-	ubfiz	x9, x26, #2, #4
-	add	x10, x9, #12
-	subs	x12, x1, x10
+	ubfiz	x10, x26, #2, #4
+	add	x9, x10, #12
+	subs	x12, x1, x9
 	b.hs	.Lrtp_BB135_14
 	mov	w0, #3
 	b	.Lrtp_BB135_7
@@ -24423,14 +24423,14 @@ rtpw_make_template:
 	mov	w0, #2
 	b	.Lrtp_BB135_7
 .Lrtp_BB135_14:
-	tbnz	w26, #4, .Lrtp_BB135_71
+	tbnz	w26, #4, .Lrtp_BB135_72
 	mov	w12, wzr
 	mov	w3, wzr
 .Lrtp_BB135_16:
 	adrp	x17, .Lrtp_static.29
 	add	x17, x17, :lo12:.Lrtp_static.29
 	stp	x21, x1, [x29, #-144]
-	stur	x10, [x29, #-128]
+	stur	x9, [x29, #-128]
 	sturb	w12, [x29, #-120]
 	sturb	w3, [x29, #-119]
 	str	xzr, [sp, #592]
@@ -24557,7 +24557,7 @@ rtpw_make_template:
 .Lrtp_BB135_22:
 	ldrb	w18, [x15, x17]
 	cmp	w18, w16
-	b.eq	.Lrtp_BB135_75
+	b.eq	.Lrtp_BB135_76
 	subs	x13, x13, #1
 	add	x17, x17, #24
 	b.ne	.Lrtp_BB135_22
@@ -24573,63 +24573,65 @@ rtpw_make_template:
 	orr	x17, x8, #0x4
 	str	x17, [sp, #112]
 	cbz	w12, .Lrtp_BB135_85
-	mov	w8, #262140
-	lsl	x11, x10, #1
-	cmp	x22, x8
-	csel	x1, x22, x8, lo
-	add	x8, x11, #3
-	subs	x8, x1, x8
-	csel	x11, xzr, x8, lo
+	add	w8, w10, #16
+	str	x8, [sp, #40]
+	sub	x8, x9, x8
+	cmp	x8, #256
+	b.hi	.Lrtp_BB135_85
+	mov	w10, #262140
+	lsl	x9, x9, #1
+	cmp	x22, x10
+	csel	x1, x22, x10, lo
+	add	x9, x9, #3
+	subs	x9, x1, x9
+	csel	x9, xzr, x9, lo
 	b.lo	.Lrtp_BB135_85
-	add	w2, w9, #16
 	str	x6, [sp, #96]
-	sub	x8, x10, x2
 	str	x0, [sp, #64]
 	str	w3, [sp, #80]
-	str	x2, [sp, #32]
 	str	x1, [sp, #48]
-	cbz	x6, .Lrtp_BB135_77
-	and	w9, w7, #0xff
-	add	x10, sp, #592
+	cbz	x6, .Lrtp_BB135_78
+	and	w10, w7, #0xff
+	add	x11, sp, #592
 	mov	x12, x6
-	cmp	w9, #2
-	add	x10, x10, #16
+	cmp	w10, #2
+	add	x11, x11, #16
 	mov	w13, w3
-	cset	w9, eq
-.Lrtp_BB135_29:
-	ldurb	w15, [x10, #-16]
+	cset	w10, eq
+.Lrtp_BB135_30:
+	ldurb	w15, [x11, #-16]
 	cbz	w15, .Lrtp_BB135_85
-	ldr	x14, [x10]
+	ldr	x14, [x11]
 	cmp	x14, #255
 	b.hi	.Lrtp_BB135_85
 	sub	x16, x14, #1
 	cmp	x16, #16
 	ccmp	w15, #15, #2, lo
-	b.lo	.Lrtp_BB135_33
+	b.lo	.Lrtp_BB135_34
 	mov	w13, #1
-.Lrtp_BB135_33:
+.Lrtp_BB135_34:
 	tst	w7, #0xff
-	b.eq	.Lrtp_BB135_36
+	b.eq	.Lrtp_BB135_37
 	and	w15, w7, #0xff
-	mov	w24, w9
+	mov	w24, w10
 	cmp	w15, #2
-	b.eq	.Lrtp_BB135_37
+	b.eq	.Lrtp_BB135_38
 	tst	w13, #0xff
-	mov	w24, w9
-	b.eq	.Lrtp_BB135_37
+	mov	w24, w10
+	b.eq	.Lrtp_BB135_38
 	b	.Lrtp_BB135_85
-.Lrtp_BB135_36:
-	mov	w24, w13
 .Lrtp_BB135_37:
+	mov	w24, w13
+.Lrtp_BB135_38:
 	add	x13, x14, #2
-	subs	x11, x11, x13
+	subs	x9, x9, x13
 	b.lo	.Lrtp_BB135_85
 	subs	x12, x12, #1
-	add	x10, x10, #24
+	add	x11, x11, #24
 	mov	w13, w24
-	b.ne	.Lrtp_BB135_29
+	b.ne	.Lrtp_BB135_30
 	movi	v0.2d, #0000000000000000
-	ldr	x2, [sp, #32]
+	ldr	x2, [sp, #40]
 	add	x0, x20, x25
 	add	x7, sp, #304
 	mov	w4, w24
@@ -24651,24 +24653,24 @@ rtpw_make_template:
 	mov	x28, xzr
 	add	x10, x10, #16
 	str	x10, [sp, #8]
-	b	.Lrtp_BB135_44
-.Lrtp_BB135_41:
+	b	.Lrtp_BB135_45
+.Lrtp_BB135_42:
 	ldrb	w10, [x1]
 	strb	w10, [x19, x27]
-.Lrtp_BB135_42:
+.Lrtp_BB135_43:
 	add	x1, x27, x26
 	str	w27, [x18]
 	strb	w26, [x18, #4]
 	sturh	wzr, [x18, #5]
 	strb	wzr, [x18, #7]
-.Lrtp_BB135_43:
+.Lrtp_BB135_44:
 	add	x28, x28, #1
 	cmp	x28, x8
-	b.eq	.Lrtp_BB135_79
-.Lrtp_BB135_44:
+	b.eq	.Lrtp_BB135_80
+.Lrtp_BB135_45:
 	add	x18, x15, x28, lsl #3
 	ldr	w10, [x18]
-	cbnz	w10, .Lrtp_BB135_43
+	cbnz	w10, .Lrtp_BB135_44
 	mov	w10, #24
 	add	x11, sp, #592
 	madd	x10, x28, x10, x11
@@ -24679,32 +24681,32 @@ rtpw_make_template:
 	b.lo	.Lrtp_BB135_85
 	ldrb	w11, [x10]
 	tst	w24, #0xff
-	b.eq	.Lrtp_BB135_48
+	b.eq	.Lrtp_BB135_49
 	orr	w11, w11, w26, lsl #8
 	add	x27, x1, #2
 	strh	w11, [x19, x1]
-	b	.Lrtp_BB135_49
-.Lrtp_BB135_48:
+	b	.Lrtp_BB135_50
+.Lrtp_BB135_49:
 	add	w11, w26, w11, lsl #4
 	add	x27, x1, #1
 	sub	w11, w11, #1
 	strb	w11, [x19, x1]
-.Lrtp_BB135_49:
+.Lrtp_BB135_50:
 	ldr	x1, [x10, #8]
-	cbz	x26, .Lrtp_BB135_55
+	cbz	x26, .Lrtp_BB135_56
 	cmp	x26, #1
-	b.eq	.Lrtp_BB135_41
+	b.eq	.Lrtp_BB135_42
 	cmp	x26, #2
-	b.hi	.Lrtp_BB135_53
+	b.hi	.Lrtp_BB135_54
 	ldrb	w10, [x1]
 	add	x11, x19, x27
 	strb	w10, [x11]
 	ldrb	w10, [x1, #1]
 	strb	w10, [x11, #1]
-	b	.Lrtp_BB135_42
-.Lrtp_BB135_53:
+	b	.Lrtp_BB135_43
+.Lrtp_BB135_54:
 	cmp	x26, #3
-	b.ne	.Lrtp_BB135_55
+	b.ne	.Lrtp_BB135_56
 	ldrb	w10, [x1]
 	add	x11, x19, x27
 	strb	w10, [x11]
@@ -24712,67 +24714,68 @@ rtpw_make_template:
 	strb	w10, [x11, #1]
 	ldrb	w10, [x1, #2]
 	strb	w10, [x11, #2]
-	b	.Lrtp_BB135_42
-.Lrtp_BB135_55:
+	b	.Lrtp_BB135_43
+.Lrtp_BB135_56:
 	add	x10, x19, x27
 	sub	x10, x10, x1
 	cmp	x10, x26
-	b.hs	.Lrtp_BB135_61
+	b.hs	.Lrtp_BB135_62
 	cmp	x26, #8
-	b.lo	.Lrtp_BB135_58
+	b.lo	.Lrtp_BB135_59
 	add	x10, x25, x20
 	add	x10, x10, x27
 	sub	x10, x10, x1
 	cmp	x10, #32
-	b.hs	.Lrtp_BB135_62
-.Lrtp_BB135_58:
-	mov	x10, xzr
+	b.hs	.Lrtp_BB135_63
 .Lrtp_BB135_59:
+	mov	x10, xzr
+.Lrtp_BB135_60:
 	add	x12, x10, x27
 	add	x13, x25, x20
 	sub	x11, x26, x10
 	add	x10, x1, x10
 	add	x12, x13, x12
-.Lrtp_BB135_60:
+.Lrtp_BB135_61:
 	ldrb	w13, [x10], #1
 	subs	x11, x11, #1
 	strb	w13, [x12], #1
-	b.ne	.Lrtp_BB135_60
-	b	.Lrtp_BB135_42
-.Lrtp_BB135_61:
+	b.ne	.Lrtp_BB135_61
+	b	.Lrtp_BB135_43
+.Lrtp_BB135_62:
 	add	x0, x19, x27
 	mov	x2, x26
-	str	x18, [sp, #40]
+	str	x18, [sp, #32]
 	bl	memmove
-	ldp	x18, x17, [sp, #40]
+	ldr	x18, [sp, #32]
+	ldr	x17, [sp, #48]
 	ldr	w16, [sp, #80]
 	ldr	x15, [sp, #112]
 	ldr	x9, [sp, #64]
 	ldr	x8, [sp, #96]
-	b	.Lrtp_BB135_42
-.Lrtp_BB135_62:
+	b	.Lrtp_BB135_43
+.Lrtp_BB135_63:
 	cmp	x26, #32
-	b.hs	.Lrtp_BB135_64
+	b.hs	.Lrtp_BB135_65
 	mov	x10, xzr
-	b	.Lrtp_BB135_68
-.Lrtp_BB135_64:
+	b	.Lrtp_BB135_69
+.Lrtp_BB135_65:
 	ldr	x13, [sp, #8]
 	and	x11, x26, #0x18
 	and	x10, x26, #0xffffffffffffffe0
 	add	x12, x1, #16
 	and	x14, x26, #0xffffffffffffffe0
 	add	x13, x13, x27
-.Lrtp_BB135_65:
+.Lrtp_BB135_66:
 	ldp	q0, q1, [x12, #-16]
 	subs	x14, x14, #32
 	add	x12, x12, #32
 	stp	q0, q1, [x13, #-16]
 	add	x13, x13, #32
-	b.ne	.Lrtp_BB135_65
+	b.ne	.Lrtp_BB135_66
 	cmp	x26, x10
-	b.eq	.Lrtp_BB135_42
-	cbz	x11, .Lrtp_BB135_59
-.Lrtp_BB135_68:
+	b.eq	.Lrtp_BB135_43
+	cbz	x11, .Lrtp_BB135_60
+.Lrtp_BB135_69:
 	mov	x12, x10
 	and	x10, x26, #0xfffffffffffffff8
 	add	x14, x25, x20
@@ -24780,35 +24783,35 @@ rtpw_make_template:
 	sub	x11, x12, x10
 	add	x12, x1, x12
 	add	x13, x14, x13
-.Lrtp_BB135_69:
+.Lrtp_BB135_70:
 	ldr	d0, [x12], #8
 	adds	x11, x11, #8
 	str	d0, [x13], #8
-	b.ne	.Lrtp_BB135_69
+	b.ne	.Lrtp_BB135_70
 	cmp	x26, x10
-	b.eq	.Lrtp_BB135_42
-	b	.Lrtp_BB135_59
-.Lrtp_BB135_71:
+	b.eq	.Lrtp_BB135_43
+	b	.Lrtp_BB135_60
+.Lrtp_BB135_72:
 	subs	x18, x12, #4
-	b.hs	.Lrtp_BB135_73
+	b.hs	.Lrtp_BB135_74
 	mov	w0, #4
 	b	.Lrtp_BB135_7
-.Lrtp_BB135_73:
-	add	x17, x21, x10
+.Lrtp_BB135_74:
+	add	x17, x21, x9
 	ldrb	w12, [x17, #2]
 	ldrb	w3, [x17, #3]
 	lsl	x12, x12, #10
 	orr	x12, x12, x3, lsl #2
 	cmp	x18, x12
-	b.hs	.Lrtp_BB135_84
+	b.hs	.Lrtp_BB135_87
 	mov	w0, #6
 	b	.Lrtp_BB135_7
-.Lrtp_BB135_75:
+.Lrtp_BB135_76:
 	mov	x8, xzr
 	mov	w9, wzr
 	mov	w10, wzr
 	mov	w11, #1
-.Lrtp_BB135_76:
+.Lrtp_BB135_77:
 	mov	w11, w11
 	add	x0, sp, #136
 	strb	w10, [sp, #144]
@@ -24817,13 +24820,14 @@ rtpw_make_template:
 	str	x8, [sp, #152]
 	bl	"rtp_c::template::not_routed_status"
 	b	.Lrtp_BB135_7
-.Lrtp_BB135_77:
+.Lrtp_BB135_78:
 	movi	v0.2d, #0000000000000000
+	ldr	x2, [sp, #40]
 	add	x0, x20, x25
-	add	x5, x21, x2
 	add	x7, sp, #304
 	mov	w4, w3
 	mov	x6, x8
+	add	x5, x21, x2
 	str	x17, [sp]
 	stp	q0, q0, [x17]
 	stp	q0, q0, [x17, #32]
@@ -24836,7 +24840,7 @@ rtpw_make_template:
 	ldr	x9, [sp, #64]
 	tbz	w0, #0, .Lrtp_BB135_85
 	mov	w24, w16
-.Lrtp_BB135_79:
+.Lrtp_BB135_80:
 	ands	x10, x1, #0x3
 	mov	w11, #4
 	sub	x10, x11, x10
@@ -24845,25 +24849,14 @@ rtpw_make_template:
 	add	x26, x10, x1
 	cmp	x17, x26
 	b.lo	.Lrtp_BB135_85
-	ldr	x27, [sp, #32]
-	cbz	x10, .Lrtp_BB135_89
+	ldr	x27, [sp, #40]
+	cbz	x10, .Lrtp_BB135_90
 	cmp	x10, #2
-	b.eq	.Lrtp_BB135_87
+	b.eq	.Lrtp_BB135_88
 	cmp	x10, #1
-	b.ne	.Lrtp_BB135_88
+	b.ne	.Lrtp_BB135_89
 	strb	wzr, [x19, x1]
-	b	.Lrtp_BB135_89
-.Lrtp_BB135_84:
-	ldrh	w17, [x17]
-	add	x10, x10, x12
-	add	x10, x10, #4
-	and	w18, w17, #0xfffff0ff
-	cmp	w18, #16
-	mov	w18, #57022
-	cset	w3, eq
-	cmp	w17, w18
-	csinc	w12, w3, wzr, ne
-	b	.Lrtp_BB135_16
+	b	.Lrtp_BB135_90
 .Lrtp_BB135_85:
 	sub	x0, x29, #112
 	sub	x1, x29, #144
@@ -24873,30 +24866,41 @@ rtpw_make_template:
 	mov	x4, x22
 	bl	"rtp_route::parts::make_by_calls"
 	ldurb	w8, [x29, #-112]
-	cbnz	w8, .Lrtp_BB135_123
+	cbnz	w8, .Lrtp_BB135_124
 	ldr	x8, [sp, #296]
 	ldr	x17, [sp, #24]
-	b	.Lrtp_BB135_98
+	b	.Lrtp_BB135_99
 .Lrtp_BB135_87:
-	strh	wzr, [x19, x1]
-	b	.Lrtp_BB135_89
+	ldrh	w17, [x17]
+	add	x9, x9, x12
+	add	x9, x9, #4
+	and	w18, w17, #0xfffff0ff
+	cmp	w18, #16
+	mov	w18, #57022
+	cset	w3, eq
+	cmp	w17, w18
+	csinc	w12, w3, wzr, ne
+	b	.Lrtp_BB135_16
 .Lrtp_BB135_88:
+	strh	wzr, [x19, x1]
+	b	.Lrtp_BB135_90
+.Lrtp_BB135_89:
 	add	x10, x19, x1
 	strb	wzr, [x10, #2]
 	strh	wzr, [x10]
-.Lrtp_BB135_89:
+.Lrtp_BB135_90:
 	sub	x10, x19, x21
 	sub	x22, x26, x27
 	cmp	x10, x27
-	b.hs	.Lrtp_BB135_94
+	b.hs	.Lrtp_BB135_95
 	add	x10, x25, x20
 	add	x11, x23, x9
 	ldr	x17, [sp, #24]
 	sub	x10, x10, x11
 	cmp	x10, #16
-	b.hs	.Lrtp_BB135_106
+	b.hs	.Lrtp_BB135_107
 	mov	x10, xzr
-.Lrtp_BB135_92:
+.Lrtp_BB135_93:
 	ldr	x11, [sp, #16]
 	add	x12, x23, x10
 	add	x13, x25, x10
@@ -24905,13 +24909,13 @@ rtpw_make_template:
 	sub	x11, x10, x11, lsl #2
 	sub	x10, x11, #16
 	add	x11, x20, x13
-.Lrtp_BB135_93:
+.Lrtp_BB135_94:
 	ldrb	w12, [x9], #1
 	adds	x10, x10, #1
 	strb	w12, [x11], #1
-	b.lo	.Lrtp_BB135_93
-	b	.Lrtp_BB135_95
-.Lrtp_BB135_94:
+	b.lo	.Lrtp_BB135_94
+	b	.Lrtp_BB135_96
+.Lrtp_BB135_95:
 	mov	x0, x19
 	mov	x1, x21
 	mov	x2, x27
@@ -24919,23 +24923,23 @@ rtpw_make_template:
 	ldr	w16, [sp, #80]
 	ldr	x8, [sp, #96]
 	ldr	x17, [sp, #24]
-.Lrtp_BB135_95:
+.Lrtp_BB135_96:
 	cmp	w16, w24, uxtb
-	b.eq	.Lrtp_BB135_97
+	b.eq	.Lrtp_BB135_98
 	tst	w24, #0xff
 	mov	w9, #16
 	mov	w10, #-8514
 	csel	w9, w10, w9, eq
 	add	x10, x19, x27
 	sturh	w9, [x10, #-4]
-.Lrtp_BB135_97:
+.Lrtp_BB135_98:
 	lsl	w9, w22, #6
 	add	x10, x19, x27
 	str	w26, [sp, #160]
 	str	x8, [sp, #296]
 	bfxil	w9, w22, #10, #8
 	sturh	w9, [x10, #-2]
-.Lrtp_BB135_98:
+.Lrtp_BB135_99:
 	movi	v0.2d, #0000000000000000
 	ldr	x18, [sp, #112]
 	mov	x10, x17
@@ -24945,21 +24949,21 @@ rtpw_make_template:
 	str	q0, [x10, #16]
 	str	xzr, [x9, #67]!
 	stur	xzr, [x10, #75]
-	cbz	x8, .Lrtp_BB135_104
+	cbz	x8, .Lrtp_BB135_105
 	cmp	x8, #8
-	b.lo	.Lrtp_BB135_102
+	b.lo	.Lrtp_BB135_103
 	add	x11, x17, x8
 	add	x11, x11, #71
 	cmp	x10, x11
-	b.hs	.Lrtp_BB135_114
+	b.hs	.Lrtp_BB135_115
 	add	x10, x17, x8, lsl #2
 	add	x10, x10, #4
 	cmp	x9, x10
-	b.hs	.Lrtp_BB135_114
-.Lrtp_BB135_102:
+	b.hs	.Lrtp_BB135_115
+.Lrtp_BB135_103:
 	mov	w12, wzr
 	mov	x10, xzr
-.Lrtp_BB135_103:
+.Lrtp_BB135_104:
 	ldr	x11, [x18, x10, lsl #3]
 	add	x13, x9, x10, lsl #2
 	lsr	x14, x11, #32
@@ -24968,38 +24972,38 @@ rtpw_make_template:
 	add	x10, x10, #1
 	add	w12, w12, w14, uxtb
 	cmp	x8, x10
-	b.ne	.Lrtp_BB135_103
-	b	.Lrtp_BB135_105
-.Lrtp_BB135_104:
-	mov	w12, wzr
+	b.ne	.Lrtp_BB135_104
+	b	.Lrtp_BB135_106
 .Lrtp_BB135_105:
+	mov	w12, wzr
+.Lrtp_BB135_106:
 	ldr	w9, [sp, #160]
 	mov	w0, wzr
 	strh	w12, [x17, #68]
 	strb	w8, [x17, #70]
 	str	w9, [x17]
 	b	.Lrtp_BB135_7
-.Lrtp_BB135_106:
+.Lrtp_BB135_107:
 	ldp	d0, d1, [x21]
 	and	x10, x27, #0x70
 	cmp	x10, #16
 	stp	d0, d1, [x19]
-	b.eq	.Lrtp_BB135_110
+	b.eq	.Lrtp_BB135_111
 	ldp	d0, d1, [x21, #16]
 	cmp	x10, #32
 	stp	d0, d1, [x19, #16]
-	b.eq	.Lrtp_BB135_110
+	b.eq	.Lrtp_BB135_111
 	ldp	d0, d1, [x21, #32]
 	cmp	x10, #48
 	stp	d0, d1, [x19, #32]
-	b.eq	.Lrtp_BB135_110
+	b.eq	.Lrtp_BB135_111
 	ldp	d0, d1, [x21, #48]
 	stp	d0, d1, [x19, #48]
-.Lrtp_BB135_110:
+.Lrtp_BB135_111:
 	cmp	x10, x27
-	b.eq	.Lrtp_BB135_95
+	b.eq	.Lrtp_BB135_96
 	and	x11, x27, #0xc
-	cbz	x11, .Lrtp_BB135_92
+	cbz	x11, .Lrtp_BB135_93
 	ldr	x11, [sp, #16]
 	add	x12, x23, x10
 	add	x13, x25, x10
@@ -25009,19 +25013,19 @@ rtpw_make_template:
 	sub	x11, x11, x10
 	add	x10, x11, #16
 	add	x11, x20, x13
-.Lrtp_BB135_113:
+.Lrtp_BB135_114:
 	ldr	w12, [x9], #4
 	subs	x10, x10, #4
 	str	w12, [x11], #4
-	b.ne	.Lrtp_BB135_113
-	b	.Lrtp_BB135_95
-.Lrtp_BB135_114:
+	b.ne	.Lrtp_BB135_114
+	b	.Lrtp_BB135_96
+.Lrtp_BB135_115:
 	cmp	x8, #32
-	b.hs	.Lrtp_BB135_116
+	b.hs	.Lrtp_BB135_117
 	mov	x10, xzr
 	mov	w12, wzr
-	b	.Lrtp_BB135_120
-.Lrtp_BB135_116:
+	b	.Lrtp_BB135_121
+.Lrtp_BB135_117:
 	movi	v1.2d, #0000000000000000
 	movi	v2.2d, #0000000000000000
 	add	x14, sp, #160
@@ -25033,7 +25037,7 @@ rtpw_make_template:
 	add	x14, x14, #132
 	and	x15, x8, #0xffffffffffffffe0
 	str	q0, [sp, #112]
-.Lrtp_BB135_117:
+.Lrtp_BB135_118:
 	ldp	q5, q17, [x14, #-80]
 	adrp	x16, .Lrtp_CPI135_0
 	stp	q4, q2, [sp, #64]
@@ -25111,7 +25115,7 @@ rtpw_make_template:
 	stp	q20, q0, [x12, #-16]
 	add	x12, x12, #32
 	str	q5, [sp, #112]
-	b.ne	.Lrtp_BB135_117
+	b.ne	.Lrtp_BB135_118
 	ldr	q0, [sp, #112]
 	add	v1.8h, v1.8h, v4.8h
 	cmp	x8, x10
@@ -25119,9 +25123,9 @@ rtpw_make_template:
 	add	v0.8h, v0.8h, v1.8h
 	addv	h0, v0.8h
 	fmov	w12, s0
-	b.eq	.Lrtp_BB135_105
-	cbz	x11, .Lrtp_BB135_103
-.Lrtp_BB135_120:
+	b.eq	.Lrtp_BB135_106
+	cbz	x11, .Lrtp_BB135_104
+.Lrtp_BB135_121:
 	movi	v0.2d, #0000000000000000
 	mov	x13, x10
 	add	x11, sp, #160
@@ -25134,7 +25138,7 @@ rtpw_make_template:
 	add	x13, x14, #4
 	add	x12, x12, #71
 	orr	x14, x15, #0x4
-.Lrtp_BB135_121:
+.Lrtp_BB135_122:
 	ldp	q2, q1, [x14, #32]
 	adrp	x15, .Lrtp_CPI135_1
 	ldp	q4, q3, [x14], #64
@@ -25154,18 +25158,18 @@ rtpw_make_template:
 	bic	v5.8h, #255, lsl #8
 	str	d6, [x12], #8
 	add	v0.8h, v5.8h, v0.8h
-	b.ne	.Lrtp_BB135_121
+	b.ne	.Lrtp_BB135_122
 	addv	h0, v0.8h
 	cmp	x8, x10
 	fmov	w12, s0
-	b.ne	.Lrtp_BB135_103
-	b	.Lrtp_BB135_105
-.Lrtp_BB135_123:
+	b.ne	.Lrtp_BB135_104
+	b	.Lrtp_BB135_106
+.Lrtp_BB135_124:
 	ldurb	w11, [x29, #-104]
 	ldurb	w10, [x29, #-96]
 	ldurb	w9, [x29, #-95]
 	ldur	x8, [x29, #-88]
-	b	.Lrtp_BB135_76
+	b	.Lrtp_BB135_77
 .Lrtp_func_end135:
 	.size	rtpw_make_template, .Lrtp_func_end135-rtpw_make_template
 	.cfi_endproc
