@@ -1,7 +1,8 @@
 #!/usr/bin/env bash
 # Prints the tables of docs/COSTS.md of what each call of the library for C costs: nanoseconds, and instructions, which
-# valgrind's callgrind counts. Each function of the header file has to be in the first one, those for many with 32 at
-# once; the second one has what these take for each of 1, 8 and 32, or of 1, 3 and 32 receivers of a packet.
+# valgrind's callgrind counts. Each function of the header file has to be measured; the first one leaves out those of
+# fewer than 16 instructions, and those for many, of which the second one has what they take for each of 1, 8 and 32, or
+# of 1, 3 and 32 receivers of a packet.
 #
 # usage: bindings/test/costs.sh [CALLS]      of each function in each of nine rounds, by default a million
 set -euo pipefail
@@ -30,7 +31,8 @@ cut -d' ' -f1 "$scratch/all" | sort | diff "$scratch/declared" - >&2 || {
 }
 echo '```'
 printf '%-30s %7s %13s\n' '' ns instructions
-awk '{ printf "%-30s %7s %13s\n", $1, $2, $3 == "" ? "?" : int($3 + 0.5) }' "$scratch/all"
+grep -v -e _many -e rtpw_write_headers "$scratch/all" |
+    awk '$3 == "" || $3 >= 15.5 { printf "%-30s %7s %13s\n", $1, $2, $3 == "" ? "?" : int($3 + 0.5) }'
 echo '```'
 for count in 1 3 8 32; do
     measure "$count" | awk -v count="$count" '
