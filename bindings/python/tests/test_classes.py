@@ -427,7 +427,7 @@ SIZES = {
     _library.RawDatagramHeader: 248,
     _library.RawArrival: 24,
     _library.RawTemplate: 88,
-    _library.RawRoutedHeader: 40,
+    _library.RawRoutedHeader: 48,
     _library.RawColumn: 32,
     _library.RawLayer: 40,
     _library.RawStream: 168,
