@@ -70,7 +70,9 @@ FIELDS: Dict[Any, Tuple[str, ...]] = {
     VideoTiming: ("encode_start", "encode_finish", "packetize_complete", "last_left_pacer", "flags"),
     Element: ("id", "data"),
     Taken: ("number", "restarted"),
-    rtp_wire.Route: ("data", "payload_type", "sequence_number", "timestamp", "ssrc", "marker"),
+    rtp_wire.Route: (
+        *("data", "payload_type", "sequence_number", "timestamp", "ssrc", "marker", "original_number"),
+    ),
     rtp_wire.FrameMarking: ("start", "end", "independent", "discardable", "layers"),
     rtp_wire.FrameLayers: ("base_layer_sync", "temporal_id", "layer_id", "tl0_pic_idx"),
     rtp_wire.Orientation: ("camera", "flip", "turn"),

@@ -33,7 +33,8 @@ class Route(NamedTuple):
     original_number: Optional[int] = None
     """Where it is given the receiver gets a retransmission (RFC 4588, 4) of the packet with this number: the fields are
     those of the retransmission's stream, P is clear, and the number stands behind the header in two bytes. The payload
-    follows, without its padding. That is what `to_retransmission` makes of what the receiver got, where each id stays."""
+    follows, without its padding. That is what `to_retransmission` makes of what the receiver got, where each id
+    stays."""
 
 
 class HeaderTemplate:
@@ -116,7 +117,7 @@ class HeaderTemplate:
 
         >>> template = HeaderTemplate(bytes.fromhex("A0600005 00000064 0000002C 6869 0002"), NewIds())
         >>> routes = [Route(), Route(payload_type=97, sequence_number=9, ssrc=45, original_number=5)]
-        >>> [header.hex(" ", 4) for header in template.write(routes)]
+        >>> [header.hex(" ", -4) for header in template.write(routes)]
         ['a0600005 00000064 0000002c', '80610009 00000064 0000002d 0005']
         """
         listed = _listed(routes)
