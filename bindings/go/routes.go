@@ -143,9 +143,9 @@ func (b *RouteBatch) Add(dataAt, at int) *Fields {
 }
 
 // AddRetransmission adds a receiver as Add does, which gets the packet as a retransmission (RFC 4588, 4). Its fields are
-// those of the retransmission's stream, P is clear, and original, the number of the packet that it repeats, stands behind
-// the header in two bytes. The packet's payload follows, without its padding. That is what [ToRetransmission] makes of
-// what the receiver got, where each id stays.
+// those of the retransmission's stream, P is clear, and the last two bytes of its header are original, the number of the
+// packet that it repeats. The packet's payload follows, without its padding. That is what [ToRetransmission] makes of what
+// the receiver got, where each id stays.
 func (b *RouteBatch) AddRetransmission(dataAt, at int, original uint16) *Fields {
 	fields := b.Add(dataAt, at)
 	r := &b.given[len(b.given)-1]

@@ -361,7 +361,7 @@ class Retransmissions(unittest.TestCase):
                 self.assertEqual(made.write_into(buffer, routes), [plain, again, plain])
                 self.assertEqual(buffer, plain + again + plain + b"\xEE")
                 self.assertEqual(made.write_into(buffer, routes, [51, 0, 27]), [plain, again, plain])
-                self.assertEqual(buffer, again + plain[2:3] + plain + plain)
+                self.assertEqual(buffer, again + again[2:3] + plain + plain)
 
     def test_rows_without_one_that_is_refused(self) -> None:
         made, again = template(), self.again._replace(original_number=7)
@@ -385,7 +385,8 @@ class Retransmissions(unittest.TestCase):
             told = f"original_number is {type(other).__name__}, and no whole number"
             with self.assertRaisesRegex(TypeError, told):
                 made.write([again._replace(original_number=other)])
-        self.assertEqual(made.write([again._replace(original_number=True), plain]), [self.header + b"\0\1", MADE])
+        headers = made.write([again._replace(original_number=True), plain])
+        self.assertEqual(headers, [self.header + b"\0\1", MADE])
 
     def test_room_for_the_number(self) -> None:
         made, routes = template(), [self.again._replace(original_number=7)]

@@ -3,7 +3,7 @@
 from __future__ import annotations
 
 from itertools import accumulate
-from typing import TYPE_CHECKING, Iterable, List, NamedTuple, Optional, Sequence, Tuple, Union
+from typing import TYPE_CHECKING, Iterable, List, NamedTuple, Optional, Tuple, Union
 
 from . import _library
 from ._buffers import address_of, place_of, view_of, writable_view_of
@@ -32,7 +32,7 @@ class Route(NamedTuple):
     marker: Optional[bool] = None
     original_number: Optional[int] = None
     """Where it is given the receiver gets a retransmission (RFC 4588, 4) of the packet with this number: the fields are
-    those of the retransmission's stream, P is clear, and the number stands behind the header in two bytes. The payload
+    those of the retransmission's stream, P is clear, and the header ends with the number in two bytes. The payload
     follows, without its padding. That is what `to_retransmission` makes of what the receiver got, where each id
     stays."""
 
@@ -121,8 +121,8 @@ class HeaderTemplate:
         ['a0600005 00000064 0000002c', '80610009 00000064 0000002d 0005']
         """
         listed = _listed(routes)
-        *places, end = self._in_a_row(listed)
-        written = self._write(listed, places, memoryview(bytearray(end)))
+        lens = self._lens(listed)
+        written = self._write(listed, lens, accumulate(lens, initial=0), memoryview(bytearray(sum(lens))))
         return [it if isinstance(it, RtpError) else bytes(it) for it in written]
 
     def write_into(
@@ -141,23 +141,24 @@ class HeaderTemplate:
         ('00000000 00000000 80600005 00000064 0000002d', 12, ShortBuffer('a buffer is too short'))
         """
         listed = _listed(routes)
-        places = self._in_a_row(listed)[:-1] if at is None else list(at)
-        if len(places) != len(listed):
-            raise BadField(Status.BAD_FIELD, f"there are {len(places)} places and {len(listed)} receivers")
-        return self._write(listed, places, writable_view_of(buffer))
+        lens = self._lens(listed)
+        places: Iterable[int] = accumulate(lens, initial=0)
+        if at is not None:
+            places = list(at)
+            if len(places) != len(listed):
+                told = f"there are {len(places)} places and {len(listed)} receivers"
+                raise BadField(Status.BAD_FIELD, told)
+        return self._write(listed, lens, places, writable_view_of(buffer))
 
-    def _in_a_row(self, routes: List[Route]) -> List[int]:
-        """Where each header begins where the one before ends, and where the last one ends."""
-        return list(accumulate((self._len_of(it.original_number is not None) for it in routes), initial=0))
-
-    def _len_of(self, is_retransmission: int) -> int:
-        """How many bytes the header of a receiver has."""
-        return len(self._header) + 2 * is_retransmission
+    def _lens(self, routes: List[Route]) -> List[int]:
+        """How many bytes the header of each has."""
+        plain = len(self._header)
+        return [plain if it.original_number is None else plain + 2 for it in routes]
 
     def _write(
-        self, routes: List[Route], places: Sequence[int], room: memoryview
+        self, routes: List[Route], lens: List[int], places: Iterable[int], room: memoryview
     ) -> List[Union[memoryview, RtpError]]:
-        """Writes the headers at these places, and lends each, or says why it isn't written."""
+        """Writes the headers, which are so long, at these places, and lends each, or says why it isn't written."""
         receivers = (_library.RawRoutedHeader * len(routes))()
         data, causes = bytearray(), {}
         for row, (route, place) in enumerate(zip(routes, places)):
@@ -170,9 +171,8 @@ class HeaderTemplate:
                 causes[row] = error
                 receiver.data_at = _NOWHERE
         self._call(bytes(data), receivers, room)
-        ends = [it.at + self._len_of(it.is_retransmission) for it in receivers]
         return [
-            causes.get(row) or (error_of(it.status) if it.status else room[it.at : ends[row]])
+            causes.get(row) or (error_of(it.status) if it.status else room[it.at : it.at + lens[row]])
             for row, it in enumerate(receivers)
         ]
 

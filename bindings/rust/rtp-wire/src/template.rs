@@ -182,9 +182,9 @@ impl<'a> HeaderTemplate<'a> {
     }
 
     /// Writes the header of a retransmission (RFC 4588, 4) in the same way: the fields are those of its own stream, P is
-    /// clear, and the original number, that of the packet that it repeats, stands behind the header in two bytes. The
-    /// packet's payload follows, without its padding. That is what
-    /// [`to_retransmission`](crate::to_retransmission) makes of what the receiver got, where each id stays.
+    /// clear, and the last two bytes are the original number, that of the packet that it repeats. The packet's payload
+    /// follows, without its padding. That is what [`to_retransmission`](crate::to_retransmission) makes of what the
+    /// receiver got, where each id stays.
     ///
     /// # Errors
     ///
