@@ -251,6 +251,30 @@ func ExampleRouteBatch() {
 	// 90 60 00 05 00 00 00 A0 00 00 00 2E BE DE 00 02 30 8A 41 00 08 00 00 00, and then "hi"
 }
 
+// A receiver that lost a packet gets it again in its stream for retransmissions, beside one that gets it for the first time.
+func ExampleRouteBatch_AddRetransmission() {
+	datagram := []byte{0xA0, 96, 0, 5, 0, 0, 0, 160, 0, 0, 0, 7, 'h', 'i', 0, 2} // two bytes of padding
+	var batch rtpwire.RouteBatch
+	batch.Add(0, 0).SetSSRC(46)
+	fields := batch.AddRetransmission(0, 12, 5)
+	fields.SetPayloadType(97)
+	fields.SetSequenceNumber(9)
+	fields.SetSSRC(45)
+	if err := batch.Route(datagram, &rtpwire.Group{}, nil, make([]byte, 26)); err != nil {
+		log.Fatal(err)
+	}
+	for i, payload := range [][]byte{datagram[12:], datagram[12:14]} {
+		header, err := batch.At(i)
+		if err != nil {
+			log.Fatal(err)
+		}
+		fmt.Printf("% X, and then %q\n", header, payload)
+	}
+	// Output:
+	// A0 60 00 05 00 00 00 A0 00 00 00 2E, and then "hi\x00\x02"
+	// 80 61 00 09 00 00 00 A0 00 00 00 2D 00 05, and then "hi"
+}
+
 // Two mids that the peer chose are one text to Values: the bytes of the element tell them apart.
 func ExamplePacket_Token() {
 	m := new(rtpwire.Map)

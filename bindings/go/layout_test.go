@@ -236,10 +236,12 @@ func TestStructsLieAsThoseOfC(t *testing.T) {
 		{"template.data_total", unsafe.Offsetof(te.dataTotal), 68},
 		{"template.count", unsafe.Offsetof(te.count), 70},
 		{"template.data_len", unsafe.Offsetof(te.dataLen), 71},
-		{"routed_header", unsafe.Sizeof(rh), 40},
+		{"routed_header", unsafe.Sizeof(rh), 48},
 		{"routed_header.at", unsafe.Offsetof(rh.at), 8},
 		{"routed_header.fields", unsafe.Offsetof(rh.Fields), 16},
-		{"routed_header.status", unsafe.Offsetof(rh.status), 36},
+		{"routed_header.original_number", unsafe.Offsetof(rh.originalNumber), 36},
+		{"routed_header.is_retransmission", unsafe.Offsetof(rh.isRetransmission), 38},
+		{"routed_header.status", unsafe.Offsetof(rh.status), 40},
 	}
 	for _, row := range rows {
 		if row.got != row.wanted {

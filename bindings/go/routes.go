@@ -76,7 +76,8 @@ func (t *HeaderTemplate) ended(status int32) error {
 	return errorOf(status)
 }
 
-// HeaderLen is how many bytes the header has, and each that is written: 12 to 262,216; 0 where none is made.
+// HeaderLen is how many bytes the header has, and each that is written: 12 to 262,216; 0 where none is made. That of a
+// retransmission has 2 more.
 func (t *HeaderTemplate) HeaderLen() int {
 	return int(t.made.headerLen)
 }
@@ -90,7 +91,9 @@ func (t *HeaderTemplate) DataLen() int {
 type routedHeader struct {
 	dataAt, at int
 	Fields
-	status int32
+	originalNumber   uint16
+	isRetransmission uint8
+	status           int32
 }
 
 // A RouteBatch writes the headers of all receivers of a group in one call of the library, each with fields and data of
@@ -139,8 +142,19 @@ func (b *RouteBatch) Add(dataAt, at int) *Fields {
 	return &r.Fields
 }
 
-// Fields are those of a receiver that was added, to be set for the next packet. They are the batch's: an Add may move
-// them.
+// AddRetransmission adds a receiver as Add does, which gets the packet as a retransmission (RFC 4588, 4). Its fields are
+// those of the retransmission's stream, P is clear, and the last two bytes of its header are original, the number of the
+// packet that it repeats. The packet's payload follows, without its padding. That is what [ToRetransmission] makes of what
+// the receiver got, where each id stays.
+func (b *RouteBatch) AddRetransmission(dataAt, at int, original uint16) *Fields {
+	fields := b.Add(dataAt, at)
+	r := &b.given[len(b.given)-1]
+	r.originalNumber, r.isRetransmission = original, 1
+	return fields
+}
+
+// Fields are those of a receiver that was added, to be set for the next packet: a retransmission keeps its original
+// number. They are the batch's: an Add may move them.
 func (b *RouteBatch) Fields(i int) *Fields {
 	return &b.given[i].Fields
 }
@@ -192,5 +206,6 @@ func (b *RouteBatch) At(i int) ([]byte, error) {
 	if r.status != 0 {
 		return nil, errorOf(r.status)
 	}
-	return b.buf[r.at:][:b.headerLen:b.headerLen], nil
+	length := b.headerLen + 2*int(r.isRetransmission)
+	return b.buf[r.at:][:length:length], nil
 }

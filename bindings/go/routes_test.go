@@ -515,9 +515,58 @@ func byCalls(packet []byte, fields rtpwire.Fields, group *rtpwire.Group, data []
 	return rtpwire.Compact(header)
 }
 
-// asTheCalls is whether the group's headers of the packet for receivers with these fields are those of the calls for
+// sentAgain is the header that ToRetransmission makes of what the receiver with these fields gets by byCalls, in front of
+// the original number.
+func sentAgain(packet []byte, fields rtpwire.Fields, original uint16, group *rtpwire.Group, data []byte) ([]byte, error) {
+	header, err := byCalls(packet, fields, group, data)
+	if err != nil {
+		return nil, err
+	}
+	var own rtpwire.Packet
+	if err := own.Parse(header, nil); err != nil {
+		return nil, err
+	}
+	fields.SetSequenceNumber(original)
+	if header, err = byCalls(packet, fields, group, data); err != nil {
+		return nil, err
+	}
+	if own.HasPadding {
+		header = append(header, 1) // a payload that is padding alone
+	}
+	buf := append(header[:len(header):len(header)], 0, 0)
+	return rtpwire.ToRetransmission(buf, len(header), own.SSRC, own.PayloadType, own.SequenceNumber, each())
+}
+
+// receiver is one of a group, and the number of the packet that it gets again, if it does.
+type receiver struct {
+	rtpwire.Fields
+	original uint16
+	isAgain  bool
+}
+
+// receiverOf is a receiver by bits: of its fields by fieldsOf, and by the highest ones whether it gets a retransmission.
+func receiverOf(bits uint64) receiver {
+	return receiver{fieldsOf(bits), uint16(bits >> 40), bits>>62 == 3}
+}
+
+func (r receiver) add(batch *rtpwire.RouteBatch, dataAt, at int) {
+	if r.isAgain {
+		*batch.AddRetransmission(dataAt, at, r.original) = r.Fields
+	} else {
+		*batch.Add(dataAt, at) = r.Fields
+	}
+}
+
+func (r receiver) byCalls(packet []byte, group *rtpwire.Group, data []byte) ([]byte, error) {
+	if r.isAgain {
+		return sentAgain(packet, r.Fields, r.original, group, data)
+	}
+	return byCalls(packet, r.Fields, group, data)
+}
+
+// asTheCalls is whether the group's headers of the packet for these receivers are those of the calls for
 // one packet, and the same by a template.
-func asTheCalls(t *testing.T, packet []byte, group *rtpwire.Group, data []byte, fields []rtpwire.Fields) (served int) {
+func asTheCalls(t *testing.T, packet []byte, group *rtpwire.Group, data []byte, receivers []receiver) (served int) {
 	t.Helper()
 	var template rtpwire.HeaderTemplate
 	var batch, other rtpwire.RouteBatch
@@ -528,12 +577,12 @@ func asTheCalls(t *testing.T, packet []byte, group *rtpwire.Group, data []byte, 
 			repeated = repeated || before.ID == element.ID
 		}
 	}
-	stride := 2*len(packet) + 264*len(group.Elements) + 1
-	for r := range fields {
-		*batch.Add(r, r*stride) = fields[r]
-		*other.Add(r, r*stride) = fields[r]
+	stride := 2*len(packet) + 264*len(group.Elements) + 3
+	for r, it := range receivers {
+		it.add(&batch, r, r*stride)
+		it.add(&other, r, r*stride)
 	}
-	buf := bytes.Repeat([]byte{0xEE}, len(fields)*stride)
+	buf := bytes.Repeat([]byte{0xEE}, len(receivers)*stride)
 	err := batch.Route(packet, group, data, buf)
 	if made := template.Make(packet, group, data); made != err {
 		t.Fatalf("% x: %v, and by a template %v", packet, err, made)
@@ -550,7 +599,7 @@ func asTheCalls(t *testing.T, packet []byte, group *rtpwire.Group, data []byte, 
 		t.Fatalf("% x: written by a template: %v, % x, wanted % x", packet, err, again, buf)
 	}
 	expected := bytes.Repeat([]byte{0xEE}, len(buf))
-	for r := range fields {
+	for r, it := range receivers {
 		header, err := batch.At(r)
 		if r+total > len(data) {
 			if err != rtpwire.ErrBadField {
@@ -558,7 +607,7 @@ func asTheCalls(t *testing.T, packet []byte, group *rtpwire.Group, data []byte, 
 			}
 			continue
 		}
-		wanted, wantedErr := byCalls(packet, fields[r], group, data[r:])
+		wanted, wantedErr := it.byCalls(packet, group, data[r:])
 		if err != wantedErr || !bytes.Equal(header, wanted) {
 			t.Fatalf("% x: receiver %d: % x, %v, wanted % x, %v", packet, r, header, err, wanted, wantedErr)
 		}
@@ -621,11 +670,11 @@ func TestRoutesAtRandom(t *testing.T) {
 			place := rtpwire.Place{ID: uint8(1 + random.Intn(16)), At: random.Intn(40), Len: random.Intn(18)}
 			group.Elements = append(group.Elements, place)
 		}
-		fields := make([]rtpwire.Fields, random.Intn(4))
-		for i := range fields {
-			fields[i] = fieldsOf(random.Uint64())
+		receivers := make([]receiver, random.Intn(4))
+		for i := range receivers {
+			receivers[i] = receiverOf(random.Uint64())
 		}
-		served += asTheCalls(t, packet, &group, data, fields)
+		served += asTheCalls(t, packet, &group, data, receivers)
 	}
 	same(t, "many are served", served > 10000, true)
 }
@@ -644,6 +693,6 @@ func FuzzRoutes(f *testing.F) {
 			data = append(data, 0x5A)
 		}
 		group.Elements[1].At = len(data) / 2
-		asTheCalls(t, packet, &group, data, []rtpwire.Fields{fieldsOf(first), fieldsOf(second), {}})
+		asTheCalls(t, packet, &group, data, []receiver{receiverOf(first), receiverOf(second), {isAgain: true}, {}})
 	})
 }

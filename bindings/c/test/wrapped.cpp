@@ -405,8 +405,7 @@ void many() {
 
 // Two receivers of one group: two bytes of the id 4 for each.
 void routes() {
-    const std::vector<std::uint8_t> packet = {0x90, 96, 0,    5,    0, 0, 0,    100,  0, 0,
-                                              0,    44, 0xBE, 0xDE, 0, 1, 0x10, 0xAA, 0, 0};
+    std::vector<std::uint8_t> packet = {0x90, 96, 0, 5, 0, 0, 0, 100, 0, 0, 0, 44, 0xBE, 0xDE, 0, 1, 0x10, 0xAA, 0, 0};
     rtpw_new_ids ids{};
     ids.id[1] = 3;
     const std::array<std::uint8_t, 4> data = {0, 7, 0, 8};
@@ -429,6 +428,21 @@ void routes() {
                {0x90, 96, 0, 5, 0, 0, 0, 100, 0, 0, 0, 46, 0xBE, 0xDE, 0, 2, 0x30, 0xAA, 0x41, 0, 8, 0, 0, 0}));
     CHECK(status(receivers[0].status) == status::ok);
     CHECK(rtpw::write_headers(*made, {header, 23}, data, receivers, headers) == status::bad_field);
+
+    // The first gets a retransmission (RFC 4588, 4) of the packet 0x0102, and for its number there are two bytes more.
+    receivers[0].fields.has_sequence_number = 1;
+    receivers[0].fields.sequence_number = 9;
+    receivers[0].original_number = 0x0102;
+    receivers[0].is_retransmission = 1;
+    receivers[1].at = 26;
+    std::array<std::uint8_t, 50> both{};
+    packet[0] |= 0x20; // P, which stays in the other one
+    CHECK(rtpw::make_template(packet, ids, data, elements, header).status() == status::ok);
+    CHECK(rtpw::write_headers(*made, header, data, receivers, both) == status::ok);
+    CHECK(same({both.data(), 27}, {0x90, 96, 0,    9,    0,    0, 0, 100, 0, 0, 0, 44, 0xBE, 0xDE,
+                                   0,    2,  0x30, 0xAA, 0x41, 0, 7, 0,   0, 0, 1, 2,  0xB0}));
+    CHECK(rtpw::write_headers(*made, header, data, receivers, {both.data(), 25}) == status::ok);
+    CHECK(status(receivers[0].status) == status::short_buffer);
 }
 
 // What a call doesn't write is zeros, whatever stood in the memory; and so is what it wrote before it was refused.

@@ -447,6 +447,8 @@ void alike_routes() {
         it.fields.ssrc = static_cast<std::uint32_t>(draw());
         it.fields.payload_type = static_cast<std::uint8_t>(below(140));
         it.fields.has_ssrc = it.fields.has_payload_type = static_cast<std::uint8_t>(below(2));
+        it.original_number = static_cast<std::uint16_t>(draw());
+        it.is_retransmission = static_cast<std::uint8_t>(below(3) == 0 ? draw() : 0);
         it.status = 77;
     }
     auto their_receivers = receivers;

@@ -1,5 +1,5 @@
-"""A packet's header for each of its receivers. Expected values are worked out by hand from RFC 3550, 5.1, and RFC 8285,
-4.2 and 4.3, or are what the calls for one packet make of a copy, one after another."""
+"""A packet's header for each of its receivers. Expected values are worked out by hand from RFC 3550, 5.1, RFC 4588, 4,
+and RFC 8285, 4.2 and 4.3, or are what the calls for one packet make of a copy, one after another."""
 
 import copy
 import pickle
@@ -29,6 +29,7 @@ from rtp_wire import (
     change_form,
     compact,
     put_element,
+    to_retransmission,
 )
 
 # 96, 5, 100, 44 and the element 1 (AA), with two bytes of padding; the payload is no part of the header
@@ -55,11 +56,13 @@ def put_in(header: bytes, at: int, data: bytes) -> bytes:
 def by_calls(
     packet: bytes, ids: NewIds, elements: Elements, allowed: Optional[Form], route: Route = Route()
 ) -> bytes:
-    """What the calls for one packet make of a copy of the header, where the elements have the route's data."""
+    """What the calls for one packet make of a copy of the header, where the elements have the route's data; and then of
+    a retransmission what is in front of the payload."""
     length = Packet.parse(packet).header_len
     buffer = bytearray(packet[:length]) + bytes(2000)
     changed = Packet.parse(memoryview(buffer)[:length])
-    data, *fields = route
+    got = route if route.original_number is None else route._replace(sequence_number=route.original_number)
+    data, *fields, _ = got
     names = ("payload_type", "sequence_number", "timestamp", "ssrc", "marker")
     changed.set_fields(**dict(zip(names, fields)))  # type: ignore[arg-type]
     changed.renumber(ids)
@@ -67,7 +70,21 @@ def by_calls(
     for id, old in elements:
         length = put_element(buffer, length, id, bytes(data)[at : at + len(old)], allowed)
         at += len(old)
-    return bytes(buffer[: compact(memoryview(buffer)[:length])])
+    header = bytes(buffer[: compact(memoryview(buffer)[:length])])
+    return header if route.original_number is None else sent_again(packet, header, route)
+
+
+def sent_again(packet: bytes, header: bytes, route: Route) -> bytes:
+    """What `to_retransmission` makes of the header that the receiver got, with the packet's payload behind it, up to
+    what is left of that."""
+    read = Packet.parse(packet)
+    buffer = bytearray(header + packet[read.header_len :] + bytes(2))
+    ssrc = read.ssrc if route.ssrc is None else route.ssrc
+    kind = read.payload_type if route.payload_type is None else route.payload_type
+    number = read.sequence_number if route.sequence_number is None else route.sequence_number
+    length = to_retransmission(buffer, len(buffer) - 2, ssrc, kind, number, OWN)
+    assert read.unpadded_payload == bytes(buffer[len(header) + 2 : length])
+    return bytes(buffer[: len(header) + 2])
 
 
 class Making(unittest.TestCase):
@@ -326,6 +343,67 @@ class Writing(unittest.TestCase):
             self.assertEqual(header, put_in(put_in(MADE, 10, data), 19, data))
 
 
+class Retransmissions(unittest.TestCase):
+    again = Route(b"\0\7", payload_type=97, sequence_number=9, ssrc=45)
+    # with the number of the packet that it repeats behind it
+    header = bytes.fromhex("90610009 00000064 0000002D BEDE0002 30AA4100 07000000")
+
+    def test_between_others(self) -> None:
+        for first in (b"\x90", b"\xB0"):  # P stays, but in a retransmission
+            made = HeaderTemplate(first + SAMPLE[1:20], NewIds({1: 3}), [(4, bytes(2))])
+            plain = first + MADE[1:]
+            for number in (0, 1, 0xFF, 0x0102, 0xFF00, 65535):
+                again = self.header + number.to_bytes(2, "big")
+                routes = [Route(b"\0\7"), self.again._replace(original_number=number), Route(b"\0\7")]
+                self.assertEqual(made.write(routes), [plain, again, plain])
+                # in a row each begins where the one before ends
+                buffer = bytearray(b"\xEE" * 75)
+                self.assertEqual(made.write_into(buffer, routes), [plain, again, plain])
+                self.assertEqual(buffer, plain + again + plain + b"\xEE")
+                self.assertEqual(made.write_into(buffer, routes, [51, 0, 27]), [plain, again, plain])
+                self.assertEqual(buffer, again + again[2:3] + plain + plain)
+
+    def test_rows_without_one_that_is_refused(self) -> None:
+        made, again = template(), self.again._replace(original_number=7)
+        plain = Route(b"\0\7")
+        wanted = self.header + b"\0\7"
+        for number, told in (
+            (-1, "original_number is -1, and not 0 to 65535"),
+            (65536, "original_number is 65536, and not 0 to 65535"),
+            (1 << 64, "original_number is 18446744073709551616, and not 0 to 65535"),
+        ):
+            routes = [again, again._replace(original_number=number), plain, again]
+            buffer = bytearray(b"\xEE" * 102)
+            both: List[List[Any]] = [[*made.write(routes)], [*made.write_into(buffer, routes)]]
+            for headers in both:
+                cause = headers.pop(1)
+                self.assertEqual((type(cause), str(cause)), (BadField, told))
+                self.assertEqual(headers, [wanted, MADE, wanted])
+            self.assertEqual(buffer, wanted + b"\xEE" * 26 + MADE + wanted)
+        others: List[Any] = ["5", 5.0]
+        for other in others:
+            told = f"original_number is {type(other).__name__}, and no whole number"
+            with self.assertRaisesRegex(TypeError, told):
+                made.write([again._replace(original_number=other)])
+        headers = made.write([again._replace(original_number=True), plain])
+        self.assertEqual(headers, [self.header + b"\0\1", MADE])
+
+    def test_room_for_the_number(self) -> None:
+        made, routes = template(), [self.again._replace(original_number=7)]
+        for size in (0, 1, 24, 25):
+            buffer = bytearray(b"\xEE" * size)
+            (short,) = made.write_into(buffer, routes)
+            self.assertEqual((type(short), buffer), (ShortBuffer, b"\xEE" * size))
+        for size, place, kind in ((26, 0, memoryview), (30, 4, memoryview), (30, 5, ShortBuffer)):
+            buffer = bytearray(b"\xEE" * size)
+            (header,) = made.write_into(buffer, routes, [place])
+            self.assertIsInstance(header, kind)
+            written = self.header + b"\0\7" if kind is memoryview else b"\xEE" * 26
+            self.assertEqual(buffer, b"\xEE" * 4 * (size == 30) + written)
+        refused = made.write([routes[0]._replace(payload_type=128), routes[0]._replace(data=b"")])
+        self.assertEqual([type(it) for it in refused], [BadField, BadField])
+
+
 class Values(unittest.TestCase):
     def test_equality_and_text(self) -> None:
         made, other = template(), HeaderTemplate(SAMPLE, NewIds({1: 3, 2: 9}), [(4, b"\0\7")])
@@ -353,7 +431,7 @@ class Values(unittest.TestCase):
                 self.assertEqual((other, other.header, other.data_len), (made, MADE, 2))
                 self.assertEqual(other.write([Route(b"ab", sequence_number=1)]), [wanted])
 
-        for route in (Route(b"a", 1, 2, 3, 4, True), Route()):
+        for route in (Route(b"a", 1, 2, 3, 4, True), Route(b"a", 1, 2, 3, 4, True, 5), Route()):
             self.assertEqual((copy.copy(route), pickle.loads(pickle.dumps(route))), (route, route))
 
     def test_what_was_stored_and_is_no_template(self) -> None:
@@ -386,12 +464,17 @@ class ByCalls(unittest.TestCase):
             profile = (0xBEDE, 0x1000 | draw.randrange(16), 0xABAC)[form - 1]
             packet = bytes([packet[0] | 0x10]) + packet[1:] + profile.to_bytes(2, "big")
             packet += (len(body) // 4).to_bytes(2, "big") + body
-        return packet + draw.randbytes(draw.randrange(3))
+        packet += draw.randbytes(draw.randrange(3))
+        if draw.random() < 0.3:
+            padding = draw.randint(1, 5)
+            packet = bytes([packet[0] | 0x20]) + packet[1:] + bytes([padding]) * padding
+        return packet
 
     def route(self, draw: Random, length: int) -> Route:
         kind, number, time, ssrc = (draw.choice((None, draw.randrange(1 << it))) for it in (7, 16, 32, 32))
         marker = draw.choice((None, False, True))
-        return Route(draw.randbytes(length), kind, number, time, ssrc, marker)
+        original = draw.choice((None, None, 0, 65535, draw.randrange(1 << 16)))
+        return Route(draw.randbytes(length), kind, number, time, ssrc, marker, original)
 
     def test_each_is_what_they_make(self) -> None:
         draw = Random(5)
@@ -421,8 +504,8 @@ class ByCalls(unittest.TestCase):
             routes = [self.route(draw, len(data)) for _ in range(draw.randrange(4))]
             each = [by_calls(packet, ids, elements, allowed, it) for it in routes]
             self.assertEqual(made.write(routes), each)
-            buffer = bytearray(len(routes) * made.header_len)
-            self.assertEqual(made.write_into(buffer, routes), each)
+            buffer = bytearray(sum(map(len, each)))
+            self.assertEqual((made.write_into(buffer, routes), buffer), (each, b"".join(each)))
         self.assertEqual(causes, {LongId, FormNotAllowed, OtherForm})
 
     def test_any_places_fields_and_data(self) -> None:
@@ -432,17 +515,18 @@ class ByCalls(unittest.TestCase):
             for _ in range(6):
                 length = draw.choice((2, 2, 2, 2, 0, 1, 3))
                 kind, ssrc = draw.choice((None, 5, 127, 128, -1)), draw.choice((None, 7, 1 << 32))
-                routes.append(Route(draw.randbytes(length), kind, ssrc=ssrc))
+                original = draw.choice((None, None, 0, 7, 65535, 65536, -1))
+                routes.append(Route(draw.randbytes(length), kind, ssrc=ssrc, original_number=original))
                 places.append(draw.choice((draw.randrange(size + 2), 0, 24, 48, -1, (1 << 64) - draw.randint(1, 9))))
             # one after the other, each of them alone
             wanted = bytearray(b"\xEE" * size)
             results: List[object] = []
             for route, place in zip(routes, places):
                 (result,) = made.write([route])
-                if isinstance(result, bytes) and place + 24 > size:
+                if isinstance(result, bytes) and place + len(result) > size:
                     result = ShortBuffer(Status.SHORT_BUFFER)
                 if isinstance(result, bytes) and 0 <= place:
-                    wanted[place : place + 24] = result
+                    wanted[place : place + len(result)] = result
                 fails = isinstance(result, RtpError) or place < 0
                 results.append(BadField if place < 0 else type(result) if fails else None)
             buffer = bytearray(b"\xEE" * size)

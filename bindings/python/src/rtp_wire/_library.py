@@ -197,11 +197,15 @@ class RawRoutedHeader(Structure):
     data_at: int
     at: int
     fields: RawFields
+    original_number: int
+    is_retransmission: int
     status: int
     _fields_ = [
         ("data_at", c_size_t),
         ("at", c_size_t),
         ("fields", cast(Any, RawFields)),
+        ("original_number", c_uint16),
+        ("is_retransmission", c_uint8),
         ("status", c_int32),
     ]
 

@@ -2,7 +2,8 @@
 
 from __future__ import annotations
 
-from typing import TYPE_CHECKING, Iterable, List, NamedTuple, Optional, Sequence, Tuple, Union
+from itertools import accumulate
+from typing import TYPE_CHECKING, Iterable, List, NamedTuple, Optional, Tuple, Union
 
 from . import _library
 from ._buffers import address_of, place_of, view_of, writable_view_of
@@ -29,6 +30,11 @@ class Route(NamedTuple):
     timestamp: Optional[int] = None
     ssrc: Optional[int] = None
     marker: Optional[bool] = None
+    original_number: Optional[int] = None
+    """Where it is given the receiver gets a retransmission (RFC 4588, 4) of the packet with this number: the fields are
+    those of the retransmission's stream, P is clear, and the header ends with the number in two bytes. The payload
+    follows, without its padding. That is what `to_retransmission` makes of what the receiver got, where each id
+    stays."""
 
 
 class HeaderTemplate:
@@ -96,7 +102,7 @@ class HeaderTemplate:
 
     @property
     def header_len(self) -> int:
-        """How many bytes it has, and each that is written."""
+        """How many bytes it has, and each that is written; that of a retransmission has 2 more."""
         return len(self._header)
 
     @property
@@ -107,20 +113,26 @@ class HeaderTemplate:
     def write(self, routes: Iterable[Route]) -> List[Union[bytes, RtpError]]:
         """The header of each receiver, in one call of the library for all; in its place the exception where a receiver
         can't be served, and all others are as without it: BadField where its data aren't `data_len` bytes, or a field is
-        out of its range. TypeError where one is no `Route`, or has a value of another type."""
-        listed = list(routes)
-        step = len(self._header)
-        room = memoryview(bytearray(step * len(listed)))
-        written = self._write(listed, range(0, len(room), step), room)
+        out of its range. TypeError where one is no `Route`, or has a value of another type.
+
+        >>> template = HeaderTemplate(bytes.fromhex("A0600005 00000064 0000002C 6869 0002"), NewIds())
+        >>> routes = [Route(), Route(payload_type=97, sequence_number=9, ssrc=45, original_number=5)]
+        >>> [header.hex(" ", -4) for header in template.write(routes)]
+        ['a0600005 00000064 0000002c', '80610009 00000064 0000002d 0005']
+        """
+        listed = _listed(routes)
+        lens = self._lens(listed)
+        written = self._write(listed, lens, accumulate(lens, initial=0), memoryview(bytearray(sum(lens))))
         return [it if isinstance(it, RtpError) else bytes(it) for it in written]
 
     def write_into(
         self, buffer: WritableBuffer, routes: Iterable[Route], at: Optional[Iterable[int]] = None
     ) -> List[Union[memoryview, RtpError]]:
         """The same in a buffer: the header of each receiver where it lies. They begin at these places, in bytes, or
-        without any in a row from the first byte on; where two overlap the bytes of the later one stand. BadField where
-        there are more places than receivers or fewer, and else for one alone, as ShortBuffer where a header would
-        reach past the buffer: nothing is written of that one. The data of receivers may lie in the buffer.
+        without any in a row from the first byte on, each where the one before ends; where two overlap the bytes of the
+        later one stand. BadField where there are more places than receivers or fewer, and else for one alone, as
+        ShortBuffer where a header would reach past the buffer: nothing is written of that one. The data of receivers
+        may lie in the buffer.
 
         >>> template = HeaderTemplate(bytes.fromhex("80600005 00000064 0000002C"), NewIds())
         >>> buffer = bytearray(20)
@@ -128,17 +140,25 @@ class HeaderTemplate:
         >>> buffer.hex(" ", -4), len(first), second
         ('00000000 00000000 80600005 00000064 0000002d', 12, ShortBuffer('a buffer is too short'))
         """
-        listed = list(routes)
-        step = len(self._header)
-        places = range(0, step * len(listed), step) if at is None else list(at)
-        if len(places) != len(listed):
-            raise BadField(Status.BAD_FIELD, f"there are {len(places)} places and {len(listed)} receivers")
-        return self._write(listed, places, writable_view_of(buffer))
+        listed = _listed(routes)
+        lens = self._lens(listed)
+        places: Iterable[int] = accumulate(lens, initial=0)
+        if at is not None:
+            places = list(at)
+            if len(places) != len(listed):
+                told = f"there are {len(places)} places and {len(listed)} receivers"
+                raise BadField(Status.BAD_FIELD, told)
+        return self._write(listed, lens, places, writable_view_of(buffer))
+
+    def _lens(self, routes: List[Route]) -> List[int]:
+        """How many bytes the header of each has."""
+        plain = len(self._header)
+        return [plain if it.original_number is None else plain + 2 for it in routes]
 
     def _write(
-        self, routes: List[Route], places: Sequence[int], room: memoryview
+        self, routes: List[Route], lens: List[int], places: Iterable[int], room: memoryview
     ) -> List[Union[memoryview, RtpError]]:
-        """Writes the headers at these places, and lends each, or says why it isn't written."""
+        """Writes the headers, which are so long, at these places, and lends each, or says why it isn't written."""
         receivers = (_library.RawRoutedHeader * len(routes))()
         data, causes = bytearray(), {}
         for row, (route, place) in enumerate(zip(routes, places)):
@@ -151,22 +171,22 @@ class HeaderTemplate:
                 causes[row] = error
                 receiver.data_at = _NOWHERE
         self._call(bytes(data), receivers, room)
-        step = len(self._header)
         return [
-            causes.get(row) or (error_of(it.status) if it.status else room[it.at : it.at + step])
+            causes.get(row) or (error_of(it.status) if it.status else room[it.at : it.at + lens[row]])
             for row, it in enumerate(receivers)
         ]
 
     def _own(self, receiver: _library.RawRoutedHeader, route: Route) -> memoryview:
-        """The data of a receiver, whose fields are put."""
-        if not isinstance(route, Route):
-            raise TypeError(f"a route is {type(route).__name__}, and not Route")
-        data, *fields = route
+        """The data of a receiver, whose fields and original number are put."""
+        data, *fields, original_number = route
         view = view_of(data)
         if len(view) != self._raw.data_total:
             told = f"the length of data is {len(view)}, and not {self._raw.data_total}"
             raise BadField(Status.BAD_FIELD, told)
         put_fields(receiver.fields, *fields)
+        if original_number is not None:
+            receiver.original_number = unsigned("original_number", original_number, 16)
+            receiver.is_retransmission = 1
         return view
 
     def _call(self, data: bytes, receivers: _library.Receivers, room: memoryview) -> None:
@@ -203,6 +223,15 @@ class HeaderTemplate:
         header, raw = state
         self._header, self._raw = bytes(header), _library.RawTemplate.from_buffer_copy(raw)
         self._call(b"", (_library.RawRoutedHeader * 0)(), memoryview(b""))
+
+
+def _listed(routes: Iterable[Route]) -> List[Route]:
+    """The routes; TypeError where one is none."""
+    listed = list(routes)
+    for it in listed:
+        if not isinstance(it, Route):
+            raise TypeError(f"a route is {type(it).__name__}, and not Route")
+    return listed
 
 
 def _gather(elements: Iterable[Tuple[int, Buffer]]) -> Tuple[bytes, _library.Places]:

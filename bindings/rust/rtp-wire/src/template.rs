@@ -139,7 +139,7 @@ impl<'a> HeaderTemplate<'a> {
         self.header
     }
 
-    /// How many bytes it has, and each that is written.
+    /// How many bytes it has, and each that is written; that of a retransmission has 2 more.
     #[must_use]
     pub fn header_len(&self) -> usize {
         self.header.len()
@@ -178,13 +178,54 @@ impl<'a> HeaderTemplate<'a> {
         data: &[u8],
         buf: &mut [u8],
     ) -> Result<usize, NotWritten> {
+        self.write_alone(RoutedSlot::new(fields, 0, 0), data, buf)
+    }
+
+    /// Writes the header of a retransmission (RFC 4588, 4) in the same way: the fields are those of its own stream, P is
+    /// clear, and the last two bytes are the original number, that of the packet that it repeats. The packet's payload
+    /// follows, without its padding. That is what [`to_retransmission`](crate::to_retransmission) makes of what the
+    /// receiver got, where each id stays.
+    ///
+    /// # Errors
+    ///
+    /// Those of [`write_header`](HeaderTemplate::write_header).
+    ///
+    /// ```
+    /// use rtp_wire::{Fields, Group, HeaderTemplate, NewIds, Packet, Place};
+    ///
+    /// let packet = Packet::parse(&[0xA0, 96, 0, 5, 0, 0, 0, 100, 0, 0, 0, 44, b'h', b'i', 0, 2])?;
+    /// let group = Group { ids: &NewIds::new(), data: &[0, 7], elements: &[Place::new(4, 0..2)], allowed: None };
+    /// let mut room = [0; 288];
+    /// let template = HeaderTemplate::new(&packet, &group, &mut room)?;
+    /// let mut header = [0; 22];
+    /// let stream = Fields { payload_type: Some(97), sequence_number: Some(9), ssrc: Some(45), ..Fields::default() };
+    /// assert_eq!(template.write_retransmission(&stream, 0x0105, &[0, 8], &mut header), Ok(22));
+    /// assert_eq!(header, [0x90, 97, 0, 9, 0, 0, 0, 100, 0, 0, 0, 45, 0xBE, 0xDE, 0, 1, 0x41, 0, 8, 0, 1, 5]);
+    /// # Ok::<(), Box<dyn std::error::Error>>(())
+    /// ```
+    pub fn write_retransmission(
+        &self,
+        fields: &Fields,
+        original_number: u16,
+        data: &[u8],
+        buf: &mut [u8],
+    ) -> Result<usize, NotWritten> {
+        let receiver = RoutedSlot::retransmission(fields, original_number, 0, 0);
+        self.write_alone(receiver, data, buf)
+    }
+
+    fn write_alone(
+        &self,
+        mut receiver: RoutedSlot,
+        data: &[u8],
+        buf: &mut [u8],
+    ) -> Result<usize, NotWritten> {
         if data.len() != self.data_len() {
             return Err(NotWritten::BadField);
         }
-        let mut receiver = RoutedSlot::new(fields, 0, 0);
         self.write(data, slice::from_mut(&mut receiver), buf);
         receiver.written()?;
-        Ok(self.header_len())
+        Ok(receiver.len(self.header_len()))
     }
 
     /// Writes the headers of many receivers, each with the fields of its slot, and with the data and at the place that
@@ -261,7 +302,7 @@ pub struct RoutedHeaders<'s, 'b> {
 impl<'b> RoutedHeaders<'_, 'b> {
     fn header(&self, slot: &RoutedSlot) -> Result<&'b [u8], NotWritten> {
         slot.written()?;
-        Ok(&self.buf[slot.at..slot.at + self.header_len])
+        Ok(&self.buf[slot.at..slot.at + slot.len(self.header_len)])
     }
 }
 
@@ -322,8 +363,50 @@ impl RoutedSlot {
             data_at,
             at,
             fields: fields.view(),
+            original_number: 0,
+            is_retransmission: 0,
             status: sys::BAD_FIELD,
         }
+    }
+
+    /// A receiver that gets a retransmission ([`HeaderTemplate::write_retransmission`]) of the packet with this original
+    /// number. Its header is two bytes longer than that of the others.
+    ///
+    /// ```
+    /// use rtp_wire::{Fields, Group, HeaderTemplate, NewIds, Packet, RoutedSlot};
+    ///
+    /// let packet = Packet::parse(&[0x80, 96, 0, 5, 0, 0, 0, 100, 0, 0, 0, 44])?;
+    /// let group = Group { ids: &NewIds::new(), data: &[], elements: &[], allowed: None };
+    /// let mut room = [0; 24];
+    /// let template = HeaderTemplate::new(&packet, &group, &mut room)?;
+    ///
+    /// let stream = Fields { payload_type: Some(97), sequence_number: Some(9), ssrc: Some(45), ..Fields::default() };
+    /// let mut slots = [RoutedSlot::retransmission(&stream, 5, 0, 0), RoutedSlot::new(&Fields::default(), 0, 14)];
+    /// let mut buf = [0; 26];
+    /// let mut headers = template.write_headers(&[], &mut slots, &mut buf);
+    /// assert_eq!(headers.next(), Some(Ok(&[0x80, 97, 0, 9, 0, 0, 0, 100, 0, 0, 0, 45, 0, 5][..])));
+    /// assert_eq!(headers.next(), Some(Ok(&[0x80, 96, 0, 5, 0, 0, 0, 100, 0, 0, 0, 44][..])));
+    /// # Ok::<(), Box<dyn std::error::Error>>(())
+    /// ```
+    #[must_use]
+    #[inline]
+    pub fn retransmission(
+        fields: &Fields,
+        original_number: u16,
+        data_at: usize,
+        at: usize,
+    ) -> RoutedSlot {
+        RoutedSlot {
+            original_number,
+            is_retransmission: 1,
+            ..RoutedSlot::new(fields, data_at, at)
+        }
+    }
+
+    /// How many bytes its header has, by those of the template's.
+    #[inline]
+    fn len(&self, header_len: usize) -> usize {
+        header_len + 2 * usize::from(self.is_retransmission)
     }
 
     /// Whether the receiver's header was written.

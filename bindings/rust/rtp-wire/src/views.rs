@@ -221,7 +221,7 @@ pub struct TemplateParts {
 }
 
 /// One of the receivers of a group, for [`HeaderTemplate::write_headers`](crate::HeaderTemplate::write_headers): what
-/// it gets of its own, and then what became of it. Keep some in an array or a `Vec`, and use them again. 40 bytes:
+/// it gets of its own, and then what became of it. Keep some in an array or a `Vec`, and use them again. 48 bytes:
 /// `rtpw_routed_header` in C.
 #[repr(C)]
 #[derive(Clone, Copy, Debug)]
@@ -229,6 +229,8 @@ pub struct RoutedSlot {
     pub(crate) data_at: usize,
     pub(crate) at: usize,
     pub(crate) fields: FieldsView,
+    pub(crate) original_number: u16,
+    pub(crate) is_retransmission: u8,
     pub(crate) status: i32,
 }
 
@@ -407,7 +409,8 @@ mod tests {
         lies!(FieldsView, 20, aligned 4, timestamp 0, ssrc 4, sequence_number 8, payload_type 10, marker 11,
             has_timestamp 12, has_ssrc 13, has_sequence_number 14, has_payload_type 15, has_marker 16);
         lies!(TemplateParts, 88, aligned 4, header_len 0, data_at 4, data_total 68, count 70, data_len 71);
-        lies!(RoutedSlot, 40, data_at 0, at 8, fields 16, status 36);
+        lies!(RoutedSlot, 48, data_at 0, at 8, fields 16, original_number 36, is_retransmission 38,
+            status 40);
         lies!(Layer, 40, kbps 0, width 32, height 34, framerate 36, has_resolution 37, rates 38);
         lies!(Stream, 168, layers 0, count 160);
         lies!(Layers, 680, streams 0, count 672, current 673);

@@ -452,6 +452,113 @@ fn a_header_has_room_or_not() {
     assert_eq!(cause(&SAMPLE, &ids, &[], 0), SHORT);
 }
 
+/// The fields of a retransmission's stream.
+const AGAIN: Fields = Fields {
+    payload_type: Some(97),
+    sequence_number: Some(9),
+    ssrc: Some(45),
+    ..NO_FIELDS
+};
+
+#[test]
+fn a_retransmission_between_others() {
+    let ids = NewIds::new().with(1, 3);
+    let elements = [place(4, 0, 2)];
+    let group = Group {
+        ids: &ids,
+        data: &NUMBERS,
+        elements: &elements,
+        allowed: None,
+    };
+    // with P set, which is cleared in a retransmission alone
+    for (first, plain, again) in [(0x90, 0x90, 0x90), (0xB0, 0xB0, 0x90)] {
+        let template = made(&written(first, "BEDE0001 10AA0000"), &group, 304).unwrap();
+        let wanted_plain = written(plain, "BEDE0002 30AA4100 08000000");
+        for number in [0_u16, 1, 0x00FF, 0x0102, 0xFF00, 65_535] {
+            let mut wanted_again = written(again, "BEDE0002 30AA4100 07000000");
+            wanted_again[1] = 97;
+            (wanted_again[3], wanted_again[11]) = (9, 45);
+            wanted_again.extend(number.to_be_bytes());
+            let mut slots = [
+                RoutedSlot::new(&NO_FIELDS, 2, 0),
+                RoutedSlot::retransmission(&AGAIN, number, 0, 24),
+                RoutedSlot::new(&NO_FIELDS, 2, 50),
+            ];
+            let buf = at_end(&[0xEE; 74]);
+            let headers = template.write_headers(&NUMBERS, &mut slots, buf);
+            assert!(headers.eq([Ok(&wanted_plain[..]), Ok(&wanted_again), Ok(&wanted_plain)]));
+            assert_eq!(
+                *buf,
+                *[&wanted_plain[..], &wanted_again, &wanted_plain].concat()
+            );
+            // alone
+            let buf = at_end(&[0xEE; 26]);
+            let len = template.write_retransmission(&AGAIN, number, &NUMBERS[..2], buf);
+            assert_eq!((len, &*buf), (Ok(26), &wanted_again[..]));
+        }
+    }
+}
+
+#[test]
+fn a_retransmission_has_room_for_its_number_or_none() {
+    let template = template();
+    let again = |at| RoutedSlot::retransmission(&AGAIN, 0x0105, 0, at);
+    for (slot, room, due) in [
+        (again(0), 26, Ok(26)),
+        (again(0), 25, Err(NotWritten::ShortBuffer)),
+        (again(0), 24, Err(NotWritten::ShortBuffer)),
+        (again(0), 1, Err(NotWritten::ShortBuffer)),
+        (again(0), 0, Err(NotWritten::ShortBuffer)),
+        (again(4), 30, Ok(26)),
+        (again(5), 30, Err(NotWritten::ShortBuffer)),
+        (again(usize::MAX), 30, Err(NotWritten::ShortBuffer)),
+        (again(usize::MAX - 25), 30, Err(NotWritten::ShortBuffer)),
+        (RoutedSlot::new(&AGAIN, 0, 0), 24, Ok(24)),
+    ] {
+        let buf = at_end(&vec![0xEE; room]);
+        let mut slots = [slot];
+        let mut headers = template.write_headers(&NUMBERS, &mut slots, buf);
+        assert_eq!(headers.next().unwrap().map(<[u8]>::len), due);
+        assert_eq!(slots[0].written(), due.map(|_| ()));
+        assert!(due.is_ok() || buf.iter().all(|it| *it == 0xEE));
+    }
+    let bad_type = Fields {
+        payload_type: Some(128),
+        ..AGAIN
+    };
+    for (fields, data, room, due) in [
+        (AGAIN, &NUMBERS[..2], 26, Ok(26)),
+        (AGAIN, &NUMBERS[..2], 25, Err(NotWritten::ShortBuffer)),
+        (AGAIN, &NUMBERS[..1], 26, Err(NotWritten::BadField)),
+        (AGAIN, &NUMBERS[..3], 26, Err(NotWritten::BadField)),
+        (bad_type, &NUMBERS[..2], 0, Err(NotWritten::BadField)),
+    ] {
+        let buf = at_end(&vec![0xEE; room]);
+        let len = template.write_retransmission(&fields, 5, at_end(data), buf);
+        assert_eq!(len, due);
+        assert!(due.is_ok() || buf.iter().all(|it| *it == 0xEE));
+    }
+}
+
+#[test]
+fn a_slot_that_is_made_anew_is_no_retransmission() {
+    let template = template();
+    let mut again = [template.header(), &[0, 7]].concat();
+    again[1] = 97;
+    (again[3], again[11]) = (9, 45);
+    let mut slots = [0, 26].map(|at| RoutedSlot::retransmission(&AGAIN, 7, 0, at));
+    assert_eq!(slots[0].written(), Err(NotWritten::BadField)); // not yet
+    let buf = at_end(&[0; 52]);
+    for _ in 0..2 {
+        let headers = template.write_headers(&NUMBERS, &mut slots, buf);
+        assert!(headers.eq([Ok(&again[..]); 2]));
+    }
+    slots[0] = RoutedSlot::new(&NO_FIELDS, 0, 2);
+    let headers = template.write_headers(&NUMBERS, &mut slots, buf);
+    assert!(headers.eq([Ok(template.header()), Ok(&again[..])]));
+    assert_eq!(buf[..2], again[..2]); // as they were
+}
+
 /// Twenty receivers of the template, each with a number and data of its own.
 fn twenty() -> (Vec<RoutedSlot>, Vec<u8>) {
     let fields = |n| Fields {

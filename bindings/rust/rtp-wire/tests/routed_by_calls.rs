@@ -1,8 +1,8 @@
 //! A packet's header for each of its receivers beside what the calls for one packet make of a copy, one after another.
 
 use rtp_wire::{
-    compact, put_element, Fields, Form, Group, HeaderTemplate, NewIds, NotPut, NotRouted,
-    NotWritten, Packet, PacketMut, Place, RoutedSlot,
+    compact, put_element, to_retransmission, Fields, Form, Group, HeaderTemplate, NewIds, NotPut,
+    NotRouted, NotWritten, Packet, PacketMut, Place, RoutedSlot,
 };
 
 const NO_FIELDS: Fields = Fields {
@@ -58,7 +58,30 @@ impl Random {
         }
         let payload_len = self.below(3);
         packet.extend(self.bytes(payload_len));
+        if self.one_in(3) {
+            let padding = 1 + self.below(5);
+            packet[0] |= 0x20;
+            packet.resize(packet.len() + padding, padding as u8);
+        }
         packet
+    }
+
+    /// A place below the end or near it, or far behind it.
+    fn place(&mut self, end: usize) -> usize {
+        match self.below(20) {
+            0 => usize::MAX - self.below(30),
+            1 => (1 << 32) + self.below(30),
+            _ => self.below(end + 2),
+        }
+    }
+
+    /// Where a receiver gets a retransmission, the number of what it repeats.
+    fn original_number(&mut self) -> Option<u16> {
+        self.one_in(3).then(|| match self.below(4) {
+            0 => 0,
+            1 => 65_535,
+            _ => self.below(1 << 16) as u16,
+        })
     }
 
     /// New ids of which most elements have one, and few are above 14.
@@ -73,10 +96,10 @@ impl Random {
     fn elements(&mut self, data_len: usize) -> Vec<Place> {
         let count = self.below(5);
         let mut element = |_| {
-            let id = if self.one_in(8) {
-                self.below(256)
-            } else {
-                1 + self.below(14)
+            let id = match self.below(32) {
+                0 => 0,
+                1..4 => self.below(256),
+                _ => 1 + self.below(14),
             };
             let len = if self.one_in(10) {
                 self.below(20)
@@ -143,10 +166,72 @@ fn by_calls(
     Ok(buf)
 }
 
+/// What `by_calls` makes, and then `to_retransmission` of that and the payload, up to what is left of the payload.
+fn sent_again(
+    packet: &[u8],
+    group: &Group,
+    fields: &Fields,
+    original_number: u16,
+    data: &[u8],
+) -> Vec<u8> {
+    let read = Packet::parse(packet).unwrap();
+    let got = Fields {
+        sequence_number: Some(original_number),
+        ..*fields
+    };
+    let header = by_calls(packet, group, &got, data, 800).unwrap();
+    let mut buf = [&header, &packet[read.header_len()..], &[0; 2]].concat();
+    let len = buf.len() - 2;
+    let each_its_own = (1..=255).fold(NewIds::new(), |ids, id| ids.with(id, id));
+    let end = to_retransmission(
+        &mut buf,
+        len,
+        fields.ssrc.unwrap_or(read.ssrc()),
+        fields.payload_type.unwrap_or(read.payload_type()),
+        fields.sequence_number.unwrap_or(read.sequence_number()),
+        &each_its_own,
+    )
+    .unwrap();
+    let (again, payload) = buf[..end].split_at(header.len() + 2);
+    assert_eq!(payload, read.unpadded_payload().unwrap());
+    again.to_vec()
+}
+
+/// One of the receivers of a group, and where it gets a retransmission the number of what that repeats.
+struct Receiver {
+    fields: Fields,
+    original_number: Option<u16>,
+    data_at: usize,
+    at: usize,
+}
+
+impl Receiver {
+    fn slot(&self) -> RoutedSlot {
+        let (fields, data_at, at) = (&self.fields, self.data_at, self.at);
+        match self.original_number {
+            None => RoutedSlot::new(fields, data_at, at),
+            Some(number) => RoutedSlot::retransmission(fields, number, data_at, at),
+        }
+    }
+
+    /// Its header alone, at the front of the buffer.
+    fn write(
+        &self,
+        template: &HeaderTemplate,
+        data: &[u8],
+        buf: &mut [u8],
+    ) -> Result<usize, NotWritten> {
+        match self.original_number {
+            None => template.write_header(&self.fields, data, buf),
+            Some(number) => template.write_retransmission(&self.fields, number, data, buf),
+        }
+    }
+}
+
 #[test]
 fn each_is_what_the_calls_for_one_packet_make() {
     let mut random = Random(7);
-    let (mut causes, mut templates) = (Vec::new(), 0);
+    let (mut causes, mut templates, mut again) = (Vec::new(), 0, 0);
     for _ in 0..4000 {
         let packet = random.packet();
         let (ids, data) = (random.ids(), random.bytes(40));
@@ -182,18 +267,26 @@ fn each_is_what_the_calls_for_one_packet_make() {
         assert_eq!(template.data_len(), joined.len());
         let (count, header_len) = (random.below(6), template.header_len());
         let data = random.bytes(joined.len() * count);
-        let all_fields: Vec<Fields> = (0..count).map(|_| random.fields()).collect();
-        let mut slots: Vec<_> = all_fields
-            .iter()
-            .enumerate()
-            .map(|(n, fields)| RoutedSlot::new(fields, n * joined.len(), n * header_len))
-            .collect();
-        let mut buf = vec![0xEE; count * header_len];
+        let mut end = 0;
+        let mut receiver = |n: usize| {
+            let it = Receiver {
+                fields: random.fields(),
+                original_number: random.original_number(),
+                data_at: n * joined.len(),
+                at: end,
+            };
+            end += header_len + if it.original_number.is_some() { 2 } else { 0 };
+            it
+        };
+        let receivers: Vec<_> = (0..count).map(&mut receiver).collect();
+        let mut slots: Vec<_> = receivers.iter().map(Receiver::slot).collect();
+        let mut buf = vec![0xEE; end];
         let headers = template.write_headers(&data, &mut slots, &mut buf);
-        for ((n, header), fields) in headers.enumerate().zip(&all_fields) {
-            let its_data = &data[n * joined.len()..][..joined.len()];
-            let mut alone = vec![0xEE; header_len];
-            let written = template.write_header(fields, its_data, &mut alone);
+        for (header, receiver) in headers.zip(&receivers) {
+            let fields = &receiver.fields;
+            let its_data = &data[receiver.data_at..][..joined.len()];
+            let mut alone = vec![0xEE; header_len + 2];
+            let written = receiver.write(&template, its_data, &mut alone);
             if fields.payload_type.is_some_and(|it| it > 127) {
                 assert_eq!(
                     (header, written),
@@ -201,13 +294,18 @@ fn each_is_what_the_calls_for_one_packet_make() {
                 );
                 continue;
             }
-            let wanted = by_calls(&packet, &group, fields, its_data, 800).unwrap();
-            assert_eq!((header, written), (Ok(&wanted[..]), Ok(header_len)));
+            let mut wanted = match receiver.original_number {
+                None => by_calls(&packet, &group, fields, its_data, 800).unwrap(),
+                Some(number) => sent_again(&packet, &group, fields, number, its_data),
+            };
+            assert_eq!((header, written), (Ok(&wanted[..]), Ok(wanted.len())));
+            again += usize::from(receiver.original_number.is_some());
+            wanted.resize(header_len + 2, 0xEE);
             assert_eq!(alone, wanted);
         }
     }
     // most were made, and all that can come were among the causes
-    assert!(templates > 1500, "{templates}");
+    assert!(templates > 1500 && again > 1000, "{templates} {again}");
     let not_put = NotRouted::NotPut;
     for cause in [
         NotRouted::RepeatedId,
@@ -240,34 +338,34 @@ fn any_places_fields_and_data() {
     for _ in 0..2000 {
         let (data_len, room) = (random.below(40), random.below(120));
         let data = random.bytes(data_len);
-        let mut place = |end: usize| match random.below(20) {
-            0 => usize::MAX - random.below(30),
-            1 => (1 << 32) + random.below(30),
-            _ => random.below(end + 2),
+        let mut receiver = |_| Receiver {
+            fields: random.fields(),
+            original_number: random.original_number(),
+            data_at: random.place(data_len),
+            at: random.place(room),
         };
-        let places: Vec<_> = (0..6).map(|_| (place(data_len), place(room))).collect();
-        let fields: Vec<_> = places.iter().map(|_| random.fields()).collect();
-        let slot = |(fields, it): (&Fields, &(usize, usize))| RoutedSlot::new(fields, it.0, it.1);
-        let mut slots: Vec<_> = fields.iter().zip(&places).map(slot).collect();
+        let receivers: Vec<_> = (0..6).map(&mut receiver).collect();
+        let mut slots: Vec<_> = receivers.iter().map(Receiver::slot).collect();
         let mut buf = vec![0xEE; room];
         // one after the other, each of them alone
         let mut wanted = buf.clone();
-        let mut one = |(fields, (data_at, at)): (&Fields, &(usize, usize))| {
-            let its_data = data.get(*data_at..).and_then(|it| it.get(..5));
+        let mut one = |it: &Receiver| {
+            let its_data = data.get(it.data_at..).and_then(|it| it.get(..5));
             let its_data = its_data.ok_or(NotWritten::BadField)?;
-            if fields.payload_type.is_some_and(|it| it > 127) {
+            if it.fields.payload_type.is_some_and(|it| it > 127) {
                 return Err(NotWritten::BadField);
             }
-            let its_buf = wanted.get_mut(*at..).ok_or(NotWritten::ShortBuffer)?;
-            made.write_header(fields, its_data, its_buf).map(|_| ())
+            let its_buf = wanted.get_mut(it.at..).ok_or(NotWritten::ShortBuffer)?;
+            it.write(&made, its_data, its_buf)
         };
-        let results: Vec<_> = fields.iter().zip(&places).map(&mut one).collect();
+        let results: Vec<_> = receivers.iter().map(&mut one).collect();
         let headers = made.write_headers(&data, &mut slots, &mut buf);
-        for ((header, result), (_, at)) in headers.zip(&results).zip(&places) {
-            let due = result.map(|()| &wanted[*at..*at + made.header_len()]);
+        for ((header, result), it) in headers.zip(&results).zip(&receivers) {
+            let due = result.map(|len| &wanted[it.at..it.at + len]);
             assert_eq!(header, due);
         }
         assert_eq!(buf, wanted);
+        let results = results.iter().map(|it| it.map(|_| ()));
         assert!(slots.iter().map(RoutedSlot::written).eq(results));
     }
 }
