@@ -1289,6 +1289,14 @@ void rtpw_receive_many(rtpw_receiver *receivers, size_t receiver_count, rtpw_arr
  *     status = rtpw_write_headers(&made, header, sizeof header, numbers, sizeof numbers, receivers, 2, headers,
  *                                 sizeof headers);
  *     // the second is 90 60 00 05 00 00 00 64 00 00 00 2E BE DE 00 02 30 AA 41 00 08 00 00 00
+ *
+ * A receiver may get the packet as a retransmission (RFC 4588, 4): set is_retransmission and original_number, and as its
+ * fields the SSRC, the payload type and the number of its stream of retransmissions. P is then clear, and behind the
+ * header stands the original number, in two bytes. Send behind it the payload without its padding: unpadded_len bytes
+ * from payload_at on, where padding_fits isn't 0 (rtpw_packet). The second one with the SSRC 47, the payload type 97, the
+ * number 9 and the original number 5:
+ *
+ *     // 90 61 00 09 00 00 00 64 00 00 00 2F BE DE 00 02 30 AA 41 00 08 00 00 00 00 05
  */
 
 /* A group's header: how long it is, and where in it the data of the group's elements lie, in their order. 88 bytes. */
@@ -1319,19 +1327,25 @@ RTPW_CHECKED int32_t rtpw_make_template(const uint8_t *datagram, size_t len, con
                                         size_t count, uint8_t allowed, uint8_t *buf, size_t size,
                                         rtpw_template *made);
 
-/* One of the receivers of a group, and the header that it gets. 40 bytes. */
+/* One of the receivers of a group, and the header that it gets. 48 bytes. */
 typedef struct {
-    size_t data_at;     /* given: where its data begin, in bytes from the first one of the data: made->data_total bytes,
-                         * those of the group's elements one after another in their order */
-    size_t at;          /* given: where its header begins in the buffer, in bytes */
-    rtpw_fields fields; /* given: its fields, as rtpw_set_fields takes them; the others are the packet's */
-    int32_t status;     /* written: RTPW_OK; RTPW_BAD_FIELD where there is a payload type above 127, or its data reach
-                         * past the data; RTPW_SHORT_BUFFER where its header would reach past the buffer */
+    size_t data_at;            /* given: where its data begin, in bytes from the first one of the data:
+                                * made->data_total bytes, those of the group's elements one after another in their
+                                * order */
+    size_t at;                 /* given: where its header begins in the buffer, in bytes */
+    rtpw_fields fields;        /* given: its fields, as rtpw_set_fields takes them; the others are the packet's */
+    uint16_t original_number;  /* given, where it is a retransmission: the number of the packet that it repeats */
+    uint8_t is_retransmission; /* given: where it isn't 0, the header is that of a retransmission, with the original
+                                * number behind it */
+    int32_t status;            /* written: RTPW_OK; RTPW_BAD_FIELD where there is a payload type above 127, or its data
+                                * reach past the data; RTPW_SHORT_BUFFER where its header, or the number behind it, would
+                                * reach past the buffer */
 } rtpw_routed_header;
 
-/* Writes the headers of receivers of the group, made->header_len bytes each, with what rtpw_make_template has made:
- * *made, and the header at the front of `header`, of which nothing behind that is looked at. With the payload behind it
- * each is the packet that goes to the receiver. One that isn't RTPW_OK writes nothing but its status, and spoils no
+/* Writes the headers of receivers of the group, made->header_len bytes each, and two more of a retransmission, with what
+ * rtpw_make_template has made: *made, and the header at the front of `header`, of which nothing behind that is looked at.
+ * With the payload behind it each is the packet that goes to the receiver; of a retransmission the payload without its
+ * padding. One that isn't RTPW_OK writes nothing but its status, and spoils no
  * other. They are written in the order of the array: where two of them overlap, the bytes of the later one stand. How
  * many there are isn't limited, and a count of 0 writes nothing.
  *

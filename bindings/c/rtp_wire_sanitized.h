@@ -503,6 +503,8 @@ static inline void rtpw_sanitizer_receivers(const rtpw_template *made, const uin
         RTPW_SANITIZER_FIELD(receivers[i].data_at);
         RTPW_SANITIZER_FIELD(receivers[i].at);
         rtpw_sanitizer_fields(&receivers[i].fields);
+        RTPW_SANITIZER_FIELD(receivers[i].is_retransmission);
+        if (receivers[i].is_retransmission) { RTPW_SANITIZER_FIELD(receivers[i].original_number); }
         if (receivers[i].data_at <= data_len && made->data_total <= data_len - receivers[i].data_at) {
             rtpw_sanitizer_reads(data + receivers[i].data_at, made->data_total);
         }
@@ -514,7 +516,10 @@ static inline void rtpw_sanitizer_wrote_headers(const rtpw_template *made, const
     size_t i;
     for (i = 0; i < count; i++) {
         rtpw_sanitizer_wrote(&receivers[i].status, sizeof receivers[i].status);
-        if (receivers[i].status == RTPW_OK) { rtpw_sanitizer_wrote(buf + receivers[i].at, made->header_len); }
+        if (receivers[i].status == RTPW_OK) {
+            size_t number_len = receivers[i].is_retransmission ? 2 : 0;
+            rtpw_sanitizer_wrote(buf + receivers[i].at, made->header_len + number_len);
+        }
     }
 }
 

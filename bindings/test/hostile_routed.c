@@ -239,6 +239,13 @@ static int32_t template_status(const rtpw_template *made, const uint8_t *bytes, 
     return it.cause != 0 ? it.cause : it.header_len < made->header_len ? RTPW_BAD_FIELD : RTPW_OK;
 }
 
+/* The header of so many bytes as that of a retransmission. */
+static void repeat(uint8_t *bytes, size_t len, uint16_t original_number) {
+    bytes[0] &= 0xDF;
+    bytes[len] = (uint8_t)(original_number >> 8);
+    bytes[len + 1] = (uint8_t)original_number;
+}
+
 static size_t random_place(size_t size, size_t len) {
     uint64_t x = random_u64();
     size_t last = size >= len ? size - len : 0;
@@ -260,8 +267,11 @@ static void write_headers(const rtpw_template *made, const uint8_t *header, size
     for (size_t i = 0; i < count; i++) {
         memset(&receivers[i], 0, sizeof *receivers);
         receivers[i].data_at = random_place(data_len, made->data_total);
-        receivers[i].at = random_place(size, len);
+        /* also where the header has room, and not the number behind it */
+        receivers[i].at = random_place(size, len + random_u64() % 3);
         receivers[i].status = (int32_t)random_u64();
+        receivers[i].original_number = (uint16_t)random_u64();
+        receivers[i].is_retransmission = (uint8_t)(random_u64() % 2 == 0 ? random_u64() : 0);
         random_fields(&receivers[i].fields);
     }
     if (count > 0) {
@@ -271,12 +281,12 @@ static void write_headers(const rtpw_template *made, const uint8_t *header, size
     CHECK(rtpw_write_headers(made, header, header_size, data, data_len, receivers, count, buf, size) == status);
     for (size_t i = 0; i < count && status == RTPW_OK; i++) {
         const rtpw_routed_header *it = &before[i];
-        size_t own = it->data_at;
+        size_t own = it->data_at, needed = (size_t)made->header_len + (it->is_retransmission != 0 ? 2 : 0);
         before[i].status = RTPW_OK;
         if ((it->fields.has_payload_type && it->fields.payload_type > 127) || own > data_len ||
             made->data_total > data_len - own) {
             before[i].status = RTPW_BAD_FIELD;
-        } else if (it->at > size || made->header_len > size - it->at) {
+        } else if (it->at > size || needed > size - it->at) {
             before[i].status = RTPW_SHORT_BUFFER;
         } else {
             uint8_t *to = headers_expected + it->at;
@@ -286,10 +296,42 @@ static void write_headers(const rtpw_template *made, const uint8_t *header, size
                 memcpy(to + made->data_at[j], data + own, made->data_len[j]);
                 own += made->data_len[j];
             }
+            if (it->is_retransmission != 0) {
+                repeat(to, made->header_len, it->original_number);
+            }
         }
     }
     CHECK(count == 0 || memcmp(receivers, before, count * sizeof *receivers) == 0);
     CHECK(size == 0 || memcmp(buf, headers_expected, size) == 0);
+}
+
+/* What a receiver gets as a retransmission is what is made of the packet that it got, with whose header the buffer begins. */
+static void as_it_is_sent_again(const rtpw_template *made, const uint8_t *header, rtpw_routed_header *receiver,
+                                const uint8_t *data, size_t data_len, uint8_t *buf, size_t size, size_t len) {
+    static uint8_t written[LONGEST + 16 * 264];
+    static rtpw_new_ids same;
+    uint8_t padding = (uint8_t)(1 + random_below(5));
+    size_t header_len = len, payload_len = random_below(8);
+    for (int i = 1; i < 256; i++) {
+        same.id[i] = (uint8_t)i;
+    }
+    receiver->is_retransmission = (uint8_t)(1 + random_below(255));
+    receiver->original_number = (uint16_t)(buf[2] * 256 + buf[3]);
+    receiver->fields.has_ssrc = receiver->fields.has_payload_type = receiver->fields.has_sequence_number = 1;
+    receiver->fields.sequence_number = (uint16_t)random_u64();
+    receiver->fields.ssrc = (uint32_t)random_u64();
+    fill(buf + len, payload_len + padding);
+    buf[len + payload_len + padding - 1] = padding;
+    len += payload_len + ((buf[0] & 0x20) != 0 ? padding : 0);
+    CHECK(rtpw_to_retransmission(buf, size, &len, receiver->fields.ssrc, receiver->fields.payload_type,
+                                 receiver->fields.sequence_number, &same) == RTPW_OK);
+    CHECK(rtpw_write_headers(made, header, made->header_len, data, data_len, receiver, 1, written, header_len + 1) ==
+          RTPW_OK);
+    CHECK(receiver->status == RTPW_SHORT_BUFFER);
+    CHECK(rtpw_write_headers(made, header, made->header_len, data, data_len, receiver, 1, written, header_len + 2) ==
+          RTPW_OK);
+    CHECK(receiver->status == RTPW_OK && len == header_len + 2 + payload_len);
+    CHECK(memcmp(written, buf, header_len + 2) == 0);
 }
 
 /* What one receiver gets is what the calls for one packet make. */
@@ -317,6 +359,7 @@ static void as_the_calls_do(const rtpw_template *made, const uint8_t *header, si
           RTPW_OK);
     CHECK(receiver.status == RTPW_OK && hand_len == made->header_len);
     CHECK(memcmp(written, by_hand, hand_len) == 0);
+    as_it_is_sent_again(made, header, &receiver, data, data_len, by_hand, sizeof by_hand, hand_len);
 }
 
 static void tear(rtpw_template *made, uint8_t *header, size_t size) {

@@ -69,11 +69,13 @@ HOLDS(offsetof(rtpw_template, data_total) == 68);
 HOLDS(offsetof(rtpw_template, count) == 70);
 HOLDS(offsetof(rtpw_template, data_len) == 71);
 
-HOLDS(sizeof(rtpw_routed_header) == 40);
+HOLDS(sizeof(rtpw_routed_header) == 48);
 HOLDS(offsetof(rtpw_routed_header, data_at) == 0);
 HOLDS(offsetof(rtpw_routed_header, at) == 8);
 HOLDS(offsetof(rtpw_routed_header, fields) == 16);
-HOLDS(offsetof(rtpw_routed_header, status) == 36);
+HOLDS(offsetof(rtpw_routed_header, original_number) == 36);
+HOLDS(offsetof(rtpw_routed_header, is_retransmission) == 38);
+HOLDS(offsetof(rtpw_routed_header, status) == 40);
 
 HOLDS(sizeof(rtpw_receiver) == 32);
 HOLDS(offsetof(rtpw_receiver, highest) == 0);

@@ -34,7 +34,7 @@ static rtpw_datagram_header datagram_headers[2] = {{.len = sizeof datagram}, {.a
 static rtpw_arrival arrivals[3] = {{.sequence_number = 99}, {.sequence_number = 98}, {.receiver = 1}};
 static rtpw_template made;
 static uint8_t headers[12 + 60 + 4 + 262140 + 16 * 264], written_headers[sizeof headers], zeros[16];
-static rtpw_routed_header routed[2] = {{.at = 0}, {.at = SIZE_MAX}};
+static rtpw_routed_header routed[3] = {{.at = 0}, {.at = SIZE_MAX}, {.is_retransmission = 1}};
 static rtpw_map map;
 static rtpw_values values;
 static rtpw_header header, given;
@@ -174,7 +174,7 @@ static void make_template_long(void) { /* whose block is too long for one walk *
                                 sizeof headers, &made);
 }
 static void write_headers(void) { /* from what was made before */
-    status = rtpw_write_headers(&made, headers, sizeof headers, zeros, sizeof zeros, routed, 2, written_headers,
+    status = rtpw_write_headers(&made, headers, sizeof headers, zeros, sizeof zeros, routed, 3, written_headers,
                                 sizeof written_headers);
 }
 static void packet_parse_many(void) { rtpw_packet_parse_many(datagram, sizeof datagram, datagrams, 2); }

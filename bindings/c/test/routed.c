@@ -99,6 +99,69 @@ static void two_receivers(void) {
     CHECK(receivers[1].data_at == 2 && receivers[1].at == 0 && receivers[0].fields.ssrc == 45);
 }
 
+/* Three receivers, of which the first and the last get a retransmission of a packet with padding. */
+static void retransmissions(void) {
+    static const uint8_t packet[] = {0xB0, 0xE0, 0, 5, REST, 0xBE, 0xDE, 0, 1, 0x10, 0xAA, 0, 0, 'p', 'q', 0, 2};
+    static const uint8_t common[] = {0xB0, 0xE0, 0, 5, REST, 0xBE, 0xDE, 0, 2, 0x30, 0xAA, 0x41, 0, 7, 0, 0, 0};
+    static const uint8_t first[] = {0x90, 0xE1, 0, 9, REST_45, 0xBE, 0xDE, 0, 2, 0x30, 0xAA, 0x41, 0, 8, 0, 0, 0, 0, 5};
+    static const uint8_t second[] = {0xB0, 0xE0, 0, 5, REST, 0xBE, 0xDE, 0, 2, 0x30, 0xAA, 0x41, 0, 8, 0, 0, 0};
+    static const uint8_t third[] = {0x90, 0xE0, 0, 5, REST, 0xBE, 0xDE, 0, 2, 0x30, 0xAA, 0x41, 0, 7, 0, 0, 0, 0x12, 0x34};
+    const rtpw_new_ids ids = ids_of(1, 3);
+    const rtpw_element element = element_of(0, 2, 4);
+    rtpw_new_ids same;
+    rtpw_routed_header receivers[3];
+    uint8_t headers[76], sent[30];
+    size_t i, size, len = sizeof second + 4;
+    is_made(packet, sizeof packet, &ids, NUMBERS, sizeof NUMBERS, &element, 1, RTPW_ANY_FORM, common, sizeof common);
+    memset(receivers, 0, sizeof receivers);
+    receivers[0].data_at = receivers[1].data_at = 2;
+    receivers[0].fields.has_sequence_number = receivers[0].fields.has_ssrc = receivers[0].fields.has_payload_type = 1;
+    receivers[0].fields.sequence_number = 9;
+    receivers[0].fields.ssrc = 45;
+    receivers[0].fields.payload_type = 97;
+    receivers[0].is_retransmission = 1;
+    receivers[0].original_number = 5;
+    receivers[1].at = 26;
+    receivers[1].original_number = 77; /* it isn't looked at */
+    receivers[2].at = 50;
+    receivers[2].is_retransmission = 255;
+    receivers[2].original_number = 0x1234;
+    memset(headers, 0xEE, sizeof headers);
+    CHECK(rtpw_write_headers(&made, header, sizeof header, NUMBERS, sizeof NUMBERS, receivers, 3, headers,
+                             sizeof headers) == RTPW_OK);
+    CHECK(receivers[0].status == RTPW_OK && receivers[1].status == RTPW_OK && receivers[2].status == RTPW_OK);
+    CHECK(memcmp(headers, first, sizeof first) == 0 && memcmp(headers + 26, second, sizeof second) == 0);
+    CHECK(memcmp(headers + 50, third, sizeof third) == 0);
+    CHECK(receivers[0].is_retransmission == 1 && receivers[2].original_number == 0x1234);
+    /* the header has room, and the number behind it hasn't */
+    for (size = 0; size < 26; size++) {
+        receivers[0].status = 77;
+        memset(headers, 0xEE, sizeof headers);
+        CHECK(rtpw_write_headers(&made, header, sizeof header, NUMBERS, sizeof NUMBERS, receivers, 1, headers, size) ==
+              RTPW_OK);
+        CHECK(receivers[0].status == RTPW_SHORT_BUFFER);
+        for (i = 0; i < sizeof headers; i++) {
+            CHECK(headers[i] == 0xEE);
+        }
+    }
+    CHECK(rtpw_write_headers(&made, header, sizeof header, NUMBERS, sizeof NUMBERS, receivers, 1, headers, 26) == RTPW_OK);
+    CHECK(receivers[0].status == RTPW_OK && memcmp(headers, first, sizeof first) == 0 && headers[26] == 0xEE);
+    receivers[0].fields.payload_type = 128;
+    receivers[2].data_at = 3;
+    CHECK(rtpw_write_headers(&made, header, sizeof header, NUMBERS, sizeof NUMBERS, receivers, 3, headers,
+                             sizeof headers) == RTPW_OK);
+    CHECK(receivers[0].status == RTPW_BAD_FIELD && receivers[1].status == RTPW_OK && receivers[2].status == RTPW_BAD_FIELD);
+    /* it is what the second receiver's packet becomes, whose payload has two bytes of padding */
+    memset(&same, 0, sizeof same);
+    for (i = 1; i < 256; i++) {
+        same.id[i] = (uint8_t)i;
+    }
+    memcpy(sent, second, sizeof second);
+    memcpy(sent + sizeof second, packet + 20, 4);
+    CHECK(rtpw_to_retransmission(sent, sizeof sent, &len, 45, 97, 9, &same) == RTPW_OK && len == sizeof first + 2);
+    CHECK(memcmp(sent, first, sizeof first) == 0 && memcmp(sent + sizeof first, "pq", 2) == 0);
+}
+
 static void groups(void) {
     /* the elements 1, 2 and 1 again */
     static const uint8_t three[] = {0x90, 96, 0, 5, REST, 0xBE, 0xDE, 0, 2, 0x10, 'a', 0x21, 'b', 'c', 0x10, 'd', 0};
@@ -319,6 +382,7 @@ static void torn(void) {
 
 int main(void) {
     two_receivers();
+    retransmissions();
     groups();
     refusals();
     many();

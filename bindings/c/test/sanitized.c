@@ -764,11 +764,11 @@ static void make_template(void) {
     set(made, offsetof(rtpw_template, data_len) + sizeof made->data_len);
     set(buf, made->header_len);
 }
-static void write_headers(void) { /* of the second one the data aren't there */
+static void write_headers(void) { /* of the second one the data aren't there; the third is a retransmission */
     static const uint8_t header[24] = {0x90, 96,   0, 5, 0,    0,    0,    100, 0, 0, 0, 44,
                                        0xBE, 0xDE, 0, 2, 0x30, 0xAA, 0x41, 0,   7, 0, 0, 0};
     rtpw_template it;
-    rtpw_routed_header two[2], *receivers;
+    rtpw_routed_header three[3], *receivers;
     uint8_t *buf;
     memset(&it, 0, sizeof it);
     it.header_len = 24;
@@ -776,20 +776,24 @@ static void write_headers(void) { /* of the second one the data aren't there */
     it.data_len[0] = 2;
     it.data_total = 2;
     it.count = 1;
-    memset(two, 0, sizeof two);
-    two[0].fields.has_ssrc = 1;
-    two[1].data_at = 1;
+    memset(three, 0, sizeof three);
+    three[0].fields.has_ssrc = 1;
+    three[1].data_at = 1;
+    three[2].at = 24;
+    three[2].is_retransmission = 1;
     const rtpw_template *made = in(&it, sizeof it);
     const uint8_t *copied = in(header, sizeof header), *data = in("ab", 2);
-    receivers = in(two, sizeof two);
-    buf = out(24);
-    done(rtpw_write_headers(made, copied, sizeof header, data, 2, receivers, 2, buf, 24));
+    receivers = in(three, sizeof three);
+    buf = out(50);
+    done(rtpw_write_headers(made, copied, sizeof header, data, 2, receivers, 3, buf, 50));
     done(receivers[0].status);
+    done(receivers[2].status);
     if (receivers[1].status != RTPW_BAD_FIELD) {
         _exit(3);
     }
-    set(buf, 24);
+    set(buf, 50);
     set(&receivers[0].status, sizeof receivers[0].status);
+    set(&receivers[2].status, sizeof receivers[2].status);
 }
 static void no_bytes(void) { /* NULL, where the size is 0 */
     size_t len = 0;

@@ -1,5 +1,5 @@
 -- What C is told of a packet: there is a place for each of its sources, and of values and layers that were read apart each stands in its place.
-use Rattle.std.proofs.Common.{◌≡◌, ℕ, ◌≤◌, List, length, Bool, true, false, Option, Some, None, is_some, IfSome, unwrap_or, ap, sym, ◌∙◌, subst, arith}
+use Rattle.std.proofs.Common.{◌≡◌, ℕ, ◌≤◌, List, length, Bool, true, false, Option, Some, None, is_some, IfSome, unwrap_or, ap, sym, ◌∙◌, arith}
 use Rattle.std.proofs.lemmas.Bool.{false≢true}
 use Rattle.rtp_base.specs.Flag.{bit}
 use Rattle.rtp_vla.specs.Allocation.{Allocation, nothing_sent}

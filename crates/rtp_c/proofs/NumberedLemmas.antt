@@ -1,6 +1,5 @@
 -- The map that C fills, as it stands: what each id is mapped to, and a walk over the mapped ids.
 use Rattle.rtp_c.proofs.Common.{◌≡◌, ◌≢◌, ℕ, zero, suc, ◌≤◌, ◌<◌, ◌+◌, ◌-◌, ◌%◌, List, [], ◌∷◌, length, map, take, drop, get_or, Bool, false, true, Option, None, Some, inl, inr, arith, refl, sym, ap, ◌∙◌, subst, le-ltb, nat_lt, option_map, cases_lt, false≢true, length-map, length-take, length-drop, drop_all, drop_more, take_all, get_or-take, get_or_past, get_or-map, one_kind, extension_of_kind, KnownKind, Slots, IsLowest, IsUnmapped, extension_at, extension_of, items_from, entry_of_kind, IsNewId, items_from-empty, length-items_from, HasKinds, IsFirstNumber, numbered_slots}
-use Rattle.rtp_values.specs.declared.kind.Extension.TheVariants as extension
 use Rattle.rtp_ext.proofs.KindsByIdLemmas.{entry_at-kinds}
 use Rattle.rtp_c.specs.KindNumbers.{kind_number, kind_numbered, numbered_kinds, IsKindNumbered}
 use Rattle.rtp_c.proofs.KindNumberLemmas.{number≢0, number_zero, number_of_kind, numbered_is, all_pass, numbered_passes}

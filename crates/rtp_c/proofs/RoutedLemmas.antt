@@ -1,6 +1,6 @@
 -- A header that is written for a receiver, and the template that it is written from.
-use Rattle.rtp_c.proofs.Common.{◌≡◌, ℕ, ◌+◌, ◌-◌, ◌≤◌, List, [], ◌∷◌, ◌++◌, length, take, drop, map, refl, sym, ap, subst, ◌∙◌, arith, length-take, length-drop, All}
-use Rattle.rtp_base.specs.Overwriting.{overwritten}
+use Rattle.rtp_c.proofs.Common.{◌≡◌, ℕ, Bool, true, false, if◌then◌else◌, ◌<◌, ◌+◌, ◌-◌, ◌≤◌, List, [], ◌∷◌, length, take, drop, refl, sym, ap, subst, ◌∙◌, arith, length-take, length-drop, All}
+use Rattle.std.proofs.lemmas.Bool.{lt-ltb}
 use Rattle.rtp_wire.specs.declared.packet.fields.Fields.{Fields}
 use Rattle.rtp_wire.specs.declared.packet.rtp_packet.RtpPacket.{RtpPacket}
 use Rattle.rtp_wire.specs.Packet.{PacketParts, IsPacket, header_len_of}
@@ -9,14 +9,18 @@ use Rattle.rtp_wire.proofs.PartsLemmas.{length-packet, IsPacket-found}
 use Rattle.rtp_route.specs.declared.slots.Slot.{Slot}
 use Rattle.rtp_route.specs.Calls as calls
 use Rattle.rtp_route.specs.GroupHeader.{IsFilledIn}
+use Rattle.rtp_route.specs.Retransmitted.{IsFilledInAgain}
 use Rattle.rtp_route.specs.Template.{slot_lengths, total_of, pieces}
 use Rattle.rtp_route.specs.declared.parts.TemplateParts.{TemplateParts}
 use Rattle.rtp_route.proofs.LengthLemmas.{pieces-lengths}
+use Rattle.rtp_route.proofs.RetransmittedLemmas.{routed-again}
 use Rattle.rtp_route.proofs.TemplateLemmas.{routed-filled}
 use Rattle.rtp_c.specs.declared.template.StoredTemplate.{StoredTemplate}
 use Rattle.rtp_c.specs.PacketView.{slice_at}
-use Rattle.rtp_c.specs.RoutedHeaders.{IsReceivers}
-use Rattle.rtp_c.specs.StoredTemplate.{slots_of, IsInRange, HasParts}
+use Rattle.rtp_c.specs.Given.{is_nonzero}
+use Rattle.rtp_c.specs.declared.routed_headers.RoutedHeader.{RoutedHeader}
+use Rattle.rtp_c.specs.RoutedHeaders.{IsReceivers, IsReceiversAgain, len_for}
+use Rattle.rtp_c.specs.StoredTemplate.{IsInRange, HasParts}
 
 -- what is stored, where the parts are found to be in range
 pub in-range : (made : StoredTemplate) (parts : TemplateParts) (size total : ℕ) → HasParts made parts → made.count ≤ 16 → made.header_len ≤ size
@@ -58,3 +62,29 @@ receivers-header header slots fields given bytes own at len new fields_are own_i
       filled = now;
       routed = λ old ids news allowed is. routed-filled old ids news allowed header slots fields _ new is (pieces-lengths slots (slice_at bytes at (total_of slots)) long) now;
     }
+
+-- the same for a retransmission
+pub receivers-again : (header : List ℕ) (slots : List Slot) (fields given : Fields) (number : ℕ) (own new : List ℕ) → given ≡ fields → length own ≡ total_of slots
+    → IsFilledInAgain header slots given number (pieces (slot_lengths slots) own) new → IsReceiversAgain header slots fields number (pieces (slot_lengths slots) own) new
+receivers-again header slots fields given number own new fields_are long filled =
+    let now : IsFilledInAgain header slots fields number (pieces (slot_lengths slots) own) new =
+    subst (λ (f : Fields). IsFilledInAgain header slots f number (pieces (slot_lengths slots) own) new) fields_are filled in
+    record {
+      filled = now;
+      routed = λ old ids news allowed is. routed-again old ids news allowed header slots fields number _ new is (pieces-lengths slots own long) now;
+    }
+
+-- ---- how many bytes a receiver gets
+
+pub len-packet : (header : List ℕ) (receiver : RoutedHeader) → receiver.is_retransmission ≡ 0 → len_for header receiver ≡ length header
+len-packet header receiver none = let same : len_for header receiver ≡ length header + 0 = ap (λ (n : ℕ). length header + (if is_nonzero n then 2 else 0)) none in omega (arith, same)
+
+pub len-again : (header : List ℕ) (receiver : RoutedHeader) → 0 < receiver.is_retransmission → len_for header receiver ≡ length header + 2
+len-again header receiver some = ap (λ (b : Bool). length header + (if b then 2 else 0)) (lt-ltb 0 receiver.is_retransmission some)
+
+pub len-least : (header : List ℕ) (receiver : RoutedHeader) → length header ≤ len_for header receiver
+len-least header receiver = by_flag (is_nonzero receiver.is_retransmission)
+  where
+    by_flag : (b : Bool) → length header ≤ length header + (if b then 2 else 0)
+    by_flag true = omega arith
+    by_flag false = omega arith

@@ -1,11 +1,10 @@
 -- The places of a template as C keeps them.
 use Rattle.rtp_c.proofs.Common.{ℤ, w32, to_z, of_z, length-map}
-use Rattle.std.proofs.Common.{Option, Some, None, ◌≢◌, map, ◌≡◌, ℕ, zero, suc, ◌+◌, ◌<◌, ◌≤◌, List, [], ◌∷◌, ◌++◌, length, take, drop, get_or, set, refl, sym, ap, subst, ◌∙◌, arith}
+use Rattle.std.proofs.Common.{Option, ◌≡◌, ℕ, zero, suc, ◌+◌, ◌<◌, List, [], ◌∷◌, ◌++◌, length, take, get_or, set, refl, sym, ap, subst, ◌∙◌, arith}
 use Rattle.std.proofs.lemmas.List.{take_more, take_more_set}
 use Rattle.rtp_route.specs.declared.slots.Slot.{Slot}
 use Rattle.rtp_ext.specs.declared.form.ExtensionsForm.{ExtensionsForm}
 use Rattle.rtp_ext.specs.Elements.{Element}
-use Rattle.rtp_ext.specs.ElementsInARow.{elements_of}
 use Rattle.rtp_ext.specs.NewIds.{new_id}
 use Rattle.rtp_route.specs.declared.not_routed.NotRouted.{NotRouted}
 use Rattle.rtp_route.specs.declared.not_routed.NotRouted.TheVariants.{ManyElements, RepeatedId, LongId, NotPut}

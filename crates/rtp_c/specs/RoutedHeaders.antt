@@ -1,5 +1,5 @@
--- The headers that receivers of a packet get, one after another, in a buffer of C's (RFC 7667, 3.7; RFC 8285, 5).
-use Rattle.std.specs.Prelude.{◌≡◌, ◌≢◌, ℕ, ◌+◌, ◌≤◌, ◌<◌, List, [], ◌∷◌, length, take, Option, ℤ}
+-- The headers that receivers of a packet get, one after another, in a buffer of C's (RFC 7667, 3.7; RFC 8285, 5), also those of retransmissions (RFC 4588, 4).
+use Rattle.std.specs.Prelude.{◌≡◌, ◌≢◌, ℕ, ◌+◌, ◌≤◌, ◌<◌, List, [], ◌∷◌, length, take, if◌then◌else◌, Option, ℤ}
 use Rattle.rtp_base.specs.Overwriting.{overwritten}
 use Rattle.rtp_ext.specs.declared.form.ExtensionsForm.{ExtensionsForm}
 use Rattle.rtp_ext.specs.Elements.{Element}
@@ -7,14 +7,16 @@ use Rattle.rtp_wire.specs.declared.packet.fields.Fields.{Fields}
 use Rattle.rtp_wire.specs.Packet.{PacketParts, IsPacket}
 use Rattle.rtp_route.specs.declared.slots.Slot.{Slot}
 use Rattle.rtp_route.specs.GroupHeader.{IsGroupHeader, IsFilledIn}
+use Rattle.rtp_route.specs.Retransmitted.{IsRoutedAgain, IsFilledInAgain}
 use Rattle.rtp_route.specs.Routing.{IsRouted}
 use Rattle.rtp_route.specs.Template.{slot_lengths, total_of, pieces, with_data}
 use Rattle.rtp_c.specs.declared.template.StoredTemplate.{StoredTemplate}
 use Rattle.rtp_c.specs.declared.routed_headers.RoutedHeader.{RoutedHeader}
+use Rattle.rtp_c.specs.Given.{is_nonzero}
 use Rattle.rtp_c.specs.PacketView.{slice_at}
 use Rattle.rtp_c.specs.SetFields.{fields_given, CanBeSet}
 use Rattle.rtp_c.specs.Status.{ok, short_buffer, bad_field, IsCauseStatus}
-use Rattle.rtp_c.specs.StoredTemplate.{slots_of, IsInRange}
+use Rattle.rtp_c.specs.StoredTemplate.{IsInRange}
 
 -- the header that a template is stored of
 abbrev pub header_in : StoredTemplate → List ℕ → List ℕ
@@ -43,6 +45,12 @@ pub record IsReceivers (header : List ℕ) (slots : List Slot) (fields : Fields)
   pub routed : (old : List ℕ) (ids : ℕ → Option ℕ) (news : List Element) (allowed : Option ExtensionsForm)
       → IsGroupHeader old ids news allowed header slots → IsRouted old fields ids (with_data news contents) allowed new
 
+-- the same for a retransmission of the packet of this number: P is clear, and the number is behind the header
+pub record IsReceiversAgain (header : List ℕ) (slots : List Slot) (fields : Fields) (number : ℕ) (contents : List (List ℕ)) (new : List ℕ) : Type 0 where
+  pub filled : IsFilledInAgain header slots fields number contents new
+  pub routed : (old : List ℕ) (ids : ℕ → Option ℕ) (news : List Element) (allowed : Option ExtensionsForm)
+      → IsGroupHeader old ids news allowed header slots → IsRoutedAgain old fields number ids (with_data news contents) allowed new
+
 -- the fields of a receiver can be set, and its data lie within these bytes
 pub record IsServed (slots : List Slot) (bytes : List ℕ) (receiver : RoutedHeader) : Type 0 where
   pub fields : CanBeSet receiver.fields
@@ -52,12 +60,21 @@ pub record IsServed (slots : List Slot) (bytes : List ℕ) (receiver : RoutedHea
 abbrev pub data_of : List Slot → List ℕ → RoutedHeader → List (List ℕ)
 data_of slots bytes receiver = pieces (slot_lengths slots) (slice_at bytes receiver.data_at (total_of slots))
 
--- the header of a receiver stands at its place in the buffer, and all other bytes are as they were; without room there, or where it can't be served, all are
+-- how many bytes a receiver gets: those of the header, and of a retransmission two more
+abbrev pub len_for : List ℕ → RoutedHeader → ℕ
+len_for header receiver = length header + (if is_nonzero receiver.is_retransmission then 2 else 0)
+
+-- what a receiver gets: its header, or that of its retransmission
+pub record Gets (header : List ℕ) (slots : List Slot) (bytes : List ℕ) (receiver : RoutedHeader) (own : List ℕ) : Type 0 where
+  pub packet : receiver.is_retransmission ≡ 0 → IsReceivers header slots (fields_given receiver.fields) (data_of slots bytes receiver) own
+  pub retransmission : 0 < receiver.is_retransmission → IsReceiversAgain header slots (fields_given receiver.fields) receiver.original_number (data_of slots bytes receiver) own
+
+-- what a receiver gets stands at its place in the buffer, and all other bytes are as they were; without room there, or where it can't be served, all are
 pub record IsHeaderWritten (header : List ℕ) (slots : List Slot) (bytes : List ℕ) (old new : RoutedHeader) (buf after : List ℕ) : Type 0 where
   pub given_is : new ≡ record old { status = new.status }
-  pub written : IsServed slots bytes old → old.at + length header ≤ length buf →
-      (new.status ≡ ok) × ((own : List ℕ) × IsReceivers header slots (fields_given old.fields) (data_of slots bytes old) own × (after ≡ overwritten buf old.at own))
-  pub short : IsServed slots bytes old → length buf < old.at + length header → new.status ≡ short_buffer
+  pub written : IsServed slots bytes old → old.at + len_for header old ≤ length buf →
+      (new.status ≡ ok) × ((own : List ℕ) × Gets header slots bytes old own × (after ≡ overwritten buf old.at own))
+  pub short : IsServed slots bytes old → length buf < old.at + len_for header old → new.status ≡ short_buffer
   pub refused : (IsServed slots bytes old → ⊥) → new.status ≡ bad_field
   pub unchanged : new.status ≢ ok → after ≡ buf
 

@@ -1,21 +1,24 @@
 //! One packet to all its receivers: a header for each, in one call.
 
-ghost use Rattle.std.specs.Prelude.{◌≡◌, ◌≢◌, ◌↔◌, ◌≤◌, All, IsOk, IfOk, IfErr};
+ghost use Rattle.std.specs.Prelude.{◌≡◌, ◌≢◌, ◌↔◌, ◌+◌, ◌<◌, ◌≤◌, ℕ, List, length, All, IsOk, IfOk, IfErr};
+ghost use Rattle.rtp_base.specs.Overwriting.{overwritten};
+ghost use Rattle.rtp_wire.specs.Packet.{header_len_of};
 ghost use Rattle.rtp_wire.specs.PartsOf.{parts_of};
 ghost use Rattle.rtp_route.specs.Calls as calls;
-ghost use Rattle.rtp_route.specs.Template.{total_of, LiesInHeader};
-ghost use Rattle.rtp_c.specs.RoutedHeaders.{header_in, IsWholeTemplate, IsTemplateStatus, IsHeaderWritten, AreHeadersWritten};
-ghost use Rattle.rtp_c.specs.Status.{ok};
+ghost use Rattle.rtp_route.specs.Template.{slot_lengths, total_of, pieces, LiesInHeader};
+ghost use Rattle.rtp_c.specs.RoutedHeaders.{header_in, IsWholeTemplate, IsTemplateStatus, IsReceiversAgain, IsHeaderWritten, AreHeadersWritten};
+ghost use Rattle.rtp_c.specs.SetFields.{fields_given, CanBeSet};
+ghost use Rattle.rtp_c.specs.Status.{ok, short_buffer};
 ghost use Rattle.rtp_c.specs.StoredTemplate.{slots_of, HasParts};
 
 use super::changing::{FieldsView, given_fields};
 use super::datagrams::slice_in;
 use super::status::{BAD_FIELD, OK, SHORT_BUFFER, status_of};
 use super::template::StoredTemplate;
-use rtp_route::{MAX_ELEMENTS, Slot, TemplateParts, write_joined};
+use rtp_route::{MAX_ELEMENTS, Slot, TemplateParts, write_joined, write_retransmission};
 use rtp_wire::RtpPacket;
 
-/// One of the receivers of a group, and the header that it gets: `rtpw_routed_header` in C, 40
+/// One of the receivers of a group, and the header that it gets: `rtpw_routed_header` in C, 48
 /// bytes.
 #[repr(C)]
 #[derive(Clone, Copy)]
@@ -26,8 +29,15 @@ pub struct RoutedHeader {
     pub at: usize,
     /// Given: its fields; the others are the packet's.
     pub fields: FieldsView,
+    /// Given, where it is a retransmission: the number of the packet that it repeats.
+    pub original_number: u16,
+    /// Given: where it isn't 0 its header is that of a retransmission (RFC 4588, 4), whose number,
+    /// payload type and SSRC the fields are. P is clear, and two bytes behind the header are the
+    /// original number.
+    pub is_retransmission: u8,
     /// `OK`; `BAD_FIELD` where a payload type is given that is above 127, or its data reach past
-    /// the data; `SHORT_BUFFER` where its header would reach past the buffer.
+    /// the data; `SHORT_BUFFER` where its header would reach past the buffer, with the original
+    /// number where it is a retransmission.
     pub status: i32,
 }
 
@@ -60,7 +70,41 @@ fn header_of<'a>(
     Ok(header)
 }
 
-// Writes the header of a receiver at its place, where it can be served and there is room.
+// Writes the header of a retransmission for a receiver that can be served, where the number behind
+// it has room too, and returns the status. It stays out of line, since few packets are sent again.
+#[cold]
+#[inline(never)]
+fn write_again(
+    header: RtpPacket<'_>,
+    slots: &[Slot],
+    own: &[u8],
+    receiver: &RoutedHeader,
+    buf: &mut [u8],
+) -> i32
+    requires payload_type { CanBeSet receiver.now.fields }
+    requires lengths { length own.now ≡ total_of slots.now }
+    requires within { All (LiesInHeader (parts_of header)) slots.now }
+    requires room { receiver.now.at + header_len_of (parts_of header) ≤ length buf.old }
+    ensures written { receiver.now.at + header_len_of (parts_of header.entry) + 2 ≤ length buf.old →
+        (result ≡ ok) × ((bytes : List ℕ) × IsReceiversAgain (calls.header_in header.entry)
+        slots.now (fields_given receiver.now.fields) receiver.now.original_number
+        (pieces (slot_lengths slots.now) own.now) bytes
+        × (buf.new ≡ overwritten buf.old receiver.now.at bytes)) }
+    ensures short { length buf.old < receiver.now.at + header_len_of (parts_of header.entry) + 2 →
+        result ≡ short_buffer }
+    ensures unchanged { result ≢ ok → buf.new ≡ buf.old }
+{
+    let (at, len) = (receiver.at, header.header_len() + 2);
+    if len > buf.len() - at {
+        return SHORT_BUFFER;
+    }
+    let fields = given_fields(&receiver.fields);
+    let number = receiver.original_number;
+    write_retransmission(&header, slots, &fields, number, own, &mut buf[at..at + len]);
+    OK
+}
+
+// Writes what a receiver gets at its place, where it can be served and there is room.
 fn write_one(
     header: &RtpPacket<'_>,
     slots: &[Slot],
@@ -87,6 +131,10 @@ fn write_one(
         receiver.status = SHORT_BUFFER;
         return;
     }
+    if receiver.is_retransmission != 0 {
+        receiver.status = write_again(*header, slots, own, receiver, buf);
+        return;
+    }
     let fields = given_fields(&receiver.fields);
     write_joined(header, slots, &fields, own, &mut buf[at..at + len]);
     receiver.status = OK;
@@ -95,8 +143,9 @@ fn write_one(
 /// Writes the header of each of these receivers of a group at its place in the buffer (RFC 7667,
 /// 3.7; RFC 8285, 5), from what [`rtpw_make_template`](super::template::rtpw_make_template) made:
 /// the struct, and the header at the front of `header`. Each is that header with the receiver's
-/// fields, and with its data as those of the group's elements. They are written one after another,
-/// and one that can't be served has no effect on any other.
+/// fields, and with its data as those of the group's elements; for a retransmission (RFC 4588, 4) P
+/// is clear, and the original number stands behind it. They are written one after another, and one
+/// that can't be served has no effect on any other.
 ///
 /// `OK`, whatever the statuses of the receivers are. `BAD_FIELD` where the struct names more than
 /// 16 elements, more bytes than `header` has, data that reach past the header, or another number of

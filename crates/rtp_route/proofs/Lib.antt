@@ -12,7 +12,9 @@ mod BodyLemmas
 mod OnlyLemmas
 mod SlotsFound
 pub mod TemplateLemmas
+pub mod RetransmittedLemmas
 mod OneHeaderLemmas
+mod RepeatedLemmas
 mod RoomLemmas
 mod WalkLemmas
 mod ByWalkLemmas

@@ -156,7 +156,7 @@ packet-same a b parts p q all_a all_b word =
 
 -- ---- a header
 
-one_form : (allowed block : Option ExtensionsForm) (news : List Element) (f g : Option ExtensionsForm) → IsFormAfter allowed block news f → IsFormAfter allowed block news g → f ≡ g
+pub one_form : (allowed block : Option ExtensionsForm) (news : List Element) (f g : Option ExtensionsForm) → IsFormAfter allowed block news f → IsFormAfter allowed block news g → f ≡ g
 one_form allowed block [] f g p q = p ∙ sym q
 one_form allowed block (new ∷ news) f g p q =
     one_form allowed (Some q.0) news f g (subst (λ (form : ExtensionsForm). IsFormAfter allowed (Some form) news f) (same_Some _ _ (sym p.1 ∙ q.1)) p.2) q.2

@@ -6,5 +6,6 @@ pub mod NotRouted
 pub mod Template
 pub mod GroupHeader
 pub mod TemplateOf
+pub mod Retransmitted
 -- What the inside promises itself.
 pub mod Walk

@@ -1,5 +1,5 @@
 -- A header that is made once for a group of receivers.
-use Rattle.std.specs.Prelude.{◌≡◌, ◌≢◌, ◌<◌, ℕ, List, take, Option}
+use Rattle.std.specs.Prelude.{◌≡◌, ◌≢◌, ◌+◌, ◌<◌, ℕ, List, take, Option}
 use Rattle.rtp_ext.specs.declared.form.ExtensionsForm.{ExtensionsForm}
 use Rattle.rtp_ext.specs.Elements.{Element}
 use Rattle.rtp_wire.specs.Packet.{header_len_of}
@@ -35,3 +35,8 @@ IsTemplate old ids news allowed template = IsGroupHeader old ids news allowed (h
 abbrev pub KeepsFromWriting : HeaderTemplate → List ℕ → ℕ → NotWritten → Type 0
 KeepsFromWriting template lengths room OtherLengths = lengths ≢ lengths_of template
 KeepsFromWriting template lengths room (NoRoom needed) = (lengths ≡ lengths_of template) × (needed ≡ header_len_in template) × (room < needed)
+
+-- the same for a retransmission, which needs two bytes more
+abbrev pub KeepsFromWritingAgain : HeaderTemplate → List ℕ → ℕ → NotWritten → Type 0
+KeepsFromWritingAgain template lengths room OtherLengths = lengths ≢ lengths_of template
+KeepsFromWritingAgain template lengths room (NoRoom needed) = (lengths ≡ lengths_of template) × (needed ≡ header_len_in template + 2) × (room < needed)

@@ -1,6 +1,6 @@
 //! Fields and ids of a header, changed where it lies.
 
-ghost use Rattle.std.specs.Prelude.{◌≡◌, ◌↔◌, ◌≤◌, List, IsTrue, IfSome, All};
+ghost use Rattle.std.specs.Prelude.{◌≡◌, ◌↔◌, ◌+◌, ◌≤◌, List, length, take, IsTrue, IfSome, All};
 ghost use Rattle.std.specs.Bool.{OnTrue};
 ghost use Rattle.rtp_ext.specs.Elements.{Element};
 ghost use Rattle.rtp_ext.specs.ElementsInPlace.{CanRenumber};
@@ -11,7 +11,9 @@ ghost use Rattle.rtp_wire.specs.Packet.{PacketParts, IsPacket};
 ghost use Rattle.rtp_wire.specs.PacketElements.{AreElementsOf};
 ghost use Rattle.rtp_wire.specs.PartsAt.{HasLayout};
 ghost use Rattle.rtp_route.specs.Calls.{IsUnderNewIds};
+ghost use Rattle.rtp_route.specs.Retransmitted.{with_number};
 
+use rtp_base::put;
 use rtp_ext::{ExtensionsForm, NewIds};
 use rtp_wire::{Fields, RtpPacketMut};
 
@@ -53,4 +55,17 @@ pub(super) fn renumber(
 {
     let mut packet = RtpPacketMut::new(header, header_len, form);
     packet.renumber(ids)
+}
+
+// Clears P of the header at the front of the buffer, and puts the number into the two bytes behind
+// it.
+#[inline(always)]
+pub(super) fn send_again(buf: &mut [u8], header_len: usize, original_number: u16)
+    requires some { 1 ≤ header_len }
+    requires room { length buf.old ≡ header_len + 2 }
+    ensures { buf.new ≡ with_number (take header_len buf.old) original_number }
+{
+    let first = buf[0] & 0xDF;
+    put(buf, 0, &[first]);
+    put(buf, header_len, &original_number.to_be_bytes());
 }

@@ -11,7 +11,8 @@ pub enum NotWritten {
     /// element's.
     #[error("data of other lengths than those that were put")]
     OtherLengths,
-    /// The buffer has no room for the header, which has this many bytes.
+    /// The buffer has no room for the header, which has this many bytes, with the two of the
+    /// original number where it is that of a retransmission.
     #[error("no room for a header of {needed} bytes")]
     NoRoom { needed: usize },
 }

@@ -1,6 +1,6 @@
 //! A header that is made once for a group of receivers.
 
-ghost use Rattle.std.specs.Prelude.{◌≡◌, ◌↔◌, ◌<◌, ◌≤◌, ℕ, List, Option, length, map, take, drop, slice_index, All, IsErr, IfOk, IfErr, IfSome, OnErr};
+ghost use Rattle.std.specs.Prelude.{◌≡◌, ◌↔◌, ◌+◌, ◌<◌, ◌≤◌, ℕ, List, Option, length, map, take, drop, slice_index, All, IsErr, IfOk, IfErr, IfSome, OnErr};
 ghost use Rattle.rtp_ext.specs.declared.form.ExtensionsForm.{ExtensionsForm};
 ghost use Rattle.rtp_route.specs.declared.not_written.NotWritten.{NotWritten};
 ghost use Rattle.rtp_ext.specs.Elements.{Element};
@@ -14,10 +14,11 @@ ghost use Rattle.rtp_route.specs.declared.not_routed.NotRouted.{NotRouted};
 ghost use Rattle.rtp_route.specs.Calls.{header_in};
 ghost use Rattle.rtp_route.specs.GroupHeader.{IsGroupHeader, IsFilledIn};
 ghost use Rattle.rtp_route.specs.NotRouted.{KeepsFromTemplate};
+ghost use Rattle.rtp_route.specs.Retransmitted.{IsRoutedAgain};
 ghost use Rattle.rtp_route.specs.Routing.{IsRouted};
 ghost use Rattle.rtp_route.specs.Template.{with_data, data_lengths, slot_lengths, total_of, pieces, LiesInHeader};
 
-use super::in_place::set_fields;
+use super::in_place::{send_again, set_fields};
 use super::slots::{MAX_ELEMENTS, Slot, fill, fill_joined, have_lengths};
 use super::{Group, NotRouted, NotWritten, make_template};
 use rtp_base::put;
@@ -39,7 +40,7 @@ pub struct HeaderTemplate<'a> {
 }
 
 impl<'a> HeaderTemplate<'a> {
-    ghost use Rattle.rtp_route.specs.TemplateOf.{IsTemplate, KeepsFromWriting, slots_in, lengths_of, header_len_in};
+    ghost use Rattle.rtp_route.specs.TemplateOf.{IsTemplate, KeepsFromWriting, KeepsFromWritingAgain, slots_in, lengths_of, header_len_in};
 
     /// Makes the header that the packet gets for the group in the buffer, which is lent to the
     /// template. One of twice the packet's header and 264 bytes for each element has room.
@@ -119,6 +120,45 @@ impl<'a> HeaderTemplate<'a> {
         }
         self.fill_header(fields, contents, &mut buf[..needed]);
         Ok(needed)
+    }
+
+    /// Writes what [`write_header`](Self::write_header) does, for a retransmission (RFC 4588, 4), of
+    /// which the fields say the number, the payload type and the SSRC: P is clear, and behind the
+    /// header stands the number of the packet that it repeats, in two bytes, the high one first.
+    /// They are two bytes more, which need room too. With the payload behind it, without its
+    /// padding, it is the retransmission that goes to the receiver.
+    pub fn write_retransmission(
+        &self,
+        fields: &Fields,
+        original_number: u16,
+        contents: &[&[u8]],
+        buf: &mut [u8],
+    ) -> Result<usize, NotWritten>
+        requires { IfSome fields.now.payload_type (λ pt. pt ≤ 127) }
+        ensures routed { (old : List ℕ) (ids : ℕ → Option ℕ) (news : List Element)
+            (allowed : Option ExtensionsForm) → IsTemplate old ids news allowed self.now →
+            IfOk result (λ len. IsRoutedAgain old fields.now original_number ids
+            (with_data news (map (λ bytes. bytes.now) contents.now)) allowed (take len buf.new)) }
+        ensures length { IfOk result (λ len. len ≡ header_len_in self.now + 2) }
+        ensures behind { IfOk result (λ len. drop len buf.new ≡ drop len buf.old) }
+        ensures cause { IfErr result (KeepsFromWritingAgain self.now
+            (map (λ bytes. length bytes.now) contents.now) (length buf.old)) }
+        ensures refused { IsErr result ↔ ((cause : NotWritten) × KeepsFromWritingAgain self.now
+            (map (λ bytes. length bytes.now) contents.now) (length buf.old) cause) }
+        ensures unchanged { OnErr result (buf.new ≡ buf.old) }
+    {
+        let slots = &self.slots[..self.count];
+        if !have_lengths(slots, contents) {
+            return Err(NotWritten::OtherLengths);
+        }
+        let header_len = self.header.header_len();
+        let len = header_len + 2;
+        if buf.len() < len {
+            return Err(NotWritten::NoRoom { needed: len });
+        }
+        self.fill_header(fields, contents, &mut buf[..header_len]);
+        send_again(&mut buf[..len], header_len, original_number);
+        Ok(len)
     }
 
     // Writes the header with these fields and data, as long as those that were put, into a buffer

@@ -1,17 +1,13 @@
-use Rattle.std.proofs.Common.{◌≡◌, refl, sym, ◌∙◌, subst, true, false, ℕ, List, Bool, Option, Some, None, is_some, IfSome, unwrap_or}
-use Rattle.std.proofs.lemmas.Bool.{false≢true}
+use Rattle.std.proofs.Common.{refl, subst, ℕ, List, Option, Some}
 use Rattle.rtp_ext.specs.declared.form.ExtensionsForm.{ExtensionsForm}
 use Rattle.rtp_ext.specs.Elements.{Element}
 use Rattle.rtp_ext.specs.ElementReading.{elements_left}
 use Rattle.rtp_ext.specs.BlockValues.{ShowsApart}
 use Rattle.rtp_ext.proofs.ElementLemmasOfBodies.{AreElements-found}
-use Rattle.rtp_vla.specs.Allocation.{Allocation, nothing_sent}
 use Rattle.rtp_values.specs.declared.value.values.ExtensionValues.{ExtensionValues}
 use Rattle.rtp_values.specs.Values.{no_values}
 use Rattle.rtp_wire.specs.PacketElements.{HasValues}
 use Rattle.rtp_wire.proofs.ValuesLemmas.{HasValues-none}
-use Rattle.rtp_c.specs.declared.layers.Layers.{Layers}
-use Rattle.rtp_c.specs.declared.values.ValuesView.{ValuesView}
 use Rattle.rtp_c.specs.LayersView.{IsViewOfLayers}
 use Rattle.rtp_c.specs.ValuesView.{IsViewOfValues}
 use Rattle.rtp_c.specs.StoredMap.{numbered_slots}

@@ -1,4 +1,4 @@
-use Rattle.std.proofs.Common.{rules, ◌≡◌, ◌<◌, ◌++◌, ◌∙◌, ℕ, List, length, drop, Option, Some, None, refl, sym, ap, subst, arith}
+use Rattle.std.proofs.Common.{rules, ◌≡◌, ◌<◌, ◌++◌, ◌∙◌, ℕ, List, length, drop, Some, None, refl, sym, ap, subst, arith}
 use Rattle.rtp_values.specs.declared.known_kind.KnownKind.{KnownKind}
 use Rattle.rtp_c.specs.KindNumbers.{kind_number, kind_numbered, uri_of, IsKindNumbered}
 use Rattle.rtp_c.proofs.KindNumberLemmas.{number_of_kind, numbered_is}

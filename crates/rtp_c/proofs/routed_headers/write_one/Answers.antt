@@ -1,15 +1,20 @@
-use Rattle.rtp_c.proofs.Common.{◌≡◌, ℕ, ◌+◌, ◌-◌, ◌<◌, List, ◌++◌, length, take, drop, refl, sym, ap, ◌∙◌, arith, length-take, length-drop}
+use Rattle.rtp_c.proofs.Common.{◌≡◌, ℕ, ◌+◌, ◌-◌, ◌<◌, ℤ, w32, to_z, of_z, List, ◌++◌, length, take, drop, refl, ap, subst, ◌∙◌, arith, length-take, length-drop}
 use Rattle.rtp_base.proofs.OverwritingLemmas.{overwritten-copied}
 use Rattle.rtp_route.specs.Calls as calls
+use Rattle.rtp_route.specs.Template.{slot_lengths, total_of, pieces}
+use Rattle.rtp_c.specs.PacketView.{slice_at}
+use Rattle.rtp_c.specs.RoutedHeaders.{IsReceiversAgain, len_for}
 use Rattle.rtp_c.specs.SetFields.{fields_given, CanBeSet}
-use Rattle.rtp_c.proofs.RoutedLemmas.{header_in-length, receivers-header}
+use Rattle.rtp_c.proofs.RoutedLemmas.{header_in-length, receivers-header, len-packet, len-again, len-least}
 use Rattle.rtp_c.proofs.routed_headers.write_one.Goals as goal
 use Rattle.rtp_c.proofs.routed_headers.write_one.Goals.{else-receiver-ne0-via-then-receiver-ne0+else-receiver-gt127, else-receiver-ne0-via-else-receiver-ne0, then-at-buf-via-then-at-buf, then-at-buf-via-else-at-buf+then-len-buf}
 
 pub returns-then-at-buf : goal.returns-then-at-buf
 returns-then-at-buf c =
     let receiver = c.args.receiver.now in
+    let header = calls.header_in c.args.header.now in
     let long = header_in-length c.args.header.now in
+    let least = len-least header receiver in
     let can : CanBeSet receiver.fields =
     elim c.else-receiver-ne0.branch [
       | else-receiver-ne0-via-then-receiver-ne0+else-receiver-gt127 w ↦ λ _. w.if-receiver-gt127.false
@@ -22,10 +27,46 @@ returns-then-at-buf c =
     ] in
     record {
       given_is = refl;
-      written = λ served room. absurd (omega (arith, room, short, long, c.header_len-len.ensures));
+      written = λ served room. absurd (omega (arith, room, short, long, least, c.header_len-len.ensures));
       short = λ served few. refl;
       refused = λ not. absurd (not (record { fields = can; within = omega (arith, c.in-Some.ensures.found.0, c.requires.total) }));
       unchanged = λ other. refl;
+    }
+
+pub returns-then-receiver-ne0-2 : goal.returns-then-receiver-ne0-2
+returns-then-receiver-ne0-2 c =
+    let receiver = c.args.receiver.now in
+    let header = calls.header_in c.args.header.now in
+    let slots = c.args.slots.now in
+    let bytes = c.args.bytes.now in
+    let again = c.write_again-receiver in
+    let long = header_in-length c.args.header.now in
+    let can : CanBeSet receiver.fields =
+    elim c.else-receiver-ne0.branch [
+      | else-receiver-ne0-via-then-receiver-ne0+else-receiver-gt127 w ↦ λ _. w.if-receiver-gt127.false
+      | else-receiver-ne0-via-else-receiver-ne0 w ↦ λ some. absurd (omega (arith, some, w.if-receiver-ne0.false))
+    ] in
+    let some : 0 < receiver.is_retransmission = omega (arith, c.if-receiver-ne0-2.true) in
+    let len : len_for header receiver ≡ length header + 2 = len-again header receiver some in
+    let stored : (status : ℤ) → again.result ≡ status → to_z w32 (of_z w32 again.result) ≡ to_z w32 (of_z w32 status) = λ status is. ap (λ (z : ℤ). to_z w32 (of_z w32 z)) is in
+    let data_is : c.in-Some.own.now ≡ slice_at bytes receiver.data_at (total_of slots) = c.in-Some.ensures.found.1 ∙ ap (slice_at bytes receiver.data_at) c.requires.total in
+    record {
+      given_is = refl;
+      written = λ served room.
+          let done = again.ensures.written (omega (arith, room, len, long)) in (
+            stored _ done.0,
+            (
+              done.1.0,
+              record {
+                packet = λ none. absurd (omega (arith, none, some));
+                retransmission = λ _. subst (λ (b : List ℕ). IsReceiversAgain header slots (fields_given receiver.fields) receiver.original_number (pieces (slot_lengths slots) b) done.1.0) data_is done.1.1;
+              },
+              done.1.2,
+            ),
+          );
+      short = λ served few. stored _ (again.ensures.short (omega (arith, few, len, long)));
+      refused = λ not. absurd (not (record { fields = can; within = omega (arith, c.in-Some.ensures.found.0, c.requires.total) }));
+      unchanged = λ other. again.ensures.unchanged (λ is. other (stored _ is));
     }
 
 pub returns : goal.returns
@@ -43,6 +84,8 @@ returns c =
       | else-receiver-ne0-via-then-receiver-ne0+else-receiver-gt127 w ↦ λ _. w.if-receiver-gt127.false
       | else-receiver-ne0-via-else-receiver-ne0 w ↦ λ some. absurd (omega (arith, some, w.if-receiver-ne0.false))
     ] in
+    let none : receiver.is_retransmission ≡ 0 = omega (arith, c.if-receiver-ne0-2.false) in
+    let alone : len_for header receiver ≡ length header = len-packet header receiver none in
     let own_len : len ≡ length own = omega (arith, c.write_joined.auto.buf, c.if-at-buf.false, c.if-len-buf.false, length-take (at + len - at) (drop at buf), length-drop at buf) in
     record {
       given_is = refl;
@@ -50,12 +93,15 @@ returns c =
         refl,
         (
           own,
-          receivers-header header slots (fields_given receiver.fields) c.given_fields-fields.result c.args.bytes.now c.in-Some.own.now receiver.data_at c.args.data_len own c.given_fields-fields.ensures c.in-Some.ensures.found.1 c.requires.total
-              c.in-Some.ensures.found.0 c.write_joined.ensures.filled,
+          record {
+            packet = λ _. receivers-header header slots (fields_given receiver.fields) c.given_fields-fields.result c.args.bytes.now c.in-Some.own.now receiver.data_at c.args.data_len own c.given_fields-fields.ensures c.in-Some.ensures.found.1 c.requires.total
+                c.in-Some.ensures.found.0 c.write_joined.ensures.filled;
+            retransmission = λ some. absurd (omega (arith, some, none));
+          },
           ap (λ (n : ℕ). take at buf ++ (own ++ drop (at + n - at) (drop at buf))) own_len ∙ overwritten-copied buf own at,
         ),
       );
-      short = λ served few. absurd (omega (arith, few, long, c.header_len-len.ensures, c.if-at-buf.false, c.if-len-buf.false));
+      short = λ served few. absurd (omega (arith, few, long, alone, c.header_len-len.ensures, c.if-at-buf.false, c.if-len-buf.false));
       refused = λ not. absurd (not (record { fields = can; within = omega (arith, c.in-Some.ensures.found.0, c.requires.total) }));
       unchanged = λ other. absurd (other refl);
     }

@@ -1,7 +1,6 @@
-use Rattle.rtp_c.proofs.Common.{ℕ, List, Option, length, sym, ap, subst, ◌∙◌, arith, refl, false≢true, All, ◌+◌, ◌≤◌}
+use Rattle.rtp_c.proofs.Common.{ℕ, List, length, sym, ap, subst, ◌∙◌, arith, refl, false≢true, All, ◌+◌, ◌≤◌}
 use Rattle.std.proofs.Common.{take}
 use Rattle.rtp_ext.specs.ElementsInARow.{elements_of}
-use Rattle.rtp_ext.specs.NewIds.{new_id}
 use Rattle.rtp_wire.specs.Packet.{header_len_of}
 use Rattle.rtp_route.specs.declared.slots.Slot.{Slot}
 use Rattle.rtp_route.specs.Template.{total_of}
