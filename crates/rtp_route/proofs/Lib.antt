@@ -1,7 +1,10 @@
 mod LentLemmas
-mod ByCallsLemmas
 mod WordLemmas
 mod NoZeroLemmas
+mod StartLemmas
+mod NewFormLemmas
+mod ChangeFormLemmas
+mod ByCallsLemmas
 mod RoutingLemmas
 mod SameElementsLemmas
 mod NotPutLemmas
@@ -13,6 +16,11 @@ mod OnlyLemmas
 mod SlotsFound
 pub mod TemplateLemmas
 mod OneHeaderLemmas
+mod WideLemmas
 mod RoomLemmas
+mod NoneKeptLemmas
 mod WalkLemmas
+mod WalkedLemmas
+mod FormsLemmas
+mod FrontLemmas
 mod ByWalkLemmas

@@ -16,7 +16,6 @@ use Rattle.rtp_wire.specs.declared.packet.fields.Fields.{Fields}
 use Rattle.rtp_wire.specs.ChangedPacket.{ChangesOnly}
 use Rattle.rtp_wire.specs.Packet.{PacketParts, IsPacket, header_len_of}
 use Rattle.rtp_wire.specs.PacketElements.{AreElementsOf}
-use Rattle.rtp_wire.specs.PutIntoPacket.{form_of_block}
 use Rattle.rtp_route.specs.declared.slots.Slot.{Slot}
 use Rattle.rtp_route.specs.Calls.{no_fields, header_in}
 use Rattle.rtp_route.specs.Routing.{put_all, IsFormAfter, extension_after, row_in, routed_elements, routed_parts, word_bytes, IsRouted}
@@ -118,9 +117,11 @@ filled-with : (old : List ℕ) (ids : ℕ → Option ℕ) (news : List Element) 
 filled-with old ids [] allowed header [] fields contents set is None none same packet only = record {
   parts = is.routed.parts;
   elements = is.routed.elements;
+  start = is.routed.start;
   form = is.routed.form;
   was_packet = is.routed.was_packet;
   were_elements = is.routed.were_elements;
+  start_is = is.routed.start_is;
   form_is = is.routed.form_is;
   is_packet = packet;
   are_elements = is.routed.are_elements;
@@ -131,7 +132,7 @@ filled-with old ids [] allowed header [] fields contents set is None none same p
 }
 filled-with old ids [] allowed header (slot ∷ slots) fields contents set is None none same packet only = let no = is.lengths_are in absurd cc
 filled-with old ids (new ∷ news) allowed header slots fields contents set is None none same packet only =
-    absurd (form-some allowed (form_of_block is.routed.parts.block) new news (subst (IsFormAfter allowed (form_of_block is.routed.parts.block) (new ∷ news)) none is.routed.form_is))
+    absurd (form-some allowed is.routed.start new news (subst (IsFormAfter allowed is.routed.start (new ∷ news)) none is.routed.form_is))
 filled-with old ids news allowed header slots fields contents set is (Some form) some same packet only =
     let routed = is.routed in
     let parts = routed.parts in
@@ -172,10 +173,12 @@ filled-with old ids news allowed header slots fields contents set is (Some form)
     record {
       parts = parts;
       elements = routed.elements;
+      start = routed.start;
       form = routed.form;
       was_packet = routed.was_packet;
       were_elements = routed.were_elements;
-      form_is = form-alike allowed (form_of_block parts.block) news contents routed.form same routed.form_is;
+      start_is = routed.start_is;
+      form_is = form-alike allowed routed.start news contents routed.form same routed.form_is;
       is_packet = is_now;
       are_elements = subst (λ (b : Option (ExtensionsForm × List ℕ)). AreElementsOf b (put_all (with_data news contents) es)) (sym now_block)
           (subst (λ (zs : List Element). AreElements form (filled (elements_bytes form now)) zs) (sym put_is) (filled-elements form now all_now));
@@ -256,7 +259,7 @@ pub slots-there : (old : List ℕ) (ids : ℕ → Option ℕ) (news : List Eleme
 slots-there old ids news allowed header count result routed own found none = by_form routed.form refl
   where
     by_form : (form : Option ExtensionsForm) → routed.form ≡ form → IsSome result
-    by_form None is = none (no_news allowed (form_of_block routed.parts.block) news (subst (IsFormAfter allowed (form_of_block routed.parts.block) news) is routed.form_is))
+    by_form None is = none (no_news allowed routed.start news (subst (IsFormAfter allowed routed.start news) is routed.form_is))
     by_form (Some form) is =
         let es : List Element = without 0 (filter_map (renumbered ids) routed.elements) in
         let slots = found form (put_all news es) (row-there old ids news allowed header routed form is) (only-put_all news es own) in
@@ -286,10 +289,10 @@ group-made old ids news allowed header all number routed own count found =
     some_list : (a b : List Slot) → Some a ≡ Some b → a ≡ b
     some_list a b same = cc
 
-    none_put : (form : Option ExtensionsForm) (put : List Element) → IsFormAfter allowed (form_of_block routed.parts.block) put form → form ≡ None → (count : ℕ) → count ≡ length put
+    none_put : (form : Option ExtensionsForm) (put : List Element) → IsFormAfter allowed routed.start put form → form ≡ None → (count : ℕ) → count ≡ length put
         → slot_lengths (take count all) ≡ data_lengths put
     none_put form [] is none count zero_is = ap (λ (k : ℕ). slot_lengths (take k all)) zero_is
-    none_put form (new ∷ more) is none count zero_is = absurd (form-some allowed (form_of_block routed.parts.block) new more (subst (IsFormAfter allowed (form_of_block routed.parts.block) (new ∷ more)) none is))
+    none_put form (new ∷ more) is none count zero_is = absurd (form-some allowed routed.start new more (subst (IsFormAfter allowed routed.start (new ∷ more)) none is))
 
     lengths : (form : Option ExtensionsForm) → routed.form ≡ form
         → ((f : ExtensionsForm) → routed.form ≡ Some f → AreSlots f (body_start_of routed.parts) (put_all news (without 0 (filter_map (renumbered ids) routed.elements))) news (take number all))

@@ -6,7 +6,7 @@ ghost use Rattle.rtp_ext.specs.declared.form.ExtensionsForm.TheVariants.{OneByte
 ghost use Rattle.rtp_ext.specs.ElementWriting.{element_header};
 ghost use Rattle.rtp_ext.specs.Elements.{Element, AreElements, element_bytes, elements_bytes};
 ghost use Rattle.rtp_ext.specs.ElementsInARow.{elements_of, IsWritable};
-ghost use Rattle.rtp_ext.specs.ElementsInPlace.{HasNone, CanRenumber};
+ghost use Rattle.rtp_ext.specs.ElementsInPlace.{HasNone};
 ghost use Rattle.rtp_ext.specs.NewIds.{new_id};
 ghost use Rattle.rtp_ext.specs.WrittenBlock.{filled};
 ghost use Rattle.rtp_route.specs.Routing.{put_all};
@@ -132,9 +132,9 @@ fn write_next(
 }
 
 // Writes the elements of a block's body under their new ids, those without one left out, and the
-// group's elements in the place of those of their ids; returns where they end. `None` where the
-// block's form can't carry one, or two have the id of one of the group's elements. It stays out of
-// line, so that the walk has the registers to itself.
+// group's elements in the place of those of their ids; returns where they end. `None` where the form
+// can't carry one, or two have the id of one of the group's elements. It stays out of line, so that
+// the walk has the registers to itself.
 #[inline(never)]
 fn write_kept(
     buf: &mut [u8],
@@ -151,18 +151,17 @@ fn write_kept(
     requires short { length buf.old ≤ 262140 }
     requires own { HaveOwnIds (elements_of group.now.elements.now) }
     requires all { All (IsWritable form) (elements_of group.now.elements.now) }
-    requires carries { (element : Element) → IsWritable was element → IsWritable form element }
     requires fresh { ArePlaced form at [] (elements_of group.now.elements.now) slots.old }
     ensures kept { IfSome result (λ end. (elements : List Element) →
         AreElements was body.now elements →
-        AreKept was form (new_id group.now.ids.now) (elements_of group.now.elements.now)
+        AreKept form (new_id group.now.ids.now) (elements_of group.now.elements.now)
         elements at buf.old slots.new buf.new end) }
     ensures within { IfSome result (λ end. end ≤ length buf.old) }
 {
     let mut end = at;
     for (id, bytes) in Elements::new(body, was) {
         if let Some(new) = group.ids.new_id(id) {
-            if !was.can_carry(new, bytes) {
+            if !form.can_carry(new, bytes) {
                 return None;
             }
             end = write_next(buf, end, form, group.elements, slots, new, bytes)?;
@@ -244,10 +243,9 @@ pub(super) fn write_body(
     requires short { length buf.old ≤ 262140 }
     requires own { HaveOwnIds (elements_of group.now.elements.now) }
     requires all { All (IsWritable form) (elements_of group.now.elements.now) }
-    requires carries { (element : Element) → IsWritable was element → IsWritable form element }
     ensures written { IfSome result (λ end. (elements : List Element) →
         AreElements was body.now elements →
-        IsBodyFor was form (new_id group.now.ids.now) (elements_of group.now.elements.now)
+        IsBodyFor form (new_id group.now.ids.now) (elements_of group.now.elements.now)
         elements at (take (length group.now.elements.now) slots.new) buf.new end) }
     ensures within { IfSome result (λ end. end ≤ length buf.old) }
 {
