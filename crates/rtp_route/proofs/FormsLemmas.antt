@@ -154,3 +154,21 @@ pub fits-from : (allowed : Option ExtensionsForm) (ids : ℕ → Option ℕ) (wa
 fits-from allowed ids was start form body elements news are (inl same) forms carried =
     from-own allowed ids was form body elements news are (subst (λ (f : ExtensionsForm). IsFormAfter allowed (Some f) news (Some form)) same forms) carried
 fits-from allowed ids was start form body elements news are (inr fits) forms carried = (Some start, fits, forms)
+
+-- it carries what the block's form carries
+pub carries-from : (allowed : Option ExtensionsForm) (ids : ℕ → Option ℕ) (was start form : ExtensionsForm) (body : List ℕ) (elements news : List Element)
+    → (start ≡ was) ⊎ IsFormForIds allowed ids (Some (was, body)) elements (Some start) → IsFormAfter allowed (Some start) news (Some form) → (element : Element) → IsWritable was element
+    → IsWritable form element
+carries-from allowed ids was start form body elements news (inl same) forms element can =
+    carries-more allowed was form news (subst (λ (f : ExtensionsForm). IsFormAfter allowed (Some f) news (Some form)) same forms) element can
+carries-from allowed ids was start form body elements news (inr (own_form carried is)) forms element can =
+    let same : start ≡ was = cc in
+    carries-more allowed was form news (subst (λ (f : ExtensionsForm). IsFormAfter allowed (Some f) news (Some form)) same forms) element can
+carries-from allowed ids was start form body elements news (inr (two_byte_form long is_allowed is)) forms element can =
+    let wide_start : start ≡ TwoByte = cc in
+    let wide_is : form ≡ TwoByte = wide-stays allowed news form (subst (λ (f : ExtensionsForm). IsFormAfter allowed (Some f) news (Some form)) wide_start forms) in
+    subst (λ (f : ExtensionsForm). IsWritable f element) (sym wide_is) (in_two was can)
+  where
+    in_two : (f : ExtensionsForm) → IsWritable f element → IsWritable TwoByte element
+    in_two OneByte is = carries-wide TwoByte element is
+    in_two TwoByte is = is

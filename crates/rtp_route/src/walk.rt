@@ -1,6 +1,7 @@
 //! The body of a group's block, written while the packet's elements are read.
 
 ghost use Rattle.std.specs.Prelude.{◌≡◌, ◌+◌, ◌%◌, ◌<◌, ◌≤◌, ◌∷◌, ◌++◌, ℕ, List, [], length, take, drop, replicate, All, IfSome, IfNone};
+ghost use Rattle.std.specs.Bool.{OnTrue};
 ghost use Rattle.rtp_base.specs.Overwriting.{overwritten};
 ghost use Rattle.rtp_ext.specs.declared.form.ExtensionsForm.TheVariants.{OneByte};
 ghost use Rattle.rtp_ext.specs.ElementWriting.{element_header};
@@ -131,6 +132,19 @@ fn write_next(
     }
 }
 
+// Whether the form carries the element, as it does where the block's form carries it: that one is
+// looked at first, since it tells of nearly all.
+#[inline(always)]
+fn carries(was: ExtensionsForm, form: ExtensionsForm, id: u8, bytes: &[u8]) -> bool
+    requires { (element : Element) → IsWritable was element → IsWritable form element }
+    ensures { OnTrue result (IsWritable form (id, bytes.now)) }
+{
+    if was.can_carry(id, bytes) {
+        return true;
+    }
+    form.can_carry(id, bytes)
+}
+
 // Writes the elements of a block's body under their new ids, those without one left out, and the
 // group's elements in the place of those of their ids; returns where they end. `None` where the form
 // can't carry one, or two have the id of one of the group's elements. It stays out of line, so that
@@ -151,6 +165,7 @@ fn write_kept(
     requires short { length buf.old ≤ 262140 }
     requires own { HaveOwnIds (elements_of group.now.elements.now) }
     requires all { All (IsWritable form) (elements_of group.now.elements.now) }
+    requires carries { (element : Element) → IsWritable was element → IsWritable form element }
     requires fresh { ArePlaced form at [] (elements_of group.now.elements.now) slots.old }
     ensures kept { IfSome result (λ end. (elements : List Element) →
         AreElements was body.now elements →
@@ -161,7 +176,7 @@ fn write_kept(
     let mut end = at;
     for (id, bytes) in Elements::new(body, was) {
         if let Some(new) = group.ids.new_id(id) {
-            if !form.can_carry(new, bytes) {
+            if !carries(was, form, new, bytes) {
                 return None;
             }
             end = write_next(buf, end, form, group.elements, slots, new, bytes)?;
@@ -243,6 +258,7 @@ pub(super) fn write_body(
     requires short { length buf.old ≤ 262140 }
     requires own { HaveOwnIds (elements_of group.now.elements.now) }
     requires all { All (IsWritable form) (elements_of group.now.elements.now) }
+    requires carries { (element : Element) → IsWritable was element → IsWritable form element }
     ensures written { IfSome result (λ end. (elements : List Element) →
         AreElements was body.now elements →
         IsBodyFor form (new_id group.now.ids.now) (elements_of group.now.elements.now)

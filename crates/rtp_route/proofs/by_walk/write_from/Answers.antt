@@ -13,7 +13,7 @@ use Rattle.rtp_route.specs.Calls.{header_in}
 use Rattle.rtp_route.specs.Walk.{IsMadeFor}
 use Rattle.rtp_route.proofs.ByCallsLemmas.{alone_parts, header-is}
 use Rattle.rtp_route.proofs.ByWalkLemmas.{front_of, row_for, long-front_of, short-body, IsLaid, laid-packet, made-by_walk, body-in_front}
-use Rattle.rtp_route.proofs.FormsLemmas.{carries-news, fits-from}
+use Rattle.rtp_route.proofs.FormsLemmas.{carries-news, carries-from, fits-from}
 use Rattle.rtp_route.proofs.LengthLemmas.{short-header}
 use Rattle.rtp_route.proofs.NoneKeptLemmas.{none-kept}
 use Rattle.rtp_route.proofs.WalkedLemmas.{written-no_zero}
@@ -21,6 +21,14 @@ use Rattle.rtp_route.proofs.by_walk.write_from.Goals as goal
 
 all-short : (news : List Element) → All (IsWritable TwoByte) news → All (λ (e : Element). length e.1 ≤ 255) news
 all-short news all k d there = (all k d there).1.2
+
+pub write_body-requires-clause-carries : goal.write_body-requires-clause-carries
+write_body-requires-clause-carries c =
+    let was = c.in_ok-was.was' in
+    let body = c.in_ok-was.body.now in
+    let elements : List Element = elements_left was body in
+    carries-from c.args.group.now.allowed (new_id c.args.group.now.ids.now) was c.in_ok-start.start c.in_ok-form.form body elements (elements_of c.args.group.now.elements.now)
+    (c.in_ok-start.ensures elements (AreElements-found was body c.in_ok-was.ensures.bytes)) c.in_ok-form.ensures.form
 
 pub write_body-requires-clause-all : goal.write_body-requires-clause-all
 write_body-requires-clause-all c =
