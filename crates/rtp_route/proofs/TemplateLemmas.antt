@@ -1,5 +1,5 @@
 -- A header that is made once, and what other fields and data make of it.
-use Rattle.std.proofs.Common.{◌≡◌, ℕ, ◌+◌, ◌-◌, ◌*◌, Bool, true, false, ◌&&◌, nat_le, cond, List, [], ◌∷◌, ◌++◌, length, take, drop, map, Option, Some, None, IsSome, refl, sym, ap, subst, ◌∙◌, arith, take_at}
+use Rattle.std.proofs.Common.{◌≡◌, ℕ, ◌+◌, ◌-◌, ◌*◌, Bool, ◌&&◌, nat_le, cond, List, [], ◌∷◌, ◌++◌, length, take, drop, map, Option, Some, None, IsSome, refl, sym, ap, subst, ◌∙◌, arith, take_at}
 use Rattle.std.specs.List.{AllByRecursion, filter_map}
 use Rattle.std.proofs.lemmas.List.{length-map, take_all}
 use Rattle.std.proofs.lemmas.Option.{none-some}
@@ -9,7 +9,7 @@ use Rattle.rtp_ext.specs.declared.form.ExtensionsForm.{ExtensionsForm}
 use Rattle.rtp_ext.specs.declared.form.ExtensionsForm.TheVariants.{OneByte, TwoByte}
 use Rattle.rtp_ext.specs.Elements.{Element, IsElement, elements_bytes, AreElements}
 use Rattle.rtp_ext.specs.ElementsInPlace.{renumbered}
-use Rattle.rtp_ext.specs.PutElement.{has_id, without, needed_form, allowed_form}
+use Rattle.rtp_ext.specs.PutElement.{without, needed_form, allowed_form}
 use Rattle.rtp_ext.specs.WrittenBlock.{filled}
 use Rattle.rtp_ext.proofs.NewIdLemmas.{All-IsElement}
 use Rattle.rtp_wire.specs.declared.packet.fields.Fields.{Fields}
@@ -31,7 +31,7 @@ use Rattle.rtp_route.proofs.ByCallsLemmas.{front-put}
 use Rattle.rtp_route.proofs.BodyLemmas.{has-body}
 use Rattle.rtp_route.proofs.OnlyLemmas.{elements-by_turns, filled-elements, only-put_all}
 use Rattle.rtp_route.proofs.WordLemmas.{word_of, word_in_front, from_twelve}
-use Rattle.rtp_route.proofs.SetDataLemmas.{all_set, sets, put_all-data}
+use Rattle.rtp_route.proofs.SetDataLemmas.{all_set, sets, put_all-data, element-alike, middle, elements-set}
 use Rattle.rtp_route.proofs.SlotLemmas.{slots-stay, write-slots, filled-sets_length, slots-lengths}
 
 -- ---- elements with other data of the same length
@@ -65,23 +65,6 @@ no_news allowed block [] is = refl
 no_news allowed block (new ∷ news) is = absurd (form-some allowed block new news is)
 
 -- ---- elements of which the form can carry each
-
-element-alike : (form : ExtensionsForm) (id : ℕ) (bytes was : List ℕ) → length bytes ≡ length was → IsElement form (id, was) → IsElement form (id, bytes)
-element-alike OneByte id bytes was same is = (is.0, omega (arith, is.1, same), omega (arith, is.2, same), omega (arith, is.3, same))
-element-alike TwoByte id bytes was same is = (is.0, is.1, omega (arith, is.2, same))
-
-middle : (P : Element → Type 0) (before : List Element) (element : Element) (after : List Element) → AllByRecursion P (before ++ element ∷ after) → P element
-middle P [] element after all = all.0
-middle P (first ∷ before) element after all = middle P before element after all.1
-
-elements-set : (form : ExtensionsForm) (id : ℕ) (bytes : List ℕ) (elements : List Element) → IsElement form (id, bytes) → AllByRecursion (IsElement form) elements
-    → AllByRecursion (IsElement form) (all_set id bytes elements)
-elements-set form id bytes [] is all = tt
-elements-set form id bytes (element ∷ elements) is all = (either (has_id id element), elements-set form id bytes elements is all.1)
-  where
-    either : (b : Bool) → IsElement form (cond b (id, bytes) element)
-    either true = is
-    either false = all.0
 
 elements-sets : (form : ExtensionsForm) (start : ℕ) (elements news : List Element) (slots : List Slot) (contents : List (List ℕ)) → AreSlots form start elements news slots → HaveOwnIds news
     → map length contents ≡ data_lengths news → AllByRecursion (IsElement form) elements → AllByRecursion (IsElement form) (sets news contents elements)

@@ -27,11 +27,11 @@ put_all (new ∷ news) elements = put_all news (put_element new elements)
 abbrev pub routed_elements : (ℕ → Option ℕ) → List Element → List Element → List Element
 routed_elements ids news elements = put_all news (without 0 (filter_map (renumbered ids) elements))
 
--- the form of the block, if there is one, can carry its elements under their new ids
+-- the form of the block, if there is one, can carry its elements under their new ids (RFC 8285, 4.2 and 4.3)
 abbrev pub CarriesIds : (ℕ → Option ℕ) → Option (ExtensionsForm × List ℕ) → List Element → Type 0
 CarriesIds ids block elements = IfSome block (λ b. All (CanRenumber b.0 ids) elements)
 
--- the form in which a block, or none, carries its elements under their new ids: its own where that can, and else the two-byte form, where the one-byte form isn't the only one that is allowed
+-- the form in which a block, or none, carries its elements under their new ids: its own where that can, and else the two-byte form, where the one-byte form isn't the only one that is allowed (RFC 8285, 4.1.2)
 pub data IsFormForIds (allowed : Option ExtensionsForm) (ids : ℕ → Option ℕ) (block : Option (ExtensionsForm × List ℕ)) (elements : List Element) (form : Option ExtensionsForm) : Type 0 where
   own_form : CarriesIds ids block elements → form ≡ form_of_block block → IsFormForIds allowed ids block elements form
   two_byte_form : (CarriesIds ids block elements → ⊥) → allowed ≢ Some OneByte → form ≡ Some TwoByte → IsFormForIds allowed ids block elements form
