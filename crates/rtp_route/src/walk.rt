@@ -132,8 +132,17 @@ fn write_next(
     }
 }
 
-// Whether the form carries the element, as it does where the block's form carries it: that one is
-// looked at first, since it tells of nearly all.
+// Whether the form that the block gets carries the element. It stays out of line, so that the walk
+// does nothing for it where the block's own form carries it.
+#[cold]
+#[inline(never)]
+fn is_carried(form: ExtensionsForm, id: u8, bytes: &[u8]) -> bool
+    ensures { OnTrue result (IsWritable form (id, bytes.now)) }
+{
+    form.can_carry(id, bytes)
+}
+
+// The same, where that form carries what the block's own does: this one is looked at first.
 #[inline(always)]
 fn carries(was: ExtensionsForm, form: ExtensionsForm, id: u8, bytes: &[u8]) -> bool
     requires { (element : Element) → IsWritable was element → IsWritable form element }
@@ -142,7 +151,7 @@ fn carries(was: ExtensionsForm, form: ExtensionsForm, id: u8, bytes: &[u8]) -> b
     if was.can_carry(id, bytes) {
         return true;
     }
-    form.can_carry(id, bytes)
+    is_carried(form, id, bytes)
 }
 
 // Writes the elements of a block's body under their new ids, those without one left out, and the
