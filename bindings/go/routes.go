@@ -37,15 +37,17 @@ const mostHeader = 12 + 15*4 + 4 + 4*65535
 // shortBuffer is RTPW_SHORT_BUFFER.
 const shortBuffer = 8
 
-// Make makes the header that the packet in the datagram gets for the group: each element has its new id ([Renumber]),
-// those of the group are put, with their data, one after the other ([PutElement]), and the block is as short as it can be
-// ([Compact]). The payload isn't looked at.
+// Make makes the header that the packet in the datagram gets for the group: each element has its new id ([Renumber]), in
+// the two-byte form where one of them is above 14 and that form is allowed ([ChangeForm]), those of the group are put,
+// with their data, one after the other ([PutElement]), and the block is as short as it can be ([Compact]). The payload
+// isn't looked at.
 //
 // It returns ErrBadField, before all else, where Allowed is none of the three forms, there are more than 16 elements, or
 // the data of one reach past the data; the first [Cause] for which the datagram is no packet; ErrBadField where two
-// elements have one id; and then what the first of the three calls returns that refuses: [ErrLongID] where the packet's
-// form can't carry a new id, and of the elements in turn [ErrBadID], ErrBadField of more than 255 bytes of data,
-// ErrOtherForm, ErrLongID, [ErrFormNotAllowed] or [ErrLongBlock]. No header is made then.
+// elements have one id; and then what the first of these calls returns that refuses: [ErrLongID] where a new id is above
+// 14, the packet's form is the one-byte form, and OneByteForm alone is allowed; [ErrLongBlock] where the packet's own
+// elements have no room in the two-byte form; and of the group's elements in turn [ErrBadID], ErrBadField of more than 255
+// bytes of data, ErrOtherForm, ErrLongID, [ErrFormNotAllowed] or ErrLongBlock. No header is made then.
 func (t *HeaderTemplate) Make(datagram []byte, group *Group, data []byte) error {
 	status := t.make(datagram, group, data)
 	for status == shortBuffer && t.grow(datagram, group) {

@@ -124,6 +124,11 @@ func TestGroups(t *testing.T) {
 		{three, each(), []rtpwire.Place{{ID: 20}}, both, "", "9010 00 00 03 01 01 61 02 02 62 63 01 01 64 14 00"},
 		{three, each(), []rtpwire.Place{{ID: 20}}, one, "", rtpwire.ErrLongID.Error()},
 		{three, each(), []rtpwire.Place{{ID: 14}}, one, "", rtpwire.ErrFormNotAllowed.Error()},
+		// So does a new id above 14.
+		{three, newIDs([2]uint8{2, 15}), none, both, "", "9010 00 00 01 0F 02 62 63"},
+		{three, newIDs([2]uint8{2, 15}), none, two, "", "9010 00 00 01 0F 02 62 63"},
+		{three, newIDs([2]uint8{2, 15}), none, one, "", rtpwire.ErrLongID.Error()},
+		{three, newIDs([2]uint8{2, 15}), four, both, "\x00\x07", "9010 00 00 02 0F 02 62 63 04 02 00 07"},
 		{three, each(), four, two, "\x00\x07", "9010 00 00 04 01 01 61 02 02 62 63 01 01 64 04 02 00 07 00 00"},
 		{"80 0900", each(), four, both, "\x00\x07", "90BE DE 00 01 41 00 07 00"},
 		{"80 0900", each(), none, both, "", "80"},
@@ -179,7 +184,8 @@ func TestHeadersThatAreNotMade(t *testing.T) {
 		{routable(), nil, with(rtpwire.Place{ID: 20, Len: 1}), rtpwire.AnyForm, rtpwire.ErrBadField},
 		{routable(), nil, with(rtpwire.Place{ID: 0, Len: 1}), rtpwire.AnyForm, rtpwire.ErrBadID},
 		{routable(), nil, with(rtpwire.Place{ID: 0, Len: 1}), rtpwire.OneByteForm, rtpwire.ErrLongID}, // 20, before that
-		{routable(), newIDs([2]uint8{1, 15}), nil, rtpwire.AnyForm, rtpwire.ErrLongID},
+		{routable(), newIDs([2]uint8{1, 15}), nil, rtpwire.OneByteForm, rtpwire.ErrLongID},
+		{routable(), newIDs([2]uint8{1, 15}), nil, rtpwire.AnyForm, nil},
 		{routable(), newIDs([2]uint8{1, 14}), nil, rtpwire.AnyForm, nil},
 		{routable(), nil, with(rtpwire.Place{ID: 21, Len: 1}), rtpwire.OneByteForm, rtpwire.ErrLongID},
 	}

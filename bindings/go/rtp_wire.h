@@ -1264,7 +1264,8 @@ void rtpw_receive_many(rtpw_receiver *receivers, size_t receiver_count, rtpw_arr
  * 7667, 3.7). Receivers that have in common the new ids, the elements that are put into the packet, and how many bytes
  * of data each of these has, are a group: one header is made for the group, and each receiver gets a copy of it with
  * fields and data of its own. That is what rtpw_set_fields, rtpw_renumber, rtpw_put_element for each element and
- * rtpw_compact make of a copy of the packet's header, one after another.
+ * rtpw_compact make of a copy of the packet's header, one after another; before rtpw_renumber, where that would return
+ * RTPW_LONG_ID, rtpw_change_form makes the block one of the two-byte form, if that is allowed.
  *
  *     const uint8_t packet[] = {0x90, 96, 0, 5, 0, 0, 0, 100, 0, 0, 0, 44, 0xBE, 0xDE, 0, 1, 0x10, 0xAA, 0, 0};
  *     rtpw_new_ids ids = {{0}};
@@ -1310,18 +1311,20 @@ typedef struct {
 } rtpw_template;
 
 /* Makes the header that the packet gets for a group, at the front of the buffer, and tells of it in *made. Each element
- * of the packet gets its new id, and one that gets none goes (rtpw_renumber); then the elements that are given are put
- * into it, in their order (rtpw_put_element; `allowed` is as there), each named as in rtpw_write_elements: at most 16,
- * of ids of their own. Only the packet's header is looked at. A buffer of twice the packet's header and 264 bytes for
- * each element has room.
+ * of the packet gets its new id, and one that gets none goes (rtpw_renumber), in the two-byte form where one of them is
+ * above 14 and that form is allowed (rtpw_change_form); then the elements that are given are put into it, in their order
+ * (rtpw_put_element; `allowed` is as there), each named as in rtpw_write_elements: at most 16, of ids of their own. Only
+ * the packet's header is looked at. A buffer of twice the packet's header and 264 bytes for each element has room.
  *
  * RTPW_OK; RTPW_BAD_FIELD, before all else, where `allowed` is none of the three, count is above 16, or the data of an
  * element reach past `data`; the first cause for which the bytes are no packet; RTPW_BAD_FIELD where two of the
  * elements have one id; and then what the first of those calls returns that refuses: RTPW_SHORT_BUFFER where the
- * packet's header has no room; RTPW_LONG_ID where an element gets a new id above 14, and the packet's form is the
- * one-byte form; and of the elements in turn, as rtpw_put_element, RTPW_BAD_ID, RTPW_BAD_FIELD of more than 255 bytes of
- * data, RTPW_UNKNOWN_FORM, RTPW_LONG_ID, RTPW_FORM_NOT_ALLOWED, RTPW_LONG_BLOCK or RTPW_SHORT_BUFFER. Where it isn't
- * RTPW_OK *made is as it was, but the buffer may hold anything; so may what lies behind the header where it is. */
+ * packet's header has no room; RTPW_LONG_ID where an element gets a new id above 14, the packet's form is the one-byte
+ * form, and RTPW_ONE_BYTE_FORM alone is allowed; RTPW_LONG_BLOCK or RTPW_SHORT_BUFFER where the packet's own elements
+ * have no room in the two-byte form; and of the elements in turn, as rtpw_put_element, RTPW_BAD_ID, RTPW_BAD_FIELD of
+ * more than 255 bytes of data, RTPW_UNKNOWN_FORM, RTPW_LONG_ID, RTPW_FORM_NOT_ALLOWED, RTPW_LONG_BLOCK or
+ * RTPW_SHORT_BUFFER. Where it isn't RTPW_OK *made is as it was, but the buffer may hold anything; so may what lies
+ * behind the header where it is. */
 RTPW_CHECKED int32_t rtpw_make_template(const uint8_t *datagram, size_t len, const rtpw_new_ids *ids,
                                         const uint8_t *data, size_t data_len, const rtpw_element *elements,
                                         size_t count, uint8_t allowed, uint8_t *buf, size_t size,

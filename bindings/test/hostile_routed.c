@@ -30,21 +30,26 @@ static size_t words_of(int form) {
     return (len + 3) / 4 * 4;
 }
 
-/* The elements of the packet under their new ids: false where its form can't carry one. */
-static bool renumber(const walked *it, const rtpw_new_ids *ids) {
+/* The elements of the packet under their new ids, and how many bytes its own take in whole words in the two-byte form:
+ * false where its form can't carry a new id. */
+static bool renumber(const walked *it, const rtpw_new_ids *ids, size_t *wide_len) {
+    bool carries = true;
+    size_t wide = 0;
     found element;
     const uint8_t *body = packet_before + it->body_at;
     part_count = 0;
     for (size_t at = 0; walk_on(body, it->body_len, it->form, at, &element); at = element.data_at + element.data_len) {
         unsigned id = element.id == 0 ? 0 : ids->id[element.id];
         if (id > 14 && it->form == 1) {
-            return false;
+            carries = false;
         }
         if (id != 0) {
             parts[part_count++] = (part){id, body + element.data_at, element.data_len};
         }
+        wide += element.id == 0 ? 0 : 2 + element.data_len;
     }
-    return true;
+    *wide_len = (wide + 3) / 4 * 4;
+    return carries;
 }
 
 /* Puts an element among them: whether it took the place of the only one of its id, of as many bytes. */
@@ -99,11 +104,21 @@ static int32_t make(size_t len, const rtpw_new_ids *ids, size_t data_len, const 
     if (it.header_len > size) {
         return RTPW_SHORT_BUFFER;
     }
-    if (!renumber(&it, ids)) {
-        return RTPW_LONG_ID;
-    }
-    size_t sources_end = 12 + it.csrc_count * 4, body_len = it.body_len;
+    size_t sources_end = 12 + it.csrc_count * 4, body_len = it.body_len, wide_len;
     int form = it.form;
+    if (!renumber(&it, ids, &wide_len)) {
+        if (allowed == 1) {
+            return RTPW_LONG_ID;
+        }
+        form = 2;
+        body_len = wide_len > body_len ? wide_len : body_len;
+        if (body_len > 262140) {
+            return RTPW_LONG_BLOCK;
+        }
+        if (sources_end + 4 + body_len > size) {
+            return RTPW_SHORT_BUFFER;
+        }
+    }
     for (size_t i = 0; i < count; i++) {
         if (elements[i].id == 0) {
             return RTPW_BAD_ID;
@@ -180,6 +195,10 @@ static int32_t by_calls(size_t header_len, const rtpw_fields *fields, const rtpw
     *len = header_len;
     int32_t status = rtpw_set_fields(buf, *len, fields);
     status = status != RTPW_OK ? status : rtpw_renumber(buf, *len, ids);
+    if (status == RTPW_LONG_ID && allowed != RTPW_ONE_BYTE_FORM) {
+        status = rtpw_change_form(buf, size, len, RTPW_TWO_BYTE_FORM);
+        status = status != RTPW_OK ? status : rtpw_renumber(buf, *len, ids);
+    }
     for (size_t i = 0; i < count && status == RTPW_OK; i++) {
         status = rtpw_put_element(buf, size, len, elements[i].id, data + data_at[i], elements[i].data_len, allowed);
     }

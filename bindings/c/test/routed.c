@@ -169,6 +169,8 @@ static void groups(void) {
     static const uint8_t gone[] = {0x90, 96, 0, 5, REST, 0xBE, 0xDE, 0, 0};
     static const uint8_t two_byte[] = {0x90, 96, 0, 5,   REST, 0x10, 0, 0, 3,   1,  1,
                                        'a',  2,  2, 'b', 'c',  1,    1, 'd', 20, 0};
+    static const uint8_t long_id[] = {0x90, 96, 0, 5, REST, 0x10, 0, 0, 1, 15, 2, 'b', 'c'};
+    static const uint8_t with_long[] = {0x90, 96, 0, 5, REST, 0x10, 0, 0, 2, 15, 2, 'b', 'c', 4, 2, 0, 7};
     /* no block; one of another form */
     static const uint8_t bare[] = {0x80, 96, 0, 5, REST}, other[] = {0x90, 96, 0, 5, REST, 0xAB, 0xAC, 0, 1, 1, 2, 3, 4};
     static const uint8_t with_block[] = {0x90, 96, 0, 5, REST, 0xBE, 0xDE, 0, 1, 0x41, 0, 7, 0};
@@ -200,6 +202,13 @@ static void groups(void) {
     is_made(bare, sizeof bare, &same, NULL, 0, NULL, 0, RTPW_ANY_FORM, bare, sizeof bare);
     is_made(other, sizeof other, &same, NULL, 0, NULL, 0, RTPW_ANY_FORM, other, sizeof other);
     CHECK(status_of(other, sizeof other, &same, elements, 1, RTPW_ANY_FORM, sizeof header) == RTPW_UNKNOWN_FORM);
+    /* so does a new id above 14 of one of the packet's own, where that is allowed */
+    ids = ids_of(2, 15);
+    is_made(three, sizeof three, &ids, NULL, 0, NULL, 0, RTPW_ANY_FORM, long_id, sizeof long_id);
+    is_made(three, sizeof three, &ids, NULL, 0, NULL, 0, RTPW_TWO_BYTE_FORM, long_id, sizeof long_id);
+    elements[0] = element_of(0, 2, 4);
+    is_made(three, sizeof three, &ids, NUMBERS, sizeof NUMBERS, elements, 1, RTPW_ANY_FORM, with_long, sizeof with_long);
+    CHECK(made.data_at[0] == 22 && made.data_total == 2);
     /* the application's bits stay */
     ids = ids_of(4, 6);
     is_made(application, sizeof application, &ids, NUMBERS, sizeof NUMBERS, elements, 1, RTPW_ANY_FORM, longer, sizeof longer);
@@ -208,6 +217,7 @@ static void groups(void) {
 static void refusals(void) {
     static const uint8_t other_version[] = {0x50, 96, 0, 5, REST}, cut_source[] = {0x81, 96, 0, 5, REST};
     static const uint8_t cut_block[] = {0x90, 96, 0, 5, REST, 0xBE, 0xDE, 0, 1};
+    static const uint8_t two_short[] = {0x90, 96, 0, 5, REST, 0xBE, 0xDE, 0, 1, 0x10, 0xAA, 0x20, 0xBB};
     rtpw_new_ids ids = ids_of(1, 3);
     rtpw_element elements[17];
     uint8_t i;
@@ -238,7 +248,12 @@ static void refusals(void) {
     elements[1] = element_of(0, 1, 0);
     CHECK(status_of(SAMPLE, sizeof SAMPLE, &ids, elements, 2, RTPW_ANY_FORM, sizeof header) == RTPW_BAD_ID);
     ids = ids_of(1, 15);
-    CHECK(status_of(SAMPLE, sizeof SAMPLE, &ids, elements, 0, RTPW_ANY_FORM, sizeof header) == RTPW_LONG_ID);
+    CHECK(status_of(SAMPLE, sizeof SAMPLE, &ids, elements, 0, RTPW_ONE_BYTE_FORM, sizeof header) == RTPW_LONG_ID);
+    CHECK(status_of(SAMPLE, sizeof SAMPLE, &ids, elements, 0, RTPW_ANY_FORM, sizeof header) == RTPW_OK);
+    CHECK(status_of(SAMPLE, sizeof SAMPLE, &ids, elements, 0, RTPW_TWO_BYTE_FORM, sizeof header) == RTPW_OK);
+    /* the two elements take eight bytes in the two-byte form, though one of them goes */
+    CHECK(status_of(two_short, sizeof two_short, &ids, elements, 0, RTPW_ANY_FORM, 24) == RTPW_OK && made.header_len == 20);
+    CHECK(status_of(two_short, sizeof two_short, &ids, elements, 0, RTPW_ANY_FORM, 23) == RTPW_SHORT_BUFFER);
     /* the header's twenty bytes have room, and one byte less hasn't; then what is put hasn't */
     ids = ids_of(1, 14);
     CHECK(status_of(SAMPLE, sizeof SAMPLE, &ids, elements, 0, RTPW_ANY_FORM, 20) == RTPW_OK);
@@ -252,8 +267,8 @@ static void refusals(void) {
     CHECK(status_of(SAMPLE, sizeof SAMPLE, &ids, elements, 2, RTPW_ANY_FORM, 23) == RTPW_SHORT_BUFFER);
     CHECK(status_of(SAMPLE, sizeof SAMPLE, &ids, elements, 2, RTPW_ANY_FORM, 24) == RTPW_BAD_ID);
     ids = ids_of(1, 15);
-    CHECK(status_of(SAMPLE, sizeof SAMPLE, &ids, elements, 2, RTPW_ANY_FORM, 19) == RTPW_SHORT_BUFFER);
-    CHECK(status_of(SAMPLE, sizeof SAMPLE, &ids, elements, 2, RTPW_ANY_FORM, 20) == RTPW_LONG_ID);
+    CHECK(status_of(SAMPLE, sizeof SAMPLE, &ids, elements, 2, RTPW_ONE_BYTE_FORM, 19) == RTPW_SHORT_BUFFER);
+    CHECK(status_of(SAMPLE, sizeof SAMPLE, &ids, elements, 2, RTPW_ONE_BYTE_FORM, 20) == RTPW_LONG_ID);
 }
 
 /* Twenty receivers, of which the ninth can't be served, each for another cause; and places that overlap. */

@@ -65,7 +65,13 @@ def by_calls(
     data, *fields, _ = got
     names = ("payload_type", "sequence_number", "timestamp", "ssrc", "marker")
     changed.set_fields(**dict(zip(names, fields)))  # type: ignore[arg-type]
-    changed.renumber(ids)
+    try:
+        changed.renumber(ids)
+    except LongId:
+        if allowed is Form.ONE_BYTE:
+            raise
+        length = change_form(buffer, length, Form.TWO_BYTE)
+        Packet.parse(memoryview(buffer)[:length]).renumber(ids)
     at = 0
     for id, old in elements:
         length = put_element(buffer, length, id, bytes(data)[at : at + len(old)], allowed)
@@ -157,7 +163,7 @@ class Making(unittest.TestCase):
             (BadField, lambda: HeaderTemplate(SAMPLE, ids, allowed=wrong_form), "allowed is 3, and not 0 to 2"),
             (
                 LongId,
-                lambda: HeaderTemplate(SAMPLE, NewIds({1: 15})),
+                lambda: HeaderTemplate(SAMPLE, NewIds({1: 15}), allowed=Form.ONE_BYTE),
                 "an id above 14, which the one-byte form can't carry",
             ),
             (OtherForm, lambda: HeaderTemplate(with_block("ABAC0000"), ids, [(4, b"a")]), "an unknown form"),
@@ -189,11 +195,12 @@ class Making(unittest.TestCase):
         ):
             self.assertRaisesRegex(TypeError, told, make)
 
-    def test_what_the_form_cannot_carry_is_made_once_it_is_the_other(self) -> None:
-        buffer = bytearray(SAMPLE[:20])
-        length = change_form(buffer, 20, Form.TWO_BYTE)
-        made = HeaderTemplate(buffer[:length], NewIds({1: 200}))
-        self.assertEqual(made.header, with_block("10000001 C801AA00"))
+    def test_a_new_id_above_14_asks_for_the_two_byte_form(self) -> None:
+        for allowed in (None, Form.TWO_BYTE):
+            made = HeaderTemplate(SAMPLE, NewIds({1: 200}), allowed=allowed)
+            self.assertEqual(made.header, with_block("10000001 C801AA00"))
+        with_one = HeaderTemplate(SAMPLE, NewIds({1: 200}), [(4, b"\0\7")])
+        self.assertEqual(with_one.header, with_block("10000002 C801AA04 02000700"))
 
 
 class Writing(unittest.TestCase):

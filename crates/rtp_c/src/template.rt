@@ -100,16 +100,18 @@ fn not_routed_status(cause: NotRouted) -> i32
 }
 
 /// Makes the header that the packet gets for a group at the front of the buffer, and tells where
-/// its parts lie (RFC 7667, 3.7; RFC 8285, 4.1.2 and 5): its elements get these new ids, and then
-/// the elements are put into it one after another, each with its id and the `data_len` bytes of
-/// `bytes` from its `data_at` on. The number `allowed` is as in `rtpw_put_element`.
+/// its parts lie (RFC 7667, 3.7; RFC 8285, 4.1.2 and 5): its elements get these new ids, in the
+/// two-byte form where its own can't carry one and that is allowed, and then the elements are put
+/// into it one after another, each with its id and the `data_len` bytes of `bytes` from its
+/// `data_at` on. The number `allowed` is as in `rtpw_put_element`.
 ///
 /// `OK`; `BAD_FIELD` where `allowed` is above 2, `data_at + data_len` of an element is past
 /// `bytes`, or there are more than 16 elements; the status of the first cause for which the bytes
 /// are no packet; `BAD_FIELD` where two elements have one id; `SHORT_BUFFER` where the packet's
-/// header has no room; `LONG_ID` where the form of its block can't carry a new id; and of each
-/// element in turn what `rtpw_put_element` returns of it. Where it isn't `OK` the buffer may hold
-/// anything, and nothing else is written.
+/// header has no room; `LONG_ID` where a new id is above 14, its block has the one-byte form, and
+/// that alone is allowed; `LONG_BLOCK` or `SHORT_BUFFER` where the two-byte form is to carry such an
+/// id, and `rtpw_change_form` returns that; and of each element in turn what `rtpw_put_element`
+/// returns of it. Where it isn't `OK` the buffer may hold anything, and nothing else is written.
 #[unsafe(no_mangle)]
 pub extern "C" fn rtpw_make_template(
     datagram: &[u8],

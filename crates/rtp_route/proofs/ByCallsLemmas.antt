@@ -1,14 +1,13 @@
 -- The steps of the calls for one packet.
-use Rattle.std.proofs.Common.{◌≡◌, ◌↔◌, ℕ, ◌<◌, Bool, true, false, IsTrue, All, List, [], ◌++◌, length, take, drop, Option, Some, None, IfSome, slice_index, refl, sym, ap, subst, ◌∙◌, arith, take_at}
+use Rattle.std.proofs.Common.{◌≡◌, ℕ, ◌<◌, Bool, true, false, List, [], ◌++◌, length, take, drop, Option, Some, None, IfSome, slice_index, refl, sym, ap, subst, ◌∙◌, arith, take_at}
 use Rattle.std.specs.Bool.{OnTrue}
-use Rattle.std.proofs.lemmas.Bool.{false≢true}
 use Rattle.std.specs.Option.{IfNone}
 use Rattle.std.specs.List.{filter_map}
 use Rattle.rtp_base.specs.Overwriting.{overwritten}
 use Rattle.rtp_base.proofs.OverwritingLemmas.{overwritten-front}
 use Rattle.rtp_ext.specs.declared.form.ExtensionsForm.{ExtensionsForm}
 use Rattle.rtp_ext.specs.Elements.{Element}
-use Rattle.rtp_ext.specs.ElementsInPlace.{renumbered, ChangesIds, CanRenumber}
+use Rattle.rtp_ext.specs.ElementsInPlace.{renumbered, ChangesIds}
 use Rattle.rtp_wire.specs.declared.packet.rtp_packet_mut.RtpPacketMut.{RtpPacketMut}
 use Rattle.rtp_wire.specs.ChangedPacket.{ChangesBlock, ChangesOnly, ChangesOnlyBody}
 use Rattle.rtp_wire.specs.declared.packet.fields.Fields.{Fields}
@@ -20,8 +19,10 @@ use Rattle.rtp_wire.specs.PartsAt.{HasLayout, parts_at}
 use Rattle.rtp_wire.specs.PartsOf.{parts_of, datagram_of, parts_in}
 use Rattle.rtp_wire.proofs.PartsLemmas.{length-packet, IsPacket-found}
 use Rattle.rtp_wire.proofs.RetransmissionHeaders.{IsPacket-in, elements_there, parts-of_bytes}
-use Rattle.rtp_route.specs.Calls.{IsRenumbered, IsUnderNewIds, IsSetAndRenumbered, header_in}
-use Rattle.rtp_route.specs.NotRouted.{HasLongId}
+use Rattle.rtp_route.specs.declared.not_routed.NotRouted.{NotRouted}
+use Rattle.rtp_route.specs.Calls.{IsRenumbered, IsUnderNewIds, IsRenumberedInForm, IsSetAndRenumbered, header_in}
+use Rattle.rtp_route.specs.NotRouted.{KeepsFromNewIds}
+use Rattle.rtp_route.proofs.NewFormLemmas.{HaveOneBlock, one_block-back, kept_ids-there}
 
 -- bytes that were put at the front are the first ones
 pub front-put : (buf new front : List ℕ) → new ≡ overwritten buf 0 front → take (length front) new ≡ front
@@ -113,9 +114,10 @@ module _ (packet : RtpPacket) (fields : Fields) (ids : ℕ → Option ℕ) (head
   there : (elements : List Element) × AreElementsOf (alone_parts packet).block elements
   there = elements_there packet.datagram.now (parts_of packet) packet.bytes (IsPacket-found packet)
 
-  pub set-and-renumbered : (new : List ℕ) → ChangesOnly 1 12 (take (length header) put) set
-      → ((parts : PacketParts) (elements : List Element) → IsPacket now parts → AreElementsOf parts.block elements → IsUnderNewIds ids elements now parts new) → IsSetAndRenumbered (header_in packet) fields ids new
-  set-and-renumbered new only renumbers = record {
+  pub set-and-renumbered : (allowed : Option ExtensionsForm) (new : List ℕ) → ChangesOnly 1 12 (take (length header) put) set
+      → ((parts : PacketParts) (elements : List Element) → IsPacket now parts → AreElementsOf parts.block elements → IsRenumberedInForm allowed ids elements now parts new)
+      → IsSetAndRenumbered (header_in packet) fields ids allowed new
+  set-and-renumbered allowed new only renumbers = record {
     parts = alone_parts packet;
     elements = there.0;
     was_packet = subst (λ (b : List ℕ). IsPacket b (alone_parts packet)) is_begun.same is_begun.alone;
@@ -123,35 +125,22 @@ module _ (packet : RtpPacket) (fields : Fields) (ids : ℕ → Option ℕ) (head
     set_bytes = set;
     set_packet = is_begun.set_packet (alone_parts packet) is_begun.alone;
     set_only = subst (λ (b : List ℕ). ChangesOnly 1 12 b set) (is_begun.put_is ∙ is_begun.same) only;
-    renumbered = subst (λ (b : List ℕ). IsUnderNewIds ids there.0 b (with_header_fields fields (alone_parts packet)) new) is_begun.now_is
+    renumbered = subst (λ (b : List ℕ). IsRenumberedInForm allowed ids there.0 b (with_header_fields fields (alone_parts packet)) new) is_begun.now_is
         (renumbers (with_header_fields fields (alone_parts packet)) there.0 (set_now (alone_parts packet) is_begun.alone) there.1);
   }
 
-  -- the bytes that it then is
-  pub header-after : (new : List ℕ) → length new ≡ length now → take (length header) (new ++ drop (length header) (set ++ drop (length header) put)) ≡ new
-  header-after new long = take_at new _ (length header) (long ∙ ap length is_begun.now_is ∙ long_set)
-    where
-      long_set : length set ≡ length header
-      long_set =
-          let set_is = is_begun.set_packet (alone_parts packet) is_begun.alone in
-          omega (arith, length-packet set (with_header_fields fields (alone_parts packet)) set_is, length-packet header (alone_parts packet) is_begun.alone)
+  header-alone : IsPacket (header_in packet) (alone_parts packet)
+  header-alone = subst (λ (b : List ℕ). IsPacket b (alone_parts packet)) is_begun.same is_begun.alone
 
-  module _ (answer : Bool)
-      (answers : (parts : PacketParts) (elements : List Element) → IsPacket now parts → AreElementsOf parts.block elements
-      → IsTrue answer ↔ IfSome parts.block (λ block. All (CanRenumber block.0 ids) elements)) where
-    -- an id can't be carried where the answer is no
-    pub ids-long : answer ≡ false → HasLongId (header_in packet) ids
-    ids-long is_no = record {
-      parts = alone_parts packet;
-      elements = there.0;
-      is_packet = subst (λ (b : List ℕ). IsPacket b (alone_parts packet)) is_begun.same is_begun.alone;
-      are_elements = there.1;
-      not_carried = λ carried.
-          false≢true (sym is_no ∙ (answers (with_header_fields fields (alone_parts packet)) there.0 (set_now (alone_parts packet) is_begun.alone) there.1).1 carried);
-    }
+  one-block : HaveOneBlock (with_header_fields fields (alone_parts packet)) (alone_parts packet)
+  one-block = record { blocks = refl; others = refl; sources = refl; payloads = refl }
 
-    -- and each can where it is yes
-    pub ids-short : answer ≡ true → HasLongId (header_in packet) ids → ⊥
-    ids-short is_yes long =
-        let is : IsPacket header long.parts = subst (λ (b : List ℕ). IsPacket b long.parts) (sym is_begun.same) long.is_packet in
-        long.not_carried ((answers (with_header_fields fields long.parts) long.elements (set_now long.parts is) long.are_elements).0 is_yes)
+  -- what keeps the elements from their new ids does so whatever the fields
+  pub kept-header : (allowed : Option ExtensionsForm) (room : ℕ) (cause : NotRouted) → KeepsFromNewIds now ids allowed room cause → KeepsFromNewIds (header_in packet) ids allowed room cause
+  kept-header allowed room cause kept =
+      kept_ids-there now (header_in packet) (with_header_fields fields (alone_parts packet)) (alone_parts packet) (set_now (alone_parts packet) is_begun.alone) header-alone one-block ids allowed room cause kept
+
+  pub kept-set : (allowed : Option ExtensionsForm) (room : ℕ) (cause : NotRouted) → KeepsFromNewIds (header_in packet) ids allowed room cause → KeepsFromNewIds now ids allowed room cause
+  kept-set allowed room cause kept =
+      kept_ids-there (header_in packet) now (alone_parts packet) (with_header_fields fields (alone_parts packet)) header-alone (set_now (alone_parts packet) is_begun.alone)
+      (one_block-back (with_header_fields fields (alone_parts packet)) (alone_parts packet) one-block) ids allowed room cause kept

@@ -1,7 +1,10 @@
 mod LentLemmas
-mod ByCallsLemmas
 mod WordLemmas
 mod NoZeroLemmas
+mod StartLemmas
+mod NewFormLemmas
+mod ChangeFormLemmas
+mod ByCallsLemmas
 mod RoutingLemmas
 mod SameElementsLemmas
 mod NotPutLemmas
@@ -15,6 +18,11 @@ pub mod TemplateLemmas
 pub mod RetransmittedLemmas
 mod OneHeaderLemmas
 mod RepeatedLemmas
+mod WideLemmas
 mod RoomLemmas
+mod NoneKeptLemmas
 mod WalkLemmas
+mod WalkedLemmas
+mod FormsLemmas
+mod FrontLemmas
 mod ByWalkLemmas

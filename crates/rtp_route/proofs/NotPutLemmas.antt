@@ -13,9 +13,10 @@ use Rattle.rtp_route.specs.declared.not_routed.NotRouted.{NotRouted}
 use Rattle.rtp_route.specs.declared.not_routed.NotRouted.TheVariants.{ManyElements, RepeatedId, LongId as NotRouted-LongId, NotPut as NotRouted-NotPut}
 use Rattle.rtp_route.specs.Calls.{ArePut, IsSetAndRenumbered, no_fields}
 use Rattle.rtp_route.specs.NotPutAmong.{AppliesInRoom, ArePutInRoom, IsNotPutAmong, HasSameElements}
-use Rattle.rtp_route.specs.NotRouted.{HasLongId, KeepsFromRouting, AreForTemplate, KeepsFromTemplate}
+use Rattle.rtp_route.specs.NotRouted.{KeepsFromNewIds, KeepsFromRouting, AreForTemplate, KeepsFromTemplate}
 use Rattle.rtp_route.proofs.LentLemmas.{Lent, element_of, elements-at}
-use Rattle.rtp_route.proofs.SameElementsLemmas.{applies-other, put_all-other, start-other}
+use Rattle.rtp_route.proofs.SameElementsLemmas.{applies-other, put_all-other}
+use Rattle.rtp_route.proofs.StartLemmas.{start-other}
 
 -- what applies hangs on the packet and the room alone
 pub applies-same : (one_buf other_buf : List ℕ) (one_len other_len : ℕ) (element : Element) (allowed : Option ExtensionsForm) (cause : NotPut) → take one_len one_buf ≡ take other_len other_buf
@@ -120,16 +121,25 @@ no_elements old allowed room cause is = by_first is.before is.in_order
 -- ---- the whole
 
 -- nothing keeps from routing what wasn't refused
-pub none-kept : (old : List ℕ) (fields : Fields) (ids : ℕ → Option ℕ) (news : List Element) (allowed : Option ExtensionsForm) (room : ℕ) (start now : List ℕ) → length old ≤ room
-    → IsSetAndRenumbered old fields ids start → (HasLongId old ids → ⊥) → now ≡ start
-    → ((packet : List ℕ) (cause : NotPut) → HasSameElements packet now → IsNotPutAmong packet news allowed room cause → ⊥)
+pub none-kept : (old : List ℕ) (fields : Fields) (ids : ℕ → Option ℕ) (news : List Element) (allowed : Option ExtensionsForm) (room : ℕ) (start : List ℕ) → length old ≤ room
+    → IsSetAndRenumbered old fields ids allowed start → ((cause : NotRouted) → KeepsFromNewIds old ids allowed room cause → ⊥)
+    → ((packet : List ℕ) (cause : NotPut) → HasSameElements packet start → IsNotPutAmong packet news allowed room cause → ⊥)
     → (cause : NotRouted) → KeepsFromRouting old fields ids news allowed room cause → ⊥
-none-kept old fields ids news allowed room start now within is short same put ManyElements kept = kept
-none-kept old fields ids news allowed room start now within is short same put RepeatedId kept = kept
-none-kept old fields ids news allowed room start now within is short same put NotRouted-LongId kept = short kept.1
-none-kept old fields ids news allowed room start now within is short same put (NotRouted-NotPut cause) (inl none) = omega (arith, within, none.1)
-none-kept old fields ids news allowed room start now within is short same put (NotRouted-NotPut cause) (inr kept) =
-    put kept.0 cause (subst (HasSameElements kept.0) (sym same) (start-other old fields ids kept.0 start kept.2 is)) kept.3
+none-kept old fields ids news allowed room start within is carried put ManyElements kept = kept
+none-kept old fields ids news allowed room start within is carried put RepeatedId kept = kept
+none-kept old fields ids news allowed room start within is carried put NotRouted-LongId kept = carried NotRouted-LongId kept.1
+none-kept old fields ids news allowed room start within is carried put (NotRouted-NotPut cause) (inl none) = omega (arith, within, none.1)
+none-kept old fields ids news allowed room start within is carried put (NotRouted-NotPut cause) (inr (inl kept)) = carried (NotRouted-NotPut cause) kept.1
+none-kept old fields ids news allowed room start within is carried put (NotRouted-NotPut cause) (inr (inr kept)) =
+    put kept.0 cause (start-other old fields ids allowed kept.0 start kept.2 is) kept.3
+
+-- what keeps from the new ids keeps from routing
+pub ids-kept : (old : List ℕ) (fields : Fields) (ids : ℕ → Option ℕ) (news : List Element) (allowed : Option ExtensionsForm) (room : ℕ) → length old ≤ room → (cause : NotRouted)
+    → KeepsFromNewIds old ids allowed room cause → KeepsFromRouting old fields ids news allowed room cause
+ids-kept old fields ids news allowed room within ManyElements kept = kept
+ids-kept old fields ids news allowed room within RepeatedId kept = kept
+ids-kept old fields ids news allowed room within NotRouted-LongId kept = (within, kept)
+ids-kept old fields ids news allowed room within (NotRouted-NotPut cause) kept = inr (inl (within, kept))
 
 -- the same of a template, of elements that are few enough and have ids of their own
 pub kept-template : (old : List ℕ) (ids : ℕ → Option ℕ) (news : List Element) (allowed : Option ExtensionsForm) (room : ℕ) → AreForTemplate news → (cause : NotRouted)

@@ -15,9 +15,9 @@ use Rattle.rtp_wire.specs.Packet.{PacketParts, IsFixedPart, IsAnnouncedBlock, Is
 use Rattle.rtp_wire.specs.PacketElements.{AreElementsOf}
 use Rattle.rtp_wire.specs.PutIntoPacket.{form_of_block}
 use Rattle.rtp_wire.proofs.PartsLemmas.{length-packet}
-use Rattle.rtp_route.specs.Routing.{IsFormAfter, row_in, routed_elements, routed_parts, word_bytes, KeepsWord, IsRouted}
+use Rattle.rtp_route.specs.Routing.{IsFormForIds, own_form, two_byte_form, IsFormAfter, row_in, routed_elements, routed_parts, word_bytes, KeepsWord, IsRouted}
 use Rattle.rtp_route.proofs.BodyLemmas.{announces}
-use Rattle.rtp_route.proofs.RoutingLemmas.{same_parts, same_elements}
+use Rattle.rtp_route.proofs.StartLemmas.{same_parts, same_elements}
 use Rattle.rtp_route.proofs.WordLemmas.{word_of, either_form}
 
 -- ---- bytes of one number
@@ -161,6 +161,13 @@ one_form allowed block [] f g p q = p ∙ sym q
 one_form allowed block (new ∷ news) f g p q =
     one_form allowed (Some q.0) news f g (subst (λ (form : ExtensionsForm). IsFormAfter allowed (Some form) news f) (same_Some _ _ (sym p.1 ∙ q.1)) p.2) q.2
 
+one_start : (allowed : Option ExtensionsForm) (ids : ℕ → Option ℕ) (block : Option (ExtensionsForm × List ℕ)) (elements : List Element) (f g : Option ExtensionsForm)
+    → IsFormForIds allowed ids block elements f → IsFormForIds allowed ids block elements g → f ≡ g
+one_start allowed ids block elements f g (own_form carried is) (own_form same other) = is ∙ sym other
+one_start allowed ids block elements f g (own_form carried is) (two_byte_form not_carried is_allowed other) = absurd (not_carried carried)
+one_start allowed ids block elements f g (two_byte_form not_carried is_allowed is) (own_form carried other) = absurd (not_carried carried)
+one_start allowed ids block elements f g (two_byte_form not_carried is_allowed is) (two_byte_form same same_allowed other) = is ∙ sym other
+
 one_word : (was : Option ExtensionsForm) (old : List ℕ) (form : Option ExtensionsForm) (a b : List ℕ) → KeepsWord was old form a → KeepsWord was old form b → (f : ExtensionsForm) → form ≡ Some f
     → word_bytes a ≡ word_bytes b
 one_word None old form a b p q f is = p.new_word_is f is (λ same. none-some f same) ∙ sym (q.new_word_is f is (λ same. none-some f same))
@@ -180,8 +187,11 @@ one-header old fields ids news allowed a b all_a all_b p q =
     let parts : q.parts ≡ p.parts = same_parts old q.parts p.parts q.was_packet p.was_packet in
     let elements : q.elements ≡ p.elements =
     same_elements p.parts.block q.elements p.elements (subst (λ (s : PacketParts). AreElementsOf s.block q.elements) parts q.were_elements) p.were_elements in
-    let form : q.form ≡ p.form =
-    one_form allowed (form_of_block p.parts.block) news q.form p.form (subst (λ (s : PacketParts). IsFormAfter allowed (form_of_block s.block) news q.form) parts q.form_is) p.form_is in
+    let start : q.start ≡ p.start =
+    one_start allowed ids p.parts.block p.elements q.start p.start
+    (subst (λ (es : List Element). IsFormForIds allowed ids p.parts.block es q.start) elements
+    (subst (λ (s : PacketParts). IsFormForIds allowed ids s.block q.elements q.start) parts q.start_is)) p.start_is in
+    let form : q.form ≡ p.form = one_form allowed p.start news q.form p.form (subst (λ (f : Option ExtensionsForm). IsFormAfter allowed f news q.form) start q.form_is) p.form_is in
     let is_b : IsPacket b (record (routed_parts fields ids news p.form p.elements p.parts) { payload = [] }) =
     subst (λ (f : Option ExtensionsForm). IsPacket b (record (routed_parts fields ids news f p.elements p.parts) { payload = [] })) form
     (subst (λ (es : List Element). IsPacket b (record (routed_parts fields ids news q.form es p.parts) { payload = [] })) elements

@@ -1,5 +1,5 @@
 -- The calls one after another make the header that the route makes.
-use Rattle.std.proofs.Common.{◌≡◌, ◌≢◌, ℕ, ◌+◌, ◌-◌, ◌*◌, ◌≤◌, Bool, true, List, [], ◌∷◌, ◌++◌, length, take, drop, Option, Some, None, refl, sym, ap, subst, ◌∙◌, arith, append_assoc, append-nil, take_at, Result, Ok, Err, IfOk}
+use Rattle.std.proofs.Common.{◌≡◌, ◌≢◌, ℕ, ◌+◌, ◌*◌, ◌≤◌, Bool, true, List, [], ◌∷◌, ◌++◌, length, take, drop, Option, Some, None, refl, sym, ap, subst, ◌∙◌, arith, append_assoc, append-nil, take_at, Result, Ok, Err, IfOk}
 use Rattle.std.specs.List.{concat, filter_map}
 use Rattle.std.proofs.lemmas.List.Elements.{All-head, All-tail}
 use Rattle.rtp_ext.specs.declared.form.ExtensionsForm.{ExtensionsForm}
@@ -7,7 +7,6 @@ use Rattle.rtp_ext.specs.Elements.{Element, AreElements, elements_bytes}
 use Rattle.rtp_ext.specs.ElementsInPlace.{HasNone, renumbered}
 use Rattle.rtp_ext.specs.PutElement.{without, needed_form, allowed_form}
 use Rattle.rtp_ext.specs.WrittenBlock.{filled}
-use Rattle.rtp_ext.proofs.LastPlaceLemmas.{AreElements-same}
 use Rattle.rtp_ext.proofs.PutLemmas.{without-none}
 use Rattle.rtp_wire.specs.declared.packet.fields.Fields.{Fields}
 use Rattle.rtp_wire.specs.GivenFields.{with_header_fields}
@@ -17,22 +16,13 @@ use Rattle.rtp_wire.specs.PartsOf.{parts_of, datagram_of}
 use Rattle.rtp_wire.specs.declared.packet.rtp_packet.RtpPacket.{RtpPacket}
 use Rattle.rtp_wire.specs.PacketElements.{AreElementsOf}
 use Rattle.rtp_wire.specs.PutIntoPacket.{form_of_block, body_of_block, elements_with, compact_block, PutsElement, Compacts}
-use Rattle.rtp_wire.proofs.PacketLemmas.{one_packet}
 use Rattle.rtp_wire.proofs.PartsLemmas.{length-packet, IsPacket-found}
 use Rattle.rtp_wire.proofs.ResizedLemmas.{sources_end-is}
-use Rattle.rtp_route.specs.Calls.{ArePut, IsRenumbered, IsRoutedByCalls, header_in}
-use Rattle.rtp_route.specs.Routing.{put_all, IsFormAfter, extension_after, row_in, routed_parts, word_bytes, KeepsWord, IsRouted}
+use Rattle.rtp_route.specs.Calls.{ArePut, IsRoutedByCalls, header_in}
+use Rattle.rtp_route.specs.Routing.{put_all, IsFormForIds, IsFormAfter, extension_after, row_in, routed_parts, word_bytes, KeepsWord, IsRouted}
 use Rattle.rtp_route.proofs.NoZeroLemmas.{none_zero-put, none_zero-without}
-use Rattle.rtp_route.proofs.WordLemmas.{word_at_end, word_before, word_in_front, word_in_take, word_within, from_twelve, word_of, KeepsWord-then, KeepsWord-put}
-
--- ---- one packet has one list of elements
-
-pub same_parts : (bytes : List ℕ) (p q : PacketParts) → IsPacket bytes p → IsPacket bytes q → p ≡ q
-same_parts bytes p q is_p is_q = sym (one_packet bytes p is_p) ∙ one_packet bytes q is_q
-
-pub same_elements : (block : Option (ExtensionsForm × List ℕ)) (xs ys : List Element) → AreElementsOf block xs → AreElementsOf block ys → xs ≡ ys
-same_elements None xs ys are_xs are_ys = are_xs ∙ sym are_ys
-same_elements (Some block) xs ys are_xs are_ys = AreElements-same block.0 block.1 xs ys are_xs are_ys
+use Rattle.rtp_route.proofs.StartLemmas.{same_parts, same_elements, started, start-form, start-either}
+use Rattle.rtp_route.proofs.WordLemmas.{word_at_end, word_in_front, word_in_take, word_within, word_of, KeepsWord-then, KeepsWord-put, KeepsWord-from}
 
 -- ---- the elements that are put one after another
 
@@ -104,30 +94,6 @@ row-compact (Some block) (Some form) elements is =
     let same : block.0 ≡ form = cc in
     ap (λ (f : ExtensionsForm). Some (f, filled (elements_bytes f (without 0 elements)))) same
 
--- the packet under its new ids
-pub record HasNewIds (ids : ℕ → Option ℕ) (elements : List Element) (was new : PacketParts) : Type 0 where
-  pub block : Option (ExtensionsForm × List ℕ)
-  pub parts_are : new ≡ record was { block = block }
-  pub same_form : form_of_block block ≡ form_of_block was.block
-  pub are_elements : AreElementsOf block (filter_map (renumbered ids) elements)
-
-pub new_ids : (ids : ℕ → Option ℕ) (elements : List Element) (was new : PacketParts) (block : Option (ExtensionsForm × List ℕ)) → was.block ≡ block → AreElementsOf block elements
-    → IsRenumbered ids elements block was new → HasNewIds ids elements was new
-new_ids ids elements was new None none are same = record {
-  block = None;
-  parts_are = same ∙ ap (λ (b : Option (ExtensionsForm × List ℕ)). record was { block = b }) none;
-  same_form = ap form_of_block (sym none);
-  are_elements = ap (filter_map (renumbered ids)) are;
-}
-new_ids ids elements was new (Some block) some are changed =
-    let changes = changed.0 in
-    record {
-      block = Some (changes.form, changes.body);
-      parts_are = changes.parts_are;
-      same_form = ap form_of_block (sym changes.block_was);
-      are_elements = subst (λ (p : PacketParts). AreElementsOf p.block (filter_map (renumbered ids) elements)) changes.parts_are changed.1;
-    }
-
 -- a packet is its header and its payload
 pub header-split : (bytes : List ℕ) (parts : PacketParts) → IsPacket bytes parts → (header : List ℕ) × (bytes ≡ header ++ parts.payload) × IsPacket header (record parts { payload = [] })
 header-split bytes parts is =
@@ -165,12 +131,13 @@ routed-by_calls old new len fields ids news allowed no_zero calls =
     let was : PacketParts = with_header_fields fields start.parts in
     let es : List Element = filter_map (renumbered ids) start.elements in
     let row : List Element = put_all news (without 0 es) in
-    let has : HasNewIds ids start.elements was start.renumbered.parts =
-    new_ids ids start.elements was start.renumbered.parts start.parts.block refl start.were_elements start.renumbered.is_renumbered in
-    let here : PacketParts = record was { block = has.block } in
-    let is_here : IsPacket calls.start_bytes here = subst (IsPacket calls.start_bytes) has.parts_are start.renumbered.is_packet in
+    let first = started old fields ids allowed calls.start_bytes start in
+    let here : PacketParts = record was { block = first.block } in
     let put : IsPutTo calls.start_bytes here es news allowed calls.put_bytes =
-    put-each news allowed calls.start_bytes calls.put_bytes here es is_here has.are_elements no_zero calls.are_put in
+    put-each news allowed calls.start_bytes calls.put_bytes here es first.is_packet first.are_elements no_zero calls.are_put in
+    let kept : KeepsWord (form_of_block start.parts.block) old put.form calls.put_bytes =
+    KeepsWord-from (form_of_block start.parts.block) (form_of_block first.block) put.form allowed news old calls.start_bytes calls.put_bytes
+    (start-either allowed ids start.parts.block start.elements first.block first.has) put.is_after first.word_is put.word_is in
     let there : PacketParts = record here { has_extension = extension_after news here.has_extension; block = put.block } in
     let compacts : Compacts calls.put_bytes new len = calls.compacted in
     let p_is : compacts.parts ≡ there = same_parts calls.put_bytes compacts.parts there compacts.was_packet put.is_packet in
@@ -184,13 +151,6 @@ routed-by_calls old new len fields ids news allowed no_zero calls =
     subst (λ (b : Option (ExtensionsForm × List ℕ)). IsPacket (take len new) (record there { block = b })) block_is with_parts in
     let split = header-split (take len new) (record there { block = row_in put.form row }) whole in
     let s : ℕ = 12 + 4 * length start.parts.sources in
-    let set_word : take 2 (drop s start.set_bytes) ≡ take 2 (drop s old) =
-    ap (take 2) (from_twelve s start.set_bytes (omega arith) ∙ ap (drop (s - 12)) start.set_only.after_is ∙ sym (from_twelve s old (omega arith))) in
-    let renumbered_word : take 2 (drop s calls.start_bytes) ≡ take 2 (drop s start.set_bytes) =
-    word_before s (sources_end start.set_bytes + 4) calls.start_bytes start.set_bytes (omega (arith, sources_end-is start.set_bytes was start.set_packet)) start.renumbered.only_body.before_is in
-    let first_word : word_bytes calls.start_bytes ≡ word_bytes old =
-    word_of calls.start_bytes here is_here ∙ renumbered_word ∙ set_word ∙ sym (word_of old start.parts start.was_packet) in
-    let same_form : form_of_block has.block ≡ form_of_block start.parts.block = has.same_form in
     let last_word : (f : ExtensionsForm) → put.form ≡ Some f → word_bytes split.0 ≡ word_bytes calls.put_bytes =
     λ f is.
     let body : List ℕ = filled (elements_bytes f row) in
@@ -210,17 +170,19 @@ routed-by_calls old new len fields ids news allowed no_zero calls =
       record {
         parts = start.parts;
         elements = start.elements;
+        start = form_of_block first.block;
         form = put.form;
         was_packet = start.was_packet;
         were_elements = start.were_elements;
-        form_is = subst (λ (f : Option ExtensionsForm). IsFormAfter allowed f news put.form) has.same_form put.is_after;
+        start_is = start-form allowed ids start.parts.block start.elements first.block first.has;
+        form_is = put.is_after;
         is_packet = split.2;
         are_elements = subst (λ (b : Option (ExtensionsForm × List ℕ)). AreElementsOf b row) block_is
             (subst (λ (xs : List Element). AreElementsOf (compact_block compacts.elements put.block) xs) row_is
             (subst (λ (p : PacketParts). AreElementsOf (compact_block compacts.elements p.block) (without 0 compacts.elements)) p_is compacts.are_elements));
         word_is = record {
-          word_is = λ f is same. last_word f is ∙ put.word_is.word_is f is (same_form ∙ same) ∙ first_word;
-          new_word_is = λ f is other. last_word f is ∙ put.word_is.new_word_is f is (λ same. other (sym same_form ∙ same));
+          word_is = λ f is same. last_word f is ∙ kept.word_is f is same;
+          new_word_is = λ f is other. last_word f is ∙ kept.new_word_is f is other;
         };
       },
     )
@@ -254,10 +216,12 @@ routed-whole whole header parts new len fields ids news allowed is alone front n
         record {
           parts = parts;
           elements = routed.elements;
+          start = routed.start;
           form = routed.form;
           was_packet = is;
           were_elements = subst (λ (p : PacketParts). AreElementsOf p.block routed.elements) same routed.were_elements;
-          form_is = subst (λ (p : PacketParts). IsFormAfter allowed (form_of_block p.block) news routed.form) same routed.form_is;
+          start_is = subst (λ (p : PacketParts). IsFormForIds allowed ids p.block routed.elements routed.start) same routed.start_is;
+          form_is = routed.form_is;
           is_packet = subst (λ (p : PacketParts). IsPacket made (record (routed_parts fields ids news routed.form routed.elements p) { payload = [] })) same routed.is_packet;
           are_elements = routed.are_elements;
           word_is = record {

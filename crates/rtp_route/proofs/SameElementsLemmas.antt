@@ -1,24 +1,20 @@
 -- What is put into two packets that say the same, but for where their elements lie.
-use Rattle.std.proofs.Common.{◌≡◌, ℕ, ◌+◌, ◌*◌, ◌≤◌, true, List, [], ◌∷◌, ◌++◌, length, length-append, take, max, Option, Some, None, refl, sym, ap, subst, ◌∙◌, arith}
-use Rattle.std.specs.List.{filter_map}
+use Rattle.std.proofs.Common.{◌≡◌, ℕ, ◌+◌, ◌*◌, ◌≤◌, true, List, [], ◌∷◌, ◌++◌, length, length-append, take, max, Option, Some, refl, sym, ap, subst, ◌∙◌, arith}
 use Rattle.std.proofs.lemmas.Option.{same_Some}
 use Rattle.rtp_ext.specs.declared.form.ExtensionsForm.{ExtensionsForm}
 use Rattle.rtp_ext.specs.Elements.{Element, AreElements, elements_bytes}
-use Rattle.rtp_ext.specs.ElementsInPlace.{SetsLast, renumbered}
+use Rattle.rtp_ext.specs.ElementsInPlace.{SetsLast}
 use Rattle.rtp_ext.specs.PutElement.{needed_form, allowed_form, row_to}
 use Rattle.rtp_ext.specs.WrittenBlock.{whole_words}
-use Rattle.rtp_wire.specs.declared.packet.fields.Fields.{Fields}
 use Rattle.rtp_wire.specs.declared.packet.not_put.NotPut.{NotPut}
 use Rattle.rtp_wire.specs.declared.packet.not_put.NotPut.TheVariants.{CutPacket, ZeroId, LongData, NotAPacket, OtherForm, LongId, OneByteOnly, LongBlock, NoRoom}
-use Rattle.rtp_wire.specs.GivenFields.{with_header_fields}
-use Rattle.rtp_wire.specs.Packet.{PacketParts, IsPacket, block_len}
+use Rattle.rtp_wire.specs.Packet.{PacketParts, IsPacket}
 use Rattle.rtp_wire.specs.PacketElements.{AreElementsOf}
 use Rattle.rtp_wire.specs.PutIntoPacket.{form_of_block, body_of_block, elements_with, IsGrowth, IsBodyWith, in_place, anew, PutsElement, AppliesToPut}
 use Rattle.rtp_wire.proofs.PacketLemmas.{no_packet}
-use Rattle.rtp_wire.proofs.PartsLemmas.{length-packet}
-use Rattle.rtp_route.specs.Calls.{IsSetAndRenumbered, ArePut}
+use Rattle.rtp_route.specs.Calls.{ArePut}
 use Rattle.rtp_route.specs.NotPutAmong.{HasSameElements}
-use Rattle.rtp_route.proofs.RoutingLemmas.{same_parts, same_elements, HasNewIds, new_ids}
+use Rattle.rtp_route.proofs.StartLemmas.{same_parts, same_elements}
 
 -- the other packet, with its own block
 abbrev other_parts : (one other : List ℕ) → HasSameElements one other → PacketParts
@@ -143,53 +139,3 @@ pub put_all-other : (news : List Element) (allowed : Option ExtensionsForm) (one
 put_all-other [] allowed one other one_new other_new same p q = subst (λ (b : List ℕ). HasSameElements b other_new) (sym p) (subst (HasSameElements one) (sym q) same)
 put_all-other (new ∷ news) allowed one other one_new other_new same p q =
     put_all-other news allowed (take p.1 p.0) (take q.1 q.0) one_new other_new (put-other one other new allowed p.0 q.0 p.1 q.1 same p.2 q.2) p.3 q.3
-
--- ---- what is put into: the packet with its fields and its new ids
-
-pub bodies-alike : (a b : Option (ExtensionsForm × List ℕ)) → form_of_block a ≡ form_of_block b → block_len a ≡ block_len b → length (body_of_block a) ≡ length (body_of_block b)
-bodies-alike None None same long = refl
-bodies-alike None (Some b) same long = absurd cc
-bodies-alike (Some a) None same long = absurd cc
-bodies-alike (Some a) (Some b) same long = omega (arith, long)
-
--- the packet, and that its block is as long as it was
-pub record IsStarted (fields : Fields) (ids : ℕ → Option ℕ) (was : PacketParts) (elements : List Element) (bytes : List ℕ) : Type 0 where
-  pub block : Option (ExtensionsForm × List ℕ)
-  pub is_packet : IsPacket bytes (record (with_header_fields fields was) { block = block })
-  pub same_form : form_of_block block ≡ form_of_block was.block
-  pub same_len : block_len block ≡ block_len was.block
-  pub are_elements : AreElementsOf block (filter_map (renumbered ids) elements)
-
-pub started : (old : List ℕ) (fields : Fields) (ids : ℕ → Option ℕ) (new : List ℕ) (is : IsSetAndRenumbered old fields ids new) → IsStarted fields ids is.parts is.elements new
-started old fields ids new is =
-    let was : PacketParts = with_header_fields fields is.parts in
-    let has : HasNewIds ids is.elements was is.renumbered.parts =
-    new_ids ids is.elements was is.renumbered.parts is.parts.block refl is.were_elements is.renumbered.is_renumbered in
-    let packet : IsPacket new (record was { block = has.block }) = subst (IsPacket new) has.parts_are is.renumbered.is_packet in
-    record {
-      block = has.block;
-      is_packet = packet;
-      same_form = has.same_form;
-      same_len = omega (arith, length-packet new (record was { block = has.block }) packet, length-packet is.set_bytes was is.set_packet, is.renumbered.only_body.length_is);
-      are_elements = has.are_elements;
-    }
-
-pub start-other : (old : List ℕ) (fields : Fields) (ids : ℕ → Option ℕ) (one other : List ℕ) → IsSetAndRenumbered old fields ids one → IsSetAndRenumbered old fields ids other → HasSameElements one other
-start-other old fields ids one other p q =
-    let first = started old fields ids one p in
-    let parts : q.parts ≡ p.parts = same_parts old q.parts p.parts q.was_packet p.was_packet in
-    let elements : q.elements ≡ p.elements =
-    same_elements p.parts.block q.elements p.elements (subst (λ (s : PacketParts). AreElementsOf s.block q.elements) parts q.were_elements) p.were_elements in
-    let second : IsStarted fields ids p.parts p.elements other =
-    subst (λ (es : List Element). IsStarted fields ids p.parts es other) elements (subst (λ (s : PacketParts). IsStarted fields ids s q.elements other) parts (started old fields ids other q)) in
-    record {
-      parts = record (with_header_fields fields p.parts) { block = first.block };
-      block = second.block;
-      elements = filter_map (renumbered ids) p.elements;
-      is_packet = first.is_packet;
-      other_packet = second.is_packet;
-      same_form = second.same_form ∙ sym first.same_form;
-      same_length = bodies-alike second.block first.block (second.same_form ∙ sym first.same_form) (second.same_len ∙ sym first.same_len);
-      are_elements = first.are_elements;
-      other_elements = second.are_elements;
-    }

@@ -1,9 +1,11 @@
 -- Other data of elements that are put, and what becomes of all elements.
-use Rattle.std.proofs.Common.{◌≡◌, ◌≢◌, ℕ, Bool, true, false, ◌||◌, cond, List, [], ◌∷◌, length, refl, sym, ap, ◌∙◌, arith}
-use Rattle.std.specs.List.{list_any}
+use Rattle.std.proofs.Common.{◌≡◌, ◌≢◌, ℕ, Bool, true, false, ◌||◌, cond, List, [], ◌∷◌, ◌++◌, length, refl, sym, ap, ◌∙◌, arith}
+use Rattle.std.specs.List.{list_any, AllByRecursion}
 use Rattle.std.proofs.lemmas.Bool.{eq-eqb, eqb-true, ne_eqb, true≢false}
 use Rattle.std.proofs.lemmas.List.Elements.{All-head, All-tail}
-use Rattle.rtp_ext.specs.Elements.{Element}
+use Rattle.rtp_ext.specs.declared.form.ExtensionsForm.{ExtensionsForm}
+use Rattle.rtp_ext.specs.declared.form.ExtensionsForm.TheVariants.{OneByte, TwoByte}
+use Rattle.rtp_ext.specs.Elements.{Element, IsElement}
 use Rattle.rtp_ext.specs.ElementsInPlace.{HasNone}
 use Rattle.rtp_ext.specs.PutElement.{has_id, put_element}
 use Rattle.rtp_route.specs.Routing.{put_all}
@@ -104,3 +106,22 @@ put_all-data (new ∷ news) (bytes ∷ contents) elements own long =
     put_all-data news contents (put_element (new.0, bytes) elements) own.1 (omega (arith, long))
     ∙ ap (λ (es : List Element). sets news contents (put_all news es)) (put-this new.0 bytes new.1 elements)
     ∙ ap (sets news contents) (put_all-other news new.0 bytes (put_element new elements) own.0)
+
+-- ---- elements of which the form can carry each
+
+pub element-alike : (form : ExtensionsForm) (id : ℕ) (bytes was : List ℕ) → length bytes ≡ length was → IsElement form (id, was) → IsElement form (id, bytes)
+element-alike OneByte id bytes was same is = (is.0, omega (arith, is.1, same), omega (arith, is.2, same), omega (arith, is.3, same))
+element-alike TwoByte id bytes was same is = (is.0, is.1, omega (arith, is.2, same))
+
+pub middle : (P : Element → Type 0) (before : List Element) (element : Element) (after : List Element) → AllByRecursion P (before ++ element ∷ after) → P element
+middle P [] element after all = all.0
+middle P (first ∷ before) element after all = middle P before element after all.1
+
+pub elements-set : (form : ExtensionsForm) (id : ℕ) (bytes : List ℕ) (elements : List Element) → IsElement form (id, bytes) → AllByRecursion (IsElement form) elements
+    → AllByRecursion (IsElement form) (all_set id bytes elements)
+elements-set form id bytes [] is all = tt
+elements-set form id bytes (element ∷ elements) is all = (either (has_id id element), elements-set form id bytes elements is all.1)
+  where
+    either : (b : Bool) → IsElement form (cond b (id, bytes) element)
+    either true = is
+    either false = all.0

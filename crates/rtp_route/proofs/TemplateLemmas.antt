@@ -1,5 +1,5 @@
 -- A header that is made once, and what other fields and data make of it.
-use Rattle.std.proofs.Common.{◌≡◌, ℕ, ◌+◌, ◌-◌, ◌*◌, Bool, true, false, ◌&&◌, nat_le, cond, List, [], ◌∷◌, ◌++◌, length, take, drop, map, Option, Some, None, IsSome, refl, sym, ap, subst, ◌∙◌, arith, take_at}
+use Rattle.std.proofs.Common.{◌≡◌, ℕ, ◌+◌, ◌-◌, ◌*◌, Bool, ◌&&◌, nat_le, cond, List, [], ◌∷◌, ◌++◌, length, take, drop, map, Option, Some, None, IsSome, refl, sym, ap, subst, ◌∙◌, arith, take_at}
 use Rattle.std.specs.List.{AllByRecursion, filter_map}
 use Rattle.std.proofs.lemmas.List.{length-map, take_all}
 use Rattle.std.proofs.lemmas.Option.{none-some}
@@ -9,14 +9,13 @@ use Rattle.rtp_ext.specs.declared.form.ExtensionsForm.{ExtensionsForm}
 use Rattle.rtp_ext.specs.declared.form.ExtensionsForm.TheVariants.{OneByte, TwoByte}
 use Rattle.rtp_ext.specs.Elements.{Element, IsElement, elements_bytes, AreElements}
 use Rattle.rtp_ext.specs.ElementsInPlace.{renumbered}
-use Rattle.rtp_ext.specs.PutElement.{has_id, without, needed_form, allowed_form}
+use Rattle.rtp_ext.specs.PutElement.{without, needed_form, allowed_form}
 use Rattle.rtp_ext.specs.WrittenBlock.{filled}
 use Rattle.rtp_ext.proofs.NewIdLemmas.{All-IsElement}
 use Rattle.rtp_wire.specs.declared.packet.fields.Fields.{Fields}
 use Rattle.rtp_wire.specs.ChangedPacket.{ChangesOnly}
 use Rattle.rtp_wire.specs.Packet.{PacketParts, IsPacket, header_len_of}
 use Rattle.rtp_wire.specs.PacketElements.{AreElementsOf}
-use Rattle.rtp_wire.specs.PutIntoPacket.{form_of_block}
 use Rattle.rtp_route.specs.declared.slots.Slot.{Slot}
 use Rattle.rtp_route.specs.Calls.{no_fields, header_in}
 use Rattle.rtp_route.specs.Routing.{put_all, IsFormAfter, extension_after, row_in, routed_elements, routed_parts, word_bytes, IsRouted}
@@ -32,7 +31,7 @@ use Rattle.rtp_route.proofs.ByCallsLemmas.{front-put}
 use Rattle.rtp_route.proofs.BodyLemmas.{has-body}
 use Rattle.rtp_route.proofs.OnlyLemmas.{elements-by_turns, filled-elements, only-put_all}
 use Rattle.rtp_route.proofs.WordLemmas.{word_of, word_in_front, from_twelve}
-use Rattle.rtp_route.proofs.SetDataLemmas.{all_set, sets, put_all-data}
+use Rattle.rtp_route.proofs.SetDataLemmas.{all_set, sets, put_all-data, element-alike, middle, elements-set}
 use Rattle.rtp_route.proofs.SlotLemmas.{slots-stay, write-slots, filled-sets_length, slots-lengths}
 
 -- ---- elements with other data of the same length
@@ -66,23 +65,6 @@ no_news allowed block [] is = refl
 no_news allowed block (new ∷ news) is = absurd (form-some allowed block new news is)
 
 -- ---- elements of which the form can carry each
-
-element-alike : (form : ExtensionsForm) (id : ℕ) (bytes was : List ℕ) → length bytes ≡ length was → IsElement form (id, was) → IsElement form (id, bytes)
-element-alike OneByte id bytes was same is = (is.0, omega (arith, is.1, same), omega (arith, is.2, same), omega (arith, is.3, same))
-element-alike TwoByte id bytes was same is = (is.0, is.1, omega (arith, is.2, same))
-
-middle : (P : Element → Type 0) (before : List Element) (element : Element) (after : List Element) → AllByRecursion P (before ++ element ∷ after) → P element
-middle P [] element after all = all.0
-middle P (first ∷ before) element after all = middle P before element after all.1
-
-elements-set : (form : ExtensionsForm) (id : ℕ) (bytes : List ℕ) (elements : List Element) → IsElement form (id, bytes) → AllByRecursion (IsElement form) elements
-    → AllByRecursion (IsElement form) (all_set id bytes elements)
-elements-set form id bytes [] is all = tt
-elements-set form id bytes (element ∷ elements) is all = (either (has_id id element), elements-set form id bytes elements is all.1)
-  where
-    either : (b : Bool) → IsElement form (cond b (id, bytes) element)
-    either true = is
-    either false = all.0
 
 elements-sets : (form : ExtensionsForm) (start : ℕ) (elements news : List Element) (slots : List Slot) (contents : List (List ℕ)) → AreSlots form start elements news slots → HaveOwnIds news
     → map length contents ≡ data_lengths news → AllByRecursion (IsElement form) elements → AllByRecursion (IsElement form) (sets news contents elements)
@@ -118,9 +100,11 @@ filled-with : (old : List ℕ) (ids : ℕ → Option ℕ) (news : List Element) 
 filled-with old ids [] allowed header [] fields contents set is None none same packet only = record {
   parts = is.routed.parts;
   elements = is.routed.elements;
+  start = is.routed.start;
   form = is.routed.form;
   was_packet = is.routed.was_packet;
   were_elements = is.routed.were_elements;
+  start_is = is.routed.start_is;
   form_is = is.routed.form_is;
   is_packet = packet;
   are_elements = is.routed.are_elements;
@@ -131,7 +115,7 @@ filled-with old ids [] allowed header [] fields contents set is None none same p
 }
 filled-with old ids [] allowed header (slot ∷ slots) fields contents set is None none same packet only = let no = is.lengths_are in absurd cc
 filled-with old ids (new ∷ news) allowed header slots fields contents set is None none same packet only =
-    absurd (form-some allowed (form_of_block is.routed.parts.block) new news (subst (IsFormAfter allowed (form_of_block is.routed.parts.block) (new ∷ news)) none is.routed.form_is))
+    absurd (form-some allowed is.routed.start new news (subst (IsFormAfter allowed is.routed.start (new ∷ news)) none is.routed.form_is))
 filled-with old ids news allowed header slots fields contents set is (Some form) some same packet only =
     let routed = is.routed in
     let parts = routed.parts in
@@ -172,10 +156,12 @@ filled-with old ids news allowed header slots fields contents set is (Some form)
     record {
       parts = parts;
       elements = routed.elements;
+      start = routed.start;
       form = routed.form;
       was_packet = routed.was_packet;
       were_elements = routed.were_elements;
-      form_is = form-alike allowed (form_of_block parts.block) news contents routed.form same routed.form_is;
+      start_is = routed.start_is;
+      form_is = form-alike allowed routed.start news contents routed.form same routed.form_is;
       is_packet = is_now;
       are_elements = subst (λ (b : Option (ExtensionsForm × List ℕ)). AreElementsOf b (put_all (with_data news contents) es)) (sym now_block)
           (subst (λ (zs : List Element). AreElements form (filled (elements_bytes form now)) zs) (sym put_is) (filled-elements form now all_now));
@@ -256,7 +242,7 @@ pub slots-there : (old : List ℕ) (ids : ℕ → Option ℕ) (news : List Eleme
 slots-there old ids news allowed header count result routed own found none = by_form routed.form refl
   where
     by_form : (form : Option ExtensionsForm) → routed.form ≡ form → IsSome result
-    by_form None is = none (no_news allowed (form_of_block routed.parts.block) news (subst (IsFormAfter allowed (form_of_block routed.parts.block) news) is routed.form_is))
+    by_form None is = none (no_news allowed routed.start news (subst (IsFormAfter allowed routed.start news) is routed.form_is))
     by_form (Some form) is =
         let es : List Element = without 0 (filter_map (renumbered ids) routed.elements) in
         let slots = found form (put_all news es) (row-there old ids news allowed header routed form is) (only-put_all news es own) in
@@ -286,10 +272,10 @@ group-made old ids news allowed header all number routed own count found =
     some_list : (a b : List Slot) → Some a ≡ Some b → a ≡ b
     some_list a b same = cc
 
-    none_put : (form : Option ExtensionsForm) (put : List Element) → IsFormAfter allowed (form_of_block routed.parts.block) put form → form ≡ None → (count : ℕ) → count ≡ length put
+    none_put : (form : Option ExtensionsForm) (put : List Element) → IsFormAfter allowed routed.start put form → form ≡ None → (count : ℕ) → count ≡ length put
         → slot_lengths (take count all) ≡ data_lengths put
     none_put form [] is none count zero_is = ap (λ (k : ℕ). slot_lengths (take k all)) zero_is
-    none_put form (new ∷ more) is none count zero_is = absurd (form-some allowed (form_of_block routed.parts.block) new more (subst (IsFormAfter allowed (form_of_block routed.parts.block) (new ∷ more)) none is))
+    none_put form (new ∷ more) is none count zero_is = absurd (form-some allowed routed.start new more (subst (IsFormAfter allowed routed.start (new ∷ more)) none is))
 
     lengths : (form : Option ExtensionsForm) → routed.form ≡ form
         → ((f : ExtensionsForm) → routed.form ≡ Some f → AreSlots f (body_start_of routed.parts) (put_all news (without 0 (filter_map (renumbered ids) routed.elements))) news (take number all))

@@ -10,6 +10,7 @@ use Rattle.rtp_ext.specs.PutElement.{needed_form, allowed_form}
 use Rattle.rtp_wire.specs.NotAHeader.{sources_end}
 use Rattle.rtp_wire.specs.Packet.{PacketParts, IsPacket, block_len}
 use Rattle.rtp_wire.specs.PutIntoPacket.{form_of_block, PutsElement}
+use Rattle.rtp_wire.specs.RemadeBlock.{RemakesBlock}
 use Rattle.rtp_wire.proofs.PartsLemmas.{length-packet}
 use Rattle.rtp_wire.proofs.ResizedLemmas.{sources_end-is}
 use Rattle.rtp_route.specs.Routing.{IsFormAfter, word_bytes, KeepsWord}
@@ -121,3 +122,47 @@ KeepsWord-put bytes buf len new allowed parts block was is puts same =
   where
     some_form : (a b : ExtensionsForm) → Some a ≡ Some b → a ≡ b
     some_form a b is = cc
+
+-- the word once the block is made anew
+pub KeepsWord-remade : (bytes buf : List ℕ) (len : ℕ) (form : ExtensionsForm) (parts : PacketParts) (block : ExtensionsForm × List ℕ) → IsPacket bytes parts
+    → IsPacket (take len buf) (record parts { has_extension = true; block = Some block }) → (remakes : RemakesBlock bytes form [] buf len) → remakes.remade.parts ≡ parts
+    → KeepsWord (form_of_block parts.block) bytes (Some form) (take len buf)
+KeepsWord-remade bytes buf len form parts block was is remakes same =
+    let s : ℕ = 12 + 4 * length parts.sources in
+    let end : sources_end bytes ≡ s = sources_end-is bytes parts was in
+    let here : word_bytes (take len buf) ≡ take 2 (drop s buf) =
+    word_of (take len buf) _ is ∙ word_in_take s len buf (word_within (take len buf) _ block is refl) in
+    record {
+      word_is = λ f form-is was-is. here
+          ∙ word_at_end s buf bytes
+          (ap (λ (k : ℕ). take (k + 2) buf) (sym end) ∙ remakes.word_is (ap (λ (p : PacketParts). form_of_block p.block) same ∙ was-is ∙ sym form-is) ∙ ap (λ (k : ℕ). take (k + 2) bytes) end)
+          ∙ sym (word_of bytes parts was);
+      new_word_is = λ f form-is other. here ∙ ap (λ (k : ℕ). take 2 (drop k buf)) (sym end)
+          ∙ remakes.new_word_is (λ kept. other (sym (ap (λ (p : PacketParts). form_of_block p.block) same) ∙ kept ∙ form-is))
+          ∙ ap (λ (g : ExtensionsForm). to_be_bytes w16 (form_word g)) (some_form form f form-is);
+    }
+  where
+    some_form : (a b : ExtensionsForm) → Some a ≡ Some b → a ≡ b
+    some_form a b is = cc
+
+-- it stays where the fixed part was set before, and where the body changes after
+pub KeepsWord-between : (was form : Option ExtensionsForm) (old set made new : List ℕ) → word_bytes set ≡ word_bytes old → KeepsWord was set form made → word_bytes new ≡ word_bytes made
+    → KeepsWord was old form new
+KeepsWord-between was form old set made new before kept after = record {
+  word_is = λ f form-is was-is. after ∙ kept.word_is f form-is was-is ∙ before;
+  new_word_is = λ f form-is other. after ∙ kept.new_word_is f form-is other;
+}
+
+-- the word once the block has its own form or the two-byte form, and elements are then put
+pub KeepsWord-from : (was start after : Option ExtensionsForm) (allowed : Option ExtensionsForm) (news : List Element) (old first last : List ℕ) → (start ≡ was) ⊎ (start ≡ Some TwoByte)
+    → IsFormAfter allowed start news after → KeepsWord was old start first → KeepsWord start first after last → KeepsWord was old after last
+KeepsWord-from was start after allowed news old first last (inl same) forms one two = record {
+  word_is = λ f is was-is. two.word_is f is (same ∙ was-is) ∙ one.word_is f (same ∙ was-is) was-is;
+  new_word_is = λ f is other. two.new_word_is f is (λ start-is. other (sym same ∙ start-is));
+}
+KeepsWord-from was start after allowed news old first last (inr wide) forms one two =
+    let last-is : after ≡ Some TwoByte = two_byte_stays_on allowed news after (subst (λ (s : Option ExtensionsForm). IsFormAfter allowed s news after) wide forms) in
+    record {
+      word_is = λ f is was-is. two.word_is f is (wide ∙ sym last-is ∙ is) ∙ one.word_is f (wide ∙ sym last-is ∙ is) was-is;
+      new_word_is = λ f is other. two.word_is f is (wide ∙ sym last-is ∙ is) ∙ one.new_word_is f (wide ∙ sym last-is ∙ is) other;
+    }

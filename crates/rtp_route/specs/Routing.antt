@@ -1,13 +1,14 @@
 -- A packet's header as a receiver is to get it: with fields, ids and elements of its own (RFC 7667, 3.7; RFC 8285, 4.1.2 and 5).
 --
--- The elements get the receiver's ids; those whose id has none go, and so would those of the id 0, which is padding's. Then each element that is put takes the place of the last one of its id, or comes last. They stand in a row, in whole words. The block has the form that each of those that are put needs in its turn. The payload stays where it lies.
-use Rattle.std.specs.Prelude.{◌≡◌, ◌≢◌, ℕ, List, [], ◌∷◌, take, drop, Bool, true, Option, Some, option_map}
+-- The elements get the receiver's ids; those whose id has none go, and so would those of the id 0, which is padding's. Then each element that is put takes the place of the last one of its id, or comes last. They stand in a row, in whole words. The block has the form that carries the new ids, and then the one that each of those that are put needs in its turn. The payload stays where it lies.
+use Rattle.std.specs.Prelude.{◌≡◌, ◌≢◌, ℕ, List, [], ◌∷◌, take, drop, Bool, true, Option, Some, IfSome, All, option_map}
 use Rattle.std.specs.List.{filter_map}
 use Rattle.std.specs.Int.{w16, to_be_bytes}
 use Rattle.rtp_ext.specs.declared.form.ExtensionsForm.{ExtensionsForm}
+use Rattle.rtp_ext.specs.declared.form.ExtensionsForm.TheVariants.{OneByte, TwoByte}
 use Rattle.rtp_ext.specs.Form.{form_word}
 use Rattle.rtp_ext.specs.Elements.{Element, elements_bytes}
-use Rattle.rtp_ext.specs.ElementsInPlace.{renumbered}
+use Rattle.rtp_ext.specs.ElementsInPlace.{renumbered, CanRenumber}
 use Rattle.rtp_ext.specs.PutElement.{without, put_element, needed_form, allowed_form}
 use Rattle.rtp_ext.specs.WrittenBlock.{filled}
 use Rattle.rtp_wire.specs.declared.packet.fields.Fields.{Fields}
@@ -25,6 +26,15 @@ put_all (new ∷ news) elements = put_all news (put_element new elements)
 -- the elements under their new ids, without any of the id 0, and with these put among them
 abbrev pub routed_elements : (ℕ → Option ℕ) → List Element → List Element → List Element
 routed_elements ids news elements = put_all news (without 0 (filter_map (renumbered ids) elements))
+
+-- the form of the block, if there is one, can carry its elements under their new ids (RFC 8285, 4.2 and 4.3)
+abbrev pub CarriesIds : (ℕ → Option ℕ) → Option (ExtensionsForm × List ℕ) → List Element → Type 0
+CarriesIds ids block elements = IfSome block (λ b. All (CanRenumber b.0 ids) elements)
+
+-- the form in which a block, or none, carries its elements under their new ids: its own where that can, and else the two-byte form, where the one-byte form isn't the only one that is allowed (RFC 8285, 4.1.2)
+pub data IsFormForIds (allowed : Option ExtensionsForm) (ids : ℕ → Option ℕ) (block : Option (ExtensionsForm × List ℕ)) (elements : List Element) (form : Option ExtensionsForm) : Type 0 where
+  own_form : CarriesIds ids block elements → form ≡ form_of_block block → IsFormForIds allowed ids block elements form
+  two_byte_form : (CarriesIds ids block elements → ⊥) → allowed ≢ Some OneByte → form ≡ Some TwoByte → IsFormForIds allowed ids block elements form
 
 -- the form of a block, or of none, once these are put, one after another: each in the form that it needs, where that is allowed
 abbrev pub IsFormAfter : Option ExtensionsForm → Option ExtensionsForm → List Element → Option ExtensionsForm → Type 0
@@ -61,10 +71,12 @@ pub record KeepsWord (was : Option ExtensionsForm) (old : List ℕ) (form : Opti
 pub record IsRouted (old : List ℕ) (fields : Fields) (ids : ℕ → Option ℕ) (news : List Element) (allowed : Option ExtensionsForm) (new : List ℕ) : Type 0 where
   pub parts : PacketParts
   pub elements : List Element
+  pub start : Option ExtensionsForm
   pub form : Option ExtensionsForm
   pub was_packet : IsPacket old parts
   pub were_elements : AreElementsOf parts.block elements
-  pub form_is : IsFormAfter allowed (form_of_block parts.block) news form
+  pub start_is : IsFormForIds allowed ids parts.block elements start
+  pub form_is : IsFormAfter allowed start news form
   pub is_packet : IsPacket new (record (routed_parts fields ids news form elements parts) { payload = [] })
   pub are_elements : AreElementsOf (row_in form (routed_elements ids news elements)) (routed_elements ids news elements)
   pub word_is : KeepsWord (form_of_block parts.block) old form new

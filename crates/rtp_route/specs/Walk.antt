@@ -39,18 +39,18 @@ AreLike news [] (other ∷ others) = ⊥
 AreLike news (element ∷ elements) [] = ⊥
 AreLike news (element ∷ elements) (other ∷ others) = (element.0 ≡ other.0) × (HasNone news other.0 → element ≡ other) × AreLike news elements others
 
--- a block of this form can carry its elements under their new ids, and they are written, but for those of the ids of the group's
-pub record AreKept (was form : ExtensionsForm) (ids : ℕ → Option ℕ) (news elements : List Element) (start : ℕ) (old : List ℕ) (slots : List Slot) (buf : List ℕ) (at : ℕ) : Type 0 where
+-- the form can carry the elements under their new ids, and they are written, but for those of the ids of the group's
+pub record AreKept (form : ExtensionsForm) (ids : ℕ → Option ℕ) (news elements : List Element) (start : ℕ) (old : List ℕ) (slots : List Slot) (buf : List ℕ) (at : ℕ) : Type 0 where
   pub written : List Element
   pub like : AreLike news written (filter_map (renumbered ids) elements)
-  pub carried : All (CanRenumber was ids) elements
+  pub carried : All (CanRenumber form ids) elements
   pub are_written : AreWritten form start news old written slots buf at
 
--- between the offsets, of whole words, lies the body of a block with its elements under their new ids, none of them 0, which the block's form can carry, and with those of the group, whose data lie at the places
-pub record IsBodyFor (was form : ExtensionsForm) (ids : ℕ → Option ℕ) (news elements : List Element) (start : ℕ) (slots : List Slot) (buf : List ℕ) (end : ℕ) : Type 0 where
+-- between the offsets, of whole words, lies the body of a block with its elements under their new ids, none of them 0, which the form can carry, and with those of the group, whose data lie at the places
+pub record IsBodyFor (form : ExtensionsForm) (ids : ℕ → Option ℕ) (news elements : List Element) (start : ℕ) (slots : List Slot) (buf : List ℕ) (end : ℕ) : Type 0 where
   pub after : start ≤ end
   pub whole : end % 4 ≡ 0
-  pub carried : All (CanRenumber was ids) elements
+  pub carried : All (CanRenumber form ids) elements
   pub no_zero : HasNone (filter_map (renumbered ids) elements) 0
   pub body_is : take (end - start) (drop start buf) ≡ filled (elements_bytes form (put_all news (filter_map (renumbered ids) elements)))
   pub are_elements : AreElements form (filled (elements_bytes form (put_all news (filter_map (renumbered ids) elements)))) (put_all news (filter_map (renumbered ids) elements))

@@ -8,16 +8,19 @@ ghost use Rattle.rtp_ext.specs.ElementsInPlace.{HasNone};
 ghost use Rattle.rtp_ext.specs.NewIds.{new_id};
 ghost use Rattle.rtp_wire.specs.declared.packet.fields.Fields.{Fields};
 ghost use Rattle.rtp_wire.specs.declared.packet.not_put.NotPut.{NotPut};
+ghost use Rattle.rtp_wire.specs.Packet.{PacketParts, IsPacket};
+ghost use Rattle.rtp_wire.specs.PacketElements.{AreElementsOf};
+ghost use Rattle.rtp_wire.specs.PartsAt.{HasLayout};
 ghost use Rattle.rtp_wire.specs.PartsOf.{datagram_of};
 ghost use Rattle.rtp_route.specs.declared.not_routed.NotRouted.{NotRouted};
-ghost use Rattle.rtp_route.specs.Calls.{ArePut, IsRoutedByCalls, header_in};
+ghost use Rattle.rtp_route.specs.Calls.{ArePut, IsRenumberedInForm, IsRoutedByCalls, header_in};
 ghost use Rattle.rtp_route.specs.NotPutAmong.{IsNotPutAmong, HasSameElements};
-ghost use Rattle.rtp_route.specs.NotRouted.{KeepsFromRouting};
+ghost use Rattle.rtp_route.specs.NotRouted.{KeepsFromNewIds, KeepsFromRouting};
 ghost use Rattle.rtp_route.specs.Routing.{IsRouted};
 
 use super::NotRouted;
 use super::by_walk::write_by_walk;
-use super::in_place::{renumber, set_fields};
+use super::in_place::{are_bytes, change_form, is_one_byte_only, known_ids, renumber, set_fields};
 use super::slots::{MAX_ELEMENTS, Slot, have_own_ids};
 use rtp_base::put;
 use rtp_ext::{ExtensionsForm, NewIds};
@@ -59,6 +62,46 @@ fn put_each(buf: &mut [u8], len: usize, group: &Group<'_>) -> Result<usize, NotP
     Ok(len)
 }
 
+// Gives the elements of the packet in the first bytes of the buffer, which are a header alone with a
+// block of this form, their new ids, in the two-byte form where its own can't carry them and that is
+// allowed; returns how many bytes it then has.
+fn renumber_in_form(
+    buf: &mut [u8],
+    len: usize,
+    form: Option<ExtensionsForm>,
+    group: &Group<'_>,
+) -> Result<usize, NotRouted>
+    requires within { len ≤ length buf.old }
+    requires held { HasLayout (take len buf.old) len form }
+    ensures renumbered { (parts : PacketParts) (elements : List Element) →
+        IsPacket (take len buf.old) parts → AreElementsOf parts.block elements →
+        IfOk result (λ new_len. IsRenumberedInForm group.now.allowed (new_id group.now.ids.now)
+        elements (take len buf.old) parts (take new_len buf.new)) }
+    ensures within { IfOk result (λ new_len. new_len ≤ length buf.old) }
+    ensures cause { IfErr result (KeepsFromNewIds (take len buf.old) (new_id group.now.ids.now)
+        group.now.allowed (length buf.old)) }
+    ensures refused { IsErr result ↔ ((cause : NotRouted) × KeepsFromNewIds (take len buf.old)
+        (new_id group.now.ids.now) group.now.allowed (length buf.old) cause) }
+{
+    are_bytes(&buf[..len]);
+    if renumber(&mut buf[..len], len, form, group.ids) {
+        return Ok(len);
+    }
+    if is_one_byte_only(group.allowed) {
+        return Err(NotRouted::LongId);
+    }
+    known_ids(group.ids);
+    let new_len = change_form(buf, len)?;
+    // The two-byte form carries each of them.
+    renumber(
+        &mut buf[..new_len],
+        new_len,
+        Some(ExtensionsForm::TwoByte),
+        group.ids,
+    );
+    Ok(new_len)
+}
+
 // Makes the header that the packet gets with these fields for the group in the first bytes of the
 // buffer, and returns how many bytes it has.
 pub(super) fn make_header(
@@ -86,26 +129,28 @@ pub(super) fn make_header(
         return Err(NotRouted::NotPut(NotPut::NoRoom { needed }));
     }
     put(buf, 0, header);
-    let (header_len, form) = (packet.header_len(), packet.form());
-    set_fields(&mut buf[..needed], header_len, form, fields);
-    if !renumber(&mut buf[..needed], header_len, form, group.ids) {
-        return Err(NotRouted::LongId);
-    }
-    let len = put_each(buf, needed, group)?;
+    let form = packet.form();
+    set_fields(&mut buf[..needed], needed, form, fields);
+    let start = renumber_in_form(buf, needed, form, group)?;
+    let len = put_each(buf, start, group)?;
     // It is still a packet.
     Ok(compact_copy::<1>(&mut buf[..len]).unwrap())
 }
 
 /// Writes the header that the packet gets on its way to a receiver with these fields, as the calls
 /// for one packet make it, and returns how many bytes it has: each element gets its new id, and one
-/// without goes; each of the group's elements is put among them; and the block is as short as they
-/// allow (RFC 7667, 3.7; RFC 8285, 4.1.2 to 4.3 and 5). Requires a payload type of at most 127.
+/// without goes; a block of the one-byte form gets the two-byte form where a new id is above 14;
+/// each of the group's elements is put among them; and the block is as short as they allow (RFC
+/// 7667, 3.7; RFC 8285, 4.1.2 to 4.3 and 5). Requires a payload type of at most 127.
 ///
 /// The cause is the first of these, and the buffer then has any bytes:
 /// - [`NotRouted::NotPut`] of [`NotPut::NoRoom`], where the buffer is shorter than the packet's own
 ///   header, whose length it says.
-/// - [`NotRouted::LongId`], where the new id of one of the packet's elements is above 14 and its
-///   block has the one-byte form.
+/// - [`NotRouted::LongId`], where the new id of one of the packet's elements is above 14, its block
+///   has the one-byte form, and that alone is allowed.
+/// - [`NotRouted::NotPut`] of the cause for which
+///   [`change_form`](rtp_wire::RtpPacketBuf::change_form) refuses the two-byte form for such an id
+///   in this buffer.
 /// - [`NotRouted::NotPut`] of the cause for which [`put_element`](rtp_wire::put_element) refuses
 ///   one of the group's elements in this buffer, once those before it are put. The block becomes as
 ///   short as it can only then, so that each of them needs room.

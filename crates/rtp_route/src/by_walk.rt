@@ -1,24 +1,24 @@
 //! A packet's header for a group of receivers, made in one walk over its elements.
 
-ghost use Rattle.std.specs.Prelude.{◌≡◌, ◌+◌, ◌-◌, ◌*◌, ◌≤◌, Some, length, take, drop, All, IfSome};
+ghost use Rattle.std.specs.Prelude.{◌≡◌, ◌+◌, ◌-◌, ◌*◌, ◌≤◌, ◌⊎◌, List, Some, length, take, drop, All, IfSome};
 ghost use Rattle.rtp_ext.specs.declared.form.ExtensionsForm.TheVariants.{TwoByte};
-ghost use Rattle.rtp_ext.specs.Elements.{elements_bytes};
+ghost use Rattle.rtp_ext.specs.Elements.{Element, AreElements, elements_bytes};
 ghost use Rattle.rtp_ext.specs.ElementsInARow.{elements_of, IsWritable};
 ghost use Rattle.rtp_ext.specs.NewIds.{new_id};
 ghost use Rattle.rtp_wire.specs.PartsOf.{datagram_of};
 ghost use Rattle.rtp_route.specs.declared.not_routed.NotRouted.{NotRouted};
 ghost use Rattle.rtp_route.specs.Calls.{header_in};
 ghost use Rattle.rtp_route.specs.NotRouted.{KeepsFromRouting};
-ghost use Rattle.rtp_route.specs.Routing.{IsFormAfter};
+ghost use Rattle.rtp_route.specs.Routing.{IsFormForIds, IsFormAfter};
 ghost use Rattle.rtp_route.specs.Template.{HaveOwnIds};
 ghost use Rattle.rtp_route.specs.Walk.{IsFrontWith, IsMadeFor};
 
 use super::Group;
-use super::in_place::set_fields;
+use super::in_place::{is_one_byte_only, set_fields};
 use super::slots::{MAX_ELEMENTS, Slot};
 use super::walk::write_body;
 use rtp_base::put;
-use rtp_ext::{ExtensionsForm, form_to_put};
+use rtp_ext::{ExtensionsForm, can_renumber, form_to_put};
 use rtp_wire::{Fields, RtpPacket};
 
 // A block with a longer body is left to the calls, which look for an id that can't be carried before
@@ -27,6 +27,33 @@ const LONG_BODY: usize = 256;
 
 // The most bytes of a header that is made so: as many as the body of a block may have.
 const MAX_LEN: usize = 4 * 65_535;
+
+// The form that a block has before the group's elements are put: its own at the first try, which
+// looks at no id before it writes; at the second the two-byte form, and `None` where its own can carry
+// the new ids or the two-byte form isn't allowed.
+#[inline(always)]
+fn start_form(
+    was: ExtensionsForm,
+    body: &[u8],
+    group: &Group<'_>,
+    second: bool,
+) -> Option<ExtensionsForm>
+    ensures { IfSome result (λ start. (elements : List Element) →
+        AreElements was body.now elements → (start ≡ was)
+        ⊎ IsFormForIds group.now.allowed (new_id group.now.ids.now) (Some (was, body.now))
+        elements (Some start)) }
+{
+    if !second {
+        return Some(was);
+    }
+    if is_one_byte_only(group.allowed) {
+        return None;
+    }
+    if can_renumber(was, body, group.ids) {
+        return None;
+    }
+    Some(ExtensionsForm::TwoByte)
+}
 
 // The form that a block of this form gets with the group's elements put into it one after another.
 // `None` where one can't be put, or they take more than the room in the two-byte form.
@@ -77,17 +104,19 @@ fn put_front(
 
 // Writes the header that the packet gets with these fields for the group, as
 // [`route_header`](super::route_header) does, in one walk over its elements: it returns how many
-// bytes it has, and the places are those of the data of the group's elements. `None` where another
-// way has to be taken: without a block of one of the two forms, for a long one, several elements of
-// the id of one that is put, or little room, and where one can't be put. The buffer and the places then are
-// any.
+// bytes it has, and the places are those of the data of the group's elements. The second try is for
+// new ids that the block's form can't carry. `None` where another way has to be taken: without a
+// block of one of the two forms, for a long one, several elements of the id of one that is put, or
+// little room, and where one can't be put or, at the first try, can't be carried. The buffer and the
+// places then are any.
 #[inline(always)]
-pub(super) fn write_by_walk(
+fn write_from(
     packet: &RtpPacket<'_>,
     fields: &Fields,
     group: &Group<'_>,
     buf: &mut [u8],
     slots: &mut [Slot; MAX_ELEMENTS],
+    second: bool,
 ) -> Option<usize>
     requires payload_type { IfSome fields.now.payload_type (λ pt. pt ≤ 127) }
     requires few { length group.now.elements.now ≤ 16 }
@@ -109,10 +138,66 @@ pub(super) fn write_by_walk(
     let header = packet.header_bytes();
     let most = buf.len().min(MAX_LEN);
     let room = most.checked_sub(2 * header.len() + 3)?;
-    let form = form_after(was, group, room)?;
+    let start = start_form(was, body, group, second)?;
+    let form = form_after(start, group, room)?;
     let front = &header[..header.len() - body.len()];
     let len = write_body(&mut buf[..most], front.len(), was, form, body, group, slots)?;
     put_front(buf, front, was, form, len - front.len());
     set_fields(&mut buf[..len], len, Some(form), fields);
     Some(len)
+}
+
+// The second try. It stays out of line, since few packets need it.
+#[cold]
+#[inline(never)]
+fn write_in_two_byte_form(
+    packet: &RtpPacket<'_>,
+    fields: &Fields,
+    group: &Group<'_>,
+    buf: &mut [u8],
+    slots: &mut [Slot; MAX_ELEMENTS],
+) -> Option<usize>
+    requires payload_type { IfSome fields.now.payload_type (λ pt. pt ≤ 127) }
+    requires few { length group.now.elements.now ≤ 16 }
+    requires own { HaveOwnIds (elements_of group.now.elements.now) }
+    ensures made { IfSome result (λ len. IsMadeFor (datagram_of packet.now) fields.now
+        (new_id group.now.ids.now) (elements_of group.now.elements.now) group.now.allowed
+        (take len buf.new) (take (length group.now.elements.now) slots.new)) }
+    ensures within { IfSome result (λ len. len ≤ length buf.new) }
+    ensures short { IfSome result (λ len. len ≤ 262140) }
+    ensures places { length slots.new ≡ 16 }
+    ensures none_refused { IfSome result (λ _. (cause : NotRouted) →
+        KeepsFromRouting (header_in packet.now) fields.now (new_id group.now.ids.now)
+        (elements_of group.now.elements.now) group.now.allowed (length buf.old) cause → ⊥) }
+{
+    write_from(packet, fields, group, buf, slots, true)
+}
+
+// Writes the header in one walk, in the two-byte form where the new ids need it and it is allowed;
+// `None` where another way has to be taken.
+#[inline(always)]
+pub(super) fn write_by_walk(
+    packet: &RtpPacket<'_>,
+    fields: &Fields,
+    group: &Group<'_>,
+    buf: &mut [u8],
+    slots: &mut [Slot; MAX_ELEMENTS],
+) -> Option<usize>
+    requires payload_type { IfSome fields.now.payload_type (λ pt. pt ≤ 127) }
+    requires few { length group.now.elements.now ≤ 16 }
+    requires own { HaveOwnIds (elements_of group.now.elements.now) }
+    ensures made { IfSome result (λ len. IsMadeFor (datagram_of packet.now) fields.now
+        (new_id group.now.ids.now) (elements_of group.now.elements.now) group.now.allowed
+        (take len buf.new) (take (length group.now.elements.now) slots.new)) }
+    ensures within { IfSome result (λ len. len ≤ length buf.new) }
+    ensures short { IfSome result (λ len. len ≤ 262140) }
+    ensures places { length slots.new ≡ 16 }
+    ensures none_refused { IfSome result (λ _. (cause : NotRouted) →
+        KeepsFromRouting (header_in packet.now) fields.now (new_id group.now.ids.now)
+        (elements_of group.now.elements.now) group.now.allowed (length buf.old) cause → ⊥) }
+{
+    match write_from(packet, fields, group, buf, slots, false) {
+        Some(len) => Some(len),
+        None => write_in_two_byte_form(packet, fields, group, buf, slots),
+    }
 }

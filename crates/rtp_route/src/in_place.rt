@@ -1,21 +1,25 @@
 //! Fields and ids of a header, changed where it lies.
 
-ghost use Rattle.std.specs.Prelude.{◌≡◌, ◌↔◌, ◌+◌, ◌≤◌, List, length, take, IsTrue, IfSome, All};
-ghost use Rattle.std.specs.Bool.{OnTrue};
+ghost use Rattle.std.specs.Prelude.{◌≡◌, ◌↔◌, ◌+◌, ◌<◌, ◌≤◌, ℕ, [], List, Some, None, length, take, slice_index, IsTrue, IsErr, IfOk, IfErr, IfSome};
+ghost use Rattle.std.specs.Bool.{OnTrue, OnFalse};
+ghost use Rattle.rtp_ext.specs.declared.form.ExtensionsForm.TheVariants.{OneByte, TwoByte};
 ghost use Rattle.rtp_ext.specs.Elements.{Element};
-ghost use Rattle.rtp_ext.specs.ElementsInPlace.{CanRenumber};
 ghost use Rattle.rtp_ext.specs.NewIds.{new_id};
+ghost use Rattle.rtp_wire.specs.declared.packet.not_put.NotPut.{NotPut};
 ghost use Rattle.rtp_wire.specs.ChangedPacket.{ChangesOnly};
 ghost use Rattle.rtp_wire.specs.GivenFields.{with_header_fields};
 ghost use Rattle.rtp_wire.specs.Packet.{PacketParts, IsPacket};
 ghost use Rattle.rtp_wire.specs.PacketElements.{AreElementsOf};
 ghost use Rattle.rtp_wire.specs.PartsAt.{HasLayout};
+ghost use Rattle.rtp_wire.specs.PutIntoPacket.{IsFirstNotPut};
+ghost use Rattle.rtp_wire.specs.RemadeBlock.{RemakesBlock, KeepsFromForm};
 ghost use Rattle.rtp_route.specs.Calls.{IsUnderNewIds};
 ghost use Rattle.rtp_route.specs.Retransmitted.{with_number};
+ghost use Rattle.rtp_route.specs.Routing.{CarriesIds};
 
 use rtp_base::put;
 use rtp_ext::{ExtensionsForm, NewIds};
-use rtp_wire::{Fields, RtpPacketMut};
+use rtp_wire::{Fields, NotPut, RtpPacketBuf, RtpPacketMut};
 
 // Sets the given fields of the packet of these bytes, whose header has this length and whose block
 // this form.
@@ -37,7 +41,8 @@ pub(super) fn set_fields(
     packet.set_fields(fields);
 }
 
-// Gives the elements of such a packet their new ids, and returns whether its form can carry them.
+// Gives the elements of such a packet their new ids, and returns whether its form can carry them;
+// where it can't nothing changes.
 pub(super) fn renumber(
     header: &mut [u8],
     header_len: usize,
@@ -50,8 +55,8 @@ pub(super) fn renumber(
         OnTrue result (IsUnderNewIds (new_id ids.now) elements header.old parts header.new) }
     ensures answer { (parts : PacketParts) (elements : List Element) →
         IsPacket header.old parts → AreElementsOf parts.block elements →
-        IsTrue result ↔ IfSome parts.block (λ block.
-        All (CanRenumber block.0 (new_id ids.now)) elements) }
+        IsTrue result ↔ CarriesIds (new_id ids.now) parts.block elements }
+    ensures unchanged { OnFalse result (header.new ≡ header.old) }
 {
     let mut packet = RtpPacketMut::new(header, header_len, form);
     packet.renumber(ids)
@@ -68,4 +73,47 @@ pub(super) fn send_again(buf: &mut [u8], header_len: usize, original_number: u16
     let first = buf[0] & 0xDF;
     put(buf, 0, &[first]);
     put(buf, header_len, &original_number.to_be_bytes());
+}
+
+// Gives the packet of one-byte form in the first bytes of the buffer, which are a header alone, the
+// two-byte form, and returns how many bytes it then has. It stays out of line, since few packets
+// need it.
+#[cold]
+#[inline(never)]
+pub(super) fn change_form(buf: &mut [u8], len: usize) -> Result<usize, NotPut>
+    requires within { len ≤ length buf.old }
+    requires held { HasLayout (take len buf.old) len (Some OneByte) }
+    ensures changed { IfOk result (RemakesBlock (take len buf.old) TwoByte [] buf.new) }
+    ensures within { IfOk result (λ new_len. new_len ≤ length buf.old) }
+    ensures cause { IfErr result (IsFirstNotPut
+        (KeepsFromForm (take len buf.old) (length buf.old) (Some OneByte) TwoByte)) }
+    ensures refused { IsErr result ↔ ((cause : NotPut)
+        × KeepsFromForm (take len buf.old) (length buf.old) (Some OneByte) TwoByte cause) }
+{
+    let mut packet = RtpPacketBuf::new(buf, len, len, Some(ExtensionsForm::OneByte));
+    packet.change_form(ExtensionsForm::TwoByte)?;
+    Ok(packet.len())
+}
+
+// Whether the one-byte form is the only one that is allowed.
+#[inline(always)]
+pub(super) fn is_one_byte_only(allowed: Option<ExtensionsForm>) -> bool
+    ensures { IsTrue result ↔ (allowed ≡ Some OneByte) }
+{
+    matches!(allowed, Some(ExtensionsForm::OneByte))
+}
+
+// Bytes are below 256.
+#[inline(always)]
+pub(super) fn are_bytes(bytes: &[u8])
+    ensures { (k : ℕ) → slice_index bytes.now k < 256 }
+{}
+
+// What is so of every table: the id 0, which is padding's, has no new one, and each is 1 to 255.
+pub(super) fn known_ids(ids: &NewIds)
+    ensures zero { new_id ids.now 0 ≡ None }
+    ensures each { (id : ℕ) → IfSome (new_id ids.now id) (λ new. (1 ≤ new) × (new ≤ 255)) }
+{
+    let bytes = ids.ids();
+    are_bytes(&bytes);
 }

@@ -4,10 +4,11 @@
 //! Receivers that have the ids, the elements and their lengths in common are a [`Group`]. A
 //! [`HeaderTemplate`] is made once for a packet and a group, and then writes a header for each
 //! receiver, with fields and data of its own. Each is what `set_fields`, `renumber`, `put_element`
-//! for each element and `compact` make of a copy of the packet's header, one after another: one
-//! definition, `IsRouted`, says what both are, and tests compare the bytes. [`route_header`] makes
-//! one header. Where that can be, both write it in one walk over the packet's elements, and else by
-//! these calls.
+//! for each element and `compact` make of a copy of the packet's header, one after another, with
+//! `change_form` before `renumber` where the one-byte form can't carry a new id and the two-byte
+//! form is allowed: one definition, `IsRouted`, says what both are, and tests compare the bytes.
+//! [`route_header`] makes one header. Where that can be, both write it in one walk over the packet's
+//! elements, and else by these calls.
 //!
 //! The packet `90 60 00 05 00 00 00 64 00 00 00 2C BE DE 00 01 10 AA 00 00` (hexadecimal) with any
 //! payload goes to a group for which the id 1 becomes 3, and two bytes of the id 4 are put. To the

@@ -15,7 +15,8 @@ pub enum NotRouted {
     /// Two elements of one id are put.
     #[error("two elements of one id")]
     RepeatedId,
-    /// An element would get an id above 14 in the one-byte form (RFC 8285, 4.2).
+    /// An element would get an id above 14 in the one-byte form (RFC 8285, 4.2), and that alone is
+    /// allowed.
     #[error("a new id above 14 in the one-byte form")]
     LongId,
     /// An element can't be put, or the buffer has no room.

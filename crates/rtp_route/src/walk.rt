@@ -1,12 +1,13 @@
 //! The body of a group's block, written while the packet's elements are read.
 
 ghost use Rattle.std.specs.Prelude.{◌≡◌, ◌+◌, ◌%◌, ◌<◌, ◌≤◌, ◌∷◌, ◌++◌, ℕ, List, [], length, take, drop, replicate, All, IfSome, IfNone};
+ghost use Rattle.std.specs.Bool.{OnTrue};
 ghost use Rattle.rtp_base.specs.Overwriting.{overwritten};
 ghost use Rattle.rtp_ext.specs.declared.form.ExtensionsForm.TheVariants.{OneByte};
 ghost use Rattle.rtp_ext.specs.ElementWriting.{element_header};
 ghost use Rattle.rtp_ext.specs.Elements.{Element, AreElements, element_bytes, elements_bytes};
 ghost use Rattle.rtp_ext.specs.ElementsInARow.{elements_of, IsWritable};
-ghost use Rattle.rtp_ext.specs.ElementsInPlace.{HasNone, CanRenumber};
+ghost use Rattle.rtp_ext.specs.ElementsInPlace.{HasNone};
 ghost use Rattle.rtp_ext.specs.NewIds.{new_id};
 ghost use Rattle.rtp_ext.specs.WrittenBlock.{filled};
 ghost use Rattle.rtp_route.specs.Routing.{put_all};
@@ -131,10 +132,32 @@ fn write_next(
     }
 }
 
+// Whether the form that the block gets carries the element. It stays out of line, so that the walk
+// does nothing for it where the block's own form carries it.
+#[cold]
+#[inline(never)]
+fn is_carried(form: ExtensionsForm, id: u8, bytes: &[u8]) -> bool
+    ensures { OnTrue result (IsWritable form (id, bytes.now)) }
+{
+    form.can_carry(id, bytes)
+}
+
+// The same, where that form carries what the block's own does: this one is looked at first.
+#[inline(always)]
+fn carries(was: ExtensionsForm, form: ExtensionsForm, id: u8, bytes: &[u8]) -> bool
+    requires { (element : Element) → IsWritable was element → IsWritable form element }
+    ensures { OnTrue result (IsWritable form (id, bytes.now)) }
+{
+    if was.can_carry(id, bytes) {
+        return true;
+    }
+    is_carried(form, id, bytes)
+}
+
 // Writes the elements of a block's body under their new ids, those without one left out, and the
-// group's elements in the place of those of their ids; returns where they end. `None` where the
-// block's form can't carry one, or two have the id of one of the group's elements. It stays out of
-// line, so that the walk has the registers to itself.
+// group's elements in the place of those of their ids; returns where they end. `None` where the form
+// can't carry one, or two have the id of one of the group's elements. It stays out of line, so that
+// the walk has the registers to itself.
 #[inline(never)]
 fn write_kept(
     buf: &mut [u8],
@@ -155,14 +178,14 @@ fn write_kept(
     requires fresh { ArePlaced form at [] (elements_of group.now.elements.now) slots.old }
     ensures kept { IfSome result (λ end. (elements : List Element) →
         AreElements was body.now elements →
-        AreKept was form (new_id group.now.ids.now) (elements_of group.now.elements.now)
+        AreKept form (new_id group.now.ids.now) (elements_of group.now.elements.now)
         elements at buf.old slots.new buf.new end) }
     ensures within { IfSome result (λ end. end ≤ length buf.old) }
 {
     let mut end = at;
     for (id, bytes) in Elements::new(body, was) {
         if let Some(new) = group.ids.new_id(id) {
-            if !was.can_carry(new, bytes) {
+            if !carries(was, form, new, bytes) {
                 return None;
             }
             end = write_next(buf, end, form, group.elements, slots, new, bytes)?;
@@ -247,7 +270,7 @@ pub(super) fn write_body(
     requires carries { (element : Element) → IsWritable was element → IsWritable form element }
     ensures written { IfSome result (λ end. (elements : List Element) →
         AreElements was body.now elements →
-        IsBodyFor was form (new_id group.now.ids.now) (elements_of group.now.elements.now)
+        IsBodyFor form (new_id group.now.ids.now) (elements_of group.now.elements.now)
         elements at (take (length group.now.elements.now) slots.new) buf.new end) }
     ensures within { IfSome result (λ end. end ≤ length buf.old) }
 {

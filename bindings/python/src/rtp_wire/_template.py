@@ -68,12 +68,11 @@ class HeaderTemplate:
     ) -> None:
         """Makes the header that the packet gets: each of its elements gets its new id, and one that gets none goes; then
         these, pairs of an id and its data, are put into it in their order, at most 16 of ids of their own, in the forms
-        that are allowed, as in `put_element`. Its header alone is enough.
+        that are allowed, as in `put_element`. An id above 14 asks for the two-byte form. Its header alone is enough.
 
         BadField where there are more elements, two have one id, or one has more than 255 bytes of data; BadId where an
-        id isn't 1 to 255; LongId where the block has the one-byte form, of which `change_form` makes the other, and an
-        element gets a new id above 14, or where one that is put has such an id, and that form alone is allowed;
-        NotAPacket; OtherForm; FormNotAllowed; LongBlock."""
+        id isn't 1 to 255; LongId where the one-byte form alone is allowed, and an element of a block of that form gets a
+        new id above 14, or one that is put has such an id; NotAPacket; OtherForm; FormNotAllowed; LongBlock."""
         data, places = _gather(elements)
         forms, new_ids = allowed_forms(allowed), raw_new_ids(ids)
         packet, at = place_of(datagram)

@@ -357,9 +357,8 @@ pub enum NotRouted {
     ManyElements,
     /// Two of the elements have one id.
     RepeatedId,
-    /// An element would have an id above 14, which the one-byte form can't carry: one of the packet's gets it, whose
-    /// block has that form ([`change_form`](crate::change_form) makes it the other), or one that is put has it, and
-    /// that form alone is allowed.
+    /// An element would have an id above 14, which the one-byte form can't carry, and that form alone is allowed: one
+    /// of the packet's gets it, whose block has that form, or one that is put has it.
     LongId,
     /// An element isn't put, or the buffer has no room: [`source`](Error::source) says why. It is
     /// [`NotPut::BadField`] where there are more than 255 bytes of data, or these reach past what they lie in.

@@ -8,7 +8,7 @@ use std::iter::FusedIterator;
 
 use guarded::at_end;
 use rtp_wire::{
-    change_form, Fields, Form, Group, HeaderTemplate, NewIds, NotPut, NotRouted, NotWritten,
+    Fields, Form, Group, HeaderTemplate, NewIds, NotPut, NotRouted, NotWritten,
     Packet, Place, RoutedSlot,
 };
 
@@ -368,7 +368,13 @@ fn elements_have_ids_of_their_own_and_are_few() {
     assert_eq!(of_zero, Some(NotRouted::NotPut(NotPut::BadId)));
     // what else may be put, where the packet's own element can't have its id
     for elements in [&[][..], &all[..16], &[place(30, 45, 255)]] {
-        let refused = cause(&SAMPLE, &long_id, elements, 5000);
+        let group = Group {
+            ids: &long_id,
+            data: &[0; 300],
+            elements,
+            allowed: ONE,
+        };
+        let refused = made(&SAMPLE, &group, 5000).err();
         assert_eq!(refused, Some(NotRouted::LongId), "{elements:?}");
     }
 }
@@ -766,18 +772,26 @@ fn headers_are_gone_through_as_a_list() {
 }
 
 #[test]
-fn what_the_form_cannot_carry_is_sent_once_it_is_the_other() {
+fn a_new_id_above_14_asks_for_the_two_byte_form() {
     let ids = NewIds::new().with(1, 200);
-    let group = Group {
+    let mut group = Group {
         ids: &ids,
         data: &[],
         elements: &[],
         allowed: None,
     };
-    let mut buf = [0; 40];
-    buf[..20].copy_from_slice(&SAMPLE[..20]);
-    let len = change_form(&mut buf, 20, Form::TwoByte).unwrap();
-    let template = made(&buf[..len], &group, 60).unwrap();
+    for allowed in [None, TWO] {
+        group.allowed = allowed;
+        let template = made(&SAMPLE, &group, 60).unwrap();
+        assert_eq!(template.header(), written(0x90, "10000001 C801AA00"));
+    }
+    group.allowed = ONE;
+    assert_eq!(made(&SAMPLE, &group, 60).err(), Some(NotRouted::LongId));
+    // two elements take eight bytes in that form, though one of them goes
+    let two = written(0x90, "BEDE0001 10AA20BB");
+    group.allowed = None;
+    assert_eq!(made(&two, &group, 23).err(), SHORT);
+    let template = made(&two, &group, 24).unwrap();
     assert_eq!(template.header(), written(0x90, "10000001 C801AA00"));
 }
 

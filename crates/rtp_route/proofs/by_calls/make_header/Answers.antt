@@ -1,4 +1,4 @@
-use Rattle.std.proofs.Common.{rules, ◌≡◌, ◌≤◌, inl, inr, ℕ, false, true, List, ◌++◌, length, take, drop, refl, sym, ap, subst, arith, take_at}
+use Rattle.std.proofs.Common.{rules, ◌≡◌, ◌≤◌, inl, inr, ℕ, List, ◌++◌, length, take, drop, refl, sym, ap, subst, arith, take_at}
 use Rattle.std.proofs.lemmas.Bool.{false≢true}
 use Rattle.std.proofs.lemmas.Result.{err_from_is_err_and}
 use Rattle.rtp_ext.specs.NewIds.{new_id}
@@ -13,12 +13,13 @@ use Rattle.rtp_wire.specs.PutIntoPacket.{Compacts}
 use Rattle.rtp_wire.proofs.CompactLemmas.{Compacts-front}
 use Rattle.rtp_wire.proofs.NotAPacketLemmas.{no_packet-refused}
 use Rattle.rtp_wire.proofs.PartsLemmas.{length-packet}
-use Rattle.rtp_route.specs.declared.not_routed.NotRouted.TheVariants.{LongId, NotPut}
+use Rattle.rtp_route.specs.declared.not_routed.NotRouted.TheVariants.{NotPut}
 use Rattle.rtp_route.specs.NotPutAmong.{IsNotPutAmong}
-use Rattle.rtp_route.specs.NotRouted.{KeepsFromRouting}
-use Rattle.rtp_route.specs.Calls.{ArePut, header_in}
-use Rattle.rtp_route.proofs.ByCallsLemmas.{front-put, alone_parts, header-is, begun, set-and-renumbered, header-after, ids-long, ids-short}
-use Rattle.rtp_route.proofs.NotPutLemmas.{ArePut-packet, none-kept}
+use Rattle.rtp_route.specs.NotRouted.{KeepsFromNewIds, KeepsFromRouting}
+use Rattle.rtp_route.specs.Calls.{IsSetAndRenumbered, header_in}
+use Rattle.rtp_route.proofs.ByCallsLemmas.{front-put, alone_parts, header-is, begun, set-and-renumbered, kept-header, kept-set}
+use Rattle.rtp_route.proofs.NotPutLemmas.{ArePut-packet, none-kept, ids-kept}
+use Rattle.rtp_route.proofs.StartLemmas.{started}
 use Rattle.rtp_route.proofs.by_calls.make_header.Goals as goal
 
 pub set_fields-requires-clause-held : goal.set_fields-requires-clause-held
@@ -30,14 +31,14 @@ set_fields-requires-clause-held c =
       parts = alone_parts c.args.packet.now;
       is_packet = subst (λ (b : List ℕ). IsPacket b (alone_parts c.args.packet.now)) (sym front) alone;
       form_is = c.form-form.ensures;
-      len_is = omega (arith, c.header_len-header_len.ensures, length-packet header _ alone, ap length front);
+      len_is = omega (arith, length-packet header _ alone, ap length front);
     }
 
-pub renumber-requires : goal.renumber-requires
-renumber-requires c =
+pub renumber_in_form-requires-clause-held : goal.renumber_in_form-requires-clause-held
+renumber_in_form-requires-clause-held c =
     let header = c.header_bytes-header.result.now in
     let front = front-put c.args.buf.now c.put.new.buf header c.put.ensures.written in
-    subst (λ (b : List ℕ). HasLayout b c.header_len-header_len.result c.form-form.result)
+    subst (λ (b : List ℕ). HasLayout b (length header) c.form-form.result)
     (sym (take_at c.set_fields.new.header _ (length header) (omega (arith, c.set_fields.auto.header, ap length front)))) c.set_fields.ensures.held
 
 -- the room that is tested
@@ -54,25 +55,44 @@ returns-then-buf-needed-clause-refused c =
     let long = long-header c.args.packet.now c.header_bytes-header.result.now c.header_bytes-header.ensures.front c.header_bytes-header.ensures.alone in
     (λ _. (NotPut (NoRoom (length c.header_bytes-header.result.now)), inl (ap NoRoom long, omega (arith, c.if-buf-needed.true, long))), λ _. refl)
 
-pub returns-then-not-renumber-clause-cause : goal.returns-then-not-renumber-clause-cause
-returns-then-not-renumber-clause-cause c =
+pub returns-in_err-start-clause-cause : goal.returns-in_err-start-clause-cause
+returns-in_err-start-clause-cause c =
     let packet = c.args.packet.now in
     let ids = new_id c.args.group.now.ids.now in
     let header = c.header_bytes-header.result.now in
     let is_begun = begun packet c.args.fields.now header c.args.buf.now c.put.new.buf c.set_fields.new.header c.header_bytes-header.ensures.front c.header_bytes-header.ensures.alone c.put.ensures.written
     c.set_fields.ensures.set c.set_fields.auto.header in
-    let long = ids-long packet c.args.fields.now ids header c.put.new.buf c.set_fields.new.header is_begun false c.if-not-renumber.ensures.answer refl in
-    (omega (arith, c.if-buf-needed.false, ap length is_begun.same), long)
+    let news = elements_of c.args.group.now.elements.now in
+    let allowed = c.args.group.now.allowed in
+    let room : ℕ = length c.args.buf.now in
+    let set_buf : List ℕ = c.set_fields.new.header ++ drop (length header) c.put.new.buf in
+    let long_set : length set_buf ≡ room = search rules in
+    let within : length (header_in packet) ≤ room = omega (arith, c.if-buf-needed.false, ap length is_begun.same) in
+    let cause = c.in_err-start.field-0.0 in
+    let kept : KeepsFromNewIds (header_in packet) ids allowed room cause =
+    kept-header packet c.args.fields.now ids header c.put.new.buf c.set_fields.new.header is_begun allowed room cause
+    (subst (λ (k : ℕ). KeepsFromNewIds (take (length header) set_buf) ids allowed k cause) long_set c.in_err-start.ensures.cause) in
+    let p = err_from_is_err_and c.from_residual.result c.from_residual.ensures.1 in
+    rw (p.1, p.2) (ids-kept (header_in packet) c.args.fields.now ids news allowed room within cause kept)
 
-pub returns-then-not-renumber-clause-refused : goal.returns-then-not-renumber-clause-refused
-returns-then-not-renumber-clause-refused c =
+pub returns-in_err-start-clause-refused : goal.returns-in_err-start-clause-refused
+returns-in_err-start-clause-refused c =
     let packet = c.args.packet.now in
     let ids = new_id c.args.group.now.ids.now in
     let header = c.header_bytes-header.result.now in
     let is_begun = begun packet c.args.fields.now header c.args.buf.now c.put.new.buf c.set_fields.new.header c.header_bytes-header.ensures.front c.header_bytes-header.ensures.alone c.put.ensures.written
     c.set_fields.ensures.set c.set_fields.auto.header in
-    let long = ids-long packet c.args.fields.now ids header c.put.new.buf c.set_fields.new.header is_begun false c.if-not-renumber.ensures.answer refl in
-    (λ _. (LongId, (omega (arith, c.if-buf-needed.false, ap length is_begun.same), long)), λ _. refl)
+    let news = elements_of c.args.group.now.elements.now in
+    let allowed = c.args.group.now.allowed in
+    let room : ℕ = length c.args.buf.now in
+    let set_buf : List ℕ = c.set_fields.new.header ++ drop (length header) c.put.new.buf in
+    let long_set : length set_buf ≡ room = search rules in
+    let within : length (header_in packet) ≤ room = omega (arith, c.if-buf-needed.false, ap length is_begun.same) in
+    let cause = c.in_err-start.field-0.0 in
+    let kept : KeepsFromNewIds (header_in packet) ids allowed room cause =
+    kept-header packet c.args.fields.now ids header c.put.new.buf c.set_fields.new.header is_begun allowed room cause
+    (subst (λ (k : ℕ). KeepsFromNewIds (take (length header) set_buf) ids allowed k cause) long_set c.in_err-start.ensures.cause) in
+    (λ _. (cause, ids-kept (header_in packet) c.args.fields.now ids news allowed room within cause kept), λ _. c.from_residual.ensures.0)
 
 pub returns-in_err-len-clause-cause : goal.returns-in_err-len-clause-cause
 returns-in_err-len-clause-cause c =
@@ -81,23 +101,19 @@ returns-in_err-len-clause-cause c =
     let header = c.header_bytes-header.result.now in
     let is_begun = begun packet c.args.fields.now header c.args.buf.now c.put.new.buf c.set_fields.new.header c.header_bytes-header.ensures.front c.header_bytes-header.ensures.alone c.put.ensures.written
     c.set_fields.ensures.set c.set_fields.auto.header in
-    let start = set-and-renumbered packet c.args.fields.now ids header c.put.new.buf c.set_fields.new.header is_begun c.renumber.new.header c.set_fields.ensures.fixed
-    c.if-not-renumber.ensures.renumbered in
-    let renumbered : List ℕ = c.renumber.new.header ++ drop (length header) (c.set_fields.new.header ++ drop (length header) c.put.new.buf) in
-    let after : take (length header) renumbered ≡ c.renumber.new.header =
-    header-after packet c.args.fields.now ids header c.put.new.buf c.set_fields.new.header is_begun c.renumber.new.header c.renumber.auto.header in
     let news = elements_of c.args.group.now.elements.now in
     let allowed = c.args.group.now.allowed in
     let room : ℕ = length c.args.buf.now in
-    let long_now : length renumbered ≡ room = search rules in
-    let p = err_from_is_err_and c.from_residual.result c.from_residual.ensures.1 in
+    let set_buf : List ℕ = c.set_fields.new.header ++ drop (length header) c.put.new.buf in
+    let long_set : length set_buf ≡ room = search rules in
+    let within : length (header_in packet) ≤ room = omega (arith, c.if-buf-needed.false, ap length is_begun.same) in
+    let now : List ℕ = take c.in_ok-start.start c.renumber_in_form.new.buf in
+    let start : IsSetAndRenumbered (header_in packet) c.args.fields.now ids allowed now =
+    set-and-renumbered packet c.args.fields.now ids header c.put.new.buf c.set_fields.new.header is_begun allowed now c.set_fields.ensures.fixed c.in_ok-start.ensures.renumbered in
+    let long_now : length c.renumber_in_form.new.buf ≡ room = search rules in
+    let p = err_from_is_err_and c.from_residual-in_err-len.result c.from_residual-in_err-len.ensures.1 in
     let refused : KeepsFromRouting (header_in packet) c.args.fields.now ids news allowed room (NotPut c.in_err-len.field-0.0) =
-    inr (
-      c.renumber.new.header,
-      omega (arith, c.if-buf-needed.false, ap length is_begun.same),
-      start,
-      subst (λ (b : List ℕ). IsNotPutAmong b news allowed room c.in_err-len.field-0.0) after (subst (λ (k : ℕ). IsNotPutAmong (take (length header) renumbered) news allowed k c.in_err-len.field-0.0) long_now c.in_err-len.ensures.cause),
-    ) in
+    inr (inr (now, within, start, subst (λ (k : ℕ). IsNotPutAmong now news allowed k c.in_err-len.field-0.0) long_now c.in_err-len.ensures.cause)) in
     rw (p.1, p.2) refused
 
 pub returns-in_err-len-clause-refused : goal.returns-in_err-len-clause-refused
@@ -107,23 +123,19 @@ returns-in_err-len-clause-refused c =
     let header = c.header_bytes-header.result.now in
     let is_begun = begun packet c.args.fields.now header c.args.buf.now c.put.new.buf c.set_fields.new.header c.header_bytes-header.ensures.front c.header_bytes-header.ensures.alone c.put.ensures.written
     c.set_fields.ensures.set c.set_fields.auto.header in
-    let start = set-and-renumbered packet c.args.fields.now ids header c.put.new.buf c.set_fields.new.header is_begun c.renumber.new.header c.set_fields.ensures.fixed
-    c.if-not-renumber.ensures.renumbered in
-    let renumbered : List ℕ = c.renumber.new.header ++ drop (length header) (c.set_fields.new.header ++ drop (length header) c.put.new.buf) in
-    let after : take (length header) renumbered ≡ c.renumber.new.header =
-    header-after packet c.args.fields.now ids header c.put.new.buf c.set_fields.new.header is_begun c.renumber.new.header c.renumber.auto.header in
     let news = elements_of c.args.group.now.elements.now in
     let allowed = c.args.group.now.allowed in
     let room : ℕ = length c.args.buf.now in
-    let long_now : length renumbered ≡ room = search rules in
+    let set_buf : List ℕ = c.set_fields.new.header ++ drop (length header) c.put.new.buf in
+    let long_set : length set_buf ≡ room = search rules in
+    let within : length (header_in packet) ≤ room = omega (arith, c.if-buf-needed.false, ap length is_begun.same) in
+    let now : List ℕ = take c.in_ok-start.start c.renumber_in_form.new.buf in
+    let start : IsSetAndRenumbered (header_in packet) c.args.fields.now ids allowed now =
+    set-and-renumbered packet c.args.fields.now ids header c.put.new.buf c.set_fields.new.header is_begun allowed now c.set_fields.ensures.fixed c.in_ok-start.ensures.renumbered in
+    let long_now : length c.renumber_in_form.new.buf ≡ room = search rules in
     let refused : KeepsFromRouting (header_in packet) c.args.fields.now ids news allowed room (NotPut c.in_err-len.field-0.0) =
-    inr (
-      c.renumber.new.header,
-      omega (arith, c.if-buf-needed.false, ap length is_begun.same),
-      start,
-      subst (λ (b : List ℕ). IsNotPutAmong b news allowed room c.in_err-len.field-0.0) after (subst (λ (k : ℕ). IsNotPutAmong (take (length header) renumbered) news allowed k c.in_err-len.field-0.0) long_now c.in_err-len.ensures.cause),
-    ) in
-    (λ _. (NotPut c.in_err-len.field-0.0, refused), λ _. c.from_residual.ensures.0)
+    inr (inr (now, within, start, subst (λ (k : ℕ). IsNotPutAmong now news allowed k c.in_err-len.field-0.0) long_now c.in_err-len.ensures.cause)) in
+    (λ _. (NotPut c.in_err-len.field-0.0, refused), λ _. c.from_residual-in_err-len.ensures.0)
 
 pub unwrap-requires : goal.unwrap-requires
 unwrap-requires c =
@@ -132,13 +144,17 @@ unwrap-requires c =
     let header = c.header_bytes-header.result.now in
     let is_begun = begun packet c.args.fields.now header c.args.buf.now c.put.new.buf c.set_fields.new.header c.header_bytes-header.ensures.front c.header_bytes-header.ensures.alone c.put.ensures.written
     c.set_fields.ensures.set c.set_fields.auto.header in
-    let start = set-and-renumbered packet c.args.fields.now ids header c.put.new.buf c.set_fields.new.header is_begun c.renumber.new.header c.set_fields.ensures.fixed
-    c.if-not-renumber.ensures.renumbered in
-    let renumbered : List ℕ = c.renumber.new.header ++ drop (length header) (c.set_fields.new.header ++ drop (length header) c.put.new.buf) in
-    let after : take (length header) renumbered ≡ c.renumber.new.header =
-    header-after packet c.args.fields.now ids header c.put.new.buf c.set_fields.new.header is_begun c.renumber.new.header c.renumber.auto.header in
-    let packet_now = ArePut-packet (elements_of c.args.group.now.elements.now) c.args.group.now.allowed c.renumber.new.header (take c.in_ok-len.len c.put_each.new.buf) start.renumbered.parts
-    start.renumbered.is_packet (subst (λ (b : List ℕ). ArePut b (elements_of c.args.group.now.elements.now) c.args.group.now.allowed (take c.in_ok-len.len c.put_each.new.buf)) after c.in_ok-len.ensures.put) in
+    let news = elements_of c.args.group.now.elements.now in
+    let allowed = c.args.group.now.allowed in
+    let room : ℕ = length c.args.buf.now in
+    let set_buf : List ℕ = c.set_fields.new.header ++ drop (length header) c.put.new.buf in
+    let long_set : length set_buf ≡ room = search rules in
+    let within : length (header_in packet) ≤ room = omega (arith, c.if-buf-needed.false, ap length is_begun.same) in
+    let now : List ℕ = take c.in_ok-start.start c.renumber_in_form.new.buf in
+    let start : IsSetAndRenumbered (header_in packet) c.args.fields.now ids allowed now =
+    set-and-renumbered packet c.args.fields.now ids header c.put.new.buf c.set_fields.new.header is_begun allowed now c.set_fields.ensures.fixed c.in_ok-start.ensures.renumbered in
+    let long_now : length c.renumber_in_form.new.buf ≡ room = search rules in
+    let packet_now = ArePut-packet news allowed now (take c.in_ok-len.len c.put_each.new.buf) _ (started (header_in packet) c.args.fields.now ids allowed now start).is_packet c.in_ok-len.ensures.put in
     let refused : IsNoPacket (take c.in_ok-len.len c.put_each.new.buf) → ⊥ = λ none. no_packet-refused _ packet_now.0 none packet_now.1 in
     search rules
 
@@ -149,19 +165,24 @@ returns-clause-made c =
     let header = c.header_bytes-header.result.now in
     let is_begun = begun packet c.args.fields.now header c.args.buf.now c.put.new.buf c.set_fields.new.header c.header_bytes-header.ensures.front c.header_bytes-header.ensures.alone c.put.ensures.written
     c.set_fields.ensures.set c.set_fields.auto.header in
-    let start = set-and-renumbered packet c.args.fields.now ids header c.put.new.buf c.set_fields.new.header is_begun c.renumber.new.header c.set_fields.ensures.fixed
-    c.if-not-renumber.ensures.renumbered in
-    let renumbered : List ℕ = c.renumber.new.header ++ drop (length header) (c.set_fields.new.header ++ drop (length header) c.put.new.buf) in
-    let after : take (length header) renumbered ≡ c.renumber.new.header =
-    header-after packet c.args.fields.now ids header c.put.new.buf c.set_fields.new.header is_begun c.renumber.new.header c.renumber.auto.header in
+    let news = elements_of c.args.group.now.elements.now in
+    let allowed = c.args.group.now.allowed in
+    let room : ℕ = length c.args.buf.now in
+    let set_buf : List ℕ = c.set_fields.new.header ++ drop (length header) c.put.new.buf in
+    let long_set : length set_buf ≡ room = search rules in
+    let within : length (header_in packet) ≤ room = omega (arith, c.if-buf-needed.false, ap length is_begun.same) in
+    let now : List ℕ = take c.in_ok-start.start c.renumber_in_form.new.buf in
+    let start : IsSetAndRenumbered (header_in packet) c.args.fields.now ids allowed now =
+    set-and-renumbered packet c.args.fields.now ids header c.put.new.buf c.set_fields.new.header is_begun allowed now c.set_fields.ensures.fixed c.in_ok-start.ensures.renumbered in
+    let long_now : length c.renumber_in_form.new.buf ≡ room = search rules in
     let is : Compacts (take c.in_ok-len.len c.put_each.new.buf) c.compact_copy.new.datagram c.unwrap.result = rw c.unwrap.ensures at c.compact_copy.ensures.compacted in
-    let within : c.unwrap.result ≤ length (take c.in_ok-len.len c.put_each.new.buf) = rw c.unwrap.ensures at c.compact_copy.ensures.within in
+    let fits : c.unwrap.result ≤ length (take c.in_ok-len.len c.put_each.new.buf) = rw c.unwrap.ensures at c.compact_copy.ensures.within in
     record {
-      start_bytes = c.renumber.new.header;
+      start_bytes = now;
       start = start;
       put_bytes = take c.in_ok-len.len c.put_each.new.buf;
-      are_put = subst (λ (b : List ℕ). ArePut b (elements_of c.args.group.now.elements.now) c.args.group.now.allowed (take c.in_ok-len.len c.put_each.new.buf)) after c.in_ok-len.ensures.put;
-      compacted = Compacts-front _ c.compact_copy.new.datagram _ c.unwrap.result (omega (arith, within, c.compact_copy.auto.datagram)) is;
+      are_put = c.in_ok-len.ensures.put;
+      compacted = Compacts-front _ c.compact_copy.new.datagram _ c.unwrap.result (omega (arith, fits, c.compact_copy.auto.datagram)) is;
     }
 
 pub returns-clause-refused : goal.returns-clause-refused
@@ -171,16 +192,21 @@ returns-clause-refused c =
     let header = c.header_bytes-header.result.now in
     let is_begun = begun packet c.args.fields.now header c.args.buf.now c.put.new.buf c.set_fields.new.header c.header_bytes-header.ensures.front c.header_bytes-header.ensures.alone c.put.ensures.written
     c.set_fields.ensures.set c.set_fields.auto.header in
-    let start = set-and-renumbered packet c.args.fields.now ids header c.put.new.buf c.set_fields.new.header is_begun c.renumber.new.header c.set_fields.ensures.fixed
-    c.if-not-renumber.ensures.renumbered in
-    let renumbered : List ℕ = c.renumber.new.header ++ drop (length header) (c.set_fields.new.header ++ drop (length header) c.put.new.buf) in
-    let after : take (length header) renumbered ≡ c.renumber.new.header =
-    header-after packet c.args.fields.now ids header c.put.new.buf c.set_fields.new.header is_begun c.renumber.new.header c.renumber.auto.header in
     let news = elements_of c.args.group.now.elements.now in
     let allowed = c.args.group.now.allowed in
     let room : ℕ = length c.args.buf.now in
-    let long_now : length renumbered ≡ room = search rules in
-    let short = ids-short packet c.args.fields.now ids header c.put.new.buf c.set_fields.new.header is_begun true c.if-not-renumber.ensures.answer refl in
-    let none = none-kept (header_in packet) c.args.fields.now ids news allowed room c.renumber.new.header _ (omega (arith, c.if-buf-needed.false, ap length is_begun.same)) start short after
+    let set_buf : List ℕ = c.set_fields.new.header ++ drop (length header) c.put.new.buf in
+    let long_set : length set_buf ≡ room = search rules in
+    let within : length (header_in packet) ≤ room = omega (arith, c.if-buf-needed.false, ap length is_begun.same) in
+    let now : List ℕ = take c.in_ok-start.start c.renumber_in_form.new.buf in
+    let start : IsSetAndRenumbered (header_in packet) c.args.fields.now ids allowed now =
+    set-and-renumbered packet c.args.fields.now ids header c.put.new.buf c.set_fields.new.header is_begun allowed now c.set_fields.ensures.fixed c.in_ok-start.ensures.renumbered in
+    let long_now : length c.renumber_in_form.new.buf ≡ room = search rules in
+    let none = none-kept (header_in packet) c.args.fields.now ids news allowed room now within start
+    (λ cause kept. false≢true (c.in_ok-start.ensures.refused.1 (
+      cause,
+      subst (λ (k : ℕ). KeepsFromNewIds (take (length header) set_buf) ids allowed k cause) (sym long_set)
+          (kept-set packet c.args.fields.now ids header c.put.new.buf c.set_fields.new.header is_begun allowed room cause kept),
+    )))
     (λ other cause same is. false≢true (c.in_ok-len.ensures.refused other cause same (subst (λ (k : ℕ). IsNotPutAmong other news allowed k cause) (sym long_now) is))) in
     (λ no_error. absurd (false≢true no_error), λ kept. absurd (none kept.0 kept.1))

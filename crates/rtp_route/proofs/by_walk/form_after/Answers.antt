@@ -1,5 +1,5 @@
 use Rattle.std.proofs.Common.{arith, refl}
-use Rattle.rtp_route.proofs.ByWalkLemmas.{IsFormTo-more}
+use Rattle.rtp_route.proofs.FormsLemmas.{IsFormTo-more}
 use Rattle.rtp_route.proofs.by_walk.form_after.Goals as goal
 
 pub loop-id-preserved : goal.loop-id-preserved

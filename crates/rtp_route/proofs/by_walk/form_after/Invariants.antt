@@ -1,4 +1,4 @@
-use Rattle.rtp_route.proofs.ByWalkLemmas.{IsFormTo}
+use Rattle.rtp_route.proofs.FormsLemmas.{IsFormTo}
 use Rattle.rtp_route.proofs.by_walk.form_after.Given as goal
 
 -- the form and the room once the elements before the index are put

@@ -1,7 +1,7 @@
 use Rattle.std.proofs.Common.{◌-◌, ◌∙◌, length, arith, sym}
 use denote.Enum.Bare.{differs_true, differs_false}
 use Rattle.rtp_ext.specs.contracts.form.ExtensionsForm.{the_type}
-use Rattle.rtp_route.proofs.ByWalkLemmas.{front-same, front-other}
+use Rattle.rtp_route.proofs.FrontLemmas.{front-same, front-other}
 use Rattle.rtp_route.proofs.by_walk.put_front.Goals as goal
 use Rattle.rtp_route.proofs.by_walk.put_front.Goals.{then-ne, else-ne}
 

@@ -9,7 +9,8 @@ use Rattle.rtp_ext.specs.WrittenBlock.{filled}
 use Rattle.rtp_route.specs.Routing.{put_all}
 use Rattle.rtp_route.specs.Template.{AreSlots}
 use Rattle.rtp_route.proofs.LentLemmas.{element_of}
-use Rattle.rtp_route.proofs.WalkLemmas.{placed-none, body-filled, row-read, like-none, written-no_zero, put_all-like}
+use Rattle.rtp_route.proofs.WalkLemmas.{placed-none, body-filled, row-read}
+use Rattle.rtp_route.proofs.WalkedLemmas.{like-none, written-no_zero, put_all-like}
 use Rattle.rtp_route.proofs.walk.write_body.Goals as goal
 
 pub write_kept-requires-clause-fresh : goal.write_kept-requires-clause-fresh

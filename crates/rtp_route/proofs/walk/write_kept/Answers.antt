@@ -5,7 +5,7 @@ use Rattle.rtp_ext.specs.Elements.{Element}
 use Rattle.rtp_ext.specs.ElementsInARow.{elements_of}
 use Rattle.rtp_ext.specs.NewIds.{new_id}
 use Rattle.rtp_route.specs.Walk.{AreKept}
-use Rattle.rtp_route.proofs.WalkLemmas.{kept-start, kept-new, kept-none}
+use Rattle.rtp_route.proofs.WalkedLemmas.{kept-start, kept-new, kept-none}
 use Rattle.rtp_route.proofs.walk.write_kept.Goals as goal
 
 pub loop-id-init : goal.loop-id-init
@@ -15,7 +15,7 @@ loop-id-init c = (
   c.requires.room,
   refl,
   search rules,
-  kept-start c.args.was c.args.form (new_id c.args.group.now.ids.now) (elements_of c.args.group.now.elements.now) c.args.at c.args.buf.now c.args.slots.now c.requires.fresh,
+  kept-start c.args.form (new_id c.args.group.now.ids.now) (elements_of c.args.group.now.elements.now) c.args.at c.args.buf.now c.args.slots.now c.requires.fresh,
 )
 
 pub loop-id-preserved-in-Some-new_id : goal.loop-id-preserved-in-Some-new_id
@@ -26,8 +26,8 @@ loop-id-preserved-in-Some-new_id c =
       omega (arith, c.in_ok-end.ensures.within, c.write_next.auto.buf),
       omega (arith, c.loop-id.invariant.3, c.write_next.auto.buf),
       search rules,
-      kept-new c.args.was c.args.form (new_id c.args.group.now.ids.now) news c.args.at c.args.buf.now c.loop-id.slots c.write_next.new.slots c.loop-id.buf c.write_next.new.buf c.loop-id.end c.in_ok-end.end
-          c.in-Some-new_id.new c.loop-id.yielded (c.in-Some.id, c.in-Some.bytes) c.loop-id.invariant.5 (sym c.new_id.ensures ∙ c.in-Some-new_id.is) (c.if-not-can_carry.ensures.carried.0 refl)
+      kept-new c.args.form (new_id c.args.group.now.ids.now) news c.args.at c.args.buf.now c.loop-id.slots c.write_next.new.slots c.loop-id.buf c.write_next.new.buf c.loop-id.end c.in_ok-end.end
+          c.in-Some-new_id.new c.loop-id.yielded (c.in-Some.id, c.in-Some.bytes) c.loop-id.invariant.5 (sym c.new_id.ensures ∙ c.in-Some-new_id.is) c.if-not-carries.ensures
           (λ written is. c.in_ok-end.ensures.written c.args.at c.args.buf.now written c.requires.some is),
     )
 
@@ -38,7 +38,7 @@ loop-id-preserved c = (
   c.loop-id.invariant.2,
   c.loop-id.invariant.3,
   c.loop-id.invariant.4,
-  kept-none c.args.was c.args.form (new_id c.args.group.now.ids.now) (elements_of c.args.group.now.elements.now) c.args.at c.args.buf.now c.loop-id.slots c.loop-id.buf c.loop-id.end c.loop-id.yielded
+  kept-none c.args.form (new_id c.args.group.now.ids.now) (elements_of c.args.group.now.elements.now) c.args.at c.args.buf.now c.loop-id.slots c.loop-id.buf c.loop-id.end c.loop-id.yielded
       (c.in-Some.id, c.in-Some.bytes) c.loop-id.invariant.5 (sym c.new_id.ensures ∙ c.in_default.is),
 )
 
@@ -47,5 +47,5 @@ returns-clause-kept c elements are =
     let read = (YieldsList-end (YieldsList-from_first (λ (item : ℕ × Bor (List ℕ)). (item.0, item.1.now)) (λ left. left) c.new-id-items.result c.into_iter-id-iterator.ensures.into_iter_gives)
     c.loop-id.yielded _ c.loop-id.yielded_by _ _ c.in-None.is c.next.ensures.steps).0 in
     let all : elements_of c.loop-id.yielded ≡ elements = read ∙ sym (c.new-id-items.ensures.only elements are) in
-    subst (λ (es : List Element). AreKept c.args.was c.args.form (new_id c.args.group.now.ids.now) (elements_of c.args.group.now.elements.now) es c.args.at c.args.buf.now c.loop-id.slots c.loop-id.buf c.loop-id.end)
+    subst (λ (es : List Element). AreKept c.args.form (new_id c.args.group.now.ids.now) (elements_of c.args.group.now.elements.now) es c.args.at c.args.buf.now c.loop-id.slots c.loop-id.buf c.loop-id.end)
     all c.loop-id.invariant.5

@@ -12,4 +12,4 @@ invariant-loop-id l =
     × (l.end ≤ length l.buf)
     × (length l.buf ≡ length l.initial.buf)
     × (length l.slots ≡ 16)
-    × AreKept l.was l.form (new_id l.group.ids.now) (elements_of l.group.elements.now) (elements_of l.yielded) l.fn.at l.initial.buf l.slots l.buf l.end
+    × AreKept l.form (new_id l.group.ids.now) (elements_of l.group.elements.now) (elements_of l.yielded) l.fn.at l.initial.buf l.slots l.buf l.end

@@ -8,7 +8,8 @@ use Rattle.rtp_route.specs.Template.{AreSlots}
 use Rattle.rtp_route.specs.Walk.{AreWritten}
 use Rattle.rtp_route.proofs.LentLemmas.{Lent, element_of, split-at}
 use Rattle.rtp_route.proofs.OnlyLemmas.{only-put_all}
-use Rattle.rtp_route.proofs.WalkLemmas.{placed-all, under_way-lacking, under_way-there}
+use Rattle.rtp_route.proofs.WalkLemmas.{placed-all}
+use Rattle.rtp_route.proofs.WalkedLemmas.{under_way-lacking, under_way-there}
 use Rattle.rtp_route.proofs.walk.write_lacking.Goals as goal
 use Rattle.rtp_route.proofs.walk.write_lacking.Goals.{then-slots-index-eq0+in_ok-end, else-slots-index-eq0}
 

@@ -2,7 +2,7 @@ use Rattle.std.proofs.Common.{◌≡◌, ◌≤◌, ℕ, List, length}
 use Rattle.rtp_ext.specs.Elements.{Element}
 use Rattle.rtp_ext.specs.ElementsInARow.{elements_of}
 use Rattle.rtp_route.specs.Walk.{AreWritten}
-use Rattle.rtp_route.proofs.WalkLemmas.{IsUnderWay}
+use Rattle.rtp_route.proofs.WalkedLemmas.{IsUnderWay}
 use Rattle.rtp_route.proofs.walk.write_lacking.Given as goal
 
 -- those before the index are written

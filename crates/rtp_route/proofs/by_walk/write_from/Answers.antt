@@ -12,21 +12,27 @@ use Rattle.rtp_wire.proofs.PartsLemmas.{length-packet}
 use Rattle.rtp_route.specs.Calls.{header_in}
 use Rattle.rtp_route.specs.Walk.{IsMadeFor}
 use Rattle.rtp_route.proofs.ByCallsLemmas.{alone_parts, header-is}
-use Rattle.rtp_route.proofs.ByWalkLemmas.{front_of, row_for, long-front_of, short-body, IsLaid, laid-packet, made-by_walk, body-in_front, carries-more, carries-news}
+use Rattle.rtp_route.proofs.ByWalkLemmas.{front_of, row_for, long-front_of, short-body, IsLaid, laid-packet, made-by_walk, body-in_front}
+use Rattle.rtp_route.proofs.FormsLemmas.{carries-news, carries-from, fits-from}
 use Rattle.rtp_route.proofs.LengthLemmas.{short-header}
-use Rattle.rtp_route.proofs.RoomLemmas.{none-kept}
-use Rattle.rtp_route.proofs.WalkLemmas.{written-no_zero}
-use Rattle.rtp_route.proofs.by_walk.write_by_walk.Goals as goal
+use Rattle.rtp_route.proofs.NoneKeptLemmas.{none-kept}
+use Rattle.rtp_route.proofs.WalkedLemmas.{written-no_zero}
+use Rattle.rtp_route.proofs.by_walk.write_from.Goals as goal
 
 all-short : (news : List Element) → All (IsWritable TwoByte) news → All (λ (e : Element). length e.1 ≤ 255) news
 all-short news all k d there = (all k d there).1.2
 
 pub write_body-requires-clause-carries : goal.write_body-requires-clause-carries
-write_body-requires-clause-carries c = carries-more c.args.group.now.allowed c.in_ok-was.was' c.in_ok-form.form (elements_of c.args.group.now.elements.now) c.in_ok-form.ensures.form
+write_body-requires-clause-carries c =
+    let was = c.in_ok-was.was' in
+    let body = c.in_ok-was.body.now in
+    let elements : List Element = elements_left was body in
+    carries-from c.args.group.now.allowed (new_id c.args.group.now.ids.now) was c.in_ok-start.start c.in_ok-form.form body elements (elements_of c.args.group.now.elements.now)
+    (c.in_ok-start.ensures elements (AreElements-found was body c.in_ok-was.ensures.bytes)) c.in_ok-form.ensures.form
 
 pub write_body-requires-clause-all : goal.write_body-requires-clause-all
 write_body-requires-clause-all c =
-    carries-news c.args.group.now.allowed c.in_ok-was.was' c.in_ok-form.form (elements_of c.args.group.now.elements.now) c.in_ok-form.ensures.form c.in_ok-form.ensures.carried
+    carries-news c.args.group.now.allowed c.in_ok-start.start c.in_ok-form.form (elements_of c.args.group.now.elements.now) c.in_ok-form.ensures.form c.in_ok-form.ensures.carried
 
 pub returns-clause-none_refused : goal.returns-clause-none_refused
 returns-clause-none_refused c =
@@ -42,8 +48,10 @@ returns-clause-none_refused c =
     let are : AreElements was body elements = AreElements-found was body c.in_ok-was.ensures.bytes in
     let is : header ≡ header_in packet = header-is packet header front alone in
     let form = c.in_ok-form.ensures in
+    let allowed = c.args.group.now.allowed in
+    let fits = fits-from allowed ids was c.in_ok-start.start c.in_ok-form.form body elements news are (c.in_ok-start.ensures elements are) form.form (c.in_ok-len.ensures.written elements are).carried in
     none-kept (header_in packet) (alone_parts packet) (subst (λ (h : List ℕ). IsPacket h (alone_parts packet)) is alone) refl was body (sym c.in_ok-was.ensures.parts) elements are c.args.fields.now ids
-    (c.in_ok-len.ensures.written elements are).carried news c.args.group.now.allowed c.in_ok-form.form form.form (written-no_zero TwoByte news form.carried) (all-short news form.carried) (length c.args.buf.now)
+    news allowed fits.0 fits.1 c.in_ok-form.form fits.2 (written-no_zero TwoByte news form.carried) (all-short news form.carried) (length c.args.buf.now)
     (omega (arith, ap length is, form.room, c.in_ok-room.ensures)) (omega (arith, ap length is, form.room, c.in_ok-room.ensures))
 
 pub overflow_add-header : goal.overflow_add-header
@@ -92,7 +100,7 @@ set_fields-requires-clause-held c =
       whole_is = c.header_bytes-header.ensures.front;
       is_packet = c.header_bytes-header.ensures.alone;
       some = c.in_ok-was.ensures.parts;
-      body_for = body-in_front was form ids news elements (length (front_of header body)) slots c.write_body.new.buf rest end inside (c.in_ok-len.ensures.written elements are);
+      body_for = body-in_front form ids news elements (length (front_of header body)) slots c.write_body.new.buf rest end inside (c.in_ok-len.ensures.written elements are);
       within = omega (arith, inside, length-append c.write_body.new.buf rest);
       short = omega (arith, c.in_ok-len.ensures.within, length-take c.min-most.result c.args.buf.now, c.min-most.ensures);
       laid = c.put_front.ensures;
@@ -126,12 +134,13 @@ returns-clause-made c =
       whole_is = c.header_bytes-header.ensures.front;
       is_packet = c.header_bytes-header.ensures.alone;
       some = c.in_ok-was.ensures.parts;
-      body_for = body-in_front was form ids news elements (length (front_of header body)) slots c.write_body.new.buf rest end inside (c.in_ok-len.ensures.written elements are);
+      body_for = body-in_front form ids news elements (length (front_of header body)) slots c.write_body.new.buf rest end inside (c.in_ok-len.ensures.written elements are);
       within = omega (arith, inside, length-append c.write_body.new.buf rest);
       short = omega (arith, c.in_ok-len.ensures.within, length-take c.min-most.result c.args.buf.now, c.min-most.ensures);
       laid = c.put_front.ensures;
     } in
     let long : length c.set_fields.new.header ≡ end = omega (arith, c.set_fields.auto.header, length-take-le end c.put_front.new.buf (omega (arith, laid.within, c.put_front.auto.buf))) in
+    let fits = fits-from allowed ids was c.in_ok-start.start form body elements news are (c.in_ok-start.ensures elements are) c.in_ok-form.ensures.form (c.in_ok-len.ensures.written elements are).carried in
     let made = made-by_walk packet ids news was form header body (c.write_body.new.buf ++ rest) c.put_front.new.buf end elements slots laid c.args.fields.now allowed c.set_fields.new.header
-    c.in_ok-form.ensures.form are c.set_fields.ensures.set c.set_fields.ensures.fixed long in
+    fits are c.set_fields.ensures.set c.set_fields.ensures.fixed long in
     subst (λ (b : List ℕ). IsMadeFor (datagram_of packet) c.args.fields.now ids news allowed b slots) (sym (take_at c.set_fields.new.header _ end long)) made

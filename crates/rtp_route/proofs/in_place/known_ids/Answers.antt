@@ -1,0 +1,5 @@
+use Rattle.rtp_route.proofs.ChangeFormLemmas.{ids-in_table}
+use Rattle.rtp_route.proofs.in_place.known_ids.Goals as goal
+
+pub returns-clause-each : goal.returns-clause-each
+returns-clause-each c id = ids-in_table c.ids-bytes.result c.args.ids.now c.ids-bytes.ensures.ids c.are_bytes.ensures id
