@@ -16,7 +16,7 @@ use Rattle.rtp_wire.proofs.PaddingChanges.{IsPacket-longer}
 use Rattle.rtp_route.specs.Retransmitted.{IsRoutedAgain, AreFieldsAgain, RepeatsPacketWith}
 use Rattle.rtp_route.specs.Routing.{IsFormAfter, row_in, routed_elements, routed_parts}
 use Rattle.rtp_route.proofs.OneHeaderLemmas.{one_form}
-use Rattle.rtp_route.proofs.RoutingLemmas.{same_parts, same_elements}
+use Rattle.rtp_route.proofs.StartLemmas.{same_parts, same_elements}
 
 -- ---- a block whose elements keep their ids
 

@@ -21,7 +21,7 @@ use Rattle.rtp_route.specs.GroupHeader.{IsGroupHeader}
 use Rattle.rtp_route.specs.Retransmitted.{without_padding_bit, with_number, IsRoutedAgain, IsFilledInAgain}
 use Rattle.rtp_route.specs.Routing.{IsRouted}
 use Rattle.rtp_route.specs.Template.{with_data, slot_lengths}
-use Rattle.rtp_route.proofs.RoutingLemmas.{same_parts}
+use Rattle.rtp_route.proofs.StartLemmas.{same_parts}
 use Rattle.rtp_route.proofs.TemplateLemmas.{routed-filled}
 
 -- ---- the bytes
