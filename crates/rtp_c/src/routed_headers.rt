@@ -127,7 +127,7 @@ fn write_one(
         return;
     };
     let (at, len) = (receiver.at, header.header_len());
-    if at > buf.len() || len > buf.len() - at {
+    if len > buf.len() || at > buf.len() - len {
         receiver.status = SHORT_BUFFER;
         return;
     }

@@ -195,6 +195,7 @@ fn copy_header(header: &RtpPacket<'_>, fields: &Fields, buf: &mut [u8])
 /// payload, with these fields, and with these data of the group's elements, one after another in
 /// their order, at the places, into a buffer of the header's length. Requires as many data as the
 /// places have, places that lie in the header, and a payload type of at most 127.
+#[inline(always)]
 pub fn write_joined(
     header: &RtpPacket<'_>,
     slots: &[Slot],

@@ -1341,8 +1341,8 @@ typedef struct {
     uint8_t is_retransmission; /* given: where it isn't 0, the header is that of a retransmission, with the original
                                 * number behind it */
     int32_t status;            /* written: RTPW_OK; RTPW_BAD_FIELD where there is a payload type above 127, or its data
-                                * reach past the data; RTPW_SHORT_BUFFER where its header, or the number behind it, would
-                                * reach past the buffer */
+                                * reach past the data; RTPW_SHORT_BUFFER where its header, or the number behind it,
+                                * would reach past the buffer */
 } rtpw_routed_header;
 
 /* Writes the headers of receivers of the group, made->header_len bytes each, and two more of a retransmission, with what

@@ -7,10 +7,10 @@ use Rattle.rtp_c.specs.RoutedHeaders.{IsReceiversAgain, len_for}
 use Rattle.rtp_c.specs.SetFields.{fields_given, CanBeSet}
 use Rattle.rtp_c.proofs.RoutedLemmas.{header_in-length, receivers-header, len-packet, len-again, len-least}
 use Rattle.rtp_c.proofs.routed_headers.write_one.Goals as goal
-use Rattle.rtp_c.proofs.routed_headers.write_one.Goals.{else-receiver-ne0-via-then-receiver-ne0+else-receiver-gt127, else-receiver-ne0-via-else-receiver-ne0, then-at-buf-via-then-at-buf, then-at-buf-via-else-at-buf+then-len-buf}
+use Rattle.rtp_c.proofs.routed_headers.write_one.Goals.{else-receiver-ne0-via-then-receiver-ne0+else-receiver-gt127, else-receiver-ne0-via-else-receiver-ne0, then-len-buf-via-then-len-buf, then-len-buf-via-else-len-buf+then-at-buf}
 
-pub returns-then-at-buf : goal.returns-then-at-buf
-returns-then-at-buf c =
+pub returns-then-len-buf : goal.returns-then-len-buf
+returns-then-len-buf c =
     let receiver = c.args.receiver.now in
     let header = calls.header_in c.args.header.now in
     let long = header_in-length c.args.header.now in
@@ -21,9 +21,9 @@ returns-then-at-buf c =
       | else-receiver-ne0-via-else-receiver-ne0 w ↦ λ some. absurd (omega (arith, some, w.if-receiver-ne0.false))
     ] in
     let short : length c.args.buf.now < receiver.at + c.header_len-len.result =
-    elim c.then-at-buf.branch [
-      | then-at-buf-via-then-at-buf w ↦ omega (arith, w.if-at-buf.true, c.header_len-len.ensures, long)
-      | then-at-buf-via-else-at-buf+then-len-buf w ↦ omega (arith, w.if-at-buf.false, w.if-len-buf.true)
+    elim c.then-len-buf.branch [
+      | then-len-buf-via-then-len-buf w ↦ omega (arith, w.if-len-buf.true)
+      | then-len-buf-via-else-len-buf+then-at-buf w ↦ omega (arith, w.if-len-buf.false, w.if-at-buf.true)
     ] in
     record {
       given_is = refl;
