@@ -508,7 +508,14 @@ func byCalls(packet []byte, fields rtpwire.Fields, group *rtpwire.Group, data []
 	if ids == nil {
 		ids = new(rtpwire.NewIDs)
 	}
-	if err := rtpwire.Renumber(header, ids); err != nil {
+	err := rtpwire.Renumber(header, ids)
+	if err == rtpwire.ErrLongID && group.Allowed != rtpwire.OneByteForm {
+		if header, err = rtpwire.ChangeForm(buf, len(header), rtpwire.TwoByteForm); err != nil {
+			return nil, err
+		}
+		err = rtpwire.Renumber(header, ids)
+	}
+	if err != nil {
 		return nil, err
 	}
 	for _, element := range group.Elements {

@@ -156,7 +156,7 @@ packet-same a b parts p q all_a all_b word =
 
 -- ---- a header
 
-pub one_form : (allowed block : Option ExtensionsForm) (news : List Element) (f g : Option ExtensionsForm) → IsFormAfter allowed block news f → IsFormAfter allowed block news g → f ≡ g
+one_form : (allowed block : Option ExtensionsForm) (news : List Element) (f g : Option ExtensionsForm) → IsFormAfter allowed block news f → IsFormAfter allowed block news g → f ≡ g
 one_form allowed block [] f g p q = p ∙ sym q
 one_form allowed block (new ∷ news) f g p q =
     one_form allowed (Some q.0) news f g (subst (λ (form : ExtensionsForm). IsFormAfter allowed (Some form) news f) (same_Some _ _ (sym p.1 ∙ q.1)) p.2) q.2
@@ -181,9 +181,10 @@ has-form : (form : Option ExtensionsForm) (elements : List Element) (block : Ext
 has-form None elements block is = absurd (none-some block is)
 has-form (Some form) elements block is = ap form_of_block is
 
-pub one-header : (old : List ℕ) (fields : Fields) (ids : ℕ → Option ℕ) (news : List Element) (allowed : Option ExtensionsForm) (a b : List ℕ) → AreBytes a → AreBytes b
-    → IsRouted old fields ids news allowed a → IsRouted old fields ids news allowed b → a ≡ b
-one-header old fields ids news allowed a b all_a all_b p q =
+-- two headers that are routed of one packet for one group have these in common, whatever the fields are
+pub one-routing : (old : List ℕ) (f g : Fields) (ids : ℕ → Option ℕ) (news : List Element) (allowed : Option ExtensionsForm) (a b : List ℕ) (p : IsRouted old f ids news allowed a)
+    (q : IsRouted old g ids news allowed b) → (q.parts ≡ p.parts) × (q.elements ≡ p.elements) × (q.form ≡ p.form)
+one-routing old f g ids news allowed a b p q =
     let parts : q.parts ≡ p.parts = same_parts old q.parts p.parts q.was_packet p.was_packet in
     let elements : q.elements ≡ p.elements =
     same_elements p.parts.block q.elements p.elements (subst (λ (s : PacketParts). AreElementsOf s.block q.elements) parts q.were_elements) p.were_elements in
@@ -191,7 +192,15 @@ one-header old fields ids news allowed a b all_a all_b p q =
     one_start allowed ids p.parts.block p.elements q.start p.start
     (subst (λ (es : List Element). IsFormForIds allowed ids p.parts.block es q.start) elements
     (subst (λ (s : PacketParts). IsFormForIds allowed ids s.block q.elements q.start) parts q.start_is)) p.start_is in
-    let form : q.form ≡ p.form = one_form allowed p.start news q.form p.form (subst (λ (f : Option ExtensionsForm). IsFormAfter allowed f news q.form) start q.form_is) p.form_is in
+    (parts, elements, one_form allowed p.start news q.form p.form (subst (λ (f : Option ExtensionsForm). IsFormAfter allowed f news q.form) start q.form_is) p.form_is)
+
+pub one-header : (old : List ℕ) (fields : Fields) (ids : ℕ → Option ℕ) (news : List Element) (allowed : Option ExtensionsForm) (a b : List ℕ) → AreBytes a → AreBytes b
+    → IsRouted old fields ids news allowed a → IsRouted old fields ids news allowed b → a ≡ b
+one-header old fields ids news allowed a b all_a all_b p q =
+    let one = one-routing old fields fields ids news allowed a b p q in
+    let parts : q.parts ≡ p.parts = one.0 in
+    let elements : q.elements ≡ p.elements = one.1 in
+    let form : q.form ≡ p.form = one.2 in
     let is_b : IsPacket b (record (routed_parts fields ids news p.form p.elements p.parts) { payload = [] }) =
     subst (λ (f : Option ExtensionsForm). IsPacket b (record (routed_parts fields ids news f p.elements p.parts) { payload = [] })) form
     (subst (λ (es : List Element). IsPacket b (record (routed_parts fields ids news q.form es p.parts) { payload = [] })) elements

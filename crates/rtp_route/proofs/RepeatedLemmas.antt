@@ -10,13 +10,12 @@ use Rattle.rtp_wire.specs.declared.packet.fields.Fields.{Fields}
 use Rattle.rtp_wire.specs.declared.packet.retransmission.RetransmissionFields.{RetransmissionFields}
 use Rattle.rtp_wire.specs.Packet.{PacketParts, IsWithoutPadding}
 use Rattle.rtp_wire.specs.PacketElements.{AreElementsOf}
-use Rattle.rtp_wire.specs.PutIntoPacket.{form_of_block}
 use Rattle.rtp_wire.specs.Retransmission.{IsBlockUnder, IsRetransmissionOf}
 use Rattle.rtp_wire.proofs.PaddingChanges.{IsPacket-longer}
 use Rattle.rtp_route.specs.Retransmitted.{IsRoutedAgain, AreFieldsAgain, RepeatsPacketWith}
-use Rattle.rtp_route.specs.Routing.{IsFormAfter, row_in, routed_elements, routed_parts}
-use Rattle.rtp_route.proofs.OneHeaderLemmas.{one_form}
-use Rattle.rtp_route.proofs.StartLemmas.{same_parts, same_elements}
+use Rattle.rtp_route.specs.Routing.{row_in, routed_elements, routed_parts}
+use Rattle.rtp_route.proofs.OneHeaderLemmas.{one-routing}
+use Rattle.rtp_route.proofs.StartLemmas.{same_parts}
 
 -- ---- a block whose elements keep their ids
 
@@ -71,11 +70,10 @@ pub repeats : (old new : List ℕ) (got fields : Fields) (number : ℕ) (stream 
     → AreFieldsAgain got number stream fields → IsRoutedAgain old fields number ids news allowed new → RepeatsPacketWith old got stream ids news allowed new
 repeats old new got fields number stream ids news allowed fields_again again header payload unpadded original sent p is without sent_is =
     let q = again.routed in
-    let parts : q.parts ≡ p.parts = same_parts old q.parts p.parts q.was_packet p.was_packet in
-    let elements : q.elements ≡ p.elements =
-    same_elements p.parts.block q.elements p.elements (subst (λ (s : PacketParts). AreElementsOf s.block q.elements) parts q.were_elements) p.were_elements in
-    let form : q.form ≡ p.form =
-    one_form allowed (form_of_block p.parts.block) news q.form p.form (subst (λ (s : PacketParts). IsFormAfter allowed (form_of_block s.block) news q.form) parts q.form_is) p.form_is in
+    let one = one-routing old got fields ids news allowed header again.header p q in
+    let parts : q.parts ≡ p.parts = one.0 in
+    let elements : q.elements ≡ p.elements = one.1 in
+    let form : q.form ≡ p.form = one.2 in
     let original_is : original ≡ with_payload got ids news p.form p.elements p.parts payload = same_parts (header ++ payload) original _ is (IsPacket-longer header payload _ p.is_packet) in
     let sent_of : sent ≡ repeated fields ids news q.form q.elements q.parts (to_be_bytes w16 number ++ unpadded) =
     same_parts (new ++ unpadded) sent _ sent_is (IsPacket-longer new unpadded _ (again.is_packet _ q.is_packet)) in

@@ -93,8 +93,9 @@ impl<'a> HeaderTemplate<'a> {
     /// The most elements that are put into a header.
     pub const MAX_ELEMENTS: usize = 16;
 
-    /// Makes the header that the packet gets for the group, at the front of the buffer. One of twice the packet's header
-    /// and 264 bytes for each element has room.
+    /// Makes the header that the packet gets for the group, at the front of the buffer. An id above 14 asks for the
+    /// two-byte form, where that is allowed. A buffer of twice the packet's header and 264 bytes for each element has
+    /// room.
     ///
     /// # Errors
     ///

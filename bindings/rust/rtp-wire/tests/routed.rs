@@ -8,8 +8,8 @@ use std::iter::FusedIterator;
 
 use guarded::at_end;
 use rtp_wire::{
-    Fields, Form, Group, HeaderTemplate, NewIds, NotPut, NotRouted, NotWritten,
-    Packet, Place, RoutedSlot,
+    Fields, Form, Group, HeaderTemplate, NewIds, NotPut, NotRouted, NotWritten, Packet, Place,
+    RoutedSlot,
 };
 
 /// 96, 5, 100, 44 and what follows them: the element 1 (AA), and two bytes of padding. The payload is no part of it.

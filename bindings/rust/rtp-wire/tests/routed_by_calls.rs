@@ -1,7 +1,7 @@
 //! A packet's header for each of its receivers beside what the calls for one packet make of a copy, one after another.
 
 use rtp_wire::{
-    compact, put_element, to_retransmission, Fields, Form, Group, HeaderTemplate, NewIds, NotPut,
+    change_form, compact, put_element, to_retransmission, Fields, Form, Group, HeaderTemplate, NewIds, NotPut,
     NotRouted, NotWritten, Packet, PacketMut, Place, RoutedSlot,
 };
 
@@ -148,7 +148,14 @@ fn by_calls(
     buf.get_mut(..len).ok_or(short)?.copy_from_slice(header);
     let mut changed = PacketMut::parse(&mut buf[..len]).unwrap();
     changed.set_fields(fields).unwrap();
-    changed.renumber(group.ids).map_err(|_| NotRouted::LongId)?;
+    if changed.renumber(group.ids).is_err() {
+        if group.allowed == Some(Form::OneByte) {
+            return Err(NotRouted::LongId);
+        }
+        len = change_form(&mut buf, len, Form::TwoByte).map_err(NotRouted::NotPut)?;
+        let mut changed = PacketMut::parse(&mut buf[..len]).unwrap();
+        changed.renumber(group.ids).unwrap();
+    }
     let mut left = data;
     for it in elements {
         let (its_data, rest) = left.split_at(it.data().len());
