@@ -1291,10 +1291,10 @@ void rtpw_receive_many(rtpw_receiver *receivers, size_t receiver_count, rtpw_arr
  *     // the second is 90 60 00 05 00 00 00 64 00 00 00 2E BE DE 00 02 30 AA 41 00 08 00 00 00
  *
  * A receiver may get the packet as a retransmission (RFC 4588, 4): set is_retransmission and original_number, and as
- * its fields the SSRC, the payload type and the number of its stream of retransmissions. P is then clear, and behind the
- * header stands the original number, in two bytes. Send behind it the payload without its padding: unpadded_len bytes
- * from payload_at on, where padding_fits isn't 0 (rtpw_packet). The second one with the SSRC 47, the payload type 97,
- * the number 9 and the original number 5:
+ * its fields the SSRC, the payload type and the number of its stream of retransmissions. P is then clear, and behind
+ * the header stands the original number, in two bytes. Send behind it the payload without its padding: unpadded_len
+ * bytes from payload_at on, where padding_fits isn't 0 (rtpw_packet). The second one with the SSRC 47, the payload
+ * type 97, the number 9 and the original number 5:
  *
  *     // 90 61 00 09 00 00 00 64 00 00 00 2F BE DE 00 02 30 AA 41 00 08 00 00 00 00 05
  */
