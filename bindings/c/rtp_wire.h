@@ -1291,11 +1291,11 @@ void rtpw_receive_many(rtpw_receiver *receivers, size_t receiver_count, rtpw_arr
  *                                 sizeof headers);
  *     // the second is 90 60 00 05 00 00 00 64 00 00 00 2E BE DE 00 02 30 AA 41 00 08 00 00 00
  *
- * A receiver may get the packet as a retransmission (RFC 4588, 4): set is_retransmission and original_number, and as its
- * fields the SSRC, the payload type and the number of its stream of retransmissions. P is then clear, and behind the
- * header stands the original number, in two bytes. Send behind it the payload without its padding: unpadded_len bytes
- * from payload_at on, where padding_fits isn't 0 (rtpw_packet). The second one with the SSRC 47, the payload type 97, the
- * number 9 and the original number 5:
+ * A receiver may get the packet as a retransmission (RFC 4588, 4): set is_retransmission and original_number, and as
+ * its fields the SSRC, the payload type and the number of its stream of retransmissions. P is then clear, and behind
+ * the header stands the original number, in two bytes. Send behind it the payload without its padding: unpadded_len
+ * bytes from payload_at on, where padding_fits isn't 0 (rtpw_packet). The second one with the SSRC 47, the payload
+ * type 97, the number 9 and the original number 5:
  *
  *     // 90 61 00 09 00 00 00 64 00 00 00 2F BE DE 00 02 30 AA 41 00 08 00 00 00 00 05
  */
@@ -1345,12 +1345,12 @@ typedef struct {
                                 * would reach past the buffer */
 } rtpw_routed_header;
 
-/* Writes the headers of receivers of the group, made->header_len bytes each, and two more of a retransmission, with what
- * rtpw_make_template has made: *made, and the header at the front of `header`, of which nothing behind that is looked at.
- * With the payload behind it each is the packet that goes to the receiver; of a retransmission the payload without its
- * padding. One that isn't RTPW_OK writes nothing but its status, and spoils no
- * other. They are written in the order of the array: where two of them overlap, the bytes of the later one stand. How
- * many there are isn't limited, and a count of 0 writes nothing.
+/* Writes the headers of receivers of the group, made->header_len bytes each, and two more of a retransmission, with
+ * what rtpw_make_template has made: *made, and the header at the front of `header`, of which nothing behind that is
+ * looked at. With the payload behind it each is the packet that goes to the receiver; of a retransmission the payload
+ * without its padding. One that isn't RTPW_OK writes nothing but its status, and spoils no other. They are written in
+ * the order of the array: where two of them overlap, the bytes of the later one stand. How many there are isn't
+ * limited, and a count of 0 writes nothing.
  *
  * RTPW_OK, whatever the statuses of the receivers are. RTPW_BAD_FIELD where *made is none that rtpw_make_template
  * makes: its count is above 16, header_len above header_size, the data of an element reach past header_len, or
