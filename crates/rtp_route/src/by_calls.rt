@@ -20,7 +20,7 @@ ghost use Rattle.rtp_route.specs.Routing.{IsRouted};
 
 use super::NotRouted;
 use super::by_walk::write_by_walk;
-use super::in_place::{are_bytes, change_form, is_one_byte_only, known_ids, renumber, set_fields};
+use super::in_place::{change_form, is_one_byte_only, known_ids, renumber, set_fields};
 use super::slots::{MAX_ELEMENTS, Slot, have_own_ids};
 use rtp_base::put;
 use rtp_ext::{ExtensionsForm, NewIds};
@@ -83,7 +83,6 @@ fn renumber_in_form(
     ensures refused { IsErr result ↔ ((cause : NotRouted) × KeepsFromNewIds (take len buf.old)
         (new_id group.now.ids.now) group.now.allowed (length buf.old) cause) }
 {
-    are_bytes(&buf[..len]);
     if renumber(&mut buf[..len], len, form, group.ids) {
         return Ok(len);
     }

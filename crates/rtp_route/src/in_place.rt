@@ -57,6 +57,7 @@ pub(super) fn renumber(
         IsPacket header.old parts → AreElementsOf parts.block elements →
         IsTrue result ↔ CarriesIds (new_id ids.now) parts.block elements }
     ensures unchanged { OnFalse result (header.new ≡ header.old) }
+    ensures bytes { (k : ℕ) → slice_index header.old k < 256 }
 {
     let mut packet = RtpPacketMut::new(header, header_len, form);
     packet.renumber(ids)
@@ -103,17 +104,10 @@ pub(super) fn is_one_byte_only(allowed: Option<ExtensionsForm>) -> bool
     matches!(allowed, Some(ExtensionsForm::OneByte))
 }
 
-// Bytes are below 256.
-#[inline(always)]
-pub(super) fn are_bytes(bytes: &[u8])
-    ensures { (k : ℕ) → slice_index bytes.now k < 256 }
-{}
-
 // What is so of every table: the id 0, which is padding's, has no new one, and each is 1 to 255.
 pub(super) fn known_ids(ids: &NewIds)
     ensures zero { new_id ids.now 0 ≡ None }
     ensures each { (id : ℕ) → IfSome (new_id ids.now id) (λ new. (1 ≤ new) × (new ≤ 255)) }
 {
-    let bytes = ids.ids();
-    are_bytes(&bytes);
+    ids.ids();
 }
