@@ -1,7 +1,7 @@
 //! A packet's header for a group of receivers, made in one walk over its elements.
 
-ghost use Rattle.std.specs.Prelude.{◌≡◌, ◌+◌, ◌-◌, ◌*◌, ◌≤◌, ◌⊎◌, List, Some, length, take, drop, All, IfSome};
-ghost use Rattle.rtp_ext.specs.declared.form.ExtensionsForm.TheVariants.{TwoByte};
+ghost use Rattle.std.specs.Prelude.{◌≡◌, ◌≢◌, ◌+◌, ◌-◌, ◌*◌, ◌≤◌, ◌⊎◌, List, Some, length, take, drop, All, IsTrue, IfSome};
+ghost use Rattle.rtp_ext.specs.declared.form.ExtensionsForm.TheVariants.{OneByte, TwoByte};
 ghost use Rattle.rtp_ext.specs.Elements.{Element, AreElements, elements_bytes};
 ghost use Rattle.rtp_ext.specs.ElementsInARow.{elements_of, IsWritable};
 ghost use Rattle.rtp_ext.specs.NewIds.{new_id};
@@ -30,7 +30,7 @@ const MAX_LEN: usize = 4 * 65_535;
 
 // The form that a block has before the group's elements are put: its own at the first try, which
 // looks at no id before it writes; at the second the two-byte form, and `None` where its own can carry
-// the new ids or the two-byte form isn't allowed.
+// the new ids.
 #[inline(always)]
 fn start_form(
     was: ExtensionsForm,
@@ -38,6 +38,7 @@ fn start_form(
     group: &Group<'_>,
     second: bool,
 ) -> Option<ExtensionsForm>
+    requires { IsTrue second → group.now.allowed ≢ Some OneByte }
     ensures { IfSome result (λ start. (elements : List Element) →
         AreElements was body.now elements → (start ≡ was)
         ⊎ IsFormForIds group.now.allowed (new_id group.now.ids.now) (Some (was, body.now))
@@ -45,9 +46,6 @@ fn start_form(
 {
     if !second {
         return Some(was);
-    }
-    if is_one_byte_only(group.allowed) {
-        return None;
     }
     if can_renumber(was, body, group.ids) {
         return None;
@@ -107,8 +105,8 @@ fn put_front(
 // bytes it has, and the places are those of the data of the group's elements. The second try is for
 // new ids that the block's form can't carry. `None` where another way has to be taken: without a
 // block of one of the two forms, for a long one, several elements of the id of one that is put, or
-// little room, and where one can't be put or, at the first try, can't be carried. The buffer and the
-// places then are any.
+// little room, and where one can't be put or, at the first try, can't be carried, of which a hint is
+// given. The buffer and the places then are any.
 #[inline(always)]
 fn write_from(
     packet: &RtpPacket<'_>,
@@ -117,7 +115,9 @@ fn write_from(
     buf: &mut [u8],
     slots: &mut [Slot; MAX_ELEMENTS],
     second: bool,
+    is_long: &mut bool,
 ) -> Option<usize>
+    requires allowed { IsTrue second → group.now.allowed ≢ Some OneByte }
     requires payload_type { IfSome fields.now.payload_type (λ pt. pt ≤ 127) }
     requires few { length group.now.elements.now ≤ 16 }
     requires own { HaveOwnIds (elements_of group.now.elements.now) }
@@ -141,7 +141,8 @@ fn write_from(
     let start = start_form(was, body, group, second)?;
     let form = form_after(start, group, room)?;
     let front = &header[..header.len() - body.len()];
-    let len = write_body(&mut buf[..most], front.len(), was, form, body, group, slots)?;
+    let own = &mut buf[..most];
+    let len = write_body(own, front.len(), was, form, body, group, slots, is_long)?;
     put_front(buf, front, was, form, len - front.len());
     set_fields(&mut buf[..len], len, Some(form), fields);
     Some(len)
@@ -157,6 +158,7 @@ fn write_in_two_byte_form(
     buf: &mut [u8],
     slots: &mut [Slot; MAX_ELEMENTS],
 ) -> Option<usize>
+    requires allowed { group.now.allowed ≢ Some OneByte }
     requires payload_type { IfSome fields.now.payload_type (λ pt. pt ≤ 127) }
     requires few { length group.now.elements.now ≤ 16 }
     requires own { HaveOwnIds (elements_of group.now.elements.now) }
@@ -170,7 +172,8 @@ fn write_in_two_byte_form(
         KeepsFromRouting (header_in packet.now) fields.now (new_id group.now.ids.now)
         (elements_of group.now.elements.now) group.now.allowed (length buf.old) cause → ⊥) }
 {
-    write_from(packet, fields, group, buf, slots, true)
+    let mut is_long = false;
+    write_from(packet, fields, group, buf, slots, true, &mut is_long)
 }
 
 // Writes the header in one walk, in the two-byte form where the new ids need it and it is allowed;
@@ -196,8 +199,10 @@ pub(super) fn write_by_walk(
         KeepsFromRouting (header_in packet.now) fields.now (new_id group.now.ids.now)
         (elements_of group.now.elements.now) group.now.allowed (length buf.old) cause → ⊥) }
 {
-    match write_from(packet, fields, group, buf, slots, false) {
-        Some(len) => Some(len),
-        None => write_in_two_byte_form(packet, fields, group, buf, slots),
+    let mut is_long = false;
+    let first = write_from(packet, fields, group, buf, slots, false, &mut is_long);
+    if !is_long || is_one_byte_only(group.allowed) {
+        return first;
     }
+    write_in_two_byte_form(packet, fields, group, buf, slots)
 }
