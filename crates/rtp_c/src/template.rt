@@ -42,24 +42,34 @@ pub struct StoredTemplate {
 }
 
 impl StoredTemplate {
-    // The parts that are stored.
-    pub(super) fn parts(&self) -> TemplateParts
+    // Puts the places that are stored at the front of a list of fixed size.
+    #[inline(always)]
+    fn put_slots(&self, slots: &mut [Slot; MAX_ELEMENTS])
         requires { self.now.count ≤ 16 }
-        ensures { HasParts self.now result }
+        ensures slots { take self.now.count slots.new ≡ slots_of self.now }
+        ensures long { length slots.new ≡ 16 }
     {
-        let count = self.count as usize;
-        let mut slots = [Slot { start: 0, len: 0 }; MAX_ELEMENTS];
-        for index in 0..count {
+        for index in 0..self.count as usize {
             slots[index] = Slot {
                 start: self.data_at[index],
                 len: self.data_len[index],
             };
         }
-        TemplateParts {
+    }
+
+    // The parts that are stored.
+    #[inline(always)]
+    pub(super) fn parts(&self) -> TemplateParts
+        requires { self.now.count ≤ 16 }
+        ensures { HasParts self.now result }
+    {
+        let mut parts = TemplateParts {
             header_len: self.header_len,
-            slots,
-            count,
-        }
+            slots: [Slot { start: 0, len: 0 }; MAX_ELEMENTS],
+            count: self.count as usize,
+        };
+        self.put_slots(&mut parts.slots);
+        parts
     }
 
     // Keeps the parts of a template, and zeros after the last place.
