@@ -42,34 +42,24 @@ pub struct StoredTemplate {
 }
 
 impl StoredTemplate {
-    // Puts the places that are stored at the front of a list of fixed size.
-    #[inline(always)]
-    fn put_slots(&self, slots: &mut [Slot; MAX_ELEMENTS])
+    // The parts that are stored.
+    pub(super) fn parts(&self) -> TemplateParts
         requires { self.now.count ≤ 16 }
-        ensures slots { take self.now.count slots.new ≡ slots_of self.now }
-        ensures long { length slots.new ≡ 16 }
+        ensures { HasParts self.now result }
     {
-        for index in 0..self.count as usize {
+        let count = self.count as usize;
+        let mut slots = [Slot { start: 0, len: 0 }; MAX_ELEMENTS];
+        for index in 0..count {
             slots[index] = Slot {
                 start: self.data_at[index],
                 len: self.data_len[index],
             };
         }
-    }
-
-    // The parts that are stored.
-    #[inline(always)]
-    pub(super) fn parts(&self) -> TemplateParts
-        requires { self.now.count ≤ 16 }
-        ensures { HasParts self.now result }
-    {
-        let mut parts = TemplateParts {
+        TemplateParts {
             header_len: self.header_len,
-            slots: [Slot { start: 0, len: 0 }; MAX_ELEMENTS],
-            count: self.count as usize,
-        };
-        self.put_slots(&mut parts.slots);
-        parts
+            slots,
+            count,
+        }
     }
 
     // Keeps the parts of a template, and zeros after the last place.
@@ -115,8 +105,8 @@ fn not_routed_status(cause: NotRouted) -> i32
 /// into it one after another, each with its id and the `data_len` bytes of `bytes` from its
 /// `data_at` on. The number `allowed` is as in `rtpw_put_element`.
 ///
-/// `OK`; `BAD_FIELD` where `allowed` is above 2, `data_at + data_len` of an element is past
-/// `bytes`, or there are more than 16 elements; the status of the first cause for which the bytes
+/// `OK`; `BAD_FIELD` where `allowed` is above 2, there are more than 16 elements, or `data_at +
+/// data_len` of one is past `bytes`; the status of the first cause for which the bytes
 /// are no packet; `BAD_FIELD` where two elements have one id; `SHORT_BUFFER` where the packet's
 /// header has no room; `LONG_ID` where a new id is above 14, its block has the one-byte form, and
 /// that alone is allowed; `LONG_BLOCK` or `SHORT_BUFFER` where the two-byte form is to carry such an
@@ -161,12 +151,12 @@ pub extern "C" fn rtpw_make_template(
     let Some(allowed) = allowed_of(allowed) else {
         return BAD_FIELD;
     };
-    let Some(named) = NamedElements::new(bytes, elements) else {
-        return BAD_FIELD;
-    };
     if elements.len() > MAX_ELEMENTS {
         return BAD_FIELD;
     }
+    let Some(named) = NamedElements::new(bytes, elements) else {
+        return BAD_FIELD;
+    };
     let packet = match RtpPacket::parse(datagram) {
         Ok(packet) => packet,
         Err(cause) => return status_of(cause),

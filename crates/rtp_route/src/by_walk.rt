@@ -103,10 +103,10 @@ fn put_front(
 // Writes the header that the packet gets with these fields for the group, as
 // [`route_header`](super::route_header) does, in one walk over its elements: it returns how many
 // bytes it has, and the places are those of the data of the group's elements. The second try is for
-// new ids that the block's form can't carry. `None` where another way has to be taken: without a
-// block of one of the two forms, for a long one, several elements of the id of one that is put, or
-// little room, and where one can't be put or, at the first try, can't be carried, of which a hint is
-// given. The buffer and the places then are any.
+// new ids that the block's form can't carry. `None` where no walk can be taken: without a block of
+// one of the two forms, for a long one, or little room, and where an element can't be put; and
+// `Some(None)` where it came to no end: for several elements of the id of one that is put, little
+// room or, at the first try, an id that can't be carried. The buffer and the places then are any.
 #[inline(always)]
 fn write_from(
     packet: &RtpPacket<'_>,
@@ -115,21 +115,21 @@ fn write_from(
     buf: &mut [u8],
     slots: &mut [Slot; MAX_ELEMENTS],
     second: bool,
-    is_long: &mut bool,
-) -> Option<usize>
+) -> Option<Option<usize>>
     requires allowed { IsTrue second → group.now.allowed ≢ Some OneByte }
     requires payload_type { IfSome fields.now.payload_type (λ pt. pt ≤ 127) }
     requires few { length group.now.elements.now ≤ 16 }
     requires own { HaveOwnIds (elements_of group.now.elements.now) }
-    ensures made { IfSome result (λ len. IsMadeFor (datagram_of packet.now) fields.now
-        (new_id group.now.ids.now) (elements_of group.now.elements.now) group.now.allowed
-        (take len buf.new) (take (length group.now.elements.now) slots.new)) }
-    ensures within { IfSome result (λ len. len ≤ length buf.new) }
-    ensures short { IfSome result (λ len. len ≤ 262140) }
+    ensures made { IfSome result (λ end. IfSome end (λ len. IsMadeFor (datagram_of packet.now)
+        fields.now (new_id group.now.ids.now) (elements_of group.now.elements.now)
+        group.now.allowed (take len buf.new)
+        (take (length group.now.elements.now) slots.new))) }
+    ensures within { IfSome result (λ end. IfSome end (λ len. len ≤ length buf.new)) }
+    ensures short { IfSome result (λ end. IfSome end (λ len. len ≤ 262140)) }
     ensures places { length slots.new ≡ 16 }
-    ensures none_refused { IfSome result (λ _. (cause : NotRouted) →
+    ensures none_refused { IfSome result (λ end. IfSome end (λ _. (cause : NotRouted) →
         KeepsFromRouting (header_in packet.now) fields.now (new_id group.now.ids.now)
-        (elements_of group.now.elements.now) group.now.allowed (length buf.old) cause → ⊥) }
+        (elements_of group.now.elements.now) group.now.allowed (length buf.old) cause → ⊥)) }
 {
     let (was, body) = packet.block()?;
     if body.len() > LONG_BODY {
@@ -142,10 +142,12 @@ fn write_from(
     let form = form_after(start, group, room)?;
     let front = &header[..header.len() - body.len()];
     let own = &mut buf[..most];
-    let len = write_body(own, front.len(), was, form, body, group, slots, is_long)?;
+    let Some(len) = write_body(own, front.len(), was, form, body, group, slots) else {
+        return Some(None);
+    };
     put_front(buf, front, was, form, len - front.len());
     set_fields(&mut buf[..len], len, Some(form), fields);
-    Some(len)
+    Some(Some(len))
 }
 
 // The second try. It stays out of line, since few packets need it.
@@ -172,8 +174,7 @@ fn write_in_two_byte_form(
         KeepsFromRouting (header_in packet.now) fields.now (new_id group.now.ids.now)
         (elements_of group.now.elements.now) group.now.allowed (length buf.old) cause → ⊥) }
 {
-    let mut is_long = false;
-    write_from(packet, fields, group, buf, slots, true, &mut is_long)
+    write_from(packet, fields, group, buf, slots, true)?
 }
 
 // Writes the header in one walk, in the two-byte form where the new ids need it and it is allowed;
@@ -199,10 +200,9 @@ pub(super) fn write_by_walk(
         KeepsFromRouting (header_in packet.now) fields.now (new_id group.now.ids.now)
         (elements_of group.now.elements.now) group.now.allowed (length buf.old) cause → ⊥) }
 {
-    let mut is_long = false;
-    let first = write_from(packet, fields, group, buf, slots, false, &mut is_long);
-    if !is_long || is_one_byte_only(group.allowed) {
-        return first;
+    let end = write_from(packet, fields, group, buf, slots, false)?;
+    if end.is_some() || is_one_byte_only(group.allowed) {
+        return end;
     }
     write_in_two_byte_form(packet, fields, group, buf, slots)
 }

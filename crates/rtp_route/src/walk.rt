@@ -132,40 +132,32 @@ fn write_next(
     }
 }
 
-// Whether the form that the block gets carries the element, and a hint where it doesn't. It stays
-// out of line, so that the walk does nothing for it where the block's own form carries it.
+// Whether the form that the block gets carries the element. It stays out of line, so that the walk
+// does nothing for it where the block's own form carries it.
 #[cold]
 #[inline(never)]
-fn is_carried(form: ExtensionsForm, id: u8, bytes: &[u8], is_long: &mut bool) -> bool
+fn is_carried(form: ExtensionsForm, id: u8, bytes: &[u8]) -> bool
     ensures { OnTrue result (IsWritable form (id, bytes.now)) }
 {
-    let is_carried = form.can_carry(id, bytes);
-    *is_long = !is_carried;
-    is_carried
+    form.can_carry(id, bytes)
 }
 
 // The same, where that form carries what the block's own does: this one is looked at first.
 #[inline(always)]
-fn carries(
-    was: ExtensionsForm,
-    form: ExtensionsForm,
-    id: u8,
-    bytes: &[u8],
-    is_long: &mut bool,
-) -> bool
+fn carries(was: ExtensionsForm, form: ExtensionsForm, id: u8, bytes: &[u8]) -> bool
     requires { (element : Element) → IsWritable was element → IsWritable form element }
     ensures { OnTrue result (IsWritable form (id, bytes.now)) }
 {
     if was.can_carry(id, bytes) {
         return true;
     }
-    is_carried(form, id, bytes, is_long)
+    is_carried(form, id, bytes)
 }
 
 // Writes the elements of a block's body under their new ids, those without one left out, and the
 // group's elements in the place of those of their ids; returns where they end. `None` where the form
-// can't carry one, of which a hint is given, or two have the id of one of the group's elements. It
-// stays out of line, so that the walk has the registers to itself.
+// can't carry one, or two have the id of one of the group's elements. It stays out of line, so that
+// the walk has the registers to itself.
 #[inline(never)]
 fn write_kept(
     buf: &mut [u8],
@@ -175,7 +167,6 @@ fn write_kept(
     body: &[u8],
     group: &Group<'_>,
     slots: &mut [Slot; MAX_ELEMENTS],
-    is_long: &mut bool,
 ) -> Option<usize>
     requires some { 1 ≤ at }
     requires few { length group.now.elements.now ≤ 16 }
@@ -194,7 +185,7 @@ fn write_kept(
     let mut end = at;
     for (id, bytes) in Elements::new(body, was) {
         if let Some(new) = group.ids.new_id(id) {
-            if !carries(was, form, new, bytes, is_long) {
+            if !carries(was, form, new, bytes) {
                 return None;
             }
             end = write_next(buf, end, form, group.elements, slots, new, bytes)?;
@@ -258,7 +249,7 @@ fn put_padding(buf: &mut [u8], at: usize, count: usize)
 
 // Writes the body that a block's body becomes for the group at the offset, which is of whole words,
 // and returns where it ends; the places are those of the group's elements. `None` where another way
-// has to be taken, with a hint where the form can't carry an id. The places before are passed over.
+// has to be taken. The places before are passed over.
 #[inline(always)]
 pub(super) fn write_body(
     buf: &mut [u8],
@@ -268,7 +259,6 @@ pub(super) fn write_body(
     body: &[u8],
     group: &Group<'_>,
     slots: &mut [Slot; MAX_ELEMENTS],
-    is_long: &mut bool,
 ) -> Option<usize>
     requires some { 1 ≤ at }
     requires whole { at % 4 ≡ 0 }
@@ -285,7 +275,7 @@ pub(super) fn write_body(
     ensures within { IfSome result (λ end. end ≤ length buf.old) }
 {
     *slots = [Slot { start: 0, len: 0 }; MAX_ELEMENTS];
-    let kept = write_kept(buf, at, was, form, body, group, slots, is_long)?;
+    let kept = write_kept(buf, at, was, form, body, group, slots)?;
     let len = write_lacking(buf, kept, form, group.elements, slots)?;
     let end = len.next_multiple_of(4);
     if end > buf.len() {

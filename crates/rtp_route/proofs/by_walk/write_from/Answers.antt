@@ -49,7 +49,7 @@ returns-clause-none_refused c =
     let is : header ≡ header_in packet = header-is packet header front alone in
     let form = c.in_ok-form.ensures in
     let allowed = c.args.group.now.allowed in
-    let fits = fits-from allowed ids was c.in_ok-start.start c.in_ok-form.form body elements news are (c.in_ok-start.ensures elements are) form.form (c.in_ok-len.ensures.written elements are).carried in
+    let fits = fits-from allowed ids was c.in_ok-start.start c.in_ok-form.form body elements news are (c.in_ok-start.ensures elements are) form.form (c.in-Some.ensures.written elements are).carried in
     none-kept (header_in packet) (alone_parts packet) (subst (λ (h : List ℕ). IsPacket h (alone_parts packet)) is alone) refl was body (sym c.in_ok-was.ensures.parts) elements are c.args.fields.now ids
     news allowed fits.0 fits.1 c.in_ok-form.form fits.2 (written-no_zero TwoByte news form.carried) (all-short news form.carried) (length c.args.buf.now)
     (omega (arith, ap length is, form.room, c.in_ok-room.ensures)) (omega (arith, ap length is, form.room, c.in_ok-room.ensures))
@@ -74,7 +74,7 @@ pub overflow_sub-len : goal.overflow_sub-len
 overflow_sub-len c =
     let was = c.in_ok-was.was' in
     let body = c.in_ok-was.body.now in
-    (c.in_ok-len.ensures.written (elements_left was body) (AreElements-found was body c.in_ok-was.ensures.bytes)).after
+    (c.in-Some.ensures.written (elements_left was body) (AreElements-found was body c.in_ok-was.ensures.bytes)).after
 
 pub put_front-requires-clause-some : goal.put_front-requires-clause-some
 put_front-requires-clause-some c =
@@ -89,20 +89,20 @@ set_fields-requires-clause-held c =
     let news = elements_of c.args.group.now.elements.now in
     let header = c.header_bytes-header.result.now in
     let form = c.in_ok-form.form in
-    let end = c.in_ok-len.len in
+    let end = c.in-Some.len in
     let rest = drop c.min-most.result c.args.buf.now in
     let slots = take (length c.args.group.now.elements.now) c.write_body.new.slots in
     let elements : List Element = elements_left was body in
     let are : AreElements was body elements = AreElements-found was body c.in_ok-was.ensures.bytes in
-    let inside : end ≤ length c.write_body.new.buf = omega (arith, c.in_ok-len.ensures.within, c.write_body.auto.buf) in
+    let inside : end ≤ length c.write_body.new.buf = omega (arith, c.in-Some.ensures.within, c.write_body.auto.buf) in
     let laid : IsLaid packet ids news was form header body (c.write_body.new.buf ++ rest) c.put_front.new.buf end elements slots =
     record {
       whole_is = c.header_bytes-header.ensures.front;
       is_packet = c.header_bytes-header.ensures.alone;
       some = c.in_ok-was.ensures.parts;
-      body_for = body-in_front form ids news elements (length (front_of header body)) slots c.write_body.new.buf rest end inside (c.in_ok-len.ensures.written elements are);
+      body_for = body-in_front form ids news elements (length (front_of header body)) slots c.write_body.new.buf rest end inside (c.in-Some.ensures.written elements are);
       within = omega (arith, inside, length-append c.write_body.new.buf rest);
-      short = omega (arith, c.in_ok-len.ensures.within, length-take c.min-most.result c.args.buf.now, c.min-most.ensures);
+      short = omega (arith, c.in-Some.ensures.within, length-take c.min-most.result c.args.buf.now, c.min-most.ensures);
       laid = c.put_front.ensures;
     } in
     let is = laid-packet packet ids news was form header body (c.write_body.new.buf ++ rest) c.put_front.new.buf end elements slots laid in
@@ -123,24 +123,24 @@ returns-clause-made c =
     let allowed = c.args.group.now.allowed in
     let header = c.header_bytes-header.result.now in
     let form = c.in_ok-form.form in
-    let end = c.in_ok-len.len in
+    let end = c.in-Some.len in
     let rest = drop c.min-most.result c.args.buf.now in
     let slots = take (length c.args.group.now.elements.now) c.write_body.new.slots in
     let elements : List Element = elements_left was body in
     let are : AreElements was body elements = AreElements-found was body c.in_ok-was.ensures.bytes in
-    let inside : end ≤ length c.write_body.new.buf = omega (arith, c.in_ok-len.ensures.within, c.write_body.auto.buf) in
+    let inside : end ≤ length c.write_body.new.buf = omega (arith, c.in-Some.ensures.within, c.write_body.auto.buf) in
     let laid : IsLaid packet ids news was form header body (c.write_body.new.buf ++ rest) c.put_front.new.buf end elements slots =
     record {
       whole_is = c.header_bytes-header.ensures.front;
       is_packet = c.header_bytes-header.ensures.alone;
       some = c.in_ok-was.ensures.parts;
-      body_for = body-in_front form ids news elements (length (front_of header body)) slots c.write_body.new.buf rest end inside (c.in_ok-len.ensures.written elements are);
+      body_for = body-in_front form ids news elements (length (front_of header body)) slots c.write_body.new.buf rest end inside (c.in-Some.ensures.written elements are);
       within = omega (arith, inside, length-append c.write_body.new.buf rest);
-      short = omega (arith, c.in_ok-len.ensures.within, length-take c.min-most.result c.args.buf.now, c.min-most.ensures);
+      short = omega (arith, c.in-Some.ensures.within, length-take c.min-most.result c.args.buf.now, c.min-most.ensures);
       laid = c.put_front.ensures;
     } in
     let long : length c.set_fields.new.header ≡ end = omega (arith, c.set_fields.auto.header, length-take-le end c.put_front.new.buf (omega (arith, laid.within, c.put_front.auto.buf))) in
-    let fits = fits-from allowed ids was c.in_ok-start.start form body elements news are (c.in_ok-start.ensures elements are) c.in_ok-form.ensures.form (c.in_ok-len.ensures.written elements are).carried in
+    let fits = fits-from allowed ids was c.in_ok-start.start form body elements news are (c.in_ok-start.ensures elements are) c.in_ok-form.ensures.form (c.in-Some.ensures.written elements are).carried in
     let made = made-by_walk packet ids news was form header body (c.write_body.new.buf ++ rest) c.put_front.new.buf end elements slots laid c.args.fields.now allowed c.set_fields.new.header
     fits are c.set_fields.ensures.set c.set_fields.ensures.fixed long in
     subst (λ (b : List ℕ). IsMadeFor (datagram_of packet) c.args.fields.now ids news allowed b slots) (sym (take_at c.set_fields.new.header _ end long)) made
