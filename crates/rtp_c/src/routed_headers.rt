@@ -29,7 +29,7 @@ pub struct RoutedHeader {
     pub at: usize,
     /// Given: its fields; the others are the packet's.
     pub fields: FieldsView,
-    /// Given, where it is a retransmission: the number of the packet that it repeats.
+    /// Given, where it is a retransmission: the number with which the receiver got the packet.
     pub original_number: u16,
     /// Given: where it isn't 0 its header is that of a retransmission (RFC 4588, 4), whose number,
     /// payload type and SSRC the fields are. P is clear, and two bytes behind the header are the

@@ -33,7 +33,8 @@ pub struct Group<'a> {
     pub ids: &'a NewIds,
     /// The elements that are then put into the header one after another, each with its id and data.
     pub elements: &'a [(u8, &'a [u8])],
-    /// The one form that the block may have, where it isn't any (RFC 8285, 4.1.2).
+    /// The one form that the block may get, where it isn't any (RFC 8285, 4.1.2). One that gets no
+    /// element, and no id that its form can't carry, keeps its form.
     pub allowed: Option<ExtensionsForm>,
 }
 

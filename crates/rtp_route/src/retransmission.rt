@@ -18,10 +18,11 @@ use super::template::write_joined;
 use rtp_wire::{Fields, RtpPacket};
 
 /// What [`write_joined`](super::write_joined) writes, for a retransmission (RFC 4588, 4), of which
-/// the fields say the number, the payload type and the SSRC: P is clear, and behind the header
-/// stands the number of the packet that it repeats, in two bytes, the high one first. The payload
-/// without its padding, put behind that, makes it the retransmission. Requires a buffer of two
-/// bytes more than the header, and else the same.
+/// the fields say the number, the payload type and the SSRC, and M and the timestamp where the
+/// receiver got the packet with its own: P is clear, and behind the header stands the number with
+/// which the receiver got the packet, in two bytes, the high one first. The payload without its
+/// padding, put behind that, makes it the retransmission. Requires a buffer of two bytes more than
+/// the header, and else the same.
 pub fn write_retransmission(
     header: &RtpPacket<'_>,
     slots: &[Slot],

@@ -123,10 +123,10 @@ impl<'a> HeaderTemplate<'a> {
     }
 
     /// Writes what [`write_header`](Self::write_header) does, for a retransmission (RFC 4588, 4), of
-    /// which the fields say the number, the payload type and the SSRC: P is clear, and behind the
-    /// header stands the number of the packet that it repeats, in two bytes, the high one first.
-    /// They are two bytes more, which need room too. With the payload behind it, without its
-    /// padding, it is the retransmission that goes to the receiver.
+    /// which the fields say the number, the payload type and the SSRC, and M and the timestamp where
+    /// the receiver got the packet with its own: P is clear, and behind the header stands the number
+    /// with which the receiver got the packet, in two bytes, the high one first. They need room too.
+    /// With the payload behind it, without its padding, it is the retransmission.
     pub fn write_retransmission(
         &self,
         fields: &Fields,
