@@ -33,7 +33,8 @@
  * what stands in a packet in network byte order is turned. Outputs are written whole where the
  * status is RTPW_OK, and else not at all; but rtpw_restarting_receive and rtpw_wide_restarting_receive write the number
  * at RTPW_RESTARTED too, and their state also at RTPW_REFUSED, and rtpw_make_template may leave anything in its buffer.
- * The calls for many at once return nothing, and write a status beside each, as rtpw_write_headers does.
+ * The calls for many at once return nothing, and write a status beside each; so does rtpw_write_headers, which returns
+ * one too.
  *
  * Where a call has several faults, the status is that of the first of these:
  *   1. an argument is out of its range whatever the buffers hold, or data lie in the buffer: RTPW_BAD_FIELD, and from
@@ -78,8 +79,8 @@ uint32_t rtpw_version(void);
 
 /* What a function returns as an int32_t. Those from 1 to 6 are the causes for which bytes are no RTP packet, in
  * the order in which they are looked for: the first that applies is returned. RTPW_UNKNOWN_FORM is one for
- * rtpw_parse and rtpw_parse_layers alone, which have to know the form; rtpw_put_element, rtpw_add_element and
- * rtpw_change_form return it after the others, for a packet whose block has another form. */
+ * rtpw_parse and rtpw_parse_layers alone, which have to know the form; rtpw_put_element, rtpw_add_element,
+ * rtpw_change_form and rtpw_make_template return it after the others, for a packet whose block has another form. */
 enum {
     RTPW_OK = 0,                /* the call did what it is for */
     RTPW_CUT_FIXED_PART = 1,    /* fewer than the twelve bytes that every header has */
@@ -1286,23 +1287,27 @@ void rtpw_receive_many(rtpw_receiver *receivers, size_t receiver_count, rtpw_arr
  *         receivers[i].fields.has_ssrc = 1;
  *         receivers[i].fields.ssrc = ssrc[i]; // 45 and 46
  *     }
- *     uint8_t headers[48];
+ *     uint8_t headers[50]; // 48, and two for the number of a retransmission
  *     status = rtpw_write_headers(&made, header, sizeof header, numbers, sizeof numbers, receivers, 2, headers,
  *                                 sizeof headers);
  *     // the second is 90 60 00 05 00 00 00 64 00 00 00 2E BE DE 00 02 30 AA 41 00 08 00 00 00
  *
  * A receiver may get the packet as a retransmission (RFC 4588, 4): set is_retransmission and original_number, and as
- * its fields the SSRC, the payload type and the number of its stream of retransmissions. P is then clear, and behind
- * the header stands the original number, in two bytes. Send behind it the payload without its padding: unpadded_len
- * bytes from payload_at on, where padding_fits isn't 0 (rtpw_packet). The second one with the SSRC 47, the payload
- * type 97, the number 9 and the original number 5:
+ * its fields the SSRC, the payload type and the number of its stream of retransmissions, and the timestamp and the
+ * marker that it got the packet with, where these were its own. P is then clear, and behind the header stands the
+ * original number, in two bytes: what rtpw_to_retransmission makes of what the receiver got, where each id keeps
+ * itself. Where a stream id has to become a repaired one (RFC 8852, 3) the retransmissions are a group of their own,
+ * with such new ids. Send behind it the payload without its padding: unpadded_len bytes from payload_at on
+ * (rtpw_packet); where padding_fits is 0 send none, since the payload isn't looked at here. The second one with the
+ * SSRC 47, the payload type 97, the number 9 and the original number 5:
  *
  *     // 90 61 00 09 00 00 00 64 00 00 00 2F BE DE 00 02 30 AA 41 00 08 00 00 00 00 05
  */
 
 /* A group's header: how long it is, and where in it the data of the group's elements lie, in their order. 88 bytes. */
 typedef struct {
-    uint32_t header_len;  /* of the header that was made, and of each that is written: 12 to 262,216 */
+    uint32_t header_len;  /* of the header that was made, and of each that is written, without the number behind that of
+                           * a retransmission: 12 to 262,216 */
     uint32_t data_at[16]; /* where the data of each element begin, in bytes from the header's first one; after the last
                            * as made 0, and as given not looked at */
     uint16_t data_total;  /* how many bytes of data each receiver brings: the sum of data_len, 0 to 4,080 */
@@ -1310,21 +1315,23 @@ typedef struct {
     uint8_t data_len[16]; /* how many bytes of data each has, 0 to 255; after the last as data_at */
 } rtpw_template;
 
-/* Makes the header that the packet gets for a group, at the front of the buffer, and tells of it in *made. Each element
- * of the packet gets its new id, and one that gets none goes (rtpw_renumber), in the two-byte form where one of them is
- * above 14 and that form is allowed (rtpw_change_form); then the elements that are given are put into it, in their order
- * (rtpw_put_element; `allowed` is as there), each named as in rtpw_write_elements: at most 16, of ids of their own. Only
- * the packet's header is looked at. A buffer of twice the packet's header and 264 bytes for each element has room.
+/* Makes the header that the packet gets for a group, at the front of the buffer, and tells of it in *made. Each
+ * element of the packet gets its new id, and one that gets none goes (rtpw_renumber); before that a block of the
+ * one-byte form gets the two-byte form, where a new id is above 14 and that form is allowed (rtpw_change_form). Then
+ * the elements that are given are put into it, in their order (rtpw_put_element; `allowed` is as there), each named
+ * as in rtpw_write_elements: at most 16, of ids of their own. Where none is put, and no new id asks for another form,
+ * the block keeps its form, allowed or not. Only the packet's header is looked at. A buffer of twice the packet's
+ * header and 264 bytes for each element has room.
  *
- * RTPW_OK; RTPW_BAD_FIELD, before all else, where `allowed` is none of the three, count is above 16, or the data of an
- * element reach past `data`; the first cause for which the bytes are no packet; RTPW_BAD_FIELD where two of the
- * elements have one id; and then what the first of those calls returns that refuses: RTPW_SHORT_BUFFER where the
- * packet's header has no room; RTPW_LONG_ID where an element gets a new id above 14, the packet's form is the one-byte
- * form, and RTPW_ONE_BYTE_FORM alone is allowed; RTPW_LONG_BLOCK or RTPW_SHORT_BUFFER where the packet's own elements
- * have no room in the two-byte form; and of the elements in turn, as rtpw_put_element, RTPW_BAD_ID, RTPW_BAD_FIELD of
- * more than 255 bytes of data, RTPW_UNKNOWN_FORM, RTPW_LONG_ID, RTPW_FORM_NOT_ALLOWED, RTPW_LONG_BLOCK or
- * RTPW_SHORT_BUFFER. Where it isn't RTPW_OK *made is as it was, but the buffer may hold anything; so may what lies
- * behind the header where it is. */
+ * RTPW_OK; RTPW_BAD_FIELD, before all else, where `allowed` is none of the three, count is above 16, or data_at +
+ * data_len of an element is above the length of `data`; the first cause for which the bytes are no packet;
+ * RTPW_BAD_FIELD where two of the elements have one id; and then what the first of those calls returns that refuses:
+ * RTPW_SHORT_BUFFER where the packet's header has no room; RTPW_LONG_ID where an element gets a new id above 14, the
+ * packet's form is the one-byte form, and RTPW_ONE_BYTE_FORM alone is allowed; RTPW_LONG_BLOCK or RTPW_SHORT_BUFFER
+ * where all of the packet's own elements, also those that then go, have no room in the two-byte form that a new id asks
+ * for; and of the elements in turn, as rtpw_put_element, RTPW_BAD_ID, RTPW_BAD_FIELD of more than 255 bytes of data,
+ * RTPW_UNKNOWN_FORM, RTPW_LONG_ID, RTPW_FORM_NOT_ALLOWED, RTPW_LONG_BLOCK or RTPW_SHORT_BUFFER. Where it isn't RTPW_OK
+ * *made is as it was, but the buffer may hold anything; so may what lies behind the header where it is. */
 RTPW_CHECKED int32_t rtpw_make_template(const uint8_t *datagram, size_t len, const rtpw_new_ids *ids,
                                         const uint8_t *data, size_t data_len, const rtpw_element *elements,
                                         size_t count, uint8_t allowed, uint8_t *buf, size_t size,
@@ -1337,12 +1344,13 @@ typedef struct {
                                 * order */
     size_t at;                 /* given: where its header begins in the buffer, in bytes */
     rtpw_fields fields;        /* given: its fields, as rtpw_set_fields takes them; the others are the packet's */
-    uint16_t original_number;  /* given, where it is a retransmission: the number of the packet that it repeats */
+    uint16_t original_number;  /* given, where it is a retransmission: the number that the receiver got the packet
+                                * with */
     uint8_t is_retransmission; /* given: where it isn't 0, the header is that of a retransmission, with the original
                                 * number behind it */
-    int32_t status;            /* written: RTPW_OK; RTPW_BAD_FIELD where there is a payload type above 127, or its data
-                                * reach past the data; RTPW_SHORT_BUFFER where its header, or the number behind it,
-                                * would reach past the buffer */
+    int32_t status;            /* written: RTPW_OK; RTPW_BAD_FIELD where there is a payload type above 127, or data_at +
+                                * made->data_total is above the length of the data; RTPW_SHORT_BUFFER where its header,
+                                * or the number behind it, would reach past the buffer */
 } rtpw_routed_header;
 
 /* Writes the headers of receivers of the group, made->header_len bytes each, and two more of a retransmission, with
@@ -1352,10 +1360,11 @@ typedef struct {
  * the order of the array: where two of them overlap, the bytes of the later one stand. How many there are isn't
  * limited, and a count of 0 writes nothing.
  *
- * RTPW_OK, whatever the statuses of the receivers are. RTPW_BAD_FIELD where *made is none that rtpw_make_template
- * makes: its count is above 16, header_len above header_size, the data of an element reach past header_len, or
- * data_total isn't how many they are; then the first cause for which the first header_len bytes are no packet; then
- * RTPW_BAD_FIELD where they have a payload. Where it isn't RTPW_OK nothing is written, and no status either. */
+ * RTPW_OK, whatever the statuses of the receivers are. RTPW_BAD_FIELD where *made can't be of this header: its count is
+ * above 16, header_len above header_size, data_at + data_len of an element above header_len, or data_total isn't how
+ * many they are; then the first cause for which the first header_len bytes are no packet; then RTPW_BAD_FIELD where
+ * they have a payload. More isn't looked at: of one that rtpw_make_template didn't make the data are written where it
+ * says, within the header. Where it isn't RTPW_OK nothing is written, and no status either. */
 RTPW_CHECKED int32_t rtpw_write_headers(const rtpw_template *made, const uint8_t *header, size_t header_size,
                                         const uint8_t *data, size_t data_len, rtpw_routed_header *receivers,
                                         size_t count, uint8_t *buf, size_t size);

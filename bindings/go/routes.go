@@ -9,7 +9,8 @@ type Group struct {
 	// Elements are put into the packet in their order, at most 16, of ids of their own. Each is a place in the data that
 	// the header is made with.
 	Elements []Place
-	// Allowed are the forms that the block may have ([PutElement]).
+	// Allowed are the forms that the block may get, where an element is put ([PutElement]) or gets an id above 14; else
+	// it keeps its form.
 	Allowed Form
 }
 
@@ -100,8 +101,9 @@ type routedHeader struct {
 
 // A RouteBatch writes the headers of all receivers of a group in one call of the library, each with fields and data of
 // its own. With the packet's payload behind it each is the packet that goes to the receiver: what [Fields.Apply],
-// [Renumber], [PutElement] for each element and [Compact] make of a copy, one after the other. One receiver that gets
-// none spoils no other. Use one again, as a [HeaderBatch]. The zero RouteBatch is ready.
+// [Renumber], [PutElement] for each element and [Compact] make of a copy, one after the other, with [ChangeForm] before
+// Renumber where a new id is above 14 and the two-byte form is allowed. One receiver that gets none spoils no other. Use
+// one again, as a [HeaderBatch]. The zero RouteBatch is ready.
 //
 //	group := rtpwire.Group{IDs: ids, Elements: []rtpwire.Place{{ID: 4, At: 0, Len: 2}}} // two bytes of the id 4
 //	batch.Reset()
@@ -145,8 +147,9 @@ func (b *RouteBatch) Add(dataAt, at int) *Fields {
 }
 
 // AddRetransmission adds a receiver as Add does, which gets the packet as a retransmission (RFC 4588, 4). Its fields are
-// those of the retransmission's stream, P is clear, and the last two bytes of its header are original, the number of the
-// packet that it repeats. The packet's payload follows, without its padding. That is what [ToRetransmission] makes of what
+// those of the retransmission's stream, with the timestamp and marker that it got the packet with where these were its
+// own. P is clear, and original, the number that it got the packet with, stands behind the header in two bytes. The
+// packet's payload follows without its padding, which isn't looked at here. That is what [ToRetransmission] makes of what
 // the receiver got, where each id stays.
 func (b *RouteBatch) AddRetransmission(dataAt, at int, original uint16) *Fields {
 	fields := b.Add(dataAt, at)

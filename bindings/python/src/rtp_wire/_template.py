@@ -31,9 +31,10 @@ class Route(NamedTuple):
     ssrc: Optional[int] = None
     marker: Optional[bool] = None
     original_number: Optional[int] = None
-    """Where it is given the receiver gets a retransmission (RFC 4588, 4) of the packet with this number: the fields are
-    those of the retransmission's stream, P is clear, and the header ends with the number in two bytes. The payload
-    follows, without its padding. That is what `to_retransmission` makes of what the receiver got, where each id
+    """Where it is given the receiver gets a retransmission (RFC 4588, 4) of the packet that it got with this number:
+    the fields are those of the retransmission's stream, with the timestamp and marker that it got the packet with where
+    these were its own, P is clear, and the header ends with the number in two bytes. The payload follows without its
+    padding, which isn't looked at here. That is what `to_retransmission` makes of what the receiver got, where each id
     stays."""
 
 
@@ -41,8 +42,9 @@ class HeaderTemplate:
     """A packet's header for receivers that have the same ids and elements: each gets a copy with fields and data of its
     own before the one payload, which stays where it lies (`socket.sendmsg`; RFC 7667, 3.7). It is what
     `Packet.set_fields`, `Packet.renumber`, `put_element` for each element and `compact` make of a copy of the packet's
-    header, one after another. The template has bytes of its own: the packet may change. Two with the same header and
-    places of the data are equal; it can be copied and pickled.
+    header, one after another, with `change_form` before `renumber` where a new id is above 14 and the two-byte form is
+    allowed. The template has bytes of its own: the packet may change. Two with the same header and places of the data
+    are equal; it can be copied and pickled.
 
     >>> packet = bytes.fromhex("90600005 00000064 0000002C BEDE0001 10AA0000 6869")
     >>> template = HeaderTemplate(packet, NewIds({1: 3}), [(4, bytes(2))])

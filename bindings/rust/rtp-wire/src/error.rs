@@ -360,8 +360,9 @@ pub enum NotRouted {
     /// An element would have an id above 14, which the one-byte form can't carry, and that form alone is allowed: one
     /// of the packet's gets it, whose block has that form, or one that is put has it.
     LongId,
-    /// An element isn't put, or the buffer has no room: [`source`](Error::source) says why. It is
-    /// [`NotPut::BadField`] where there are more than 255 bytes of data, or these reach past what they lie in.
+    /// An element isn't put, or the buffer, or the block in the two-byte form that a new id asks for, has no room:
+    /// [`source`](Error::source) says why. It is [`NotPut::BadField`] where there are more than 255 bytes of data, or
+    /// these reach past what they lie in.
     NotPut(NotPut),
 }
 

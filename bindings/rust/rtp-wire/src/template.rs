@@ -36,7 +36,7 @@ pub struct Group<'a> {
     /// The elements that are then put into the header, in this order, each by its place in `data`: at most 16, of ids
     /// of their own, as [`put_element`](crate::put_element) takes them.
     pub elements: &'a [Place],
-    /// The form that alone the block may have, or both.
+    /// The form that alone the block may get, or both. One that gets no element, and no id above 14, keeps its form.
     pub allowed: Option<Form>,
 }
 
@@ -44,7 +44,8 @@ pub struct Group<'a> {
 /// payload, which stays where it lies (`writev`; RFC 7667, 3.7). It is what
 /// [`PacketMut::set_fields`](crate::PacketMut::set_fields), [`renumber`](crate::PacketMut::renumber),
 /// [`put_element`](crate::put_element) for each element and [`compact`](crate::compact) make of a copy of the packet's
-/// header, one after another. The header lies in a buffer of the caller's, which is lent to the template.
+/// header, one after another, with [`change_form`](crate::change_form) before `renumber` where a new id is above 14 and
+/// the two-byte form is allowed. The header lies in a buffer of the caller's, which is lent to the template.
 ///
 /// ```
 /// use rtp_wire::{Fields, Group, HeaderTemplate, NewIds, NotWritten, Packet, Place, RoutedSlot};
@@ -182,10 +183,11 @@ impl<'a> HeaderTemplate<'a> {
         self.write_alone(RoutedSlot::new(fields, 0, 0), data, buf)
     }
 
-    /// Writes the header of a retransmission (RFC 4588, 4) in the same way: the fields are those of its own stream, P is
-    /// clear, and the last two bytes are the original number, that of the packet that it repeats. The packet's payload
-    /// follows, without its padding. That is what [`to_retransmission`](crate::to_retransmission) makes of what the
-    /// receiver got, where each id stays.
+    /// Writes the header of a retransmission (RFC 4588, 4) in the same way: the fields are those of its own stream, with
+    /// the timestamp and marker that the receiver got the packet with where these were its own, P is clear, and the last
+    /// two bytes are the original number, with which it got the packet. The payload follows without its padding, which
+    /// isn't looked at here. That is what [`to_retransmission`](crate::to_retransmission) makes of what the receiver
+    /// got, where each id stays.
     ///
     /// # Errors
     ///
