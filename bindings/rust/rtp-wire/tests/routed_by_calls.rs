@@ -1,8 +1,8 @@
 //! A packet's header for each of its receivers beside what the calls for one packet make of a copy, one after another.
 
 use rtp_wire::{
-    change_form, compact, put_element, to_retransmission, Fields, Form, Group, HeaderTemplate, NewIds, NotPut,
-    NotRouted, NotWritten, Packet, PacketMut, Place, RoutedSlot,
+    change_form, compact, put_element, to_retransmission, Fields, Form, Group, HeaderTemplate,
+    NewIds, NotPut, NotRouted, NotWritten, Packet, PacketMut, Place, RoutedSlot,
 };
 
 const NO_FIELDS: Fields = Fields {
