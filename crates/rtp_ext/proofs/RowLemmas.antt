@@ -1,10 +1,10 @@
 -- Elements that stand in a row already, before the last one of an id and after it.
-use Rattle.rtp_ext.proofs.Common.{◌≡◌, ℕ, ◌+◌, ◌-◌, ◌≤◌, Bool, true, false, not, cond, List, [], ◌∷◌, ◌++◌, length, take, drop, Option, Some, None, IfSome, IfNone, inl, inr, append_assoc, length-append, length-drop, length-take-le, arith, refl, sym, ap, ◌∙◌, subst, slice_range, flat_map, filter_map, take_at, drop_at, take-append-le, drop-append-le, take-take, drop-take, take_all, drop_all, append-nil, filter-append, ExtensionsForm, Place, Survey, Element, AreElements, element_bytes, elements_bytes, piece_bytes, LiesLast, AreWhole, IsLastOrNone, IsSurvey, HasRows, goes, others}
+use Rattle.rtp_ext.proofs.Common.{◌≡◌, ℕ, ◌+◌, ◌-◌, ◌≤◌, Bool, true, false, not, cond, List, [], ◌∷◌, ◌++◌, length, take, drop, Option, Some, None, IfSome, IfNone, append_assoc, length-append, length-drop, length-take-le, arith, refl, sym, ap, ◌∙◌, subst, slice_range, flat_map, filter_map, take_at, drop_at, take-append-le, drop-append-le, take-take, drop-take, take_all, drop_all, append-nil, filter-append, ExtensionsForm, Place, Survey, Element, AreElements, element_bytes, elements_bytes, piece_bytes, LiesLast, AreWhole, IsLastOrNone, IsSurvey, HasRows, goes, others}
 use Rattle.rtp_ext.proofs.PlaceLemmas.{length-element, length-header-some, length-lies}
 use Rattle.rtp_ext.proofs.PieceLemmas.{AreWhole-nil, AreWhole-append, AreWhole-element, AreElements-after}
 use Rattle.rtp_ext.proofs.LastPlaceLemmas.{AreElements-same}
 use Rattle.rtp_ext.proofs.GatheredLemmas.{elements_bytes-append, goes-this, others-gone}
-use Rattle.rtp_ext.proofs.AroundLemmas.{AreElements-whole, IsSplit, IsSplit-surveyed, read_front, read_whole, read_within}
+use Rattle.rtp_ext.proofs.AroundLemmas.{AreElements-whole, read_front, read_whole, read_within}
 
 -- ---- pieces that are as long as their elements of other ids
 
@@ -186,52 +186,6 @@ HasRows-already form id body body_len survey start end within is some none row =
       after_is = part ∙ rows.rest_is;
       front_len = omega (arith, ap length rows.front_is, length-take-le start is.read.passed (omega arith));
       count_is = omega (arith, ap length rows.rest_is, ap length part, length-drop end is.read.passed);
-      length_is = refl;
-      front_within = omega arith;
-      after_within = omega arith;
-    }
-
--- ---- a body without elements of other ids
-
-no_bytes : (bytes : List ℕ) → length bytes ≡ 0 → [] ≡ bytes
-no_bytes [] len = refl
-no_bytes (byte ∷ bytes) len = absurd (omega (arith, len))
-
--- the others on both sides of the split are those of the body
-others_around : (form : ExtensionsForm) (id : ℕ) (body : List ℕ) (elements : List Element) (start end : ℕ) (split : IsSplit form id body start end) → AreElements form body elements
-    → length (elements_bytes form (others id split.before)) + length (elements_bytes form (others id split.after)) ≡ length (elements_bytes form (others id elements))
-others_around form id body elements start end split are = elim (split.around elements are) [
-  | inl has ↦
-      let kept : others id elements ≡ others id split.before ++ others id split.after =
-      ap (others id) has.1 ∙ (filter-append (λ (e : Element). not (goes id e)) split.before ((id, has.0) ∷ split.after)
-      ∙ ap (λ (b : Bool). others id split.before ++ cond (not b) ((id, has.0) ∷ others id split.after) (others id split.after)) (goes-this id (id, has.0) refl)) in
-      sym (ap (λ es. length (elements_bytes form es)) kept ∙ (ap length (elements_bytes-append form (others id split.before) (others id split.after))
-      ∙ length-append (elements_bytes form (others id split.before)) (elements_bytes form (others id split.after))))
-  | inr none ↦ omega (arith, ap (λ es. length (elements_bytes form (others id es))) none.1, ap (λ es. length (elements_bytes form (others id es))) none.2)
-]
-
-pub HasRows-none : (form : ExtensionsForm) (id : ℕ) (body : List ℕ) (body_len : ℕ) (survey : Survey) (start end : ℕ) → body_len ≤ length body
-    → IsSurvey form (take body_len body) id survey → IfSome survey.last (λ place. (start ≡ place.start) × (end ≡ place.end))
-    → IfNone survey.last ((start ≡ survey.end) × (end ≡ survey.end)) → survey.others_len ≡ 0
-    → HasRows form id body body start end body_len 0 0
-HasRows-none form id body body_len survey start end within is some none zero =
-    let split = IsSplit-surveyed form (take body_len body) id survey start end is some none in
-    let around = others_around form id (take body_len body) is.elements start end split is.are_elements in
-    let order = split.order in
-    let end_within : end ≤ body_len = omega (arith, split.within, length-take-le body_len body within) in
-    let no_front : length (elements_bytes form (others id split.before)) ≡ 0 = omega (arith, around, is.others_are, zero) in
-    let no_rest : length (elements_bytes form (others id split.after)) ≡ 0 = omega (arith, around, is.others_are, zero) in
-    let k : body_len ≡ end + (body_len - end) = omega arith in
-    let nothing : end + 0 - end ≡ 0 = omega arith in
-    record {
-      before = split.before;
-      after = split.after;
-      are_before = subst (λ b. AreElements form b split.before) (take-take start body_len body (omega arith)) split.front_has;
-      are_after = subst (λ b. AreElements form b split.after) (ap (λ (n : ℕ). drop end (take n body)) k ∙ drop-take end (body_len - end) body) split.rest_has;
-      front_is = no_bytes (elements_bytes form (others id split.before)) no_front;
-      after_is = ap (λ (n : ℕ). take n (drop end body)) nothing ∙ no_bytes (elements_bytes form (others id split.after)) no_rest;
-      front_len = omega (arith, no_front);
-      count_is = omega (arith, no_rest);
       length_is = refl;
       front_within = omega arith;
       after_within = omega arith;

@@ -23,26 +23,6 @@ use rtp_values::{ElementValues, ExtensionValues, KnownKind};
 // Most buffers have room for so many bytes.
 const MOST_BUFFERS: usize = 1_024;
 
-// This length and that of the element of a kind, which takes nothing where a value that it needs is
-// absent.
-#[inline(always)]
-fn with_element<V: ElementValues>(
-    len: usize,
-    kind: KnownKind,
-    ev: &V,
-    form: ExtensionsForm,
-) -> usize
-    requires { len ≤ 65535 }
-    ensures length { (id : ℕ) → result ≡ len + length
-        (element_or_nothing form id (spelled_data (extension_of_kind kind) (V.values ev.now))) }
-    ensures few { result ≤ len + 257 }
-{
-    match ev.data_len(kind) {
-        Some(data_len) => len + element_header_len(form) + data_len,
-        None => len,
-    }
-}
-
 // Writes the element of a mapped id at the offset, where the values that its kind needs are there,
 // and returns the offset after it. There is room for its header.
 #[inline(always)]
@@ -155,9 +135,13 @@ pub fn values_len<K: Kinds, V: ElementValues>(
     ensures bound { result ≤ 65535 }
 {
     let mut items = ids.iter();
+    let header_len = element_header_len(form);
     let mut len = 0;
     while let Some((_, kind)) = items.next() {
-        len = with_element(len, kind, ev, form);
+        // Without a value that its kind needs no element is written.
+        if let Some(data_len) = ev.data_len(kind) {
+            len += header_len + data_len;
+        }
     }
     len
 }

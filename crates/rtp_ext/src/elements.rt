@@ -1,10 +1,10 @@
 //! The elements of a block, one after another.
 
-ghost use Rattle.std.specs.Prelude.{◌≡◌, ◌≤◌, List, length, MatchOption};
+ghost use Rattle.std.specs.Prelude.{◌≡◌, ◌≤◌, List, length, IfSome, MatchOption};
 ghost use Rattle.std.specs.Bool.{OnTrue};
 ghost use Rattle.std.specs.Iterator.{YieldsFirstBy, item_count};
 ghost use Rattle.rtp_ext.specs.Elements.{Element, AreElements};
-ghost use Rattle.rtp_ext.specs.ElementReading.{without_padding, IsFirstElement};
+ghost use Rattle.rtp_ext.specs.ElementReading.{without_padding, BeginsWithElement, IsFirstElement};
 
 use super::ExtensionsForm;
 use std::marker::Model;
@@ -102,6 +102,48 @@ pub(super) fn first_element(bytes: &[u8], form: ExtensionsForm) -> Option<(u8, &
             let (element, left) = unpadded.split_at_checked(usize::from(unpadded[1]) + 2)?;
             Some((unpadded[0], &element[2..], left))
         }
+    }
+}
+
+// The first element of bytes, and what follows it, as `first_element` finds it. Most elements of
+// the one-byte form have no padding before them, and are found in fewer steps by trying the front.
+#[inline(always)]
+pub(super) fn next_element(
+    bytes: &[u8],
+    form: ExtensionsForm,
+    front_first: bool,
+) -> Option<(u8, &[u8], &[u8])>
+    ensures { IsFirstElement form bytes.now result }
+{
+    if !front_first {
+        return first_element(bytes, form);
+    }
+    match element_at_front(bytes, form) {
+        None => first_element(bytes, form),
+        element => element,
+    }
+}
+
+// The element of the one-byte form at the very front of bytes, and what follows it. None where that
+// is padding or an element of the id 0, or where reading ends: one test of a byte tells these.
+#[inline(always)]
+fn element_at_front(bytes: &[u8], form: ExtensionsForm) -> Option<(u8, &[u8], &[u8])>
+    ensures { IfSome result (λ first.
+        BeginsWithElement form bytes.now (first.0, first.1.now) first.2.now) }
+{
+    match form {
+        ExtensionsForm::OneByte => {
+            if bytes.is_empty() {
+                return None;
+            }
+            let first = bytes[0];
+            if first < 16 || first >= 240 {
+                return None;
+            }
+            let (element, left) = bytes.split_at_checked(usize::from(first % 16) + 2)?;
+            Some((first / 16, &element[1..], left))
+        }
+        ExtensionsForm::TwoByte => None,
     }
 }
 

@@ -5,7 +5,7 @@ ghost use Rattle.rtp_ext.specs.BodySurvey.{IsGathered, HasRows, IsCompacted};
 
 use super::ExtensionsForm;
 use super::form::is_paddings;
-use super::place::next_place;
+use super::place::next_place_by;
 use super::raw_writing::clear_after;
 
 // Puts the elements of other ids, but those of the id 0, in a row at the front, in order, and
@@ -37,7 +37,7 @@ fn gather_in(form: ExtensionsForm, body: &mut [u8], id: u8) -> usize
 {
     let mut len = 0;
     let mut at = 0;
-    while let Some(place) = next_place(form, body, at) {
+    while let Some(place) = next_place_by(form, body, at, true) {
         at = place.end;
         if place.id == id || is_paddings(form, place.id) {
             continue;

@@ -39,8 +39,8 @@ fn put_between(
     end + count
 }
 
-// The elements of other ids before the last element of the id, and after it, in rows. Nothing is moved where
-// they stand in rows already, or where there are none.
+// The same around the last element of the id. Where the elements stand in rows already nothing is
+// moved.
 #[inline(always)]
 fn put_in_rows(
     form: ExtensionsForm,
@@ -59,9 +59,6 @@ fn put_in_rows(
 {
     if survey.others_len + (end - start) == survey.end {
         return (start, survey.end - end);
-    }
-    if survey.others_len == 0 {
-        return (0, 0);
     }
     gather_around(form, body, start, end, body_len, id)
 }

@@ -16,7 +16,7 @@ ghost use Rattle.rtp_ext.specs.NewIds.{new_id, CarriesExtensions};
 ghost use Rattle.rtp_ext.specs.IdChanges.{ids_of, CanChangeIds, HasOtherIds};
 ghost use Rattle.rtp_ext.specs.WrittenBlock.{mapped_fields};
 
-use super::elements::first_element;
+use super::elements::next_element;
 use super::form::{element_header_len, write_header};
 use super::raw_writing::clear;
 use super::survey::survey_by;
@@ -73,7 +73,23 @@ pub fn next_place(form: ExtensionsForm, body: &[u8], at: usize) -> Option<Place>
     ensures further { IfSome result (λ place. (at < place.end) × (place.end ≤ length body.now)) }
     ensures none { IfNone result (BeginsWithNoElement form (drop at body.now)) }
 {
-    let (id, data, after) = first_element(&body[at..], form)?;
+    next_place_by(form, body, at, false)
+}
+
+// The same, perhaps by trying the front first.
+#[inline(always)]
+pub(super) fn next_place_by(
+    form: ExtensionsForm,
+    body: &[u8],
+    at: usize,
+    front_first: bool,
+) -> Option<Place>
+    requires { at ≤ length body.now }
+    ensures found { IfSome result (IsNextPlace form body.now at) }
+    ensures further { IfSome result (λ place. (at < place.end) × (place.end ≤ length body.now)) }
+    ensures none { IfNone result (BeginsWithNoElement form (drop at body.now)) }
+{
+    let (id, data, after) = next_element(&body[at..], form, front_first)?;
     Some(place_before(form, body.len(), after.len(), id, data.len()))
 }
 

@@ -1,12 +1,12 @@
 //! What the body of a block has of an id.
 
 ghost use Rattle.std.specs.Prelude.{◌≡◌, ℕ, ◌+◌, ◌-◌, ◌^◌, ◌<◌, ◌≤◌, length, drop, Option, Some, IfSome, IfNone};
-ghost use Rattle.rtp_ext.specs.ElementReading.{BeginsWithElement, BeginsWithNoElement, IsFirstElement};
+ghost use Rattle.rtp_ext.specs.ElementReading.{BeginsWithNoElement};
 ghost use Rattle.rtp_ext.specs.ElementPlaces.{IsLeft};
 ghost use Rattle.rtp_ext.specs.BodySurvey.{IsSurvey, IsSurveyedTo};
 
 use super::ExtensionsForm;
-use super::elements::first_element;
+use super::elements::next_element;
 use super::form::{element_header_len, is_paddings};
 use super::place::{Place, place_before};
 
@@ -68,44 +68,6 @@ fn one_more(count: usize) -> usize
     ensures { result ≡ count + 1 }
 {
     count + 1
-}
-
-// The first element of bytes, and what follows it, as `first_element` finds it. Most elements of
-// the one-byte form have no padding before them, and are found in fewer steps by trying the front.
-#[inline(always)]
-fn next_element(bytes: &[u8], form: ExtensionsForm, front_first: bool) -> Option<(u8, &[u8], &[u8])>
-    ensures { IsFirstElement form bytes.now result }
-{
-    if !front_first {
-        return first_element(bytes, form);
-    }
-    match element_at_front(bytes, form) {
-        None => first_element(bytes, form),
-        element => element,
-    }
-}
-
-// The element of the one-byte form at the very front of bytes, and what follows it. None where that
-// is padding or an element of the id 0, or where reading ends: one test of a byte tells these.
-#[inline(always)]
-fn element_at_front(bytes: &[u8], form: ExtensionsForm) -> Option<(u8, &[u8], &[u8])>
-    ensures { IfSome result (λ first.
-        BeginsWithElement form bytes.now (first.0, first.1.now) first.2.now) }
-{
-    match form {
-        ExtensionsForm::OneByte => {
-            if bytes.is_empty() {
-                return None;
-            }
-            let first = bytes[0];
-            if first < 16 || first >= 240 {
-                return None;
-            }
-            let (element, left) = bytes.split_at_checked(usize::from(first % 16) + 2)?;
-            Some((first / 16, &element[1..], left))
-        }
-        ExtensionsForm::TwoByte => None,
-    }
 }
 
 // How far a walk over a body has come.

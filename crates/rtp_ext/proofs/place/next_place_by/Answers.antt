@@ -1,6 +1,6 @@
 use Rattle.rtp_ext.proofs.Common.{length, arith, take_rest}
 use Rattle.rtp_ext.proofs.PlaceLemmas.{length-begins, length-header-some, IsNextPlace-begins}
-use Rattle.rtp_ext.proofs.place.next_place.Goals as goal
+use Rattle.rtp_ext.proofs.place.next_place_by.Goals as goal
 
 pub place_before-requires : goal.place_before-requires
 place_before-requires c =
