@@ -16,7 +16,7 @@ ghost use Rattle.rtp_ext.specs.NewIds.{new_id, CarriesExtensions};
 ghost use Rattle.rtp_ext.specs.IdChanges.{ids_of, CanChangeIds, HasOtherIds};
 ghost use Rattle.rtp_ext.specs.WrittenBlock.{mapped_fields};
 
-use super::elements::next_element;
+use super::elements::{first_element, next_element};
 use super::form::{element_header_len, write_header};
 use super::raw_writing::clear;
 use super::survey::survey_by;
@@ -73,10 +73,11 @@ pub fn next_place(form: ExtensionsForm, body: &[u8], at: usize) -> Option<Place>
     ensures further { IfSome result (λ place. (at < place.end) × (place.end ≤ length body.now)) }
     ensures none { IfNone result (BeginsWithNoElement form (drop at body.now)) }
 {
-    next_place_by(form, body, at, false)
+    let (id, data, after) = first_element(&body[at..], form)?;
+    Some(place_before(form, body.len(), after.len(), id, data.len()))
 }
 
-// The same, perhaps by trying the front first.
+// The same, by trying the front first where that takes fewer steps.
 #[inline(always)]
 pub(super) fn next_place_by(
     form: ExtensionsForm,
@@ -89,7 +90,10 @@ pub(super) fn next_place_by(
     ensures further { IfSome result (λ place. (at < place.end) × (place.end ≤ length body.now)) }
     ensures none { IfNone result (BeginsWithNoElement form (drop at body.now)) }
 {
-    let (id, data, after) = next_element(&body[at..], form, front_first)?;
+    if !front_first {
+        return next_place(form, body, at);
+    }
+    let (id, data, after) = next_element(&body[at..], form, true)?;
     Some(place_before(form, body.len(), after.len(), id, data.len()))
 }
 
