@@ -1,6 +1,6 @@
 //! The fields of a header that C gives to be written, where they lie.
 
-ghost use Rattle.std.specs.Prelude.{◌≡◌, IfSome, IfNone};
+ghost use Rattle.std.specs.Prelude.{◌≡◌, length, IfSome, IfNone};
 ghost use Rattle.rtp_wire.specs.declared.header.rtp_header.RtpHeader.{RtpHeader as Header};
 ghost use Rattle.rtp_c.specs.Given.{is_nonzero, AreGivenFields};
 
@@ -57,6 +57,15 @@ impl<'a> GivenFields<'a> {
     }
 }
 
+// How many sources the struct counts, of the fifteen that it has room for.
+#[inline(always)]
+fn count_in(view: &HeaderView) -> usize
+    ensures count { result ≡ view.now.csrc_count }
+    ensures slots { length view.now.csrc ≡ 15 }
+{
+    usize::from(view.csrc_count)
+}
+
 impl<'a> GetFields for GivenFields<'a> {
     ghost header = { λ fields. fields };
 
@@ -97,7 +106,7 @@ impl<'a> GetFields for GivenFields<'a> {
 
     #[inline(always)]
     fn csrc_count(&self) -> usize {
-        usize::from(self.view.csrc_count)
+        count_in(self.view)
     }
 
     #[inline(always)]
