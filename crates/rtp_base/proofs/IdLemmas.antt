@@ -1,7 +1,10 @@
 -- Identifiers as texts filled up with spaces.
 use Rattle.rtp_base.proofs.Common.{◌≡◌, ℕ, ◌+◌, ◌-◌, ◌<◌, ◌≤◌, Bool, false, not, cond, eqb, List, [], ◌∷◌, ◌++◌, length, map, take, drop, get_or, replicate, refl, sym, ap, ◌∙◌, subst, inl, inr, arith, length-append, length-take-le, take_at, drop_at, IsUtf8, All, position_or_len, count_by, is_ascii_alphanumeric, chars, IsAscii, ne_eqb, cases_lt, cases_Bool, false≢true, nat_tests, get_or_append_left, get_or-append_right, get_or_past, get_or-replicate, length-replicate, length-take, take-append-drop, drop-replicate, take_all, All-nil, All-cons, All-take, All-head, All-tail, All-replicate, position_or_len_is, sum_by-cons, sum_by-append, IsUtf8-from_ascii, chars-IsAscii, id_char, id_text, padded, IsIdOf, before_padding, IsIdByte, IsIdArray}
+use Rattle.std.specs.Prelude.{zero, suc}
+use Rattle.std.proofs.lemmas.List.{map-append}
 use Rattle.std.proofs.lemmas.List.Folds.{sum_by-replicate}
 use Rattle.std.proofs.lemmas.Str.Ascii.{IsAscii-from_all}
+use Rattle.rtp_base.specs.Id.{zero_padded}
 
 abbrev pub is_space : ℕ → Bool
 is_space b = eqb b 32
@@ -51,6 +54,34 @@ count-text bytes is =
 pub before_padding-padded : (text : List ℕ) (spaces : ℕ) → All IsIdByte text → before_padding (text ++ replicate spaces 32) ≡ text
 before_padding-padded text spaces is =
     ap (λ (n : ℕ). take n (text ++ replicate spaces 32)) (position-space text spaces is) ∙ take_at text (replicate spaces 32) (length text) refl
+
+-- ---- zeros in place of the padding
+
+-- a byte, and 0 in place of a space
+abbrev pub without_space : ℕ → ℕ
+without_space b = cond (eqb b 32) 0 b
+
+text-without_spaces : (text : List ℕ) → All IsIdByte text → map without_space text ≡ text
+text-without_spaces [] is = refl
+text-without_spaces (b ∷ bs) is =
+    (λ i. cond (IsIdByte-no_space b (All-head IsIdByte b bs is) i) 0 b ∷ map without_space bs)
+    ∙ ap (λ xs. b ∷ xs) (text-without_spaces bs (All-tail IsIdByte b bs is))
+
+spaces-as_zeros : (spaces : ℕ) → map without_space (replicate spaces 32) ≡ replicate spaces 0
+spaces-as_zeros zero = refl
+spaces-as_zeros (suc spaces) = ap (λ xs. 0 ∷ xs) (spaces-as_zeros spaces)
+
+pub zero_padded-map : (bytes : List ℕ) → IsIdArray bytes → map without_space bytes ≡ zero_padded (length bytes) (before_padding bytes)
+zero_padded-map bytes is =
+    let text = is.text in
+    let padding : List ℕ = replicate is.spaces 32 in
+    let spaces : is.spaces ≡ length bytes - length text =
+    omega (arith, ap length is.bytes_are, length-append text padding, length-replicate {A = ℕ} is.spaces 32) in
+    let text_is : before_padding bytes ≡ text = ap before_padding is.bytes_are ∙ before_padding-padded text is.spaces is.text_is in
+    ap (map without_space) is.bytes_are ∙ map-append without_space text padding
+    ∙ (λ i. text-without_spaces text is.text_is i ++ spaces-as_zeros is.spaces i)
+    ∙ ap (λ (n : ℕ). text ++ replicate n 0) spaces
+    ∙ ap (λ t. zero_padded (length bytes) t) (sym text_is)
 
 -- ---- the test of an id's bytes
 

@@ -17,12 +17,14 @@ mod WalkLemmas
 mod LongLemmas
 mod MeantLemmas
 mod FewSlotsLemmas
+mod NumbersAtOnceLemmas
 mod PlacesLemmas
 mod HeaderViewLemmas
 mod GivenLayersLemmas
 mod GivenLemmas
 mod GivenValuesLemmas
 mod IdBytesLemmas
+mod ToldLemmas
 mod ElementDataLemmas
 mod WritingLemmas
 mod WrittenHeaderLemmas

@@ -50,7 +50,7 @@ impl StoredMap {
     fn has_low_ids_alone(&self) -> bool
         ensures { OnTrue result ((id : ℕ) → 16 ≤ id → slice_index self.now.kind id ≡ 0) }
     {
-        are_zeros(&self.kind[16..])
+        are_zeros(&self.kind[16..32]) & are_zeros(&self.kind[32..])
     }
 
     // The index from which on each number is 0: 16 where all from there on are, or the end.

@@ -3,7 +3,7 @@
 ghost use Rattle.std.specs.Prelude.{◌≡◌};
 ghost use Rattle.rtp_c.specs.Told.{fraction_of, degrees_of};
 
-use super::values::{Time, ValuesView, ended_text, flag_number, told};
+use super::values::{Time, ValuesView, ended_mid, ended_rid, flag_number, told};
 use rtp_base::{MediaTime, Mid, Rid};
 use rtp_values::{AbsCaptureTime, SetValues, VideoOrientation, VideoTiming};
 use rtp_vla::vla;
@@ -97,17 +97,17 @@ impl SetValues for ValuesView {
 
     fn set_rid(&mut self, rid: Rid) {
         self.has_rid = 1;
-        self.rid = ended_text(rid.as_str());
+        self.rid = ended_rid(rid);
     }
 
     fn set_repaired_rid(&mut self, rid: Rid) {
         self.has_repaired_rid = 1;
-        self.repaired_rid = ended_text(rid.as_str());
+        self.repaired_rid = ended_rid(rid);
     }
 
     fn set_mid(&mut self, mid: Mid) {
         self.has_mid = 1;
-        self.mid = ended_text(mid.as_str());
+        self.mid = ended_mid(mid);
     }
 
     fn set_frame_marking(&mut self, marking: u32) {

@@ -2,13 +2,14 @@
 
 ghost use Rattle.std.specs.Prelude.{◌≡◌, ◌≢◌, ◌↔◌, ◌⊎◌, ◌-◌, ◌<◌, ◌++◌, List, length, replicate, Some};
 ghost use Rattle.rtp_base.specs.Flag.{bit};
+ghost use Rattle.rtp_base.specs.Id.{before_padding};
 ghost use Rattle.rtp_ext.specs.declared.form.ExtensionsForm.{ExtensionsForm};
 ghost use Rattle.rtp_ext.specs.BlockValues.{AreValues};
 ghost use Rattle.rtp_ext.specs.Elements.{Element, AreElements};
 ghost use Rattle.rtp_values.specs.declared.value.values.ExtensionValues.{ExtensionValues};
 ghost use Rattle.rtp_values.specs.Values.{no_values};
 ghost use Rattle.rtp_c.specs.Status.{ok, bad_field};
-ghost use Rattle.rtp_c.specs.Told.{IsToldOr};
+ghost use Rattle.rtp_c.specs.Told.{ended_text, IsToldOr};
 ghost use Rattle.rtp_c.specs.PacketView.{form_number};
 ghost use Rattle.rtp_c.specs.ValuesView.{IsViewOfValues, IsReadAs};
 ghost use Rattle.rtp_c.specs.StoredMap.{numbered_slots};
@@ -16,7 +17,7 @@ ghost use Rattle.rtp_c.specs.StoredMap.{numbered_slots};
 use super::kinds::StoredMap;
 use super::packet::form_of;
 use super::status::{BAD_FIELD, OK};
-use rtp_base::put;
+use rtp_base::{Mid, Rid, put};
 use rtp_ext::{ExtensionsForm, read_values};
 
 /// A time as a number of ticks of a clock: `rtpw_time` in C, 16 bytes. It is `ticks / hertz`
@@ -104,13 +105,23 @@ pub fn flag_number(is_set: bool) -> u8
     if is_set { 1 } else { 0 }
 }
 
-// The bytes of a text, and then zeros.
-pub fn ended_text<const N: usize>(text: &str) -> [u8; N]
-    requires room { length text.now < N }
-    ensures { result ≡ text.now ++ replicate (N - length text.now) 0 }
+// The text of a mid, and then zeros, of which there is at least one.
+#[inline(always)]
+pub fn ended_mid(mid: Mid) -> [u8; 17]
+    ensures { result ≡ ended_text 16 (before_padding mid) }
 {
-    let mut bytes = [0; N];
-    put(&mut bytes, 0, text.as_bytes());
+    let mut bytes = [0; 17];
+    put(&mut bytes, 0, &mid.zero_padded());
+    bytes
+}
+
+// The same of a stream id.
+#[inline(always)]
+pub fn ended_rid(rid: Rid) -> [u8; 9]
+    ensures { result ≡ ended_text 8 (before_padding rid) }
+{
+    let mut bytes = [0; 9];
+    put(&mut bytes, 0, &rid.zero_padded());
     bytes
 }
 

@@ -1,7 +1,7 @@
 //! The identifier of a stream of a simulcast.
 
 ghost use Rattle.std.specs.Prelude.{◌≡◌, ◌==◌, ◌≤◌, ◌↔◌, length, IsTrue, IsSome, IfSome, IsUtf8};
-ghost use Rattle.rtp_base.specs.Id.{before_padding, IsIdOf, IsIdArray};
+ghost use Rattle.rtp_base.specs.Id.{before_padding, IsIdOf, IsIdArray, zero_padded};
 
 use super::text::IdText;
 use std::fmt;
@@ -81,6 +81,15 @@ impl Rid {
         ensures few { length (before_padding self.now) ≤ 8 }
     {
         self.text.is_empty()
+    }
+
+    /// Returns the text, filled up with zeros, as C's texts are: `audio_1` and then zeros. Where there is
+    /// room for one zero more, that ends it.
+    #[inline(always)]
+    pub fn zero_padded(&self) -> [u8; 8]
+        ensures { result ≡ zero_padded 8 (before_padding self.now) }
+    {
+        self.text.zero_padded()
     }
 
     /// Returns the text without the spaces at its end. It may be empty.

@@ -1,10 +1,10 @@
 //! What `Mid` and `Rid` have in common: texts in a fixed number of bytes.
 
-ghost use Rattle.std.specs.Prelude.{◌≡◌, not, IsUtf8, ◌≢◌, ℕ, ◌<◌, ◌≤◌, ◌||◌, ◌↔◌, length, take, drop, slice_index, nat_lt, nat_le, IsTrue, map, IsSome, IfSome, IfNone, All, ◌==◌};
+ghost use Rattle.std.specs.Prelude.{◌≡◌, not, IsUtf8, ◌≢◌, ℕ, ◌<◌, ◌≤◌, ◌||◌, ◌↔◌, length, take, drop, slice_index, nat_lt, nat_le, IsTrue, map, IsSome, IfSome, IfNone, All, ◌==◌, if◌then◌else◌};
 ghost use Rattle.std.specs.List.{position_or_len, count_by};
 ghost use Rattle.std.specs.Bool.{OnTrue};
 ghost use Rattle.std.specs.Str.{IsAscii};
-ghost use Rattle.rtp_base.specs.Id.{id_char, id_text, before_padding, IsIdOf, IsIdByte, IsIdArray};
+ghost use Rattle.rtp_base.specs.Id.{id_char, id_text, before_padding, zero_padded, IsIdOf, IsIdByte, IsIdArray};
 
 use std::marker::Model;
 use std::simd::prelude::*;
@@ -56,6 +56,13 @@ fn is_id_byte(byte: u8) -> bool
     ensures { IsTrue result ↔ IsIdByte byte }
 {
     byte.is_ascii_alphanumeric() || byte == b'_'
+}
+
+// The byte, and 0 in place of a space.
+fn without_space(byte: u8) -> u8
+    ensures { result ≡ if byte == 32 then 0 else byte }
+{
+    if byte == b' ' { 0 } else { byte }
 }
 
 // The index of the first space, which begins the padding.
@@ -212,6 +219,18 @@ impl<const N: usize> IdText<N> {
             Some(byte) => *byte == b' ',
             None => true,
         }
+    }
+
+    // The text, filled up with zeros.
+    #[inline(always)]
+    pub(super) fn zero_padded(&self) -> [u8; N]
+        ensures { result ≡ zero_padded N (before_padding self.now) }
+    {
+        let mut bytes = self.bytes;
+        for i in 0..N {
+            bytes[i] = without_space(bytes[i]);
+        }
+        bytes
     }
 
     // The text before the padding.
