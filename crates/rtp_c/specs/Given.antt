@@ -6,6 +6,7 @@ use Rattle.rtp_base.specs.MediaTime.{Fraction}
 use Rattle.rtp_values.specs.declared.value.values.ExtensionValues.{ExtensionValues}
 use Rattle.rtp_values.specs.declared.value.video_orientation.VideoOrientation.{VideoOrientation}
 use Rattle.rtp_values.specs.declared.value.video_orientation.VideoOrientation.TheVariants.{Deg0, Deg90, Deg180, Deg270}
+use Rattle.rtp_values.specs.Values.{no_values}
 use Rattle.rtp_wire.specs.declared.header.rtp_header.RtpHeader.{RtpHeader}
 use Rattle.rtp_c.specs.declared.values.Time.{Time}
 use Rattle.rtp_c.specs.declared.values.ValuesView.{ValuesView}
@@ -121,6 +122,28 @@ values_in view = record {
   frame_mark = given view.has_frame_marking view.frame_marking;
   video_layers_allocation = None;
 }
+
+-- the fields as they lie in C's struct, of a header without values
+abbrev pub header_in : HeaderView → RtpHeader
+header_in view = record {
+  version = 2;
+  has_padding = is_nonzero view.has_padding;
+  has_extension = is_nonzero view.has_extension;
+  csrc_count = view.csrc_count;
+  marker = is_nonzero view.marker;
+  payload_type = view.payload_type;
+  sequence_number = view.sequence_number;
+  timestamp = view.timestamp;
+  ssrc = view.ssrc;
+  csrc = view.csrc;
+  ext_vals = no_values;
+  header_len = view.header_len;
+}
+
+-- a header can have the fields: its payload type has seven bits, and it counts at most fifteen sources
+pub record CanBeHeader (view : HeaderView) : Type 0 where
+  pub payload_type : view.payload_type ≤ 127
+  pub sources : view.csrc_count ≤ 15
 
 -- each text, orientation and time that is there is one
 pub record CanBeGiven (view : ValuesView) : Type 0 where

@@ -1,5 +1,5 @@
 -- The fixed bytes of a header, put together.
-use Rattle.rtp_wire.proofs.Common.{◌≡◌, ℕ, ◌+◌, ◌*◌, List, ◌∷◌, ◌++◌, length, drop, replicate, ap, ◌∙◌, arith, length-append, append_assoc, w16, w32, to_be_bytes, append-nil, bit, overwritten-overwritten, RtpHeader, fixed_bytes}
+use Rattle.rtp_wire.proofs.Common.{◌≡◌, ℕ, ◌+◌, ◌*◌, Bool, List, ◌∷◌, ◌++◌, length, drop, replicate, ap, ◌∙◌, arith, length-append, append_assoc, w16, w32, to_be_bytes, append-nil, bit, overwritten-overwritten, RtpHeader, fixed_bytes}
 use Rattle.rtp_base.specs.Overwriting.{overwritten}
 
 -- ten bytes after the first two
@@ -31,3 +31,8 @@ pub fixed_put : (h : RtpHeader) (first second : ℕ) (n t s one two three : List
 fixed_put h first second n t s one two three one-is two-is three-is n-is t-is s-is first-is second-is =
     three_put first second n t s one two three one-is two-is three-is (omega (arith, ap length n-is)) (omega (arith, ap length t-is)) (omega (arith, ap length s-is))
     ∙ (λ i. first-is i ∷ second-is i ∷ (n-is i ++ (t-is i ++ s-is i)))
+
+-- with an X that is the header's
+pub fixed_with : (h : RtpHeader) {extension : Bool} {bytes : List ℕ} → bytes ≡ fixed_bytes (record h { has_extension = extension }) → extension ≡ h.has_extension
+    → bytes ≡ fixed_bytes h
+fixed_with h is x-is = is ∙ ap (λ (x : Bool). fixed_bytes (record h { has_extension = x })) x-is

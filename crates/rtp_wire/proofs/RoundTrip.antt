@@ -16,6 +16,10 @@ pub record IsInRange (h : RtpHeader) : Type 0 where
   pub ssrc : h.ssrc < 2 ^ 32
   pub sources : AllByRecursion (λ source. source < 2 ^ 32) (take h.csrc_count h.csrc)
 
+-- the sources that count are among the slots
+pub sources_within : {count slots : ℕ} → count ≤ 15 → slots ≡ 15 → count ≤ slots
+sources_within few fifteen = omega (arith, few, fifteen)
+
 pub length-header_bytes : (h : RtpHeader) (part : List ℕ) → h.csrc_count ≤ length h.csrc → length (header_bytes h part) ≡ 12 + 4 * h.csrc_count + length part
 length-header_bytes h part within =
     let sources : length (source_bytes h) ≡ 4 * h.csrc_count =

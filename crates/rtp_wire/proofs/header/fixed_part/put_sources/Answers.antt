@@ -1,6 +1,6 @@
 use Rattle.rtp_wire.proofs.Common.{arith, ap, sym, ◌∙◌, ◌≡◌, ◌*◌, ℕ, length, take, flat_map, w32, to_be_bytes, length-take-le, overwritten, overwritten-nil, overwritten-overwritten}
 use Rattle.rtp_wire.proofs.GroupLemmas.{flat_map-take_more, length-numbers}
-use Rattle.rtp_wire.proofs.header.writing.put_sources.Goals as goal
+use Rattle.rtp_wire.proofs.header.fixed_part.put_sources.Goals as goal
 
 pub loop-source-init : goal.loop-source-init
 loop-source-init c = record { written = sym (overwritten-nil c.args.buf.now c.args.at); ends = omega arith }

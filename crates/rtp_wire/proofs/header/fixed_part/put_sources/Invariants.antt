@@ -1,5 +1,5 @@
 use Rattle.rtp_wire.proofs.Common.{◌≡◌, ℕ, List, ◌+◌, ◌*◌, take, flat_map, w32, to_be_bytes, overwritten}
-use Rattle.rtp_wire.proofs.header.writing.put_sources.Given as goal
+use Rattle.rtp_wire.proofs.header.fixed_part.put_sources.Given as goal
 
 -- the sources so far are in place
 pub record SoFar (old new : List ℕ) (at end : ℕ) (sources : List ℕ) (done : ℕ) : Type 0 where

@@ -1,0 +1,116 @@
+//! The fields of a header that C gives to be written, where they lie.
+
+ghost use Rattle.std.specs.Prelude.{◌≡◌, length, IfSome, IfNone};
+ghost use Rattle.rtp_wire.specs.declared.header.rtp_header.RtpHeader.{RtpHeader as Header};
+ghost use Rattle.rtp_c.specs.Given.{is_nonzero, AreGivenFields};
+
+use super::header::HeaderView;
+use rtp_base::{Pt, Ssrc};
+use rtp_wire::GetFields;
+use std::marker::Model;
+
+/// The fields that C gives, each looked at when it is written, of a payload type and as many sources
+/// as a header can have.
+#[derive(Drop)]
+pub struct GivenFields<'a> {
+    view: &'a HeaderView,
+    has_extension: bool,
+}
+
+impl<'a> Model for GivenFields<'a> {
+    ghost use Rattle.std.specs.Prelude.{◌≡◌};
+    ghost use Rattle.rtp_wire.specs.declared.header.rtp_header.RtpHeader.{RtpHeader as Header};
+    ghost use Rattle.rtp_c.specs.Given.{is_nonzero, CanBeHeader, header_in};
+
+    ghost Value = { Header };
+
+    ghost view = { λ fields. header_in fields.view.now };
+
+    ghost invariant = { λ fields. CanBeHeader fields.view.now
+        × (fields.has_extension ≡ is_nonzero fields.view.now.has_extension) };
+}
+
+impl<'a> GivenFields<'a> {
+    /// Those of the struct; `None` where no header can have them.
+    #[inline(always)]
+    pub fn of(view: &'a HeaderView) -> Option<Self>
+        ensures found { IfSome result (AreGivenFields view.now) }
+        ensures none { IfNone result ((header : Header) → AreGivenFields view.now header → ⊥) }
+    {
+        Self::with_x(view, view.has_extension != 0)
+    }
+
+    /// The same, where it is known whether X is set.
+    #[inline(always)]
+    pub fn with_x(view: &'a HeaderView, has_extension: bool) -> Option<Self>
+        requires { has_extension ≡ is_nonzero view.now.has_extension }
+        ensures found { IfSome result (AreGivenFields view.now) }
+        ensures none { IfNone result ((header : Header) → AreGivenFields view.now header → ⊥) }
+    {
+        if view.payload_type > 127 || view.csrc_count > 15 {
+            return None;
+        }
+        Some(GivenFields {
+            view,
+            has_extension,
+        })
+    }
+}
+
+// How many sources the struct counts, of the fifteen that it has room for.
+#[inline(always)]
+fn count_in(view: &HeaderView) -> usize
+    ensures count { result ≡ view.now.csrc_count }
+    ensures slots { length view.now.csrc ≡ 15 }
+{
+    usize::from(view.csrc_count)
+}
+
+impl<'a> GetFields for GivenFields<'a> {
+    ghost header = { λ fields. fields };
+
+    #[inline(always)]
+    fn has_padding(&self) -> bool {
+        self.view.has_padding != 0
+    }
+
+    #[inline(always)]
+    fn has_extension(&self) -> bool {
+        self.has_extension
+    }
+
+    #[inline(always)]
+    fn marker(&self) -> bool {
+        self.view.marker != 0
+    }
+
+    #[inline(always)]
+    fn payload_type(&self) -> Pt {
+        Pt::from(self.view.payload_type)
+    }
+
+    #[inline(always)]
+    fn sequence_number(&self) -> u16 {
+        self.view.sequence_number
+    }
+
+    #[inline(always)]
+    fn timestamp(&self) -> u32 {
+        self.view.timestamp
+    }
+
+    #[inline(always)]
+    fn ssrc(&self) -> Ssrc {
+        Ssrc::from(self.view.ssrc)
+    }
+
+    #[inline(always)]
+    fn csrc_count(&self) -> usize {
+        count_in(self.view)
+    }
+
+    #[inline(always)]
+    fn csrc(&self) -> &[u32; 15] {
+        &self.view.csrc
+    }
+}
