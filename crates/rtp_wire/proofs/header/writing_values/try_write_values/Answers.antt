@@ -7,4 +7,11 @@ write_in-requires-clause-room g c =
     let exts = c.of.result in
     let values = g.V.ElementValues.values c.args.values.now in
     let none = ap (λ (has : Bool). length (extension_bytes exts has values)) (sym c.has_extension.ensures ∙ c.if-not-has_extension.true) in
-    omega (arith, length-wire_bytes exts (with_values (g.F.GetFields.header c.args.fields.now) values) (sources_within (omega (arith, c.csrc_count.ensures.count, c.if-csrc_count-gt15.false)) c.csrc_count.ensures.slots), none, c.least_len.ensures.before, c.if-buf-least_len.false)
+    omega (
+      arith,
+      length-wire_bytes exts (with_values (g.F.GetFields.header c.args.fields.now) values) (sources_within
+          (omega (arith, c.csrc_count.ensures.count, c.if-csrc_count-gt15.false)) c.csrc_count.ensures.slots),
+      none,
+      c.least_len.ensures.before,
+      c.if-buf-least_len.false,
+    )

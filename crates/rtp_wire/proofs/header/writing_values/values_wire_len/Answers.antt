@@ -17,8 +17,10 @@ returns-then-not-has_extension-clause-length g c =
 with_block : (g : _) (c : goal.After-block_len g) → IsLength (g.K.Kinds.slots c.args.exts.now) (with_values (g.F.GetFields.header c.args.fields.now) (g.V.ElementValues.values c.args.values.now)) (12 + 4 * c.csrc_count.result + c.block_len.result)
 with_block g c =
     let values = g.V.ElementValues.values c.args.values.now in
-    rw c.csrc_count.ensures.count (length-with_block_of c.of-ids.result (g.K.Kinds.slots c.args.exts.now) (with_values (g.F.GetFields.header c.args.fields.now) values) c.values_form.result c.block_len.result c.of-ids.ensures c.requires.sources c.csrc_count.ensures.slots
-    (announced-set c.of-ids.result (g.F.GetFields.header c.args.fields.now).has_extension values c.values_form.result (sym c.has_extension.ensures ∙ c.if-not-has_extension.false) (ap Some c.values_form.ensures.form))
+    rw c.csrc_count.ensures.count (length-with_block_of c.of-ids.result (g.K.Kinds.slots c.args.exts.now)
+    (with_values (g.F.GetFields.header c.args.fields.now) values) c.values_form.result c.block_len.result c.of-ids.ensures c.requires.sources c.csrc_count.ensures.slots
+    (announced-set c.of-ids.result (g.F.GetFields.header c.args.fields.now).has_extension values c.values_form.result
+    (sym c.has_extension.ensures ∙ c.if-not-has_extension.false) (ap Some c.values_form.ensures.form))
     c.block_len.ensures.length c.block_len.ensures.few)
 
 pub returns-clause-length : goal.returns-clause-length

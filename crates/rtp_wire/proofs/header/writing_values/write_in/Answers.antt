@@ -6,14 +6,22 @@ use Rattle.rtp_wire.proofs.header.writing_values.write_in.Goals as goal
 
 pub put-end-requires : goal.put-end-requires
 put-end-requires g c =
-    omega (arith, c.requires.room, length-wire_bytes c.args.ids.now (with_values (g.F.GetFields.header c.args.fields.now) (g.V.ElementValues.values c.args.values.now)) (sources_within c.requires.sources c.fixed_bytes.ensures.slots), ap length (fixed_with (g.F.GetFields.header c.args.fields.now) c.fixed_bytes.ensures.bytes c.has_extension.ensures))
+    omega (
+      arith,
+      c.requires.room,
+      length-wire_bytes c.args.ids.now (with_values (g.F.GetFields.header c.args.fields.now) (g.V.ElementValues.values c.args.values.now))
+          (sources_within c.requires.sources c.fixed_bytes.ensures.slots),
+      ap length
+          (fixed_with (g.F.GetFields.header c.args.fields.now) c.fixed_bytes.ensures.bytes c.has_extension.ensures),
+    )
 
 pub put_csrc-end-requires : goal.put_csrc-end-requires
 put_csrc-end-requires g c =
     omega (
       arith,
       c.requires.room,
-      length-wire_bytes c.args.ids.now (with_values (g.F.GetFields.header c.args.fields.now) (g.V.ElementValues.values c.args.values.now)) (sources_within c.requires.sources c.fixed_bytes.ensures.slots),
+      length-wire_bytes c.args.ids.now (with_values (g.F.GetFields.header c.args.fields.now) (g.V.ElementValues.values c.args.values.now))
+          (sources_within c.requires.sources c.fixed_bytes.ensures.slots),
       ap length (fixed_with (g.F.GetFields.header c.args.fields.now) c.fixed_bytes.ensures.bytes c.has_extension.ensures),
       c.put-end.ensures.end,
       length-take-le (g.F.GetFields.header c.args.fields.now).csrc_count (g.F.GetFields.header c.args.fields.now).csrc (sources_within c.requires.sources c.fixed_bytes.ensures.slots),
@@ -24,10 +32,13 @@ none : (g : _) (c : goal.In_default g) → extension_bytes c.args.ids.now (g.F.G
 none g c = no_part c.args.ids.now (g.F.GetFields.header c.args.fields.now).has_extension (g.V.ElementValues.values c.args.values.now) (sym c.in_default.is ∙ c.requires.form)
 
 none_put : (g : _) (c : goal.In_default g) → (c.put_csrc-end.result ≡ length (wire_bytes c.args.ids.now (with_values (g.F.GetFields.header c.args.fields.now) (g.V.ElementValues.values c.args.values.now))))
-    × (c.put_csrc-end.new.buf ≡ wire_bytes c.args.ids.now (with_values (g.F.GetFields.header c.args.fields.now) (g.V.ElementValues.values c.args.values.now)) ++ drop c.put_csrc-end.result c.args.buf.now)
+    × (c.put_csrc-end.new.buf ≡ wire_bytes c.args.ids.now (with_values (g.F.GetFields.header c.args.fields.now)
+    (g.V.ElementValues.values c.args.values.now)) ++ drop c.put_csrc-end.result c.args.buf.now)
 none_put g c =
-    wire_bytes-from_pieces (with_values (g.F.GetFields.header c.args.fields.now) (g.V.ElementValues.values c.args.values.now)) c.args.ids.now c.args.buf.now c.put-end.new.buf c.put_csrc-end.new.buf c.put_csrc-end.new.buf
-    c.fixed_bytes.result c.put-end.result c.put_csrc-end.result c.put_csrc-end.result (sources_within c.requires.sources c.fixed_bytes.ensures.slots) c.requires.room (fixed_with (g.F.GetFields.header c.args.fields.now) c.fixed_bytes.ensures.bytes c.has_extension.ensures)
+    wire_bytes-from_pieces (with_values (g.F.GetFields.header c.args.fields.now)
+    (g.V.ElementValues.values c.args.values.now)) c.args.ids.now c.args.buf.now c.put-end.new.buf c.put_csrc-end.new.buf c.put_csrc-end.new.buf
+    c.fixed_bytes.result c.put-end.result c.put_csrc-end.result c.put_csrc-end.result (sources_within c.requires.sources c.fixed_bytes.ensures.slots) c.requires.room
+    (fixed_with (g.F.GetFields.header c.args.fields.now) c.fixed_bytes.ensures.bytes c.has_extension.ensures)
     c.put-end.ensures.written c.put-end.ensures.end c.put_csrc-end.ensures.written c.put_csrc-end.ensures.end
     (rw (none g c) (sym (overwritten-nil c.put_csrc-end.new.buf c.put_csrc-end.result))) (omega (arith, ap length (none g c)))
 
@@ -69,37 +80,55 @@ room exts h form fixed first second len within is fits fixed-is first-is second-
 
 pub slice_bounds-write_block-count : goal.slice_bounds-write_block-count
 slice_bounds-write_block-count g c =
-    let there = room c.args.ids.now (with_values (g.F.GetFields.header c.args.fields.now) (g.V.ElementValues.values c.args.values.now)) c.in-Some.form c.fixed_bytes.result c.put-end.result c.put_csrc-end.result (length c.args.buf.now) (sources_within c.requires.sources c.fixed_bytes.ensures.slots)
+    let there = room c.args.ids.now (with_values (g.F.GetFields.header c.args.fields.now)
+    (g.V.ElementValues.values c.args.values.now)) c.in-Some.form c.fixed_bytes.result c.put-end.result c.put_csrc-end.result (length c.args.buf.now)
+    (sources_within c.requires.sources c.fixed_bytes.ensures.slots)
     (sym c.in-Some.is ∙ c.requires.form) c.requires.room (fixed_with (g.F.GetFields.header c.args.fields.now) c.fixed_bytes.ensures.bytes c.has_extension.ensures) c.put-end.ensures.end c.put_csrc-end.ensures.end in omega (arith, there)
 
 pub slice_bounds-write_block-start : goal.slice_bounds-write_block-start
 slice_bounds-write_block-start g c =
-    let there = room c.args.ids.now (with_values (g.F.GetFields.header c.args.fields.now) (g.V.ElementValues.values c.args.values.now)) c.in-Some.form c.fixed_bytes.result c.put-end.result c.put_csrc-end.result (length c.args.buf.now) (sources_within c.requires.sources c.fixed_bytes.ensures.slots)
+    let there = room c.args.ids.now (with_values (g.F.GetFields.header c.args.fields.now)
+    (g.V.ElementValues.values c.args.values.now)) c.in-Some.form c.fixed_bytes.result c.put-end.result c.put_csrc-end.result (length c.args.buf.now)
+    (sources_within c.requires.sources c.fixed_bytes.ensures.slots)
     (sym c.in-Some.is ∙ c.requires.form) c.requires.room (fixed_with (g.F.GetFields.header c.args.fields.now) c.fixed_bytes.ensures.bytes c.has_extension.ensures) c.put-end.ensures.end c.put_csrc-end.ensures.end in omega (arith, there)
 
 pub write_block-requires-clause-room : goal.write_block-requires-clause-room
 write_block-requires-clause-room g c =
-    let there = room c.args.ids.now (with_values (g.F.GetFields.header c.args.fields.now) (g.V.ElementValues.values c.args.values.now)) c.in-Some.form c.fixed_bytes.result c.put-end.result c.put_csrc-end.result (length c.args.buf.now) (sources_within c.requires.sources c.fixed_bytes.ensures.slots)
+    let there = room c.args.ids.now (with_values (g.F.GetFields.header c.args.fields.now)
+    (g.V.ElementValues.values c.args.values.now)) c.in-Some.form c.fixed_bytes.result c.put-end.result c.put_csrc-end.result (length c.args.buf.now)
+    (sources_within c.requires.sources c.fixed_bytes.ensures.slots)
     (sym c.in-Some.is ∙ c.requires.form) c.requires.room (fixed_with (g.F.GetFields.header c.args.fields.now) c.fixed_bytes.ensures.bytes c.has_extension.ensures) c.put-end.ensures.end c.put_csrc-end.ensures.end in omega (arith, there)
 
 -- what was put, and where it ends
 all_put : (g : _) (c : goal.After-slice_known-4-1 g) (put : List ℕ)
     → put ≡ overwritten c.put_csrc-end.new.buf c.put_csrc-end.result (block_bytes_in c.in-Some.form c.args.ids.now (g.V.ElementValues.values c.args.values.now))
     → (c.put_csrc-end.result + c.write_block.result ≡ length (wire_bytes c.args.ids.now (with_values (g.F.GetFields.header c.args.fields.now) (g.V.ElementValues.values c.args.values.now))))
-    × (put ≡ wire_bytes c.args.ids.now (with_values (g.F.GetFields.header c.args.fields.now) (g.V.ElementValues.values c.args.values.now)) ++ drop (c.put_csrc-end.result + c.write_block.result) c.args.buf.now)
+    × (put ≡ wire_bytes c.args.ids.now (with_values (g.F.GetFields.header c.args.fields.now)
+    (g.V.ElementValues.values c.args.values.now)) ++ drop (c.put_csrc-end.result + c.write_block.result) c.args.buf.now)
 all_put g c put is =
-    wire_bytes-from_pieces (with_values (g.F.GetFields.header c.args.fields.now) (g.V.ElementValues.values c.args.values.now)) c.args.ids.now c.args.buf.now c.put-end.new.buf c.put_csrc-end.new.buf put
-    c.fixed_bytes.result c.put-end.result c.put_csrc-end.result (c.put_csrc-end.result + c.write_block.result) (sources_within c.requires.sources c.fixed_bytes.ensures.slots) c.requires.room (fixed_with (g.F.GetFields.header c.args.fields.now) c.fixed_bytes.ensures.bytes c.has_extension.ensures)
+    wire_bytes-from_pieces (with_values (g.F.GetFields.header c.args.fields.now)
+    (g.V.ElementValues.values c.args.values.now)) c.args.ids.now c.args.buf.now c.put-end.new.buf c.put_csrc-end.new.buf put
+    c.fixed_bytes.result c.put-end.result c.put_csrc-end.result (c.put_csrc-end.result + c.write_block.result)
+    (sources_within c.requires.sources c.fixed_bytes.ensures.slots) c.requires.room
+    (fixed_with (g.F.GetFields.header c.args.fields.now) c.fixed_bytes.ensures.bytes c.has_extension.ensures)
     c.put-end.ensures.written c.put-end.ensures.end c.put_csrc-end.ensures.written c.put_csrc-end.ensures.end
-    (is ∙ ap (overwritten c.put_csrc-end.new.buf c.put_csrc-end.result) (sym (a_part c.args.ids.now (g.F.GetFields.header c.args.fields.now).has_extension (g.V.ElementValues.values c.args.values.now) c.in-Some.form (sym c.in-Some.is ∙ c.requires.form))))
-    (omega (arith, c.write_block.ensures.length, ap length (a_part c.args.ids.now (g.F.GetFields.header c.args.fields.now).has_extension (g.V.ElementValues.values c.args.values.now) c.in-Some.form (sym c.in-Some.is ∙ c.requires.form))))
+    (is ∙ ap (overwritten c.put_csrc-end.new.buf c.put_csrc-end.result) (sym (a_part c.args.ids.now (g.F.GetFields.header c.args.fields.now).has_extension
+    (g.V.ElementValues.values c.args.values.now) c.in-Some.form (sym c.in-Some.is ∙ c.requires.form))))
+    (omega (
+      arith,
+      c.write_block.ensures.length,
+      ap length (a_part c.args.ids.now (g.F.GetFields.header c.args.fields.now).has_extension
+          (g.V.ElementValues.values c.args.values.now) c.in-Some.form (sym c.in-Some.is ∙ c.requires.form)),
+    ))
 
 pub returns-clause-written : goal.returns-clause-written
 returns-clause-written g c =
     let buf = c.put_csrc-end.new.buf in
     let at = c.put_csrc-end.result in
     let bytes = block_bytes_in c.in-Some.form c.args.ids.now (g.V.ElementValues.values c.args.values.now) in
-    let fits = room c.args.ids.now (with_values (g.F.GetFields.header c.args.fields.now) (g.V.ElementValues.values c.args.values.now)) c.in-Some.form c.fixed_bytes.result c.put-end.result c.put_csrc-end.result (length c.args.buf.now) (sources_within c.requires.sources c.fixed_bytes.ensures.slots)
+    let fits = room c.args.ids.now (with_values (g.F.GetFields.header c.args.fields.now)
+    (g.V.ElementValues.values c.args.values.now)) c.in-Some.form c.fixed_bytes.result c.put-end.result c.put_csrc-end.result (length c.args.buf.now)
+    (sources_within c.requires.sources c.fixed_bytes.ensures.slots)
     (sym c.in-Some.is ∙ c.requires.form) c.requires.room (fixed_with (g.F.GetFields.header c.args.fields.now) c.fixed_bytes.ensures.bytes c.has_extension.ensures) c.put-end.ensures.end c.put_csrc-end.ensures.end in
     let there : at + length bytes ≤ length buf = omega (arith, fits) in
     (all_put g c _ (overwritten-rest buf c.write_block.new.buf bytes at there
