@@ -2,16 +2,12 @@
 use Rattle.rtp_c.proofs.Common.{◌≡◌, ℕ, Bool, true, false, if◌then◌else◌, ◌<◌, ◌+◌, ◌-◌, ◌≤◌, List, [], ◌∷◌, length, take, drop, refl, sym, ap, subst, ◌∙◌, arith, length-take, length-drop, All}
 use Rattle.std.proofs.lemmas.Bool.{lt-ltb}
 use Rattle.rtp_wire.specs.declared.packet.fields.Fields.{Fields}
-use Rattle.rtp_wire.specs.declared.packet.rtp_packet.RtpPacket.{RtpPacket}
 use Rattle.rtp_wire.specs.Packet.{PacketParts, IsPacket, header_len_of}
-use Rattle.rtp_wire.specs.PartsOf.{parts_of, datagram_of}
-use Rattle.rtp_wire.proofs.PartsLemmas.{length-packet, IsPacket-found}
+use Rattle.rtp_wire.proofs.PartsLemmas.{length-packet}
 use Rattle.rtp_route.specs.declared.slots.Slot.{Slot}
-use Rattle.rtp_route.specs.Calls as calls
 use Rattle.rtp_route.specs.GroupHeader.{IsFilledIn}
 use Rattle.rtp_route.specs.Retransmitted.{IsFilledInAgain}
 use Rattle.rtp_route.specs.Template.{slot_lengths, total_of, pieces}
-use Rattle.rtp_route.specs.declared.parts.TemplateParts.{TemplateParts}
 use Rattle.rtp_route.proofs.LengthLemmas.{pieces-lengths}
 use Rattle.rtp_route.proofs.RetransmittedLemmas.{routed-again}
 use Rattle.rtp_route.proofs.TemplateLemmas.{routed-filled}
@@ -20,17 +16,16 @@ use Rattle.rtp_c.specs.PacketView.{slice_at}
 use Rattle.rtp_c.specs.Given.{is_nonzero}
 use Rattle.rtp_c.specs.declared.routed_headers.RoutedHeader.{RoutedHeader}
 use Rattle.rtp_c.specs.RoutedHeaders.{IsReceivers, IsReceiversAgain, len_for}
-use Rattle.rtp_c.specs.StoredTemplate.{IsInRange, HasParts}
+use Rattle.rtp_c.specs.StoredTemplate.{slots_of, IsInRange}
 
--- what is stored, where the parts are found to be in range
-pub in-range : (made : StoredTemplate) (parts : TemplateParts) (size total : ℕ) → HasParts made parts → made.count ≤ 16 → made.header_len ≤ size
-    → All (λ (s : Slot). s.start + s.len ≤ parts.header_len) (take parts.count parts.slots) → total ≡ total_of (take parts.count parts.slots) → total ≡ made.data_total → IsInRange made size
-in-range made parts size total has few there within total_is same = record {
+-- what is stored, where the places are found to be in range
+pub in-range : (made : StoredTemplate) (slots : List Slot) (size total : ℕ) → slots ≡ slots_of made → made.count ≤ 16 → made.header_len ≤ size → All (λ (s : Slot). s.start + s.len ≤ made.header_len) slots
+    → total ≡ total_of slots → total ≡ made.data_total → IsInRange made size
+in-range made slots size total slots-are few there within total_is same = record {
   few = few;
   there = there;
-  within = subst (λ (ss : List Slot). All (λ (s : Slot). s.start + s.len ≤ made.header_len) ss) has.slots_are
-      (subst (λ (n : ℕ). All (λ (s : Slot). s.start + s.len ≤ n) (take parts.count parts.slots)) has.header_len_is within);
-  total_is = sym same ∙ total_is ∙ ap total_of has.slots_are;
+  within = subst (λ (ss : List Slot). All (λ (s : Slot). s.start + s.len ≤ made.header_len) ss) slots-are within;
+  total_is = sym same ∙ total_is ∙ ap total_of slots-are;
 }
 
 pub no-bytes : (xs : List ℕ) → length xs ≡ 0 → xs ≡ []
@@ -40,10 +35,6 @@ no-bytes (x ∷ xs) none = absurd (omega (arith, none))
 -- a header and its payload are all of the bytes
 pub all-header : (bytes : List ℕ) (len : ℕ) (parts : PacketParts) → len ≤ length bytes → IsPacket (take len bytes) parts → header_len_of parts + length parts.payload ≡ len
 all-header bytes len parts there is = omega (arith, length-packet (take len bytes) parts is, length-take len bytes, there)
-
-pub header_in-length : (packet : RtpPacket) → length (calls.header_in packet) ≡ header_len_of (parts_of packet)
-header_in-length packet =
-    omega (arith, length-packet (datagram_of packet) (parts_of packet) (IsPacket-found packet), length-take (header_len_of (parts_of packet)) (datagram_of packet))
 
 length-slice : (bytes : List ℕ) (at len : ℕ) → at + len ≤ length bytes → length (slice_at bytes at len) ≡ len
 length-slice bytes at len within = omega (arith, within, length-take (at + len - at) (drop at bytes), length-drop at bytes)

@@ -9,13 +9,13 @@ ghost use Rattle.rtp_route.specs.Template.{slot_lengths, total_of, pieces, LiesI
 ghost use Rattle.rtp_c.specs.RoutedHeaders.{header_in, IsWholeTemplate, IsTemplateStatus, IsReceiversAgain, IsHeaderWritten, AreHeadersWritten};
 ghost use Rattle.rtp_c.specs.SetFields.{fields_given, CanBeSet};
 ghost use Rattle.rtp_c.specs.Status.{ok, short_buffer};
-ghost use Rattle.rtp_c.specs.StoredTemplate.{slots_of, HasParts};
+ghost use Rattle.rtp_c.specs.StoredTemplate.{slots_of};
 
 use super::changing::{FieldsView, given_fields};
 use super::datagrams::slice_in;
 use super::status::{BAD_FIELD, OK, SHORT_BUFFER, status_of};
 use super::template::StoredTemplate;
-use rtp_route::{MAX_ELEMENTS, Slot, TemplateParts, write_joined, write_retransmission};
+use rtp_route::{MAX_ELEMENTS, Slot, lie_within, total_len, write_joined, write_retransmission};
 use rtp_wire::RtpPacket;
 
 /// One of the receivers of a group, and the header that it gets: `rtpw_routed_header` in C, 48
@@ -44,11 +44,11 @@ pub struct RoutedHeader {
 // The header of the template at the front of these bytes, or the status of why it is none.
 fn header_of<'a>(
     made: &StoredTemplate,
-    parts: &TemplateParts,
+    slots: &[Slot],
     bytes: &'a [u8],
 ) -> Result<RtpPacket<'a>, i32>
     requires few { made.now.count ≤ 16 }
-    requires parts { HasParts made.now parts.now }
+    requires slots { slots.now ≡ slots_of made.now }
     ensures header { IfOk result (λ header. calls.header_in header ≡ header_in made.now bytes.now) }
     ensures within { IfOk result (λ header.
         All (LiesInHeader (parts_of header)) (slots_of made.now)) }
@@ -57,7 +57,10 @@ fn header_of<'a>(
     ensures status { IfErr result (IsTemplateStatus made.now bytes.now) }
 {
     let len = made.header_len as usize;
-    if len > bytes.len() || !parts.are_in_range() || parts.data_len() != made.data_total as usize {
+    if len > bytes.len()
+        || !lie_within(slots, len)
+        || total_len(slots) != made.data_total as usize
+    {
         return Err(BAD_FIELD);
     }
     let header = match RtpPacket::parse(&bytes[..len]) {
@@ -165,15 +168,17 @@ pub extern "C" fn rtpw_write_headers(
     ensures status { result ≢ ok → IsTemplateStatus made.now header.now result }
     ensures unchanged { result ≢ ok → (receivers.new ≡ receivers.old) × (buf.new ≡ buf.old) }
 {
-    if made.count as usize > MAX_ELEMENTS {
+    let count = made.count as usize;
+    if count > MAX_ELEMENTS {
         return BAD_FIELD;
     }
-    let parts = made.parts();
-    let template = match header_of(made, &parts, header) {
+    let mut slots = [Slot { start: 0, len: 0 }; MAX_ELEMENTS];
+    made.copy_slots(&mut slots);
+    let slots = &slots[..count];
+    let template = match header_of(made, slots, header) {
         Ok(template) => template,
         Err(status) => return status,
     };
-    let slots = &parts.slots[..parts.count];
     let data_len = made.data_total as usize;
     for receiver in receivers {
         write_one(&template, slots, data_len, bytes, receiver, buf);

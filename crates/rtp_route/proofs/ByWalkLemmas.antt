@@ -5,12 +5,15 @@ use Rattle.std.proofs.lemmas.List.{take-append-le, drop-append-le}
 use Rattle.rtp_ext.specs.declared.form.ExtensionsForm.{ExtensionsForm}
 use Rattle.rtp_ext.specs.Elements.{Element, elements_bytes, AreElements}
 use Rattle.rtp_ext.specs.ElementsInPlace.{renumbered}
+use Rattle.rtp_ext.specs.ElementReading.{elements_left}
+use Rattle.rtp_ext.proofs.ElementLemmasOfBodies.{AreBytes, AreElements-found}
 use Rattle.rtp_ext.specs.WrittenBlock.{filled, padding_of}
 use Rattle.rtp_wire.specs.declared.packet.fields.Fields.{Fields}
 use Rattle.rtp_wire.specs.ChangedPacket.{ChangesOnly}
 use Rattle.rtp_wire.specs.GivenFields.{with_header_fields}
 use Rattle.rtp_wire.specs.Packet.{PacketParts, IsPacket, block_len}
 use Rattle.rtp_wire.specs.PacketElements.{AreElementsOf}
+use Rattle.rtp_wire.specs.PartsAt.{HasLayout}
 use Rattle.rtp_wire.specs.PutIntoPacket.{form_of_block}
 use Rattle.rtp_wire.proofs.PartsLemmas.{length-packet, IsPacket-found}
 use Rattle.rtp_route.specs.Walk.{IsFrontWith, IsBodyFor, IsMadeFor}
@@ -60,6 +63,36 @@ pub record IsLaid (packet : RtpPacket) (ids : ℕ → Option ℕ) (news : List E
   pub short : end ≤ 262140
   pub laid : IsFrontWith (front_of header old_body) was form (end - length (front_of header old_body)) (drop (length (front_of header old_body)) between) new
 
+-- a body in the front of a buffer
+body-in_front : (form : ExtensionsForm) (ids : ℕ → Option ℕ) (news elements : List Element) (start : ℕ) (slots : List Slot) (buf rest : List ℕ) (end : ℕ) → end ≤ length buf
+    → IsBodyFor form ids news elements start slots buf end → IsBodyFor form ids news elements start slots (buf ++ rest) end
+body-in_front form ids news elements start slots buf rest end within is = record {
+  after = is.after;
+  whole = is.whole;
+  carried = is.carried;
+  no_zero = is.no_zero;
+  body_is = ap (take (end - start)) (drop-append-le start buf rest (omega (arith, is.after, within)))
+      ∙ take-append-le (end - start) (drop start buf) rest (omega (arith, length-drop start buf, within)) ∙ is.body_is;
+  are_elements = is.are_elements;
+  slots_are = is.slots_are;
+}
+
+-- of what was written in the front of a buffer
+pub laid-of : (packet : RtpPacket) (ids : ℕ → Option ℕ) (news : List Element) (was form : ExtensionsForm) (header body written rest new : List ℕ) (end : ℕ) (slots : List Slot)
+    → datagram_of packet ≡ header ++ (parts_of packet).payload → IsPacket header (alone_parts packet) → Some (was, body) ≡ (parts_of packet).block → AreBytes body
+    → ((elements : List Element) → AreElements was body elements → IsBodyFor form ids news elements (length (front_of header body)) slots written end) → end ≤ length written → length written ≤ 262140
+    → IsFrontWith (front_of header body) was form (end - length (front_of header body)) (drop (length (front_of header body)) (written ++ rest)) new
+    → IsLaid packet ids news was form header body (written ++ rest) new end (elements_left was body) slots
+laid-of packet ids news was form header body written rest new end slots whole is some bytes body_for within short laid = record {
+  whole_is = whole;
+  is_packet = is;
+  some = some;
+  body_for = body-in_front form ids news (elements_left was body) (length (front_of header body)) slots written rest end within (body_for (elements_left was body) (AreElements-found was body bytes));
+  within = omega (arith, within, length-append written rest);
+  short = omega (arith, within, short);
+  laid = laid;
+}
+
 module _ (packet : RtpPacket) (ids : ℕ → Option ℕ) (news : List Element) (was form : ExtensionsForm) (header old_body between new : List ℕ) (end : ℕ) (elements : List Element) (slots : List Slot)
     (is : IsLaid packet ids news was form header old_body between new end elements slots) where
   abbrev row : List Element
@@ -92,11 +125,14 @@ module _ (packet : RtpPacket) (ids : ℕ → Option ℕ) (news : List Element) (
   sum-is : start + (end - start) ≡ end
   sum-is = omega (arith, is.body_for.after)
 
-  pub laid-packet : IsPacket (take end new) new_parts
+  laid-packet : IsPacket (take end new) new_parts
   laid-packet =
       subst (λ (k : ℕ). IsPacket (take k new) new_parts) sum-is
       (packet-laid header (alone_parts packet) is.is_packet refl was old_body (sym is.some) (front_of header old_body) refl form (end - start) body behind_front new is.laid is.body_for.body_is
       long-body whole-body few-bytes)
+
+  pub layout-laid : HasLayout (take end new) (length (take end new)) (Some form)
+  layout-laid = record { parts = new_parts; is_packet = laid-packet; form_is = refl; len_is = omega arith }
 
   module _ (fields : Fields) (allowed : Option ExtensionsForm) (set : List ℕ) (fits : FitsFrom allowed ids (was, old_body) elements news form) (are : AreElements was old_body elements)
       (sets : (parts : PacketParts) → IsPacket (take end new) parts → IsPacket set (with_header_fields fields parts)) (only : ChangesOnly 1 12 (take end new) set) (set_long : length set ≡ end) where
@@ -157,20 +193,6 @@ module _ (packet : RtpPacket) (ids : ℕ → Option ℕ) (news : List Element) (
             set_long,
           );
     }
-
--- a body in the front of a buffer
-pub body-in_front : (form : ExtensionsForm) (ids : ℕ → Option ℕ) (news elements : List Element) (start : ℕ) (slots : List Slot) (buf rest : List ℕ) (end : ℕ) → end ≤ length buf
-    → IsBodyFor form ids news elements start slots buf end → IsBodyFor form ids news elements start slots (buf ++ rest) end
-body-in_front form ids news elements start slots buf rest end within is = record {
-  after = is.after;
-  whole = is.whole;
-  carried = is.carried;
-  no_zero = is.no_zero;
-  body_is = ap (take (end - start)) (drop-append-le start buf rest (omega (arith, is.after, within)))
-      ∙ take-append-le (end - start) (drop start buf) rest (omega (arith, length-drop start buf, within)) ∙ is.body_is;
-  are_elements = is.are_elements;
-  slots_are = is.slots_are;
-}
 
 -- so it is the header of a group
 pub group-by_walk : (old : List ℕ) (ids : ℕ → Option ℕ) (news : List Element) (allowed : Option ExtensionsForm) (header : List ℕ) (slots : List Slot) → HaveOwnIds news

@@ -1,8 +1,9 @@
 -- The form that a block has before the group's elements are put, and once each is.
-use Rattle.std.proofs.Common.{◌≡◌, ◌≢◌, ℕ, ◌+◌, ◌<◌, ◌≤◌, ◌⊎◌, inl, inr, All, List, [], ◌∷◌, ◌++◌, length, take, drop, get_or, Option, Some, None, IfSome, refl, sym, ap, subst, arith, length-append}
+use Rattle.std.proofs.Common.{◌≡◌, ◌≢◌, ℕ, ◌+◌, ◌<◌, ◌≤◌, ◌⊎◌, inl, inr, All, List, [], ◌∷◌, ◌++◌, length, take, drop, get_or, Option, Some, None, IfSome, refl, sym, ap, subst, ◌∙◌, arith, length-append}
 use Rattle.std.specs.List.{AllByRecursion}
 use Rattle.std.proofs.lemmas.Bool.{cases_lt}
 use Rattle.std.proofs.lemmas.List.{map_more}
+use Rattle.std.proofs.lemmas.Option.{same_Some}
 use Rattle.std.proofs.lemmas.List.Elements.{All-nil, All-cons, All-head, All-tail, All-push}
 use Rattle.rtp_ext.specs.declared.form.ExtensionsForm.{ExtensionsForm}
 use Rattle.rtp_ext.specs.declared.form.ExtensionsForm.TheVariants.{OneByte, TwoByte}
@@ -13,6 +14,7 @@ use Rattle.rtp_ext.proofs.AnewLemmas.{AreElements-each}
 use Rattle.rtp_ext.specs.PutElement.{needed_form, allowed_form}
 use Rattle.rtp_ext.proofs.GatheredLemmas.{elements_bytes-append}
 use Rattle.rtp_route.specs.Routing.{IsFormForIds, own_form, two_byte_form, IsFormAfter}
+use Rattle.rtp_route.specs.Walk.{IsStart}
 use Rattle.rtp_route.proofs.LentLemmas.{Lent, element_of, elements-at}
 use Rattle.rtp_route.proofs.RoomLemmas.{narrow-needed}
 use Rattle.rtp_route.proofs.WideLemmas.{wide}
@@ -172,3 +174,13 @@ carries-from allowed ids was start form body elements news (inr (two_byte_form l
     in_two : (f : ExtensionsForm) → IsWritable f element → IsWritable TwoByte element
     in_two OneByte is = carries-wide TwoByte element is
     in_two TwoByte is = is
+
+-- it starts from the block's own form, or from the two-byte form where that is allowed and the own can't carry the new ids
+pub start-own : (allowed : Option ExtensionsForm) (ids : ℕ → Option ℕ) (block : Option (ExtensionsForm × List ℕ)) (form : ExtensionsForm) (bytes : List ℕ) → Some (form, bytes) ≡ block → IsStart allowed ids block form
+start-own allowed ids block form bytes is was body elements same are = inl (ap (λ (b : ExtensionsForm × List ℕ). b.0) (same_Some (form, bytes) (was, body) (is ∙ sym same)))
+
+pub start-two : (allowed : Option ExtensionsForm) (ids : ℕ → Option ℕ) (block : Option (ExtensionsForm × List ℕ)) (form : ExtensionsForm) (bytes : List ℕ) → Some (form, bytes) ≡ block → allowed ≢ Some OneByte
+    → ((elements : List Element) → AreElements form bytes elements → All (CanRenumber form ids) elements → ⊥) → IsStart allowed ids block TwoByte
+start-two allowed ids block form bytes is is_allowed long was body elements same are =
+    let one : (form, bytes) ≡ (was, body) = same_Some (form, bytes) (was, body) (is ∙ sym same) in
+    inr (two_byte_form (subst (λ (b : ExtensionsForm × List ℕ). AreElements b.0 b.1 elements → All (CanRenumber b.0 ids) elements → ⊥) one (long elements) are) is_allowed refl)

@@ -4,7 +4,7 @@ mod NoZeroLemmas
 mod StartLemmas
 mod NewFormLemmas
 mod ChangeFormLemmas
-mod ByCallsLemmas
+pub mod ByCallsLemmas
 mod RoutingLemmas
 mod SameElementsLemmas
 mod NotPutLemmas

@@ -1,7 +1,8 @@
 -- A block that gets the two-byte form for its new ids, and why it may not.
-use Rattle.std.proofs.Common.{◌≡◌, ◌≢◌, ◌↔◌, ℕ, ◌≤◌, Bool, true, false, IsTrue, All, List, [], ◌++◌, length, take, max, Option, Some, None, IfSome, refl, sym, ap, subst, ◌∙◌, arith, append-nil}
+use Rattle.std.proofs.Common.{◌≡◌, ◌≢◌, ◌↔◌, ℕ, ◌+◌, ◌≤◌, Bool, true, false, IsTrue, All, List, [], ◌++◌, length, take, drop, max, Option, Some, None, IfSome, refl, sym, ap, subst, ◌∙◌, arith, append-nil}
 use Rattle.std.specs.Bool.{OnTrue}
 use Rattle.std.proofs.lemmas.Bool.{false≢true}
+use Rattle.std.proofs.lemmas.List.{take-append-drop}
 use Rattle.rtp_ext.specs.declared.form.ExtensionsForm.{ExtensionsForm}
 use Rattle.rtp_ext.specs.declared.form.ExtensionsForm.TheVariants.{OneByte, TwoByte}
 use Rattle.rtp_ext.specs.Elements.{Element, IsElement, AreElements, elements_bytes}
@@ -23,22 +24,38 @@ use Rattle.rtp_route.specs.NotRouted.{HasLongId, KeepsFromNewIds}
 use Rattle.rtp_route.specs.Routing.{CarriesIds}
 use Rattle.rtp_route.proofs.StartLemmas.{same_parts, same_elements}
 
+-- the front of a buffer that didn't change
+pub kept-front : (buf front : List ℕ) (len : ℕ) → front ≡ take len buf → front ++ drop len buf ≡ buf
+kept-front buf front len same = ap (λ (b : List ℕ). b ++ drop len buf) same ∙ take-append-drop len buf
+
 -- ---- new ids of 1 to 255
 
 can-two : (id : Option ℕ) (element : Element) → IfSome id (λ new. (1 ≤ new) × (new ≤ 255)) → IsElement TwoByte element → IfSome id (λ new. IsElement TwoByte (new, element.1))
 can-two None element each is = tt
 can-two (Some id) element each is = (each.0, each.1, is.2)
 
+-- a header alone has no payload
+pub no-payload : (bytes : List ℕ) (form : Option ExtensionsForm) → HasLayout bytes (length bytes) form → (parts : PacketParts) → IsPacket bytes parts → length parts.payload ≡ 0
+no-payload bytes form held parts is = omega (arith, held.len_is, ap (λ (p : PacketParts). length p.payload) (same_parts bytes parts held.parts is held.is_packet))
+
 module _ (ids : ℕ → Option ℕ) (each : (id : ℕ) → IfSome (ids id) (λ new. (1 ≤ new) × (new ≤ 255))) where
   -- the two-byte form can carry them
-  pub carried-two : (body : List ℕ) (elements : List Element) → AreElements TwoByte body elements → All (CanRenumber TwoByte ids) elements
+  carried-two : (body : List ℕ) (elements : List Element) → AreElements TwoByte body elements → All (CanRenumber TwoByte ids) elements
   carried-two body elements are k d there = can-two _ _ (each _) (All-IsElement TwoByte body elements are k d there)
 
   -- so it is the one-byte form that can't
-  pub narrow : (block : Option (ExtensionsForm × List ℕ)) (elements : List Element) → AreElementsOf block elements → (CarriesIds ids block elements → ⊥) → form_of_block block ≡ Some OneByte
+  narrow : (block : Option (ExtensionsForm × List ℕ)) (elements : List Element) → AreElementsOf block elements → (CarriesIds ids block elements → ⊥) → form_of_block block ≡ Some OneByte
   narrow None elements are not_carried = absurd (not_carried tt)
   narrow (Some (OneByte, body)) elements are not_carried = refl
   narrow (Some (TwoByte, body)) elements are not_carried = absurd (not_carried (carried-two body elements are))
+
+  pub narrow-layout : (bytes : List ℕ) (len : ℕ) (form : Option ExtensionsForm) → HasLayout bytes len form → HasLongId bytes ids → HasLayout bytes len (Some OneByte)
+  narrow-layout bytes len form held long = record {
+    parts = long.parts;
+    is_packet = long.is_packet;
+    form_is = sym (narrow long.parts.block long.elements long.are_elements long.not_carried);
+    len_is = ap (λ (n : ℕ). len + n) (ap (λ (p : PacketParts). length p.payload) (same_parts bytes long.parts held.parts long.is_packet held.is_packet)) ∙ held.len_is;
+  }
 
   -- a block that was made anew in the two-byte form gets them
   module _ (zero : ids 0 ≡ None) (allowed : Option ExtensionsForm) (bytes buf new : List ℕ) (len : ℕ) (parts : PacketParts) (elements : List Element) (is : IsPacket bytes parts)
@@ -60,8 +77,8 @@ module _ (ids : ℕ → Option ℕ) (each : (id : ℕ) → IfSome (ids id) (λ n
     are-now =
         subst (AreElements TwoByte changed.body) (append-nil (without 0 changed.remade.elements) ∙ ap (without 0) elements-are) changed.are_elements
 
-    pub layout-now : length parts.payload ≡ 0 → length (take len buf) ≡ len → HasLayout (take len buf) len (Some TwoByte)
-    layout-now none long = record { parts = parts_now; is_packet = is-now; form_is = refl; len_is = omega (arith, none, long) }
+    pub layout-now : length parts.payload ≡ 0 → HasLayout (take len buf) (length (take len buf)) (Some TwoByte)
+    layout-now none = record { parts = parts_now; is_packet = is-now; form_is = refl; len_is = omega (arith, none) }
 
     pub changed-and-renumbered : (answer : Bool) → ((p : PacketParts) (es : List Element) → IsPacket (take len buf) p → AreElementsOf p.block es → IsTrue answer ↔ CarriesIds ids p.block es)
         → ((p : PacketParts) (es : List Element) → IsPacket (take len buf) p → AreElementsOf p.block es → OnTrue answer (IsUnderNewIds ids es (take len buf) p new))
@@ -182,7 +199,14 @@ kept_ids-there here there p q is_p is_q one ids allowed room (NotRouted-NotPut c
   };
 }
 
--- nothing keeps from new ids where their form is allowed and can be had
+-- nothing keeps from new ids that can be carried
+pub none-long : (bytes : List ℕ) (ids : ℕ → Option ℕ) (allowed : Option ExtensionsForm) (room : ℕ) → (HasLongId bytes ids → ⊥) → (cause : NotRouted) → KeepsFromNewIds bytes ids allowed room cause → ⊥
+none-long bytes ids allowed room none ManyElements kept = kept
+none-long bytes ids allowed room none RepeatedId kept = kept
+none-long bytes ids allowed room none NotRouted-LongId kept = none kept.0
+none-long bytes ids allowed room none (NotRouted-NotPut cause) kept = none kept.long
+
+-- nor where their form is allowed and can be had
 pub none-new_ids : (bytes : List ℕ) (ids : ℕ → Option ℕ) (allowed : Option ExtensionsForm) (room : ℕ) → allowed ≢ Some OneByte
     → ((cause : NotPut) → KeepsFromForm bytes room (Some OneByte) TwoByte cause → ⊥) → (cause : NotRouted) → KeepsFromNewIds bytes ids allowed room cause → ⊥
 none-new_ids bytes ids allowed room is_allowed none ManyElements kept = kept

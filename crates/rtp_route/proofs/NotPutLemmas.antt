@@ -1,5 +1,6 @@
 -- Elements of which each is put, and the one that isn't.
-use Rattle.std.proofs.Common.{◌≡◌, ℕ, ◌+◌, ◌<◌, ◌≤◌, ◌⊎◌, inl, inr, List, [], ◌∷◌, ◌++◌, length, take, drop, get_or, Option, Result, Ok, Err, IfErr, refl, sym, ap, subst, ◌∙◌, arith}
+use Rattle.std.proofs.Common.{◌≡◌, ℕ, ◌+◌, ◌<◌, ◌≤◌, ◌⊎◌, inl, inr, List, [], ◌∷◌, ◌++◌, length, take, drop, get_or, Option, Result, Ok, Err, IsErr, IfOk, IfErr, ◌↔◌, refl, sym, ap, subst, ◌∙◌, arith}
+use Rattle.std.proofs.lemmas.Bool.{false≢true}
 use Rattle.std.proofs.lemmas.List.{take-append-drop, map-append}
 use Rattle.rtp_ext.specs.declared.form.ExtensionsForm.{ExtensionsForm}
 use Rattle.rtp_ext.specs.Elements.{Element}
@@ -149,20 +150,23 @@ kept-template old ids news allowed room for RepeatedId kept = absurd kept
 kept-template old ids news allowed room for NotRouted-LongId kept = (for, kept)
 kept-template old ids news allowed room for (NotRouted-NotPut cause) kept = (for, kept)
 
-pub none-kept_template : (old : List ℕ) (ids : ℕ → Option ℕ) (news : List Element) (allowed : Option ExtensionsForm) (room : ℕ) → AreForTemplate news
+none-kept_template : (old : List ℕ) (ids : ℕ → Option ℕ) (news : List Element) (allowed : Option ExtensionsForm) (room : ℕ) → AreForTemplate news
     → ((cause : NotRouted) → KeepsFromRouting old no_fields ids news allowed room cause → ⊥) → (cause : NotRouted) → KeepsFromTemplate old ids news allowed room cause → ⊥
 none-kept_template old ids news allowed room for none ManyElements kept = omega (arith, kept, for.0)
 none-kept_template old ids news allowed room for none RepeatedId kept = kept.1 for.1
 none-kept_template old ids news allowed room for none NotRouted-LongId kept = none NotRouted-LongId kept.1
 none-kept_template old ids news allowed room for none (NotRouted-NotPut cause) kept = none (NotRouted-NotPut cause) kept.1
 
--- what keeps a template from being made keeps its header
-pub kept-routing : (old : List ℕ) (ids : ℕ → Option ℕ) (news : List Element) (allowed : Option ExtensionsForm) (room : ℕ) → AreForTemplate news → (cause : NotRouted)
-    → KeepsFromTemplate old ids news allowed room cause → KeepsFromRouting old no_fields ids news allowed room cause
-kept-routing old ids news allowed room few ManyElements kept = absurd (omega (arith, few.0, kept))
-kept-routing old ids news allowed room few RepeatedId kept = absurd (kept.1 few.1)
-kept-routing old ids news allowed room few NotRouted-LongId kept = kept.1
-kept-routing old ids news allowed room few (NotRouted-NotPut cause) kept = kept.1
+-- where a cause applies to what is refused, and none to what isn't, it is refused exactly where one applies
+pub refused-exactly : {A E : Type 0} (result : Result A E) (P : E → Type 0) → IfErr result P → IfOk result (λ _. (e : E) → P e → ⊥) → IsErr result ↔ ((e : E) × P e)
+refused-exactly (Ok a) P kept none = (λ wrong. absurd (false≢true wrong), λ fact. absurd (none fact.0 fact.1))
+refused-exactly (Err e) P kept none = (λ _. (e, kept), λ _. refl)
+
+pub refused-template : {A : Type 0} (result : Result A NotRouted) (old : List ℕ) (ids : ℕ → Option ℕ) (news : List Element) (allowed : Option ExtensionsForm) (room : ℕ) → AreForTemplate news
+    → IfErr result (KeepsFromRouting old no_fields ids news allowed room) → IfOk result (λ _. (cause : NotRouted) → KeepsFromRouting old no_fields ids news allowed room cause → ⊥)
+    → IsErr result ↔ ((cause : NotRouted) × KeepsFromTemplate old ids news allowed room cause)
+refused-template (Ok a) old ids news allowed room for kept none = (λ wrong. absurd (false≢true wrong), λ fact. absurd (none-kept_template old ids news allowed room for none fact.0 fact.1))
+refused-template (Err e) old ids news allowed room for kept none = (λ _. (e, kept-template old ids news allowed room for e kept), λ _. refl)
 
 -- what is so of a cause where another thing is
 pub on-err : {A E : Type 0} (result : Result A E) (P Q : E → Type 0) → ((e : E) → P e → Q e) → IfErr result P → IfErr result Q

@@ -1,8 +1,8 @@
 -- A header whose P is cleared, with a number behind it.
-use Rattle.std.proofs.Common.{◌≡◌, ℕ, zero, suc, map, Option, ◌+◌, ◌*◌, ◌/◌, ◌%◌, ◌<◌, ◌≤◌, List, [], ◌∷◌, ◌++◌, length, take, drop, false, refl, sym, ap, subst, ◌∙◌, arith, bit_and}
+use Rattle.std.proofs.Common.{◌≡◌, ℕ, zero, suc, map, Option, ◌+◌, ◌*◌, ◌/◌, ◌%◌, ◌<◌, ◌≤◌, List, [], ◌∷◌, ◌++◌, length, take, drop, false, refl, sym, ap, subst, ◌∙◌, arith, bit_and, take_at}
 use Rattle.std.specs.Prelude.{slice_index}
 use Rattle.std.specs.Int.{w16, to_be_bytes}
-use Rattle.std.proofs.lemmas.List.{drop-take, drop_all, append-nil, get_or-take, get_or-drop}
+use Rattle.std.proofs.lemmas.List.{take-take, drop-take, drop_all, append-nil, get_or-take, get_or-drop}
 use Rattle.std.proofs.lemmas.Nat.{and-not, and_comm, and_mask}
 use Rattle.std.proofs.lemmas.Nat.Bits.{and_pow}
 use Rattle.rtp_base.specs.Overwriting.{overwritten}
@@ -15,12 +15,15 @@ use Rattle.rtp_wire.proofs.PacketLemmas.{IsPacket-whole, whole_and_parts}
 use Rattle.rtp_wire.proofs.PaddingChanges.{HasHeader-padding, parts-padding, only-padding, padding-put, second_fits, IsPacket-longer}
 use Rattle.rtp_ext.specs.declared.form.ExtensionsForm.{ExtensionsForm}
 use Rattle.rtp_ext.specs.Elements.{Element}
+use Rattle.rtp_ext.proofs.ElementLemmasOfBodies.{AreBytes}
+use Rattle.rtp_ext.proofs.ValuesFound.{AreBytes-front}
 use Rattle.rtp_wire.specs.declared.packet.fields.Fields.{Fields}
 use Rattle.rtp_route.specs.declared.slots.Slot.{Slot}
 use Rattle.rtp_route.specs.GroupHeader.{IsGroupHeader}
 use Rattle.rtp_route.specs.Retransmitted.{without_padding_bit, with_number, IsRoutedAgain, IsFilledInAgain}
 use Rattle.rtp_route.specs.Routing.{IsRouted}
 use Rattle.rtp_route.specs.Template.{with_data, slot_lengths}
+use Rattle.rtp_route.proofs.OneHeaderLemmas.{one-header}
 use Rattle.rtp_route.proofs.StartLemmas.{same_parts}
 use Rattle.rtp_route.proofs.TemplateLemmas.{routed-filled}
 
@@ -101,9 +104,36 @@ again-of old fields number ids news allowed header new routed bytes = record {
   bytes_are = bytes;
 }
 
+-- in the front of a buffer
+pub again-in_front : (old : List ℕ) (fields : Fields) (number : ℕ) (ids : ℕ → Option ℕ) (news : List Element) (allowed : Option ExtensionsForm) (n header_len len : ℕ) (buf new : List ℕ) → header_len ≡ n
+    → header_len ≤ len → length new ≡ len → IsRouted old fields ids news allowed (take n buf) → new ≡ with_number (take header_len (take len buf)) number
+    → IsRoutedAgain old fields number ids news allowed (take len (new ++ drop len buf))
+again-in_front old fields number ids news allowed n header_len len buf new same within long routed bytes =
+    subst (IsRoutedAgain old fields number ids news allowed) (sym (take_at new (drop len buf) len long))
+    (again-of old fields number ids news allowed (take n buf) new routed
+    (bytes ∙ ap (λ (b : List ℕ). with_number b number) (take-take header_len len buf within ∙ ap (λ (k : ℕ). take k buf) same)))
+
 -- and of a group's header that is filled in
 pub routed-again : (old : List ℕ) (ids : ℕ → Option ℕ) (news : List Element) (allowed : Option ExtensionsForm) (header : List ℕ) (slots : List Slot) (fields : Fields) (number : ℕ) (contents : List (List ℕ))
     (new : List ℕ) → IsGroupHeader old ids news allowed header slots → map length contents ≡ slot_lengths slots → IsFilledInAgain header slots fields number contents new
     → IsRoutedAgain old fields number ids (with_data news contents) allowed new
 routed-again old ids news allowed header slots fields number contents new is same filled =
     again-of old fields number ids (with_data news contents) allowed filled.own new (routed-filled old ids news allowed header slots fields contents filled.own is same filled.filled) filled.bytes_are
+
+-- ---- one list of bytes
+
+are_again : (header : List ℕ) (number : ℕ) (parts : PacketParts) → IsPacket header parts → AreBytes (with_number header number) → AreBytes header
+are_again [] number parts is all k = omega arith
+are_again (x ∷ xs) number parts is all zero = let whole = whole_and_parts (x ∷ xs) parts is in omega (arith, whole.0.version)
+are_again (x ∷ xs) number parts is all (suc k) =
+    let first : List ℕ = without_padding_bit x ∷ [] in
+    let front = AreBytes-front (overwritten (x ∷ xs) 0 first) (to_be_bytes w16 number) all in
+    subst AreBytes (overwritten-front (x ∷ xs) first) front (suc k)
+
+-- a receiver's header with a number behind it is one list of bytes
+pub one-again : (old : List ℕ) (fields : Fields) (number : ℕ) (ids : ℕ → Option ℕ) (news : List Element) (allowed : Option ExtensionsForm) (a b : List ℕ) → AreBytes a → AreBytes b
+    → IsRoutedAgain old fields number ids news allowed a → IsRoutedAgain old fields number ids news allowed b → a ≡ b
+one-again old fields number ids news allowed a b all_a all_b p q =
+    let of_a = are_again p.header number _ p.routed.is_packet (subst AreBytes p.bytes_are all_a) in
+    let of_b = are_again q.header number _ q.routed.is_packet (subst AreBytes q.bytes_are all_b) in
+    p.bytes_are ∙ ap (λ (header : List ℕ). with_number header number) (one-header old fields ids news allowed p.header q.header of_a of_b p.routed q.routed) ∙ sym q.bytes_are

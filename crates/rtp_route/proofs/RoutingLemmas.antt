@@ -1,6 +1,6 @@
 -- The calls one after another make the header that the route makes.
-use Rattle.std.proofs.Common.{◌≡◌, ◌≢◌, ℕ, ◌+◌, ◌*◌, ◌≤◌, Bool, true, List, [], ◌∷◌, ◌++◌, length, take, drop, Option, Some, None, refl, sym, ap, subst, ◌∙◌, arith, append_assoc, append-nil, take_at, Result, Ok, Err, IfOk}
-use Rattle.std.specs.List.{concat, filter_map}
+use Rattle.std.proofs.Common.{◌≡◌, ◌≢◌, ℕ, ◌+◌, ◌*◌, ◌≤◌, Bool, true, List, [], ◌∷◌, ◌++◌, length, take, drop, Option, Some, None, refl, sym, ap, subst, ◌∙◌, append-nil, Result, Ok, Err, IfOk}
+use Rattle.std.specs.List.{filter_map}
 use Rattle.std.proofs.lemmas.List.Elements.{All-head, All-tail}
 use Rattle.rtp_ext.specs.declared.form.ExtensionsForm.{ExtensionsForm}
 use Rattle.rtp_ext.specs.Elements.{Element, AreElements, elements_bytes}
@@ -11,15 +11,16 @@ use Rattle.rtp_ext.proofs.PutLemmas.{without-none}
 use Rattle.rtp_wire.specs.declared.packet.fields.Fields.{Fields}
 use Rattle.rtp_wire.specs.GivenFields.{with_header_fields}
 use Rattle.rtp_wire.specs.NotAHeader.{sources_end}
-use Rattle.rtp_wire.specs.Packet.{PacketParts, IsPacket, header_len_of}
+use Rattle.rtp_wire.specs.Packet.{PacketParts, IsPacket}
 use Rattle.rtp_wire.specs.PartsOf.{parts_of, datagram_of}
 use Rattle.rtp_wire.specs.declared.packet.rtp_packet.RtpPacket.{RtpPacket}
 use Rattle.rtp_wire.specs.PacketElements.{AreElementsOf}
 use Rattle.rtp_wire.specs.PutIntoPacket.{form_of_block, body_of_block, elements_with, compact_block, PutsElement, Compacts}
-use Rattle.rtp_wire.proofs.PartsLemmas.{length-packet, IsPacket-found}
+use Rattle.rtp_wire.proofs.PartsLemmas.{IsPacket-found}
 use Rattle.rtp_wire.proofs.ResizedLemmas.{sources_end-is}
 use Rattle.rtp_route.specs.Calls.{ArePut, IsRoutedByCalls, header_in}
 use Rattle.rtp_route.specs.Routing.{put_all, IsFormForIds, IsFormAfter, extension_after, row_in, routed_parts, word_bytes, KeepsWord, IsRouted}
+use Rattle.rtp_route.proofs.ByCallsLemmas.{header-split, header-alone}
 use Rattle.rtp_route.proofs.NoZeroLemmas.{none_zero-put, none_zero-without}
 use Rattle.rtp_route.proofs.StartLemmas.{same_parts, same_elements, started, start-form, start-either}
 use Rattle.rtp_route.proofs.WordLemmas.{word_at_end, word_in_front, word_in_take, word_within, word_of, KeepsWord-then, KeepsWord-put, KeepsWord-from}
@@ -93,35 +94,6 @@ row-compact (Some block) None elements is = absurd cc
 row-compact (Some block) (Some form) elements is =
     let same : block.0 ≡ form = cc in
     ap (λ (f : ExtensionsForm). Some (f, filled (elements_bytes f (without 0 elements)))) same
-
--- a packet is its header and its payload
-pub header-split : (bytes : List ℕ) (parts : PacketParts) → IsPacket bytes parts → (header : List ℕ) × (bytes ≡ header ++ parts.payload) × IsPacket header (record parts { payload = [] })
-header-split bytes parts is =
-    let header : List ℕ = is.fixed ++ (concat is.groups ++ (is.part ++ [])) in
-    let split : bytes ≡ header ++ parts.payload = is.in_order ∙ sym (behind is.fixed (concat is.groups) is.part parts.payload) in (
-      header,
-      split,
-      record {
-        fixed = is.fixed;
-        groups = is.groups;
-        part = is.part;
-        in_order = refl;
-        fixed_is = record {
-          twelve = is.fixed_is.twelve;
-          first_is = is.fixed_is.first_is;
-          second_is = is.fixed_is.second_is;
-          number_is = is.fixed_is.number_is;
-          timestamp_is = is.fixed_is.timestamp_is;
-          ssrc_is = is.fixed_is.ssrc_is;
-        };
-        sources_are = is.sources_are;
-        part_is = is.part_is;
-      },
-    )
-  where
-    behind : (a b c d : List ℕ) → (a ++ (b ++ (c ++ []))) ++ d ≡ a ++ (b ++ (c ++ d))
-    behind a b c d =
-        append_assoc a (b ++ (c ++ [])) d ∙ ap (λ (xs : List ℕ). a ++ xs) (append_assoc b (c ++ []) d) ∙ ap (λ (xs : List ℕ). a ++ (b ++ (xs ++ d))) (append-nil c)
 
 pub routed-by_calls : (old new : List ℕ) (len : ℕ) (fields : Fields) (ids : ℕ → Option ℕ) (news : List Element) (allowed : Option ExtensionsForm) → HasNone news 0
     → (calls : IsRoutedByCalls old fields ids news allowed new len)
@@ -239,8 +211,5 @@ on-ok (Err e) P Q R gives p q = p
 pub routed-of : (packet : RtpPacket) (new : List ℕ) (len : ℕ) (fields : Fields) (ids : ℕ → Option ℕ) (news : List Element) (allowed : Option ExtensionsForm) → HasNone news 0
     → IsRoutedByCalls (header_in packet) fields ids news allowed new len → IsRouted (datagram_of packet) fields ids news allowed (take len new)
 routed-of packet new len fields ids news allowed no_zero calls =
-    let split = header-split packet.datagram.now (parts_of packet) (IsPacket-found packet) in
-    let long : length split.0 ≡ header_len_of (parts_of packet) = omega (arith, length-packet split.0 (record (parts_of packet) { payload = [] }) split.2) in
-    let here : header_in packet ≡ split.0 = ap (take (header_len_of (parts_of packet))) split.1 ∙ take_at split.0 (parts_of packet).payload (header_len_of (parts_of packet)) long in
-    routed-whole packet.datagram.now split.0 (parts_of packet) new len fields ids news allowed (IsPacket-found packet) split.2 split.1 no_zero
-    (subst (λ (h : List ℕ). IsRoutedByCalls h fields ids news allowed new len) here calls)
+    let alone = header-alone packet in
+    routed-whole packet.datagram.now (header_in packet) (parts_of packet) new len fields ids news allowed (IsPacket-found packet) alone.1 alone.0 no_zero calls

@@ -8,7 +8,7 @@ use Rattle.rtp_base.specs.Overwriting.{overwritten}
 use Rattle.rtp_ext.specs.declared.form.ExtensionsForm.{ExtensionsForm}
 use Rattle.rtp_ext.specs.declared.form.ExtensionsForm.TheVariants.{OneByte, TwoByte}
 use Rattle.rtp_ext.specs.Elements.{Element, IsElement, elements_bytes, AreElements}
-use Rattle.rtp_ext.specs.ElementsInPlace.{renumbered}
+use Rattle.rtp_ext.specs.ElementsInPlace.{HasNone, renumbered}
 use Rattle.rtp_ext.specs.PutElement.{without, needed_form, allowed_form}
 use Rattle.rtp_ext.specs.WrittenBlock.{filled}
 use Rattle.rtp_ext.proofs.NewIdLemmas.{All-IsElement}
@@ -17,7 +17,7 @@ use Rattle.rtp_wire.specs.ChangedPacket.{ChangesOnly}
 use Rattle.rtp_wire.specs.Packet.{PacketParts, IsPacket, header_len_of}
 use Rattle.rtp_wire.specs.PacketElements.{AreElementsOf}
 use Rattle.rtp_route.specs.declared.slots.Slot.{Slot}
-use Rattle.rtp_route.specs.Calls.{no_fields, header_in}
+use Rattle.rtp_route.specs.Calls.{IsRoutedByCalls, no_fields, header_in}
 use Rattle.rtp_route.specs.Routing.{put_all, IsFormAfter, extension_after, row_in, routed_elements, routed_parts, word_bytes, IsRouted}
 use Rattle.rtp_wire.specs.declared.packet.rtp_packet.RtpPacket.{RtpPacket}
 use Rattle.rtp_wire.specs.PartsOf.{parts_of, datagram_of}
@@ -29,6 +29,7 @@ use Rattle.rtp_route.specs.GroupHeader.{IsGroupHeader, IsFilledIn}
 use Rattle.rtp_route.specs.TemplateOf.{header_of, slots_in, lengths_of, IsTemplate}
 use Rattle.rtp_route.proofs.ByCallsLemmas.{front-put}
 use Rattle.rtp_route.proofs.BodyLemmas.{has-body}
+use Rattle.rtp_route.proofs.RoutingLemmas.{routed-of}
 use Rattle.rtp_route.proofs.OnlyLemmas.{elements-by_turns, filled-elements, only-put_all}
 use Rattle.rtp_route.proofs.WordLemmas.{word_of, word_in_front, from_twelve}
 use Rattle.rtp_route.proofs.SetDataLemmas.{all_set, sets, put_all-data, element-alike, middle, elements-set}
@@ -197,19 +198,25 @@ copied-header packet header buf new alone front put room =
     whole-put buf new header put (omega (arith, room, long))
     ∙ sym (ap (take (header_len_of (parts_of packet))) front ∙ take_at header (parts_of packet).payload (header_len_of (parts_of packet)) (sym long))
 
--- the header of a group is all of its bytes
-pub group-length : (old : List ℕ) (ids : ℕ → Option ℕ) (news : List Element) (allowed : Option ExtensionsForm) (packet : RtpPacket) (slots : List Slot)
-    → IsGroupHeader old ids news allowed (datagram_of packet) slots → header_len_of (parts_of packet) ≡ length (datagram_of packet)
-group-length old ids news allowed packet slots is =
-    let parts : PacketParts = set_parts no_fields ids news is.routed.form is.routed.elements is.routed.parts in
-    let parts_is : parts_of packet ≡ parts = one_packet (datagram_of packet) parts is.routed.is_packet in
+-- a header that is routed is all of its bytes
+pub routed-length : (old : List ℕ) (fields : Fields) (ids : ℕ → Option ℕ) (news : List Element) (allowed : Option ExtensionsForm) (packet : RtpPacket) → IsRouted old fields ids news allowed (datagram_of packet)
+    → header_len_of (parts_of packet) ≡ length (datagram_of packet)
+routed-length old fields ids news allowed packet is =
+    let parts_is : parts_of packet ≡ set_parts fields ids news is.form is.elements is.parts = one_packet (datagram_of packet) _ is.is_packet in
     let none : length (parts_of packet).payload ≡ 0 = ap (λ (p : PacketParts). length p.payload) parts_is in
     omega (arith, none, length-packet (datagram_of packet) (parts_of packet) (IsPacket-found packet))
+
+-- so it is that of the calls
+pub routed-alone : (packet header : RtpPacket) (fields : Fields) (ids : ℕ → Option ℕ) (news : List Element) (allowed : Option ExtensionsForm) (buf : List ℕ) (len : ℕ) → fields ≡ no_fields → HasNone news 0
+    → IsRoutedByCalls (header_in packet) fields ids news allowed buf len → datagram_of header ≡ take len buf → IsRouted (datagram_of packet) no_fields ids news allowed (datagram_of header)
+routed-alone packet header fields ids news allowed buf len none no_zero calls bytes =
+    subst (IsRouted (datagram_of packet) no_fields ids news allowed) (sym bytes)
+    (subst (λ (f : Fields). IsRouted (datagram_of packet) f ids news allowed (take len buf)) none (routed-of packet buf len fields ids news allowed no_zero calls))
 
 whole-header : (old : List ℕ) (ids : ℕ → Option ℕ) (news : List Element) (allowed : Option ExtensionsForm) (template : HeaderTemplate) → IsTemplate old ids news allowed template
     → header_in template.header ≡ header_of template
 whole-header old ids news allowed template is =
-    let long : header_len_of (parts_of template.header) ≡ length (header_of template) = group-length old ids news allowed template.header (slots_in template) is in
+    let long : header_len_of (parts_of template.header) ≡ length (header_of template) = routed-length old no_fields ids news allowed template.header is.routed in
     take_all (header_len_of (parts_of template.header)) (header_of template) (omega (arith, long))
 
 -- the header that is written for a receiver

@@ -10,8 +10,13 @@ use Rattle.rtp_ext.specs.ElementsInARow.{IsWritable}
 use Rattle.rtp_ext.specs.ElementsInPlace.{HasNone, renumbered, CanRenumber}
 use Rattle.rtp_ext.specs.WrittenBlock.{filled}
 use Rattle.rtp_wire.specs.declared.packet.fields.Fields.{Fields}
+use Rattle.rtp_wire.specs.declared.packet.rtp_packet.RtpPacket.{RtpPacket}
+use Rattle.rtp_wire.specs.PartsOf.{datagram_of}
+use Rattle.rtp_route.specs.declared.not_routed.NotRouted.{NotRouted}
 use Rattle.rtp_route.specs.declared.slots.Slot.{Slot}
-use Rattle.rtp_route.specs.Routing.{IsRouted, put_all, routed_elements}
+use Rattle.rtp_route.specs.Calls.{header_in}
+use Rattle.rtp_route.specs.NotRouted.{KeepsFromRouting}
+use Rattle.rtp_route.specs.Routing.{IsRouted, IsFormForIds, put_all, routed_elements}
 use Rattle.rtp_route.specs.Template.{IsSlot, AreSlots, data_lengths, slot_lengths, body_start_of}
 
 -- the place of an element among these in a row, or 0 where none has its id
@@ -71,3 +76,16 @@ pub record IsMadeFor (old : List ℕ) (fields : Fields) (ids : ℕ → Option �
       → AreSlots form (body_start_of routed.parts) (routed_elements ids news routed.elements) news slots
   pub lengths_are : slot_lengths slots ≡ data_lengths news
   pub within : All (λ (slot : Slot). slot.start + slot.len ≤ length header) slots
+
+-- before the group's elements are put the block has this form: its own, or the one in which it carries its elements under their new ids
+abbrev pub IsStart : Option ExtensionsForm → (ℕ → Option ℕ) → Option (ExtensionsForm × List ℕ) → ExtensionsForm → Type 0
+IsStart allowed ids block start =
+    (was : ExtensionsForm) (body : List ℕ) (elements : List Element) → Some (was, body) ≡ block → AreElements was body elements
+    → (start ≡ was) ⊎ IsFormForIds allowed ids (Some (was, body)) elements (Some start)
+
+-- a walk made that header in the first bytes of the buffer, and the calls would make it too in a buffer of so many bytes: nothing keeps them from it
+pub record IsWalked (packet : RtpPacket) (fields : Fields) (ids : ℕ → Option ℕ) (news : List Element) (allowed : Option ExtensionsForm) (room : ℕ) (buf : List ℕ) (slots : List Slot) (len : ℕ) : Type 0 where
+  pub made : IsMadeFor (datagram_of packet) fields ids news allowed (take len buf) slots
+  pub none_refused : (cause : NotRouted) → KeepsFromRouting (header_in packet) fields ids news allowed room cause → ⊥
+  pub within : len ≤ length buf
+  pub short : len ≤ 262140

@@ -20,9 +20,8 @@ ghost use Rattle.rtp_route.specs.Routing.{IsRouted};
 
 use super::NotRouted;
 use super::by_walk::write_by_walk;
-use super::in_place::{change_form, is_one_byte_only, known_ids, renumber, set_fields};
+use super::in_place::{change_form, copy_header, is_one_byte_only, known_ids, renumber};
 use super::slots::{MAX_ELEMENTS, Slot, have_own_ids};
-use rtp_base::put;
 use rtp_ext::{ExtensionsForm, NewIds};
 use rtp_wire::{Fields, NotPut, RtpPacket, compact_copy, put_element_copy};
 
@@ -51,10 +50,10 @@ fn put_each(buf: &mut [u8], len: usize, group: &Group<'_>) -> Result<usize, NotP
         (elements_of group.now.elements.now) group.now.allowed (length buf.old)) }
 
     // What keeps an element from another packet that says the same keeps one from this packet.
-    ensures refused { (packet : List ℕ) (cause : NotPut) →
+    ensures none_refused { IfOk result (λ _. (packet : List ℕ) (cause : NotPut) →
         HasSameElements packet (take len buf.old) →
         IsNotPutAmong packet (elements_of group.now.elements.now) group.now.allowed
-        (length buf.old) cause → IsErr result }
+        (length buf.old) cause → ⊥) }
 {
     let mut len = len;
     for (id, data) in group.elements {
@@ -81,10 +80,11 @@ fn renumber_in_form(
     ensures within { IfOk result (λ new_len. new_len ≤ length buf.old) }
     ensures cause { IfErr result (KeepsFromNewIds (take len buf.old) (new_id group.now.ids.now)
         group.now.allowed (length buf.old)) }
-    ensures refused { IsErr result ↔ ((cause : NotRouted) × KeepsFromNewIds (take len buf.old)
-        (new_id group.now.ids.now) group.now.allowed (length buf.old) cause) }
+    ensures none_refused { IfOk result (λ _. (cause : NotRouted) →
+        KeepsFromNewIds (take len buf.old) (new_id group.now.ids.now) group.now.allowed
+        (length buf.old) cause → ⊥) }
 {
-    if renumber(&mut buf[..len], len, form, group.ids) {
+    if renumber(&mut buf[..len], form, group.ids) {
         return Ok(len);
     }
     if is_one_byte_only(group.allowed) {
@@ -93,12 +93,8 @@ fn renumber_in_form(
     known_ids(group.ids);
     let new_len = change_form(buf, len)?;
     // The two-byte form carries each of them.
-    renumber(
-        &mut buf[..new_len],
-        new_len,
-        Some(ExtensionsForm::TwoByte),
-        group.ids,
-    );
+    let two_byte_form = Some(ExtensionsForm::TwoByte);
+    renumber(&mut buf[..new_len], two_byte_form, group.ids);
     Ok(new_len)
 }
 
@@ -119,19 +115,16 @@ pub(super) fn make_header(
     ensures cause { IfErr result (KeepsFromRouting (header_in packet.now) fields.now
         (new_id group.now.ids.now) (elements_of group.now.elements.now) group.now.allowed
         (length buf.old)) }
-    ensures refused { IsErr result ↔ ((cause : NotRouted)
-        × KeepsFromRouting (header_in packet.now) fields.now (new_id group.now.ids.now)
-        (elements_of group.now.elements.now) group.now.allowed (length buf.old) cause) }
+    ensures none_refused { IfOk result (λ _. (cause : NotRouted) →
+        KeepsFromRouting (header_in packet.now) fields.now (new_id group.now.ids.now)
+        (elements_of group.now.elements.now) group.now.allowed (length buf.old) cause → ⊥) }
 {
-    let header = packet.header_bytes();
-    let needed = header.len();
+    let needed = packet.header_len();
     if buf.len() < needed {
         return Err(NotRouted::NotPut(NotPut::NoRoom { needed }));
     }
-    put(buf, 0, header);
-    let form = packet.form();
-    set_fields(&mut buf[..needed], needed, form, fields);
-    let start = renumber_in_form(buf, needed, form, group)?;
+    copy_header(packet, fields, &mut buf[..needed]);
+    let start = renumber_in_form(buf, needed, packet.form(), group)?;
     let len = put_each(buf, start, group)?;
     // It is still a packet.
     Ok(compact_copy::<1>(&mut buf[..len]).unwrap())

@@ -1,17 +1,14 @@
 //! A packet's header for a group of receivers, made in one walk over its elements.
 
-ghost use Rattle.std.specs.Prelude.{◌≡◌, ◌≢◌, ◌+◌, ◌-◌, ◌*◌, ◌≤◌, ◌⊎◌, List, Some, length, take, drop, All, IsTrue, IfSome};
+ghost use Rattle.std.specs.Prelude.{◌≡◌, ◌≢◌, ◌-◌, ◌*◌, ◌≤◌, Some, length, take, drop, All, IfSome};
 ghost use Rattle.rtp_ext.specs.declared.form.ExtensionsForm.TheVariants.{OneByte, TwoByte};
-ghost use Rattle.rtp_ext.specs.Elements.{Element, AreElements, elements_bytes};
+ghost use Rattle.rtp_ext.specs.Elements.{elements_bytes};
 ghost use Rattle.rtp_ext.specs.ElementsInARow.{elements_of, IsWritable};
 ghost use Rattle.rtp_ext.specs.NewIds.{new_id};
-ghost use Rattle.rtp_wire.specs.PartsOf.{datagram_of};
-ghost use Rattle.rtp_route.specs.declared.not_routed.NotRouted.{NotRouted};
-ghost use Rattle.rtp_route.specs.Calls.{header_in};
-ghost use Rattle.rtp_route.specs.NotRouted.{KeepsFromRouting};
-ghost use Rattle.rtp_route.specs.Routing.{IsFormForIds, IsFormAfter};
+ghost use Rattle.rtp_wire.specs.PartsOf.{parts_of};
+ghost use Rattle.rtp_route.specs.Routing.{IsFormAfter};
 ghost use Rattle.rtp_route.specs.Template.{HaveOwnIds};
-ghost use Rattle.rtp_route.specs.Walk.{IsFrontWith, IsMadeFor};
+ghost use Rattle.rtp_route.specs.Walk.{IsFrontWith, IsStart, IsWalked};
 
 use super::Group;
 use super::in_place::{is_one_byte_only, set_fields};
@@ -27,31 +24,6 @@ const LONG_BODY: usize = 256;
 
 // The most bytes of a header that is made so: as many as the body of a block may have.
 const MAX_LEN: usize = 4 * 65_535;
-
-// The form that a block has before the group's elements are put: its own at the first try, which
-// looks at no id before it writes; at the second the two-byte form, and `None` where its own can carry
-// the new ids.
-#[inline(always)]
-fn start_form(
-    was: ExtensionsForm,
-    body: &[u8],
-    group: &Group<'_>,
-    second: bool,
-) -> Option<ExtensionsForm>
-    requires { IsTrue second → group.now.allowed ≢ Some OneByte }
-    ensures { IfSome result (λ start. (elements : List Element) →
-        AreElements was body.now elements → (start ≡ was)
-        ⊎ IsFormForIds group.now.allowed (new_id group.now.ids.now) (Some (was, body.now))
-        elements (Some start)) }
-{
-    if !second {
-        return Some(was);
-    }
-    if can_renumber(was, body, group.ids) {
-        return None;
-    }
-    Some(ExtensionsForm::TwoByte)
-}
 
 // The form that a block of this form gets with the group's elements put into it one after another.
 // `None` where one can't be put, or they take more than the room in the two-byte form.
@@ -102,55 +74,42 @@ fn put_front(
 
 // Writes the header that the packet gets with these fields for the group, as
 // [`route_header`](super::route_header) does, in one walk over its elements: it returns how many
-// bytes it has, and the places are those of the data of the group's elements. The second try is for
-// new ids that the block's form can't carry. `None` where no walk can be taken: without a block of
-// one of the two forms, for a long one, or little room, and where an element can't be put; and
-// `Some(None)` where it came to no end: for several elements of the id of one that is put, little
-// room or, at the first try, an id that can't be carried. The buffer and the places then are any.
+// bytes it has, and the places are those of the data of the group's elements. The block has the form
+// `start` before they are put. `None` without a block of one of the two forms, and where the form
+// can't carry a new id, an element can't be put, several have the id of one that is put, or there may
+// be too little room. The buffer and the places then are any.
 #[inline(always)]
 fn write_from(
     packet: &RtpPacket<'_>,
+    start: ExtensionsForm,
     fields: &Fields,
     group: &Group<'_>,
     buf: &mut [u8],
     slots: &mut [Slot; MAX_ELEMENTS],
-    second: bool,
-) -> Option<Option<usize>>
-    requires allowed { IsTrue second → group.now.allowed ≢ Some OneByte }
+) -> Option<usize>
+    requires start { IsStart group.now.allowed (new_id group.now.ids.now)
+        (parts_of packet.now).block start }
     requires payload_type { IfSome fields.now.payload_type (λ pt. pt ≤ 127) }
     requires few { length group.now.elements.now ≤ 16 }
     requires own { HaveOwnIds (elements_of group.now.elements.now) }
-    ensures made { IfSome result (λ end. IfSome end (λ len. IsMadeFor (datagram_of packet.now)
-        fields.now (new_id group.now.ids.now) (elements_of group.now.elements.now)
-        group.now.allowed (take len buf.new)
-        (take (length group.now.elements.now) slots.new))) }
-    ensures within { IfSome result (λ end. IfSome end (λ len. len ≤ length buf.new)) }
-    ensures short { IfSome result (λ end. IfSome end (λ len. len ≤ 262140)) }
-    ensures places { length slots.new ≡ 16 }
-    ensures none_refused { IfSome result (λ end. IfSome end (λ _. (cause : NotRouted) →
-        KeepsFromRouting (header_in packet.now) fields.now (new_id group.now.ids.now)
-        (elements_of group.now.elements.now) group.now.allowed (length buf.old) cause → ⊥)) }
+    ensures { IfSome result (IsWalked packet.now fields.now (new_id group.now.ids.now)
+        (elements_of group.now.elements.now) group.now.allowed (length buf.old) buf.new
+        (take (length group.now.elements.now) slots.new)) }
 {
     let (was, body) = packet.block()?;
-    if body.len() > LONG_BODY {
-        return None;
-    }
     let header = packet.header_bytes();
     let most = buf.len().min(MAX_LEN);
     let room = most.checked_sub(2 * header.len() + 3)?;
-    let start = start_form(was, body, group, second)?;
     let form = form_after(start, group, room)?;
     let front = &header[..header.len() - body.len()];
-    let own = &mut buf[..most];
-    let Some(len) = write_body(own, front.len(), was, form, body, group, slots) else {
-        return Some(None);
-    };
+    let len = write_body(&mut buf[..most], front.len(), was, form, body, group, slots)?;
     put_front(buf, front, was, form, len - front.len());
-    set_fields(&mut buf[..len], len, Some(form), fields);
-    Some(Some(len))
+    set_fields(&mut buf[..len], Some(form), fields);
+    Some(len)
 }
 
-// The second try. It stays out of line, since few packets need it.
+// The second try, in the two-byte form, where the block's own can't carry the new ids. It stays out
+// of line, since few packets need it.
 #[cold]
 #[inline(never)]
 fn write_in_two_byte_form(
@@ -164,21 +123,20 @@ fn write_in_two_byte_form(
     requires payload_type { IfSome fields.now.payload_type (λ pt. pt ≤ 127) }
     requires few { length group.now.elements.now ≤ 16 }
     requires own { HaveOwnIds (elements_of group.now.elements.now) }
-    ensures made { IfSome result (λ len. IsMadeFor (datagram_of packet.now) fields.now
-        (new_id group.now.ids.now) (elements_of group.now.elements.now) group.now.allowed
-        (take len buf.new) (take (length group.now.elements.now) slots.new)) }
-    ensures within { IfSome result (λ len. len ≤ length buf.new) }
-    ensures short { IfSome result (λ len. len ≤ 262140) }
-    ensures places { length slots.new ≡ 16 }
-    ensures none_refused { IfSome result (λ _. (cause : NotRouted) →
-        KeepsFromRouting (header_in packet.now) fields.now (new_id group.now.ids.now)
-        (elements_of group.now.elements.now) group.now.allowed (length buf.old) cause → ⊥) }
+    ensures { IfSome result (IsWalked packet.now fields.now (new_id group.now.ids.now)
+        (elements_of group.now.elements.now) group.now.allowed (length buf.old) buf.new
+        (take (length group.now.elements.now) slots.new)) }
 {
-    write_from(packet, fields, group, buf, slots, true)?
+    let (was, body) = packet.block()?;
+    if can_renumber(was, body, group.ids) {
+        return None;
+    }
+    write_from(packet, ExtensionsForm::TwoByte, fields, group, buf, slots)
 }
 
 // Writes the header in one walk, in the two-byte form where the new ids need it and it is allowed;
-// `None` where another way has to be taken.
+// `None` where another way has to be taken. The first try, in the block's own form, looks at no id
+// before it writes.
 #[inline(always)]
 pub(super) fn write_by_walk(
     packet: &RtpPacket<'_>,
@@ -190,19 +148,17 @@ pub(super) fn write_by_walk(
     requires payload_type { IfSome fields.now.payload_type (λ pt. pt ≤ 127) }
     requires few { length group.now.elements.now ≤ 16 }
     requires own { HaveOwnIds (elements_of group.now.elements.now) }
-    ensures made { IfSome result (λ len. IsMadeFor (datagram_of packet.now) fields.now
-        (new_id group.now.ids.now) (elements_of group.now.elements.now) group.now.allowed
-        (take len buf.new) (take (length group.now.elements.now) slots.new)) }
-    ensures within { IfSome result (λ len. len ≤ length buf.new) }
-    ensures short { IfSome result (λ len. len ≤ 262140) }
-    ensures places { length slots.new ≡ 16 }
-    ensures none_refused { IfSome result (λ _. (cause : NotRouted) →
-        KeepsFromRouting (header_in packet.now) fields.now (new_id group.now.ids.now)
-        (elements_of group.now.elements.now) group.now.allowed (length buf.old) cause → ⊥) }
+    ensures { IfSome result (IsWalked packet.now fields.now (new_id group.now.ids.now)
+        (elements_of group.now.elements.now) group.now.allowed (length buf.old) buf.new
+        (take (length group.now.elements.now) slots.new)) }
 {
-    let end = write_from(packet, fields, group, buf, slots, false)?;
-    if end.is_some() || is_one_byte_only(group.allowed) {
-        return end;
+    let (was, body) = packet.block()?;
+    if body.len() > LONG_BODY {
+        return None;
+    }
+    let len = write_from(packet, was, fields, group, buf, slots);
+    if len.is_some() || is_one_byte_only(group.allowed) {
+        return len;
     }
     write_in_two_byte_form(packet, fields, group, buf, slots)
 }

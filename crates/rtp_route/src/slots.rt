@@ -132,8 +132,8 @@ pub(super) fn fill(buf: &mut [u8], slots: &[Slot], contents: &[&[u8]])
     }
 }
 
-// How many bytes the data at the places are.
-pub(super) fn total_len(slots: &[Slot]) -> usize
+/// How many bytes of data the places have together. Requires at most [`MAX_ELEMENTS`] places.
+pub fn total_len(slots: &[Slot]) -> usize
     requires { length slots.now ≤ 16 }
     ensures { result ≡ total_of slots.now }
 {
@@ -159,8 +159,8 @@ pub(super) fn fill_joined(buf: &mut [u8], slots: &[Slot], bytes: &[u8])
     }
 }
 
-// Whether each place lies within so many bytes.
-pub(super) fn lie_within(slots: &[Slot], len: usize) -> bool
+/// Whether each of the places lies in a header of so many bytes.
+pub fn lie_within(slots: &[Slot], len: usize) -> bool
     ensures { IsTrue result ↔ All (λ slot. slot.start + slot.len ≤ len) slots.now }
 {
     slots

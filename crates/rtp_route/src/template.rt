@@ -6,9 +6,7 @@ ghost use Rattle.rtp_route.specs.declared.not_written.NotWritten.{NotWritten};
 ghost use Rattle.rtp_ext.specs.Elements.{Element};
 ghost use Rattle.rtp_ext.specs.ElementsInARow.{elements_of};
 ghost use Rattle.rtp_ext.specs.NewIds.{new_id};
-ghost use Rattle.rtp_wire.specs.ChangedPacket.{ChangesOnly};
-ghost use Rattle.rtp_wire.specs.GivenFields.{with_header_fields};
-ghost use Rattle.rtp_wire.specs.Packet.{PacketParts, IsPacket, header_len_of};
+ghost use Rattle.rtp_wire.specs.Packet.{header_len_of};
 ghost use Rattle.rtp_wire.specs.PartsOf.{parts_of, datagram_of};
 ghost use Rattle.rtp_route.specs.declared.not_routed.NotRouted.{NotRouted};
 ghost use Rattle.rtp_route.specs.Calls.{header_in};
@@ -18,10 +16,9 @@ ghost use Rattle.rtp_route.specs.Retransmitted.{IsRoutedAgain};
 ghost use Rattle.rtp_route.specs.Routing.{IsRouted};
 ghost use Rattle.rtp_route.specs.Template.{with_data, data_lengths, slot_lengths, total_of, pieces, LiesInHeader};
 
-use super::in_place::{send_again, set_fields};
+use super::in_place::{copy_header, send_again};
 use super::slots::{MAX_ELEMENTS, Slot, fill, fill_joined, have_lengths};
 use super::{Group, NotRouted, NotWritten, make_template};
-use rtp_base::put;
 use rtp_wire::{Fields, RtpPacket};
 
 /// A packet's header for a group of receivers: what they have in common is made once, and each then
@@ -40,7 +37,7 @@ pub struct HeaderTemplate<'a> {
 }
 
 impl<'a> HeaderTemplate<'a> {
-    ghost use Rattle.rtp_route.specs.TemplateOf.{IsTemplate, KeepsFromWriting, KeepsFromWritingAgain, slots_in, lengths_of, header_len_in};
+    ghost use Rattle.rtp_route.specs.TemplateOf.{IsTemplate, KeepsFromWriting, KeepsFromWritingAgain, KeepsFromWritingBytes, header_len_in};
 
     /// Makes the header that the packet gets for the group in the buffer, which is lent to the
     /// template. One of twice the packet's header and 264 bytes for each element has room.
@@ -62,13 +59,14 @@ impl<'a> HeaderTemplate<'a> {
             × KeepsFromTemplate (header_in packet.now) (new_id group.now.ids.now)
             (elements_of group.now.elements.now) group.now.allowed (length buf.old) cause) }
     {
-        let parts = make_template(packet, group, buf)?;
-        let header = RtpPacket::parse(&buf[..parts.header_len as usize]).unwrap();
-        let slots = parts.slots;
+        let mut slots = [Slot { start: 0, len: 0 }; MAX_ELEMENTS];
+        let len = make_template(packet, group, buf, &mut slots)?;
+        let header = RtpPacket::parse(&buf[..len]).unwrap();
+        let count = group.elements.len();
         Ok(HeaderTemplate {
             header,
             slots,
-            count: parts.count,
+            count,
         })
     }
 
@@ -110,16 +108,7 @@ impl<'a> HeaderTemplate<'a> {
             (map (λ bytes. length bytes.now) contents.now) (length buf.old) cause) }
         ensures unchanged { OnErr result (buf.new ≡ buf.old) }
     {
-        let slots = &self.slots[..self.count];
-        if !have_lengths(slots, contents) {
-            return Err(NotWritten::OtherLengths);
-        }
-        let needed = self.header.header_len();
-        if buf.len() < needed {
-            return Err(NotWritten::NoRoom { needed });
-        }
-        self.fill_header(fields, contents, &mut buf[..needed]);
-        Ok(needed)
+        self.write_before(self.header_len(), fields, contents, buf)
     }
 
     /// Writes what [`write_header`](Self::write_header) does, for a retransmission (RFC 4588, 4), of
@@ -139,6 +128,14 @@ impl<'a> HeaderTemplate<'a> {
             (allowed : Option ExtensionsForm) → IsTemplate old ids news allowed self.now →
             IfOk result (λ len. IsRoutedAgain old fields.now original_number ids
             (with_data news (map (λ bytes. bytes.now) contents.now)) allowed (take len buf.new)) }
+
+        // There is no other such header.
+        ensures only { (old : List ℕ) (ids : ℕ → Option ℕ) (news : List Element)
+            (allowed : Option ExtensionsForm) → IsTemplate old ids news allowed self.now →
+            IfOk result (λ len. (header : List ℕ) → ((k : ℕ) → slice_index header k < 256) →
+            IsRoutedAgain old fields.now original_number ids
+            (with_data news (map (λ bytes. bytes.now) contents.now)) allowed header →
+            header ≡ take len buf.new) }
         ensures length { IfOk result (λ len. len ≡ header_len_in self.now + 2) }
         ensures behind { IfOk result (λ len. drop len buf.new ≡ drop len buf.old) }
         ensures cause { IfErr result (KeepsFromWritingAgain self.now
@@ -147,48 +144,50 @@ impl<'a> HeaderTemplate<'a> {
             (map (λ bytes. length bytes.now) contents.now) (length buf.old) cause) }
         ensures unchanged { OnErr result (buf.new ≡ buf.old) }
     {
-        let slots = &self.slots[..self.count];
-        if !have_lengths(slots, contents) {
-            return Err(NotWritten::OtherLengths);
-        }
-        let header_len = self.header.header_len();
-        let len = header_len + 2;
-        if buf.len() < len {
-            return Err(NotWritten::NoRoom { needed: len });
-        }
-        self.fill_header(fields, contents, &mut buf[..header_len]);
+        let header_len = self.header_len();
+        let len = self.write_before(header_len + 2, fields, contents, buf)?;
         send_again(&mut buf[..len], header_len, original_number);
         Ok(len)
     }
 
-    // Writes the header with these fields and data, as long as those that were put, into a buffer
-    // of the header's length.
+    // Writes the header with these fields and data at the front of the buffer, and returns the length
+    // for which there is to be room, at least the header's.
     #[inline(always)]
-    fn fill_header(&self, fields: &Fields, contents: &[&[u8]], buf: &mut [u8])
+    fn write_before(
+        &self,
+        len: usize,
+        fields: &Fields,
+        contents: &[&[u8]],
+        buf: &mut [u8],
+    ) -> Result<usize, NotWritten>
         requires payload_type { IfSome fields.now.payload_type (λ pt. pt ≤ 127) }
-        requires lengths { map (λ bytes. length bytes.now) contents.now ≡ lengths_of self.now }
-        requires room { length buf.old ≡ header_len_in self.now }
-        ensures { (old : List ℕ) (ids : ℕ → Option ℕ) (news : List Element)
+        requires whole { header_len_in self.now ≤ len }
+        ensures routed { (old : List ℕ) (ids : ℕ → Option ℕ) (news : List Element)
             (allowed : Option ExtensionsForm) → IsTemplate old ids news allowed self.now →
-            IsRouted old fields.now ids
-            (with_data news (map (λ bytes. bytes.now) contents.now)) allowed buf.new }
+            IfOk result (λ _. IsRouted old fields.now ids
+            (with_data news (map (λ bytes. bytes.now) contents.now)) allowed
+            (take (header_len_in self.now) buf.new)) }
+        ensures length { IfOk result (λ written. (written ≡ len) × (len ≤ length buf.old)) }
+        ensures behind { drop (header_len_in self.now) buf.new
+            ≡ drop (header_len_in self.now) buf.old }
+        ensures cause { IfErr result (KeepsFromWritingBytes len self.now
+            (map (λ bytes. length bytes.now) contents.now) (length buf.old)) }
+        ensures refused { IsErr result ↔ ((cause : NotWritten) × KeepsFromWritingBytes len self.now
+            (map (λ bytes. length bytes.now) contents.now) (length buf.old) cause) }
+        ensures unchanged { OnErr result (buf.new ≡ buf.old) }
     {
-        copy_header(&self.header, fields, buf);
-        fill(buf, &self.slots[..self.count], contents);
+        let slots = &self.slots[..self.count];
+        if !have_lengths(slots, contents) {
+            return Err(NotWritten::OtherLengths);
+        }
+        if buf.len() < len {
+            return Err(NotWritten::NoRoom { needed: len });
+        }
+        let own = &mut buf[..self.header.header_len()];
+        copy_header(&self.header, fields, own);
+        fill(own, slots, contents);
+        Ok(len)
     }
-}
-
-// Copies the header of a packet, and sets these fields.
-#[inline(always)]
-fn copy_header(header: &RtpPacket<'_>, fields: &Fields, buf: &mut [u8])
-    requires payload_type { IfSome fields.now.payload_type (λ pt. pt ≤ 127) }
-    requires room { length buf.old ≡ header_len_of (parts_of header.now) }
-    ensures set { (parts : PacketParts) → IsPacket (header_in header.now) parts →
-        IsPacket buf.new (with_header_fields fields.now parts) }
-    ensures fixed { ChangesOnly 1 12 (header_in header.now) buf.new }
-{
-    put(buf, 0, header.header_bytes());
-    set_fields(buf, header.header_len(), header.form(), fields);
 }
 
 /// Writes a header that [`make_template`](super::make_template) made, as a packet without a

@@ -5,7 +5,8 @@ use Rattle.rtp_route.specs.Template.{slot_lengths, total_of, pieces}
 use Rattle.rtp_c.specs.PacketView.{slice_at}
 use Rattle.rtp_c.specs.RoutedHeaders.{IsReceiversAgain, len_for}
 use Rattle.rtp_c.specs.SetFields.{fields_given, CanBeSet}
-use Rattle.rtp_c.proofs.RoutedLemmas.{header_in-length, receivers-header, len-packet, len-again, len-least}
+use Rattle.rtp_route.proofs.ByCallsLemmas.{header_in-length}
+use Rattle.rtp_c.proofs.RoutedLemmas.{receivers-header, len-packet, len-again, len-least}
 use Rattle.rtp_c.proofs.routed_headers.write_one.Goals as goal
 use Rattle.rtp_c.proofs.routed_headers.write_one.Goals.{else-receiver-ne0-via-then-receiver-ne0+else-receiver-gt127, else-receiver-ne0-via-else-receiver-ne0, then-len-buf-via-then-len-buf, then-len-buf-via-else-len-buf+then-at-buf}
 

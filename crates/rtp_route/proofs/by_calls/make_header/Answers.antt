@@ -1,212 +1,130 @@
-use Rattle.std.proofs.Common.{rules, ◌≡◌, ◌≤◌, inl, inr, ℕ, List, ◌++◌, length, take, drop, refl, sym, ap, subst, arith, take_at}
-use Rattle.std.proofs.lemmas.Bool.{false≢true}
+use Rattle.std.proofs.Common.{rules, ◌≡◌, ◌≤◌, ◌∙◌, inl, ℕ, List, ◌++◌, length, take, drop, Option, Result, Ok, Err, IsOk, IsErr, ◌↔◌, refl, sym, ap, subst, arith, take_at}
 use Rattle.std.proofs.lemmas.Result.{err_from_is_err_and}
-use Rattle.rtp_ext.specs.NewIds.{new_id}
 use Rattle.rtp_ext.specs.ElementsInARow.{elements_of}
-use Rattle.rtp_wire.specs.Packet.{IsPacket}
+use Rattle.rtp_ext.specs.NewIds.{new_id}
+use Rattle.rtp_ext.specs.declared.form.ExtensionsForm.{ExtensionsForm}
 use Rattle.rtp_wire.specs.PartsAt.{HasLayout}
-use Rattle.rtp_wire.specs.declared.packet.rtp_packet.RtpPacket.{RtpPacket}
+use Rattle.rtp_wire.specs.PartsOf.{parts_of}
 use Rattle.rtp_wire.specs.declared.packet.not_put.NotPut.TheVariants.{NoRoom}
-use Rattle.rtp_wire.specs.PartsOf.{parts_of, datagram_of}
 use Rattle.rtp_wire.specs.NotAHeader.{IsNoPacket}
-use Rattle.rtp_wire.specs.PutIntoPacket.{Compacts}
+use Rattle.rtp_wire.specs.PutIntoPacket.{form_of_block, Compacts}
 use Rattle.rtp_wire.proofs.CompactLemmas.{Compacts-front}
 use Rattle.rtp_wire.proofs.NotAPacketLemmas.{no_packet-refused}
-use Rattle.rtp_wire.proofs.PartsLemmas.{length-packet}
-use Rattle.rtp_route.specs.declared.not_routed.NotRouted.TheVariants.{NotPut}
 use Rattle.rtp_route.specs.NotPutAmong.{IsNotPutAmong}
-use Rattle.rtp_route.specs.NotRouted.{KeepsFromNewIds, KeepsFromRouting}
-use Rattle.rtp_route.specs.Calls.{IsSetAndRenumbered, header_in}
-use Rattle.rtp_route.proofs.ByCallsLemmas.{front-put, alone_parts, header-is, begun, set-and-renumbered, kept-header, kept-set}
-use Rattle.rtp_route.proofs.NotPutLemmas.{ArePut-packet, none-kept, ids-kept}
+use Rattle.rtp_route.specs.NotRouted.{KeepsFromNewIds}
+use Rattle.rtp_route.specs.Calls.{header_in}
+use Rattle.rtp_route.proofs.ByCallsLemmas.{header_in-length, set-in_front, set-and-renumbered, kept-set, kept-put, none-kept_set}
+use Rattle.rtp_route.proofs.NotPutLemmas.{ArePut-packet}
 use Rattle.rtp_route.proofs.StartLemmas.{started}
 use Rattle.rtp_route.proofs.by_calls.make_header.Goals as goal
 
-pub set_fields-requires-clause-held : goal.set_fields-requires-clause-held
-set_fields-requires-clause-held c =
-    let header = c.header_bytes-header.result.now in
-    let alone = c.header_bytes-header.ensures.alone in
-    let front = front-put c.args.buf.now c.put.new.buf header c.put.ensures.written in
-    record {
-      parts = alone_parts c.args.packet.now;
-      is_packet = subst (λ (b : List ℕ). IsPacket b (alone_parts c.args.packet.now)) (sym front) alone;
-      form_is = c.form-form.ensures;
-      len_is = omega (arith, length-packet header _ alone, ap length front);
-    }
+pub returns-then-buf-needed-clause-cause : goal.returns-then-buf-needed-clause-cause
+returns-then-buf-needed-clause-cause c =
+    let long = header_in-length c.args.packet.now in
+    inl (ap NoRoom (c.header_len-needed.ensures ∙ sym long), omega (arith, c.if-buf-needed.true, c.header_len-needed.ensures, long))
 
 pub renumber_in_form-requires-clause-held : goal.renumber_in_form-requires-clause-held
 renumber_in_form-requires-clause-held c =
-    let header = c.header_bytes-header.result.now in
-    let front = front-put c.args.buf.now c.put.new.buf header c.put.ensures.written in
-    subst (λ (b : List ℕ). HasLayout b (length header) c.form-form.result)
-    (sym (take_at c.set_fields.new.header _ (length header) (omega (arith, c.set_fields.auto.header, ap length front)))) c.set_fields.ensures.held
-
--- the room that is tested
-long-header : (packet : RtpPacket) (header : List ℕ) → datagram_of packet ≡ header ++ (parts_of packet).payload → IsPacket header (alone_parts packet) → length header ≡ length (header_in packet)
-long-header packet header front alone = ap length (header-is packet header front alone)
-
-pub returns-then-buf-needed-clause-cause : goal.returns-then-buf-needed-clause-cause
-returns-then-buf-needed-clause-cause c =
-    let long = long-header c.args.packet.now c.header_bytes-header.result.now c.header_bytes-header.ensures.front c.header_bytes-header.ensures.alone in
-    inl (ap NoRoom long, omega (arith, c.if-buf-needed.true, long))
-
-pub returns-then-buf-needed-clause-refused : goal.returns-then-buf-needed-clause-refused
-returns-then-buf-needed-clause-refused c =
-    let long = long-header c.args.packet.now c.header_bytes-header.result.now c.header_bytes-header.ensures.front c.header_bytes-header.ensures.alone in
-    (λ _. (NotPut (NoRoom (length c.header_bytes-header.result.now)), inl (ap NoRoom long, omega (arith, c.if-buf-needed.true, long))), λ _. refl)
+    let needed = c.header_len-needed.result in
+    let long : length c.copy_header.new.buf ≡ needed = search rules in
+    subst (λ (b : List ℕ). HasLayout b needed c.form.result) (sym (take_at c.copy_header.new.buf _ needed long))
+    (subst (λ (f : Option ExtensionsForm). HasLayout c.copy_header.new.buf needed f) (sym c.form.ensures)
+    (subst (λ (n : ℕ). HasLayout c.copy_header.new.buf n (form_of_block (parts_of c.args.packet.now).block)) long c.copy_header.ensures.held))
 
 pub returns-in_err-start-clause-cause : goal.returns-in_err-start-clause-cause
 returns-in_err-start-clause-cause c =
     let packet = c.args.packet.now in
+    let fields = c.args.fields.now in
     let ids = new_id c.args.group.now.ids.now in
-    let header = c.header_bytes-header.result.now in
-    let is_begun = begun packet c.args.fields.now header c.args.buf.now c.put.new.buf c.set_fields.new.header c.header_bytes-header.ensures.front c.header_bytes-header.ensures.alone c.put.ensures.written
-    c.set_fields.ensures.set c.set_fields.auto.header in
     let news = elements_of c.args.group.now.elements.now in
     let allowed = c.args.group.now.allowed in
-    let room : ℕ = length c.args.buf.now in
-    let set_buf : List ℕ = c.set_fields.new.header ++ drop (length header) c.put.new.buf in
-    let long_set : length set_buf ≡ room = search rules in
-    let within : length (header_in packet) ≤ room = omega (arith, c.if-buf-needed.false, ap length is_begun.same) in
+    let buf = c.args.buf.now in
+    let needed = c.header_len-needed.result in
+    let set : List ℕ = take needed (c.copy_header.new.buf ++ drop needed buf) in
+    let is_set = set-in_front packet fields c.copy_header.new.buf buf needed c.header_len-needed.ensures c.if-buf-needed.false (search rules) c.copy_header.ensures.set c.copy_header.ensures.fixed in
+    let room : length (c.copy_header.new.buf ++ drop needed buf) ≡ length buf = search rules in
     let cause = c.in_err-start.field-0.0 in
-    let kept : KeepsFromNewIds (header_in packet) ids allowed room cause =
-    kept-header packet c.args.fields.now ids header c.put.new.buf c.set_fields.new.header is_begun allowed room cause
-    (subst (λ (k : ℕ). KeepsFromNewIds (take (length header) set_buf) ids allowed k cause) long_set c.in_err-start.ensures.cause) in
     let p = err_from_is_err_and c.from_residual.result c.from_residual.ensures.1 in
-    rw (p.1, p.2) (ids-kept (header_in packet) c.args.fields.now ids news allowed room within cause kept)
-
-pub returns-in_err-start-clause-refused : goal.returns-in_err-start-clause-refused
-returns-in_err-start-clause-refused c =
-    let packet = c.args.packet.now in
-    let ids = new_id c.args.group.now.ids.now in
-    let header = c.header_bytes-header.result.now in
-    let is_begun = begun packet c.args.fields.now header c.args.buf.now c.put.new.buf c.set_fields.new.header c.header_bytes-header.ensures.front c.header_bytes-header.ensures.alone c.put.ensures.written
-    c.set_fields.ensures.set c.set_fields.auto.header in
-    let news = elements_of c.args.group.now.elements.now in
-    let allowed = c.args.group.now.allowed in
-    let room : ℕ = length c.args.buf.now in
-    let set_buf : List ℕ = c.set_fields.new.header ++ drop (length header) c.put.new.buf in
-    let long_set : length set_buf ≡ room = search rules in
-    let within : length (header_in packet) ≤ room = omega (arith, c.if-buf-needed.false, ap length is_begun.same) in
-    let cause = c.in_err-start.field-0.0 in
-    let kept : KeepsFromNewIds (header_in packet) ids allowed room cause =
-    kept-header packet c.args.fields.now ids header c.put.new.buf c.set_fields.new.header is_begun allowed room cause
-    (subst (λ (k : ℕ). KeepsFromNewIds (take (length header) set_buf) ids allowed k cause) long_set c.in_err-start.ensures.cause) in
-    (λ _. (cause, ids-kept (header_in packet) c.args.fields.now ids news allowed room within cause kept), λ _. c.from_residual.ensures.0)
+    rw (p.1, p.2) (kept-set packet fields ids news allowed (length buf) set is_set cause (subst (λ (k : ℕ). KeepsFromNewIds set ids allowed k cause) room c.in_err-start.ensures.cause))
 
 pub returns-in_err-len-clause-cause : goal.returns-in_err-len-clause-cause
 returns-in_err-len-clause-cause c =
     let packet = c.args.packet.now in
+    let fields = c.args.fields.now in
     let ids = new_id c.args.group.now.ids.now in
-    let header = c.header_bytes-header.result.now in
-    let is_begun = begun packet c.args.fields.now header c.args.buf.now c.put.new.buf c.set_fields.new.header c.header_bytes-header.ensures.front c.header_bytes-header.ensures.alone c.put.ensures.written
-    c.set_fields.ensures.set c.set_fields.auto.header in
     let news = elements_of c.args.group.now.elements.now in
     let allowed = c.args.group.now.allowed in
-    let room : ℕ = length c.args.buf.now in
-    let set_buf : List ℕ = c.set_fields.new.header ++ drop (length header) c.put.new.buf in
-    let long_set : length set_buf ≡ room = search rules in
-    let within : length (header_in packet) ≤ room = omega (arith, c.if-buf-needed.false, ap length is_begun.same) in
+    let buf = c.args.buf.now in
+    let needed = c.header_len-needed.result in
+    let set : List ℕ = take needed (c.copy_header.new.buf ++ drop needed buf) in
+    let is_set = set-in_front packet fields c.copy_header.new.buf buf needed c.header_len-needed.ensures c.if-buf-needed.false (search rules) c.copy_header.ensures.set c.copy_header.ensures.fixed in
     let now : List ℕ = take c.in_ok-start.start c.renumber_in_form.new.buf in
-    let start : IsSetAndRenumbered (header_in packet) c.args.fields.now ids allowed now =
-    set-and-renumbered packet c.args.fields.now ids header c.put.new.buf c.set_fields.new.header is_begun allowed now c.set_fields.ensures.fixed c.in_ok-start.ensures.renumbered in
-    let long_now : length c.renumber_in_form.new.buf ≡ room = search rules in
+    let start = set-and-renumbered packet fields ids news allowed (length buf) set is_set now c.in_ok-start.ensures.renumbered in
+    let room : length c.renumber_in_form.new.buf ≡ length buf = search rules in
+    let cause = c.in_err-len.field-0.0 in
     let p = err_from_is_err_and c.from_residual-in_err-len.result c.from_residual-in_err-len.ensures.1 in
-    let refused : KeepsFromRouting (header_in packet) c.args.fields.now ids news allowed room (NotPut c.in_err-len.field-0.0) =
-    inr (inr (now, within, start, subst (λ (k : ℕ). IsNotPutAmong now news allowed k c.in_err-len.field-0.0) long_now c.in_err-len.ensures.cause)) in
-    rw (p.1, p.2) refused
+    rw (p.1, p.2) (kept-put packet fields ids news allowed (length buf) set is_set now start cause (subst (λ (k : ℕ). IsNotPutAmong now news allowed k cause) room c.in_err-len.ensures.cause))
 
-pub returns-in_err-len-clause-refused : goal.returns-in_err-len-clause-refused
-returns-in_err-len-clause-refused c =
-    let packet = c.args.packet.now in
-    let ids = new_id c.args.group.now.ids.now in
-    let header = c.header_bytes-header.result.now in
-    let is_begun = begun packet c.args.fields.now header c.args.buf.now c.put.new.buf c.set_fields.new.header c.header_bytes-header.ensures.front c.header_bytes-header.ensures.alone c.put.ensures.written
-    c.set_fields.ensures.set c.set_fields.auto.header in
-    let news = elements_of c.args.group.now.elements.now in
-    let allowed = c.args.group.now.allowed in
-    let room : ℕ = length c.args.buf.now in
-    let set_buf : List ℕ = c.set_fields.new.header ++ drop (length header) c.put.new.buf in
-    let long_set : length set_buf ≡ room = search rules in
-    let within : length (header_in packet) ≤ room = omega (arith, c.if-buf-needed.false, ap length is_begun.same) in
-    let now : List ℕ = take c.in_ok-start.start c.renumber_in_form.new.buf in
-    let start : IsSetAndRenumbered (header_in packet) c.args.fields.now ids allowed now =
-    set-and-renumbered packet c.args.fields.now ids header c.put.new.buf c.set_fields.new.header is_begun allowed now c.set_fields.ensures.fixed c.in_ok-start.ensures.renumbered in
-    let long_now : length c.renumber_in_form.new.buf ≡ room = search rules in
-    let refused : KeepsFromRouting (header_in packet) c.args.fields.now ids news allowed room (NotPut c.in_err-len.field-0.0) =
-    inr (inr (now, within, start, subst (λ (k : ℕ). IsNotPutAmong now news allowed k c.in_err-len.field-0.0) long_now c.in_err-len.ensures.cause)) in
-    (λ _. (NotPut c.in_err-len.field-0.0, refused), λ _. c.from_residual-in_err-len.ensures.0)
+ok-unless : {A E : Type 0} (result : Result A E) (Q : Type 0) → IsErr result ↔ Q → (Q → ⊥) → IsOk result
+ok-unless (Ok value) Q refused none = refl
+ok-unless (Err cause) Q refused none = absurd (none (refused.0 refl))
 
 pub unwrap-requires : goal.unwrap-requires
 unwrap-requires c =
     let packet = c.args.packet.now in
+    let fields = c.args.fields.now in
     let ids = new_id c.args.group.now.ids.now in
-    let header = c.header_bytes-header.result.now in
-    let is_begun = begun packet c.args.fields.now header c.args.buf.now c.put.new.buf c.set_fields.new.header c.header_bytes-header.ensures.front c.header_bytes-header.ensures.alone c.put.ensures.written
-    c.set_fields.ensures.set c.set_fields.auto.header in
     let news = elements_of c.args.group.now.elements.now in
     let allowed = c.args.group.now.allowed in
-    let room : ℕ = length c.args.buf.now in
-    let set_buf : List ℕ = c.set_fields.new.header ++ drop (length header) c.put.new.buf in
-    let long_set : length set_buf ≡ room = search rules in
-    let within : length (header_in packet) ≤ room = omega (arith, c.if-buf-needed.false, ap length is_begun.same) in
+    let buf = c.args.buf.now in
+    let needed = c.header_len-needed.result in
+    let set : List ℕ = take needed (c.copy_header.new.buf ++ drop needed buf) in
+    let is_set = set-in_front packet fields c.copy_header.new.buf buf needed c.header_len-needed.ensures c.if-buf-needed.false (search rules) c.copy_header.ensures.set c.copy_header.ensures.fixed in
     let now : List ℕ = take c.in_ok-start.start c.renumber_in_form.new.buf in
-    let start : IsSetAndRenumbered (header_in packet) c.args.fields.now ids allowed now =
-    set-and-renumbered packet c.args.fields.now ids header c.put.new.buf c.set_fields.new.header is_begun allowed now c.set_fields.ensures.fixed c.in_ok-start.ensures.renumbered in
-    let long_now : length c.renumber_in_form.new.buf ≡ room = search rules in
-    let packet_now = ArePut-packet news allowed now (take c.in_ok-len.len c.put_each.new.buf) _ (started (header_in packet) c.args.fields.now ids allowed now start).is_packet c.in_ok-len.ensures.put in
-    let refused : IsNoPacket (take c.in_ok-len.len c.put_each.new.buf) → ⊥ = λ none. no_packet-refused _ packet_now.0 none packet_now.1 in
-    search rules
+    let start = set-and-renumbered packet fields ids news allowed (length buf) set is_set now c.in_ok-start.ensures.renumbered in
+    let put : List ℕ = take c.in_ok-len.len c.put_each.new.buf in
+    let packet_now = ArePut-packet news allowed now put _ (started (header_in packet) fields ids allowed now start).is_packet c.in_ok-len.ensures.put in
+    ok-unless c.compact_copy.result _ c.compact_copy.ensures.refused (λ (none : IsNoPacket put). no_packet-refused _ packet_now.0 none packet_now.1)
 
 pub returns-clause-made : goal.returns-clause-made
 returns-clause-made c =
     let packet = c.args.packet.now in
+    let fields = c.args.fields.now in
     let ids = new_id c.args.group.now.ids.now in
-    let header = c.header_bytes-header.result.now in
-    let is_begun = begun packet c.args.fields.now header c.args.buf.now c.put.new.buf c.set_fields.new.header c.header_bytes-header.ensures.front c.header_bytes-header.ensures.alone c.put.ensures.written
-    c.set_fields.ensures.set c.set_fields.auto.header in
     let news = elements_of c.args.group.now.elements.now in
     let allowed = c.args.group.now.allowed in
-    let room : ℕ = length c.args.buf.now in
-    let set_buf : List ℕ = c.set_fields.new.header ++ drop (length header) c.put.new.buf in
-    let long_set : length set_buf ≡ room = search rules in
-    let within : length (header_in packet) ≤ room = omega (arith, c.if-buf-needed.false, ap length is_begun.same) in
+    let buf = c.args.buf.now in
+    let needed = c.header_len-needed.result in
+    let set : List ℕ = take needed (c.copy_header.new.buf ++ drop needed buf) in
+    let is_set = set-in_front packet fields c.copy_header.new.buf buf needed c.header_len-needed.ensures c.if-buf-needed.false (search rules) c.copy_header.ensures.set c.copy_header.ensures.fixed in
     let now : List ℕ = take c.in_ok-start.start c.renumber_in_form.new.buf in
-    let start : IsSetAndRenumbered (header_in packet) c.args.fields.now ids allowed now =
-    set-and-renumbered packet c.args.fields.now ids header c.put.new.buf c.set_fields.new.header is_begun allowed now c.set_fields.ensures.fixed c.in_ok-start.ensures.renumbered in
-    let long_now : length c.renumber_in_form.new.buf ≡ room = search rules in
-    let is : Compacts (take c.in_ok-len.len c.put_each.new.buf) c.compact_copy.new.datagram c.unwrap.result = rw c.unwrap.ensures at c.compact_copy.ensures.compacted in
-    let fits : c.unwrap.result ≤ length (take c.in_ok-len.len c.put_each.new.buf) = rw c.unwrap.ensures at c.compact_copy.ensures.within in
+    let start = set-and-renumbered packet fields ids news allowed (length buf) set is_set now c.in_ok-start.ensures.renumbered in
+    let put : List ℕ = take c.in_ok-len.len c.put_each.new.buf in
+    let is : Compacts put c.compact_copy.new.datagram c.unwrap.result = rw c.unwrap.ensures at c.compact_copy.ensures.compacted in
+    let fits : c.unwrap.result ≤ length put = rw c.unwrap.ensures at c.compact_copy.ensures.within in
     record {
       start_bytes = now;
       start = start;
-      put_bytes = take c.in_ok-len.len c.put_each.new.buf;
+      put_bytes = put;
       are_put = c.in_ok-len.ensures.put;
       compacted = Compacts-front _ c.compact_copy.new.datagram _ c.unwrap.result (omega (arith, fits, c.compact_copy.auto.datagram)) is;
     }
 
-pub returns-clause-refused : goal.returns-clause-refused
-returns-clause-refused c =
+pub returns-clause-none_refused : goal.returns-clause-none_refused
+returns-clause-none_refused c =
     let packet = c.args.packet.now in
+    let fields = c.args.fields.now in
     let ids = new_id c.args.group.now.ids.now in
-    let header = c.header_bytes-header.result.now in
-    let is_begun = begun packet c.args.fields.now header c.args.buf.now c.put.new.buf c.set_fields.new.header c.header_bytes-header.ensures.front c.header_bytes-header.ensures.alone c.put.ensures.written
-    c.set_fields.ensures.set c.set_fields.auto.header in
     let news = elements_of c.args.group.now.elements.now in
     let allowed = c.args.group.now.allowed in
-    let room : ℕ = length c.args.buf.now in
-    let set_buf : List ℕ = c.set_fields.new.header ++ drop (length header) c.put.new.buf in
-    let long_set : length set_buf ≡ room = search rules in
-    let within : length (header_in packet) ≤ room = omega (arith, c.if-buf-needed.false, ap length is_begun.same) in
+    let buf = c.args.buf.now in
+    let needed = c.header_len-needed.result in
+    let set : List ℕ = take needed (c.copy_header.new.buf ++ drop needed buf) in
+    let is_set = set-in_front packet fields c.copy_header.new.buf buf needed c.header_len-needed.ensures c.if-buf-needed.false (search rules) c.copy_header.ensures.set c.copy_header.ensures.fixed in
     let now : List ℕ = take c.in_ok-start.start c.renumber_in_form.new.buf in
-    let start : IsSetAndRenumbered (header_in packet) c.args.fields.now ids allowed now =
-    set-and-renumbered packet c.args.fields.now ids header c.put.new.buf c.set_fields.new.header is_begun allowed now c.set_fields.ensures.fixed c.in_ok-start.ensures.renumbered in
-    let long_now : length c.renumber_in_form.new.buf ≡ room = search rules in
-    let none = none-kept (header_in packet) c.args.fields.now ids news allowed room now within start
-    (λ cause kept. false≢true (c.in_ok-start.ensures.refused.1 (
-      cause,
-      subst (λ (k : ℕ). KeepsFromNewIds (take (length header) set_buf) ids allowed k cause) (sym long_set)
-          (kept-set packet c.args.fields.now ids header c.put.new.buf c.set_fields.new.header is_begun allowed room cause kept),
-    )))
-    (λ other cause same is. false≢true (c.in_ok-len.ensures.refused other cause same (subst (λ (k : ℕ). IsNotPutAmong other news allowed k cause) (sym long_now) is))) in
-    (λ no_error. absurd (false≢true no_error), λ kept. absurd (none kept.0 kept.1))
+    let start = set-and-renumbered packet fields ids news allowed (length buf) set is_set now c.in_ok-start.ensures.renumbered in
+    let room : length (c.copy_header.new.buf ++ drop needed buf) ≡ length buf = search rules in
+    let room_then : length c.renumber_in_form.new.buf ≡ length buf = search rules in
+    none-kept_set packet fields ids news allowed (length buf) set is_set now start
+    (λ cause kept. c.in_ok-start.ensures.none_refused cause (subst (λ (k : ℕ). KeepsFromNewIds set ids allowed k cause) (sym room) kept))
+    (λ other cause same is. c.in_ok-len.ensures.none_refused other cause same (subst (λ (k : ℕ). IsNotPutAmong other news allowed k cause) (sym room_then) is))

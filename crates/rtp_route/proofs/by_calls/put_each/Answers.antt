@@ -68,11 +68,11 @@ returns-in_err-len-clause-cause c =
     } in
     rw (p.1, p.2) refused
 
-pub returns-clause-refused : goal.returns-clause-refused
-returns-clause-refused c packet cause same is =
-    absurd (c.loop-id.invariant.none_refused packet cause same
+pub returns-clause-none_refused : goal.returns-clause-none_refused
+returns-clause-none_refused c packet cause same is =
+    c.loop-id.invariant.none_refused packet cause same
     (subst (λ (lents : List Lent). IsNotPutAmong packet (elements_of lents) c.args.group.now.allowed (length c.args.buf.now) cause)
-    (sym (take_all _ _ (omega (arith, c.loop-id-test.false)))) is))
+    (sym (take_all _ _ (omega (arith, c.loop-id-test.false)))) is)
 
 pub returns-clause-put : goal.returns-clause-put
 returns-clause-put c =

@@ -1,9 +1,11 @@
-use Rattle.std.proofs.Common.{ℕ, take, subst, arith, IfErr}
+use Rattle.std.proofs.Common.{ℕ, ◌↔◌, take, subst, arith, IsErr, IfErr}
 use Rattle.rtp_ext.specs.ElementsInARow.{elements_of}
 use Rattle.rtp_ext.specs.NewIds.{new_id}
 use Rattle.rtp_wire.specs.PartsOf.{datagram_of}
 use Rattle.rtp_route.specs.Calls.{header_in}
 use Rattle.rtp_route.specs.NotRouted.{KeepsFromRouting}
+use Rattle.rtp_route.specs.declared.not_routed.NotRouted.{NotRouted}
+use Rattle.rtp_route.proofs.NotPutLemmas.{refused-exactly}
 use Rattle.rtp_route.proofs.OneHeaderLemmas.{are_taken, one-header}
 use Rattle.rtp_route.proofs.RoutingLemmas.{on-ok, routed-of}
 use Rattle.rtp_route.proofs.by_calls.route_header.Goals as goal
@@ -34,3 +36,9 @@ pub returns-clause-cause : goal.returns-clause-cause
 returns-clause-cause c =
     subst (λ (k : ℕ). IfErr c.make_header.result (KeepsFromRouting (header_in c.args.packet.now) c.args.fields.now (new_id c.args.group.now.ids.now) (elements_of c.args.group.now.elements.now) c.args.group.now.allowed k))
     c.if-group-le-MAX_ELEMENTS.auto.buf c.make_header.ensures.cause
+
+pub returns-clause-refused : goal.returns-clause-refused
+returns-clause-refused c =
+    subst (λ (k : ℕ). IsErr c.make_header.result ↔ ((cause : NotRouted)
+    × KeepsFromRouting (header_in c.args.packet.now) c.args.fields.now (new_id c.args.group.now.ids.now) (elements_of c.args.group.now.elements.now) c.args.group.now.allowed k cause))
+    c.if-group-le-MAX_ELEMENTS.auto.buf (refused-exactly c.make_header.result _ c.make_header.ensures.cause c.make_header.ensures.none_refused)

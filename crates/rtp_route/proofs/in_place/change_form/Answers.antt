@@ -14,22 +14,14 @@ returns-in_err-change_form-clause-cause c =
     let p = err_from_is_err_and c.from_residual.result c.from_residual.ensures.1 in
     rw (p.1, p.2) first
 
-pub returns-in_err-change_form-clause-refused : goal.returns-in_err-change_form-clause-refused
-returns-in_err-change_form-clause-refused c =
-    let first = to-buf c.new-packet.result c.args.buf.now c.args.len c.new-packet.ensures.same_bytes c.new-packet.ensures.length c.requires.held
-    (λ b room was. IsFirstNotPut (KeepsFromForm b room was TwoByte) c.in_err-change_form.field-0.0) c.in_err-change_form.ensures.cause in
-    (λ _. (c.in_err-change_form.field-0.0, first.applies), λ _. c.from_residual.ensures.0)
-
 pub returns-clause-changed : goal.returns-clause-changed
 returns-clause-changed c =
     remakes-to c.new-packet.result c.args.buf.now c.args.len c.new-packet.ensures.same_bytes c.new-packet.ensures.length c.requires.held c.change_form.new.self _ _ (search rules)
     (sym c.len.ensures.length) c.in_ok-change_form.ensures.changed
 
-pub returns-clause-refused : goal.returns-clause-refused
-returns-clause-refused c = (
-  λ wrong. absurd (false≢true wrong),
-  λ fact. c.in_ok-change_form.ensures.refused.1 (
-    fact.0,
-    from-buf c.new-packet.result c.args.buf.now c.args.len c.new-packet.ensures.same_bytes c.new-packet.ensures.length c.requires.held (λ b room was. KeepsFromForm b room was TwoByte fact.0) fact.1,
-  ),
-)
+pub returns-clause-none_refused : goal.returns-clause-none_refused
+returns-clause-none_refused c cause fact =
+    false≢true (c.in_ok-change_form.ensures.refused.1 (
+      cause,
+      from-buf c.new-packet.result c.args.buf.now c.args.len c.new-packet.ensures.same_bytes c.new-packet.ensures.length c.requires.held (λ b room was. KeepsFromForm b room was TwoByte cause) fact,
+    ))

@@ -15,5 +15,5 @@ returns-clause-fixed c =
 
 pub returns-clause-held : goal.returns-clause-held
 returns-clause-held c =
-    layout-in c.args.fields.now c.new-packet.result c.set_fields.new.self c.args.header.now _ _ _ (omega (arith, c.type_inv.header 1)) c.new-packet.ensures.same_bytes (search rules)
-    c.requires.held c.set_fields.ensures.parts (c.set_fields.ensures.bytes 1 12 (in_fixed_part c.args.fields.now))
+    layout-in c.args.fields.now c.new-packet.result c.set_fields.new.self c.args.header.now _ _ (omega (arith, c.type_inv.header 1)) c.new-packet.ensures.same_bytes (search rules)
+    c.requires.held c.set_fields.ensures.parts

@@ -1,7 +1,7 @@
 use Rattle.std.proofs.Common.{◌≡◌, length, sym, ◌∙◌, arith, rules}
 use Rattle.std.proofs.Math.ListN.{length-set}
 use Rattle.rtp_c.proofs.TemplateLemmas.{parts-more}
-use Rattle.rtp_c.proofs.template.StoredTemplate.parts.Goals as goal
+use Rattle.rtp_c.proofs.template.StoredTemplate.copy_slots.Goals as goal
 
 pub loop-index-preserved : goal.loop-index-preserved
 loop-index-preserved c =

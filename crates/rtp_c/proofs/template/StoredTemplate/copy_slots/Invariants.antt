@@ -1,6 +1,6 @@
 use Rattle.std.proofs.Common.{◌≡◌, length, take}
 use Rattle.rtp_c.specs.StoredTemplate.{slots_at}
-use Rattle.rtp_c.proofs.template.StoredTemplate.parts.Given as goal
+use Rattle.rtp_c.proofs.template.StoredTemplate.copy_slots.Given as goal
 
 -- the places before the index are those that are stored
 abbrev pub invariant-loop-index : goal.invariant-loop-index

@@ -1,0 +1,8 @@
+use Rattle.rtp_ext.specs.NewIds.{new_id}
+use Rattle.rtp_wire.specs.PartsOf.{parts_of}
+use Rattle.rtp_route.proofs.FormsLemmas.{start-own}
+use Rattle.rtp_route.proofs.by_walk.write_by_walk.Goals as goal
+
+pub write_from-len-requires-clause-start : goal.write_from-len-requires-clause-start
+write_from-len-requires-clause-start c =
+    start-own c.args.group.now.allowed (new_id c.args.group.now.ids.now) (parts_of c.args.packet.now).block c.in_ok-was.was' c.in_ok-was.body.now c.in_ok-was.ensures.parts
