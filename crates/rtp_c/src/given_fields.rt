@@ -110,7 +110,7 @@ impl<'a> GetFields for GivenFields<'a> {
     }
 
     #[inline(always)]
-    fn csrc(&self) -> &[u32; 15] {
-        &self.view.csrc
+    fn csrc(&self) -> [u32; 15] {
+        self.view.csrc
     }
 }

@@ -23,6 +23,18 @@ use rtp_values::{ElementValues, ExtensionValues, KnownKind};
 // Most buffers have room for so many bytes.
 const MOST_BUFFERS: usize = 1_024;
 
+// How many bytes the element of a kind takes, 0 where a value that it needs is absent.
+fn element_len<V: ElementValues>(kind: KnownKind, ev: &V, form: ExtensionsForm) -> usize
+    ensures length { (id : ℕ) → result ≡ length
+        (element_or_nothing form id (spelled_data (extension_of_kind kind) (V.values ev.now))) }
+    ensures few { result ≤ 257 }
+{
+    match ev.data_len(kind) {
+        Some(len) => element_header_len(form) + len,
+        None => 0,
+    }
+}
+
 // Writes the element of a mapped id at the offset, where the values that its kind needs are there,
 // and returns the offset after it. There is room for its header.
 #[inline(always)]
@@ -135,13 +147,9 @@ pub fn values_len<K: Kinds, V: ElementValues>(
     ensures bound { result ≤ 65535 }
 {
     let mut items = ids.iter();
-    let header_len = element_header_len(form);
     let mut len = 0;
     while let Some((_, kind)) = items.next() {
-        // Without a value that its kind needs no element is written.
-        if let Some(data_len) = ev.data_len(kind) {
-            len += header_len + data_len;
-        }
+        len += element_len(kind, ev, form);
     }
     len
 }

@@ -38,7 +38,8 @@ pub(super) fn fixed_bytes<F: GetFields>(fields: &F, has_extension: bool) -> [u8;
     bytes
 }
 
-// Puts four bytes for each source that counts, and returns the offset after them.
+// Puts four bytes for each source that counts, and returns the offset after them. The sources are
+// copied, so that LLVM has a header that was made to be written in registers.
 #[inline(always)]
 pub(super) fn put_csrc<F: GetFields>(fields: &F, buf: &mut [u8], at: usize) -> usize
     requires sources { (F.header fields.now).csrc_count ≤ 15 }

@@ -47,8 +47,8 @@ pub trait GetFields {
         ensures slots { length (header self.now).csrc ≡ 15 };
 
     /// The contributing sources, of which the first [`csrc_count`](Self::csrc_count) count.
-    fn csrc(&self) -> &[u32; 15]
-        ensures { result.now ≡ (header self.now).csrc };
+    fn csrc(&self) -> [u32; 15]
+        ensures { result ≡ (header self.now).csrc };
 }
 
 impl GetFields for RtpHeader {
@@ -95,7 +95,7 @@ impl GetFields for RtpHeader {
     }
 
     #[inline(always)]
-    fn csrc(&self) -> &[u32; 15] {
-        &self.csrc
+    fn csrc(&self) -> [u32; 15] {
+        self.csrc
     }
 }
