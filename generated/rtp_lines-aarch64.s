@@ -2,8 +2,8 @@
  * rtp_lines for Linux on aarch64: the assembly text that Rattle's compiler makes of the program, each function of which is proved.
  * Made anew by: generated/make
  * kit: rattle-kit-13f logic dac8208d650f15bf
- * sources: c4e01da5d8c24878bee7685d6f00a0453386f8ca04137568351ec83206ecb2cd
- * text: 7e20f3c2eddeb7d9318d9e777fd2ec018842cfaf33b7aba108d02bd330063b20
+ * sources: 75aae4153f6e2174e178ac4365dc370489f38ffaaecb4e42702e811e81a56b25
+ * text: d4502caa48b1f16ff35bcec948bf89f958755d80f8619154f481ad3beb522784
  * SPDX-License-Identifier: MIT OR Apache-2.0
  * Copyright (c) 2026 The rtp-wire developers (NOTICE)
  */

@@ -2,8 +2,8 @@
  * rtp_lines for Linux on x86_64: the assembly text that Rattle's compiler makes of the program, each function of which is proved.
  * Made anew by: generated/make
  * kit: rattle-kit-13f logic dac8208d650f15bf
- * sources: c4e01da5d8c24878bee7685d6f00a0453386f8ca04137568351ec83206ecb2cd
- * text: 1193319c6a0894fa7bdcb58119d7803bdc7ef999024420c498e111e33a836e5c
+ * sources: 75aae4153f6e2174e178ac4365dc370489f38ffaaecb4e42702e811e81a56b25
+ * text: ce6314dec11addade68e763857cb39dd1cd215dbbb60c3787d14b0fb0bc516bd
  * SPDX-License-Identifier: MIT OR Apache-2.0
  * Copyright (c) 2026 The rtp-wire developers (NOTICE)
  */
