@@ -2,8 +2,8 @@
  * rtp_lines for Linux on aarch64: the assembly text that Rattle's compiler makes of the program, each function of which is proved.
  * Made anew by: generated/make
  * kit: rattle-kit-13f logic dac8208d650f15bf
- * sources: 8ca67c27cee320bf6ed81956160ade0d5d00de7f9235ca1aa773e98b19324bae
- * text: f6c5584727f04d87af5f833ec1e55076b845ab3d41ea308fa7b46f1e58b52a11
+ * sources: fce1c88269765f7f6623b1ed48819b95a43350cca198103b0ce0003881002a3a
+ * text: c9da6e811bb9cb093b89f56e18666f3cfa236d06f20564d43927ec710bf3e2aa
  * SPDX-License-Identifier: MIT OR Apache-2.0
  * Copyright (c) 2026 The rtp-wire developers (NOTICE)
  */
@@ -8045,7 +8045,9 @@
 	subs	x9, x1, #1
 	b.ne	.Lrtp_BB10_3
 	ldrb	w8, [x0]
-	cbz	w8, .Lrtp_BB10_7
+	cmp	w8, #0
+	cset	w0, eq
+	ret
 .Lrtp_BB10_3:
 	mov	x8, x0
 	ldrb	w10, [x8], #1
@@ -8057,43 +8059,40 @@
 	cnt	v0.8b, v0.8b
 	fmov	w11, s0
 	mul	w10, w11, w10
-	b	.Lrtp_BB10_15
+	b	.Lrtp_BB10_14
 .Lrtp_BB10_5:
 	add	x12, x11, #2
 	lsr	x12, x12, #1
 	subs	x9, x9, x12
-	b.hs	.Lrtp_BB10_8
+	b.hs	.Lrtp_BB10_7
 .Lrtp_BB10_6:
 	mov	w0, wzr
 	ret
 .Lrtp_BB10_7:
-	mov	w0, #1
-	ret
-.Lrtp_BB10_8:
 	ldrb	w14, [x8]
 	lsr	w14, w14, #4
-	cbz	w11, .Lrtp_BB10_11
+	cbz	w11, .Lrtp_BB10_10
 	ldrb	w15, [x8]
 	cmp	w10, #2
 	and	w15, w15, #0xf
-	b.ne	.Lrtp_BB10_12
+	b.ne	.Lrtp_BB10_11
 	mov	w16, w13
-	b	.Lrtp_BB10_14
-.Lrtp_BB10_11:
+	b	.Lrtp_BB10_13
+.Lrtp_BB10_10:
 	mov	w15, w13
 	mov	w16, w13
-	b	.Lrtp_BB10_14
-.Lrtp_BB10_12:
+	b	.Lrtp_BB10_13
+.Lrtp_BB10_11:
 	ldrb	w16, [x0, #2]
 	cmp	w10, #3
 	lsr	w16, w16, #4
-	b.eq	.Lrtp_BB10_14
+	b.eq	.Lrtp_BB10_13
 	ldrb	w13, [x0, #2]
 	and	w13, w13, #0xf
 	fmov	s0, w13
 	cnt	v0.8b, v0.8b
 	fmov	w13, s0
-.Lrtp_BB10_14:
+.Lrtp_BB10_13:
 	fmov	s0, w14
 	fmov	s1, w15
 	cmp	w10, #3
@@ -8113,7 +8112,7 @@
 	csel	w10, w15, w13, eq
 	cmp	w11, #0
 	csel	w10, w14, w10, eq
-.Lrtp_BB10_15:
+.Lrtp_BB10_14:
 	sub	sp, sp, #80
 	stp	x29, x30, [sp, #32]
 	stp	x22, x21, [sp, #48]
@@ -8130,56 +8129,50 @@
 	add	x10, x21, #3
 	lsr	x10, x10, #2
 	subs	x19, x9, x10
-	b.hs	.Lrtp_BB10_18
-.Lrtp_BB10_16:
+	b.hs	.Lrtp_BB10_17
+.Lrtp_BB10_15:
 	mov	w0, wzr
-.Lrtp_BB10_17:
+.Lrtp_BB10_16:
 	ldp	x20, x19, [sp, #64]
 	ldp	x22, x21, [sp, #48]
 	ldp	x29, x30, [sp, #32]
 	add	sp, sp, #80
 	ret
-.Lrtp_BB10_18:
+.Lrtp_BB10_17:
 	mov	x9, x21
-	cbz	x10, .Lrtp_BB10_21
+	cbz	x10, .Lrtp_BB10_20
 	cmp	x10, #1
-	b.ne	.Lrtp_BB10_22
+	b.ne	.Lrtp_BB10_21
 	ldrb	w11, [x8]
 	lsl	w11, w11, #24
-	cbnz	w21, .Lrtp_BB10_29
-	b	.Lrtp_BB10_24
-.Lrtp_BB10_21:
+	cbnz	w21, .Lrtp_BB10_27
+	b	.Lrtp_BB10_42
+.Lrtp_BB10_20:
 	mov	w11, wzr
-	cbnz	w21, .Lrtp_BB10_29
-	b	.Lrtp_BB10_24
-.Lrtp_BB10_22:
+	cbnz	w21, .Lrtp_BB10_27
+	b	.Lrtp_BB10_42
+.Lrtp_BB10_21:
 	cmp	w21, #8
-	b.hi	.Lrtp_BB10_25
+	b.hi	.Lrtp_BB10_23
 	ldrh	w11, [x8]
 	rev	w11, w11
-	cbnz	w21, .Lrtp_BB10_29
-.Lrtp_BB10_24:
-	mov	w0, #1
-	ldp	x20, x19, [sp, #64]
-	ldp	x22, x21, [sp, #48]
-	ldp	x29, x30, [sp, #32]
-	add	sp, sp, #80
-	ret
-.Lrtp_BB10_25:
+	cbnz	w21, .Lrtp_BB10_27
+	b	.Lrtp_BB10_42
+.Lrtp_BB10_23:
 	cmp	x10, #3
-	b.ne	.Lrtp_BB10_27
+	b.ne	.Lrtp_BB10_25
 	ldrb	w11, [x8, #2]
 	ldrh	w12, [x8]
 	orr	w11, w12, w11, lsl #16
-	b	.Lrtp_BB10_28
-.Lrtp_BB10_27:
+	b	.Lrtp_BB10_26
+.Lrtp_BB10_25:
 	ldr	w11, [x8]
-.Lrtp_BB10_28:
+.Lrtp_BB10_26:
 	rev	w11, w11
-.Lrtp_BB10_29:
+.Lrtp_BB10_27:
 	mov	x12, xzr
 	add	x20, x8, x10
-.Lrtp_BB10_30:
+.Lrtp_BB10_28:
 	lsr	w13, w11, #30
 	mov	w8, w11
 	mov	x10, x12
@@ -8187,71 +8180,72 @@
 	subs	x9, x9, #1
 	add	w12, w13, #1
 	add	x12, x10, x12
-	b.ne	.Lrtp_BB10_30
-	cbz	x12, .Lrtp_BB10_43
+	b.ne	.Lrtp_BB10_28
+	cbz	x12, .Lrtp_BB10_41
 	mov	w8, w8
 	add	x8, x10, x8, lsr #30
 	add	x22, x8, #1
-	b	.Lrtp_BB10_35
-.Lrtp_BB10_33:
+	b	.Lrtp_BB10_33
+.Lrtp_BB10_31:
 	sub	x19, x19, #1
 	add	x20, x20, #1
-.Lrtp_BB10_34:
+.Lrtp_BB10_32:
 	subs	x22, x22, #1
-	b.eq	.Lrtp_BB10_43
-.Lrtp_BB10_35:
-	cbz	x19, .Lrtp_BB10_34
+	b.eq	.Lrtp_BB10_41
+.Lrtp_BB10_33:
+	cbz	x19, .Lrtp_BB10_32
 	ldrsb	w8, [x20]
-	tbz	w8, #31, .Lrtp_BB10_33
+	tbz	w8, #31, .Lrtp_BB10_31
 	cmp	x19, #1
-	b.eq	.Lrtp_BB10_40
+	b.eq	.Lrtp_BB10_38
 	ldrsb	w8, [x20, #1]
-	tbnz	w8, #31, .Lrtp_BB10_40
+	tbnz	w8, #31, .Lrtp_BB10_38
 	mov	w8, #2
-	b	.Lrtp_BB10_42
-.Lrtp_BB10_40:
+	b	.Lrtp_BB10_40
+.Lrtp_BB10_38:
 	add	x0, sp, #8
 	mov	x1, x20
 	mov	x2, x19
 	bl	"rtp_vla::leb::long_number_at"
 	ldrb	w8, [sp, #8]
 	cmp	w8, #1
-	b.ne	.Lrtp_BB10_34
+	b.ne	.Lrtp_BB10_32
 	ldr	x8, [sp, #24]
-.Lrtp_BB10_42:
+.Lrtp_BB10_40:
 	add	x20, x20, x8
 	sub	x19, x19, x8
-	b	.Lrtp_BB10_34
-.Lrtp_BB10_43:
+	b	.Lrtp_BB10_32
+.Lrtp_BB10_41:
 	subs	x9, x19, #5
-	b.hs	.Lrtp_BB10_45
+	b.hs	.Lrtp_BB10_43
+.Lrtp_BB10_42:
 	mov	w0, #1
 	ldp	x20, x19, [sp, #64]
 	ldp	x22, x21, [sp, #48]
 	ldp	x29, x30, [sp, #32]
 	add	sp, sp, #80
 	ret
-.Lrtp_BB10_45:
+.Lrtp_BB10_43:
 	mov	w8, #1
-.Lrtp_BB10_46:
+.Lrtp_BB10_44:
 	ldrh	w10, [x20]
 	rev	w11, w10
 	mov	w10, #65535
 	cmp	w10, w11, lsr #16
-	b.eq	.Lrtp_BB10_16
+	b.eq	.Lrtp_BB10_15
 	ldrh	w11, [x20, #2]
 	rev	w11, w11
 	cmp	w10, w11, lsr #16
-	b.eq	.Lrtp_BB10_16
+	b.eq	.Lrtp_BB10_15
 	cmp	x8, x21
 	mov	w0, #1
-	b.hs	.Lrtp_BB10_17
+	b.hs	.Lrtp_BB10_16
 	cmp	x9, #5
 	sub	x9, x9, #5
 	add	x8, x8, #1
 	add	x20, x20, #5
-	b.hs	.Lrtp_BB10_46
-	b	.Lrtp_BB10_17
+	b.hs	.Lrtp_BB10_44
+	b	.Lrtp_BB10_16
 .Lrtp_func_end10:
 	.size	"rtp_ext::block_values::is_another_allocation", .Lrtp_func_end10-"rtp_ext::block_values::is_another_allocation"
 	.cfi_endproc

@@ -2,8 +2,8 @@
  * rtp_lines for Linux on x86_64: the assembly text that Rattle's compiler makes of the program, each function of which is proved.
  * Made anew by: generated/make
  * kit: rattle-kit-13f logic dac8208d650f15bf
- * sources: 8ca67c27cee320bf6ed81956160ade0d5d00de7f9235ca1aa773e98b19324bae
- * text: b648ec7b91cfab1bac79ff5f00476d78361e751f6fcde6820492b9dbc138da8a
+ * sources: fce1c88269765f7f6623b1ed48819b95a43350cca198103b0ce0003881002a3a
+ * text: ef6231269b541d2a5d9b20065b22c2a3ec1adc833868de8f5cab9776ae2747fd
  * SPDX-License-Identifier: MIT OR Apache-2.0
  * Copyright (c) 2026 The rtp-wire developers (NOTICE)
  */
@@ -9985,7 +9985,7 @@
 "rtp_ext::block_values::is_another_allocation":
 	.cfi_startproc
 	testq	%rsi, %rsi
-	je	.Lrtp_BB11_11
+	je	.Lrtp_BB11_1
 	pushq	%r15
 	.cfi_def_cfa_offset 16
 	pushq	%r14
@@ -10002,10 +10002,24 @@
 	.cfi_offset %r15, -16
 	movq	%rsi, %rbx
 	cmpq	$1, %rsi
-	jne	.Lrtp_BB11_3
+	jne	.Lrtp_BB11_5
 	cmpb	$0, (%rdi)
-	je	.Lrtp_BB11_14
-.Lrtp_BB11_3:
+	sete	%al
+	jmp	.Lrtp_BB11_60
+.Lrtp_BB11_1:
+	.cfi_def_cfa_offset 8
+	.cfi_restore %rbx
+	.cfi_restore %r12
+	.cfi_restore %r14
+	.cfi_restore %r15
+	xorl	%eax, %eax
+	retq
+.Lrtp_BB11_5:
+	.cfi_def_cfa_offset 64
+	.cfi_offset %rbx, -40
+	.cfi_offset %r12, -32
+	.cfi_offset %r14, -24
+	.cfi_offset %r15, -16
 	leaq	1(%rdi), %r14
 	decq	%rbx
 	movzbl	(%rdi), %eax
@@ -10014,52 +10028,39 @@
 	andl	$3, %edx
 	leaq	1(%rdx), %rcx
 	andb	$15, %al
-	je	.Lrtp_BB11_12
+	je	.Lrtp_BB11_6
 	movzbl	%al, %eax
 	popcntl	%eax, %eax
 	mulb	%cl
 	movzbl	%al, %r15d
-.Lrtp_BB11_5:
+.Lrtp_BB11_23:
 	leaq	3(%r15), %rdx
 	movl	%edx, %ecx
 	shrl	$2, %ecx
 	xorl	%eax, %eax
 	subq	%rcx, %rbx
-	jb	.Lrtp_BB11_44
+	jb	.Lrtp_BB11_60
 	testq	%rcx, %rcx
-	je	.Lrtp_BB11_9
+	je	.Lrtp_BB11_27
 	cmpl	$1, %ecx
-	jne	.Lrtp_BB11_21
+	jne	.Lrtp_BB11_29
 	movzbl	(%r14), %eax
 	shll	$24, %eax
-.Lrtp_BB11_9:
+.Lrtp_BB11_27:
 	testq	%r15, %r15
-	jne	.Lrtp_BB11_36
-.Lrtp_BB11_14:
+	jne	.Lrtp_BB11_35
+.Lrtp_BB11_28:
 	movb	$1, %al
-	jmp	.Lrtp_BB11_44
-.Lrtp_BB11_11:
-	.cfi_def_cfa_offset 8
-	.cfi_restore %rbx
-	.cfi_restore %r12
-	.cfi_restore %r14
-	.cfi_restore %r15
-	xorl	%eax, %eax
-	retq
-.Lrtp_BB11_12:
-	.cfi_def_cfa_offset 64
-	.cfi_offset %rbx, -40
-	.cfi_offset %r12, -32
-	.cfi_offset %r14, -24
-	.cfi_offset %r15, -16
+	jmp	.Lrtp_BB11_60
+.Lrtp_BB11_6:
 	leal	1(%rcx), %esi
 	shrl	%esi
 	subq	%rsi, %rbx
-	jae	.Lrtp_BB11_15
-.Lrtp_BB11_13:
+	jae	.Lrtp_BB11_7
+.Lrtp_BB11_59:
 	xorl	%eax, %eax
-	jmp	.Lrtp_BB11_44
-.Lrtp_BB11_15:
+	jmp	.Lrtp_BB11_60
+.Lrtp_BB11_7:
 	movl	%ecx, %r10d
 	incl	%r10d
 	andl	$-2, %r10d
@@ -10069,12 +10070,12 @@
 	xorl	%r9d, %r9d
 	movl	%eax, %r8d
 	testb	%r9b, %r9b
-	jne	.Lrtp_BB11_17
+	jne	.Lrtp_BB11_9
 	movzbl	(%r14), %r8d
 	shrb	$4, %r8b
 	movzbl	%r8b, %r8d
 	popcntl	%r8d, %r8d
-.Lrtp_BB11_17:
+.Lrtp_BB11_9:
 	movdqa	.Lrtp_CPI11_0(%rip), %xmm1
 	pcmpgtq	%xmm0, %xmm1
 	pcmpeqd	%xmm2, %xmm2
@@ -10082,30 +10083,28 @@
 	pextrb	$8, %xmm2, %r11d
 	movl	%eax, %r9d
 	testb	$1, %r11b
-	je	.Lrtp_BB11_19
+	je	.Lrtp_BB11_11
 	movzbl	(%r14), %r9d
 	andb	$15, %r9b
 	movzbl	%r9b, %r9d
 	popcntl	%r9d, %r9d
-.Lrtp_BB11_19:
+.Lrtp_BB11_11:
 	cmpl	$2, %r10d
-	jne	.Lrtp_BB11_23
+	jne	.Lrtp_BB11_13
 	movl	%eax, %r10d
 	addq	%rsi, %r14
 	testb	%dl, %dl
-	jne	.Lrtp_BB11_26
-.Lrtp_BB11_33:
-	movzbl	%r8b, %r15d
-	jmp	.Lrtp_BB11_5
-.Lrtp_BB11_21:
+	jne	.Lrtp_BB11_19
+	jmp	.Lrtp_BB11_18
+.Lrtp_BB11_29:
 	cmpl	$11, %edx
-	ja	.Lrtp_BB11_29
+	ja	.Lrtp_BB11_31
 	movzwl	(%r14), %eax
 	bswapl	%eax
 	testq	%r15, %r15
-	jne	.Lrtp_BB11_36
-	jmp	.Lrtp_BB11_14
-.Lrtp_BB11_23:
+	jne	.Lrtp_BB11_35
+	jmp	.Lrtp_BB11_28
+.Lrtp_BB11_13:
 	movl	$1, %r10d
 	movq	%r10, %xmm1
 	movdqa	%xmm0, %xmm2
@@ -10113,7 +10112,36 @@
 	movd	%xmm2, %r11d
 	movl	%eax, %r10d
 	testb	$1, %r11b
-	je	.Lrtp_BB11_24
+	jne	.Lrtp_BB11_14
+	pcmpgtq	.Lrtp_CPI11_1(%rip), %xmm0
+	pextrb	$8, %xmm0, %r11d
+	testb	$1, %r11b
+	jne	.Lrtp_BB11_16
+.Lrtp_BB11_17:
+	addq	%rsi, %r14
+	testb	%dl, %dl
+	je	.Lrtp_BB11_18
+.Lrtp_BB11_19:
+	addb	%r9b, %r8b
+	movzbl	%r8b, %r15d
+	cmpb	$2, %cl
+	je	.Lrtp_BB11_23
+	movzbl	%r10b, %edx
+	addq	%rdx, %r15
+	cmpb	$3, %cl
+	je	.Lrtp_BB11_23
+	movzbl	%al, %eax
+	addq	%rax, %r15
+	jmp	.Lrtp_BB11_23
+.Lrtp_BB11_31:
+	cmpl	$3, %ecx
+	jne	.Lrtp_BB11_33
+	movzbl	(%r14), %edx
+	movzwl	1(%r14), %eax
+	shll	$8, %eax
+	orl	%edx, %eax
+	jmp	.Lrtp_BB11_34
+.Lrtp_BB11_14:
 	movzbl	2(%rdi), %r10d
 	shrb	$4, %r10b
 	movzbl	%r10b, %r10d
@@ -10121,63 +10149,36 @@
 	pcmpgtq	.Lrtp_CPI11_1(%rip), %xmm0
 	pextrb	$8, %xmm0, %r11d
 	testb	$1, %r11b
-	jne	.Lrtp_BB11_32
-.Lrtp_BB11_25:
-	addq	%rsi, %r14
-	testb	%dl, %dl
-	je	.Lrtp_BB11_33
-.Lrtp_BB11_26:
-	addb	%r9b, %r8b
-	movzbl	%r8b, %r15d
-	cmpb	$2, %cl
-	je	.Lrtp_BB11_5
-	movzbl	%r10b, %edx
-	addq	%rdx, %r15
-	cmpb	$3, %cl
-	je	.Lrtp_BB11_5
-	movzbl	%al, %eax
-	addq	%rax, %r15
-	jmp	.Lrtp_BB11_5
-.Lrtp_BB11_24:
-	pcmpgtq	.Lrtp_CPI11_1(%rip), %xmm0
-	pextrb	$8, %xmm0, %r11d
-	testb	$1, %r11b
-	je	.Lrtp_BB11_25
-.Lrtp_BB11_32:
+	je	.Lrtp_BB11_17
+.Lrtp_BB11_16:
 	movzbl	2(%rdi), %eax
 	andb	$15, %al
 	movzbl	%al, %eax
 	popcntl	%eax, %eax
 	addq	%rsi, %r14
 	testb	%dl, %dl
-	jne	.Lrtp_BB11_26
-	jmp	.Lrtp_BB11_33
-.Lrtp_BB11_29:
-	cmpl	$3, %ecx
-	jne	.Lrtp_BB11_34
-	movzbl	(%r14), %edx
-	movzwl	1(%r14), %eax
-	shll	$8, %eax
-	orl	%edx, %eax
-	jmp	.Lrtp_BB11_35
-.Lrtp_BB11_34:
+	jne	.Lrtp_BB11_19
+.Lrtp_BB11_18:
+	movzbl	%r8b, %r15d
+	jmp	.Lrtp_BB11_23
+.Lrtp_BB11_33:
 	movl	(%r14), %eax
-.Lrtp_BB11_35:
+.Lrtp_BB11_34:
 	bswapl	%eax
-.Lrtp_BB11_36:
+.Lrtp_BB11_35:
 	leal	-1(%r15), %esi
 	movl	%r15d, %edx
 	andl	$3, %edx
 	cmpl	$3, %esi
-	jae	.Lrtp_BB11_38
+	jae	.Lrtp_BB11_37
 	xorl	%r12d, %r12d
-	jmp	.Lrtp_BB11_41
-.Lrtp_BB11_38:
+	jmp	.Lrtp_BB11_40
+.Lrtp_BB11_37:
 	movl	%r15d, %esi
 	andl	$-4, %esi
 	xorl	%r12d, %r12d
 	.p2align	4
-.Lrtp_BB11_39:
+.Lrtp_BB11_38:
 	movl	%eax, %edi
 	shrl	$30, %edi
 	addq	%r12, %rdi
@@ -10196,27 +10197,27 @@
 	leaq	(%r8,%rdi), %r12
 	addq	$4, %r12
 	addq	$-4, %rsi
-	jne	.Lrtp_BB11_39
+	jne	.Lrtp_BB11_38
 	testq	%rdx, %rdx
-	je	.Lrtp_BB11_42
+	je	.Lrtp_BB11_41
 	.p2align	4
-.Lrtp_BB11_41:
+.Lrtp_BB11_40:
 	movl	%eax, %esi
 	shrl	$30, %esi
 	shll	$2, %eax
 	addq	%rsi, %r12
 	incq	%r12
 	decq	%rdx
-	jne	.Lrtp_BB11_41
-.Lrtp_BB11_42:
+	jne	.Lrtp_BB11_40
+.Lrtp_BB11_41:
 	addq	%rcx, %r14
 	testq	%r12, %r12
-	jne	.Lrtp_BB11_47
-.Lrtp_BB11_43:
+	jne	.Lrtp_BB11_42
+.Lrtp_BB11_53:
 	movb	$1, %al
 	cmpq	$5, %rbx
-	jae	.Lrtp_BB11_56
-.Lrtp_BB11_44:
+	jae	.Lrtp_BB11_54
+.Lrtp_BB11_60:
 	addq	$24, %rsp
 	.cfi_def_cfa_offset 40
 	popq	%rbx
@@ -10233,62 +10234,62 @@
 	.cfi_restore %r15
 	retq
 	.p2align	4
-.Lrtp_BB11_45:
+.Lrtp_BB11_43:
 	.cfi_def_cfa_offset 64
 	.cfi_offset %rbx, -40
 	.cfi_offset %r12, -32
 	.cfi_offset %r14, -24
 	.cfi_offset %r15, -16
 	xorl	%ebx, %ebx
-.Lrtp_BB11_46:
+.Lrtp_BB11_52:
 	decq	%r12
-	je	.Lrtp_BB11_43
-.Lrtp_BB11_47:
+	je	.Lrtp_BB11_53
+.Lrtp_BB11_42:
 	testq	%rbx, %rbx
-	je	.Lrtp_BB11_45
+	je	.Lrtp_BB11_43
 	cmpb	$0, (%r14)
-	js	.Lrtp_BB11_50
+	js	.Lrtp_BB11_46
 	decq	%rbx
 	incq	%r14
-	jmp	.Lrtp_BB11_46
+	jmp	.Lrtp_BB11_52
 	.p2align	4
-.Lrtp_BB11_50:
+.Lrtp_BB11_46:
 	cmpq	$1, %rbx
-	je	.Lrtp_BB11_53
+	je	.Lrtp_BB11_49
 	cmpb	$0, 1(%r14)
-	js	.Lrtp_BB11_53
+	js	.Lrtp_BB11_49
 	movl	$2, %eax
-	jmp	.Lrtp_BB11_55
-.Lrtp_BB11_53:
+	jmp	.Lrtp_BB11_51
+.Lrtp_BB11_49:
 	movq	%rsp, %rdi
 	movq	%r14, %rsi
 	movq	%rbx, %rdx
 	callq	"rtp_vla::leb::long_number_at"
 	cmpb	$1, (%rsp)
-	jne	.Lrtp_BB11_46
+	jne	.Lrtp_BB11_52
 	movq	16(%rsp), %rax
-.Lrtp_BB11_55:
+.Lrtp_BB11_51:
 	addq	%rax, %r14
 	subq	%rax, %rbx
-	jmp	.Lrtp_BB11_46
-.Lrtp_BB11_56:
+	jmp	.Lrtp_BB11_52
+.Lrtp_BB11_54:
 	addq	$-5, %rbx
 	movl	$1, %ecx
 	.p2align	4
 .Lrtp_BB11_57:
 	cmpw	$-1, (%r14)
-	je	.Lrtp_BB11_13
+	je	.Lrtp_BB11_59
 	cmpw	$-1, 2(%r14)
-	je	.Lrtp_BB11_13
+	je	.Lrtp_BB11_59
 	subq	$5, %rbx
 	setb	%dl
 	cmpq	%r15, %rcx
-	jae	.Lrtp_BB11_44
+	jae	.Lrtp_BB11_60
 	incq	%rcx
 	addq	$5, %r14
 	testb	%dl, %dl
 	je	.Lrtp_BB11_57
-	jmp	.Lrtp_BB11_44
+	jmp	.Lrtp_BB11_60
 .Lrtp_func_end11:
 	.size	"rtp_ext::block_values::is_another_allocation", .Lrtp_func_end11-"rtp_ext::block_values::is_another_allocation"
 	.cfi_endproc

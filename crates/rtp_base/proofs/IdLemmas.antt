@@ -1,6 +1,9 @@
 -- Identifiers as texts filled up with spaces.
 use Rattle.rtp_base.proofs.Common.{◌≡◌, ℕ, ◌+◌, ◌-◌, ◌<◌, ◌≤◌, Bool, false, not, cond, eqb, List, [], ◌∷◌, ◌++◌, length, map, take, drop, get_or, replicate, refl, sym, ap, ◌∙◌, subst, inl, inr, arith, length-append, length-take-le, take_at, drop_at, IsUtf8, All, position_or_len, count_by, is_ascii_alphanumeric, chars, IsAscii, ne_eqb, cases_lt, cases_Bool, false≢true, nat_tests, get_or_append_left, get_or-append_right, get_or_past, get_or-replicate, length-replicate, length-take, take-append-drop, drop-replicate, take_all, All-nil, All-cons, All-take, All-head, All-tail, All-replicate, position_or_len_is, sum_by-cons, sum_by-append, IsUtf8-from_ascii, chars-IsAscii, id_char, id_text, padded, IsIdOf, before_padding, IsIdByte, IsIdArray}
+use Rattle.std.specs.Prelude.{zero, suc}
+use Rattle.std.proofs.lemmas.List.{map-append, length-map, drop_all, append-nil}
 use Rattle.std.proofs.lemmas.List.Folds.{sum_by-replicate}
+use Rattle.rtp_base.specs.Id.{zero_padded}
 use Rattle.std.proofs.lemmas.Str.Ascii.{IsAscii-from_all}
 
 abbrev pub is_space : ℕ → Bool
@@ -51,6 +54,42 @@ count-text bytes is =
 pub before_padding-padded : (text : List ℕ) (spaces : ℕ) → All IsIdByte text → before_padding (text ++ replicate spaces 32) ≡ text
 before_padding-padded text spaces is =
     ap (λ (n : ℕ). take n (text ++ replicate spaces 32)) (position-space text spaces is) ∙ take_at text (replicate spaces 32) (length text) refl
+
+abbrev pub zero_for_space : ℕ → ℕ
+zero_for_space b = cond (eqb b 32) 0 b
+
+zeros-text : (text : List ℕ) → All IsIdByte text → map zero_for_space text ≡ text
+zeros-text [] is = refl
+zeros-text (b ∷ bs) is =
+    ap (λ (space : Bool). cond space 0 b ∷ map zero_for_space bs) (IsIdByte-no_space b (All-head IsIdByte b bs is))
+    ∙ ap (λ (xs : List ℕ). b ∷ xs) (zeros-text bs (All-tail IsIdByte b bs is))
+
+zeros-spaces : (n : ℕ) → map zero_for_space (replicate n 32) ≡ replicate n 0
+zeros-spaces zero = refl
+zeros-spaces (suc n) = ap (λ (xs : List ℕ). 0 ∷ xs) (zeros-spaces n)
+
+-- bytes of which the first are mapped, and the others will be
+pub mapped_front-long : (f : ℕ → ℕ) (bytes : List ℕ) (n : ℕ) → length (map f (take n bytes) ++ drop n bytes) ≡ length bytes
+mapped_front-long f bytes n =
+    length-append (map f (take n bytes)) (drop n bytes) ∙ ap (λ (k : ℕ). k + length (drop n bytes)) (length-map (take n bytes) f)
+    ∙ sym (length-append (take n bytes) (drop n bytes)) ∙ ap length (take-append-drop n bytes)
+
+pub mapped_front-all : (f : ℕ → ℕ) (bytes : List ℕ) (n : ℕ) → length bytes ≤ n → map f (take n bytes) ++ drop n bytes ≡ map f bytes
+mapped_front-all f bytes n past =
+    ap (λ (xs : List ℕ). map f xs ++ drop n bytes) (take_all n bytes past) ∙ ap (λ (xs : List ℕ). map f bytes ++ xs) (drop_all n bytes past)
+    ∙ append-nil (map f bytes)
+
+-- the text of an id with zeros in place of its padding
+pub zero_padded-mapped : (size : ℕ) (id : List ℕ) → length id ≡ size → IsIdArray id → map zero_for_space id ≡ zero_padded size (before_padding id)
+zero_padded-mapped size id size-is is =
+    let text = is.text in
+    let before : before_padding id ≡ text = ap before_padding is.bytes_are ∙ before_padding-padded text is.spaces is.text_is in
+    let spaces : is.spaces ≡ size - length text =
+    omega (arith, size-is, ap length is.bytes_are, length-append text (replicate is.spaces 32), length-replicate {A = ℕ} is.spaces 32) in
+    ap (map zero_for_space) is.bytes_are ∙ map-append zero_for_space text (replicate is.spaces 32)
+    ∙ ap (λ (xs : List ℕ). xs ++ map zero_for_space (replicate is.spaces 32)) (zeros-text text is.text_is)
+    ∙ ap (λ (xs : List ℕ). text ++ xs) (zeros-spaces is.spaces ∙ ap (λ (n : ℕ). replicate n 0) spaces)
+    ∙ ap (zero_padded size) (sym before)
 
 -- ---- the test of an id's bytes
 

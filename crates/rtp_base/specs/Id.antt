@@ -16,6 +16,10 @@ id_text size text = take size (map id_char (chars text))
 abbrev pub padded : ℕ → List ℕ → List ℕ
 padded size text = text ++ replicate (size - length text) 32
 
+-- the text, filled up with zeros to the size
+abbrev pub zero_padded : ℕ → List ℕ → List ℕ
+zero_padded size text = text ++ replicate (size - length text) 0
+
 -- the bytes before the first space
 abbrev pub before_padding : List ℕ → List ℕ
 before_padding bytes = before_first (λ b. b == 32) bytes

@@ -19,6 +19,7 @@ mod MeantLemmas
 mod FewSlotsLemmas
 mod PlacesLemmas
 mod HeaderViewLemmas
+mod ToldLemmas
 mod GivenLayersLemmas
 mod GivenLemmas
 mod GivenValuesLemmas

@@ -11,27 +11,13 @@ use Rattle.rtp_route.specs.Calls as calls
 use Rattle.rtp_route.specs.GroupHeader.{IsFilledIn}
 use Rattle.rtp_route.specs.Retransmitted.{IsFilledInAgain}
 use Rattle.rtp_route.specs.Template.{slot_lengths, total_of, pieces}
-use Rattle.rtp_route.specs.declared.parts.TemplateParts.{TemplateParts}
 use Rattle.rtp_route.proofs.LengthLemmas.{pieces-lengths}
 use Rattle.rtp_route.proofs.RetransmittedLemmas.{routed-again}
 use Rattle.rtp_route.proofs.TemplateLemmas.{routed-filled}
-use Rattle.rtp_c.specs.declared.template.StoredTemplate.{StoredTemplate}
 use Rattle.rtp_c.specs.PacketView.{slice_at}
 use Rattle.rtp_c.specs.Given.{is_nonzero}
 use Rattle.rtp_c.specs.declared.routed_headers.RoutedHeader.{RoutedHeader}
 use Rattle.rtp_c.specs.RoutedHeaders.{IsReceivers, IsReceiversAgain, len_for}
-use Rattle.rtp_c.specs.StoredTemplate.{IsInRange, HasParts}
-
--- what is stored, where the parts are found to be in range
-pub in-range : (made : StoredTemplate) (parts : TemplateParts) (size total : ℕ) → HasParts made parts → made.count ≤ 16 → made.header_len ≤ size
-    → All (λ (s : Slot). s.start + s.len ≤ parts.header_len) (take parts.count parts.slots) → total ≡ total_of (take parts.count parts.slots) → total ≡ made.data_total → IsInRange made size
-in-range made parts size total has few there within total_is same = record {
-  few = few;
-  there = there;
-  within = subst (λ (ss : List Slot). All (λ (s : Slot). s.start + s.len ≤ made.header_len) ss) has.slots_are
-      (subst (λ (n : ℕ). All (λ (s : Slot). s.start + s.len ≤ n) (take parts.count parts.slots)) has.header_len_is within);
-  total_is = sym same ∙ total_is ∙ ap total_of has.slots_are;
-}
 
 pub no-bytes : (xs : List ℕ) → length xs ≡ 0 → xs ≡ []
 no-bytes [] none = refl

@@ -5,6 +5,7 @@ use Rattle.rtp_base.specs.Id.{IsIdByte, padded}
 use Rattle.rtp_base.specs.MediaTime.{Fraction}
 use Rattle.rtp_values.specs.declared.value.values.ExtensionValues.{ExtensionValues}
 use Rattle.rtp_values.specs.declared.value.video_orientation.VideoOrientation.{VideoOrientation}
+use Rattle.rtp_values.specs.Values.{no_values}
 use Rattle.rtp_values.specs.declared.value.video_orientation.VideoOrientation.TheVariants.{Deg0, Deg90, Deg180, Deg270}
 use Rattle.rtp_wire.specs.declared.header.rtp_header.RtpHeader.{RtpHeader}
 use Rattle.rtp_c.specs.declared.values.Time.{Time}
@@ -88,6 +89,23 @@ pub record AreGivenFields (view : HeaderView) (header : RtpHeader) : Type 0 wher
 pub record IsGivenHeader (view : HeaderView) (header : RtpHeader) : Type 0 where
   pub fields : AreGivenFields view header
   pub values : AreGivenValues view.values header.ext_vals
+
+-- the fields as they lie in C's struct, of a header without values
+abbrev pub header_in : HeaderView → RtpHeader
+header_in view = record {
+  version = 2;
+  has_padding = is_nonzero view.has_padding;
+  has_extension = is_nonzero view.has_extension;
+  csrc_count = view.csrc_count;
+  marker = is_nonzero view.marker;
+  payload_type = view.payload_type;
+  sequence_number = view.sequence_number;
+  timestamp = view.timestamp;
+  ssrc = view.ssrc;
+  csrc = view.csrc;
+  ext_vals = no_values;
+  header_len = 0;
+}
 
 -- the orientation of these degrees
 abbrev pub turn_of : ℕ → VideoOrientation

@@ -1,19 +1,15 @@
-//! The header and the values that C gives to be written.
+//! The values that C gives to be written, and whether they are such.
 
 ghost use Rattle.std.specs.Prelude.{◌≡◌, ◌≢◌, ◌<◌, ◌≤◌, ◌-◌, ◌↔◌, ℕ, length, slice_index, ◌==◌, if◌then◌else◌, IsTrue, IfSome, IfNone};
 ghost use Rattle.std.specs.List.{All};
 ghost use Rattle.std.specs.Int.{w64, trailing_zeros};
 ghost use Rattle.rtp_base.specs.Id.{IsIdByte};
 ghost use Rattle.rtp_values.specs.declared.value.video_orientation.VideoOrientation.{VideoOrientation as Orientation};
-ghost use Rattle.rtp_wire.specs.declared.header.rtp_header.RtpHeader.{RtpHeader as Header};
 ghost use Rattle.rtp_c.specs.Told.{degrees_of};
-ghost use Rattle.rtp_c.specs.Given.{given, text_in, turn_of, is_nonzero, IsTextIn, CanBeGiven, AreGivenFields};
+ghost use Rattle.rtp_c.specs.Given.{given, text_in, turn_of, IsTextIn, CanBeGiven};
 
-use super::header::HeaderView;
 use super::values::{Time, ValuesView};
-use rtp_base::{Pt, Ssrc};
 use rtp_values::VideoOrientation;
-use rtp_wire::RtpHeader;
 use std::simd::prelude::*;
 
 // A value, where its flag is set.
@@ -182,42 +178,4 @@ pub fn can_be_given(view: &ValuesView) -> bool
         && can_be_time(view.has_playout_delay_min, &view.playout_delay_min)
         && can_be_time(view.has_playout_delay_max, &view.playout_delay_max)
         && can_be_texts(view)
-}
-
-// Puts the fields that are given to the header, and leaves its values; `None` where no header can
-// have them.
-#[inline(always)]
-pub fn put_given_fields(view: &HeaderView, header: &mut RtpHeader) -> Option<()>
-    ensures found { IfSome result (λ _. AreGivenFields view.now header.new) }
-    ensures none { IfNone result ((header : Header) → AreGivenFields view.now header → ⊥) }
-    ensures values { header.new.ext_vals ≡ header.old.ext_vals }
-{
-    put_fields_with_x(view, view.has_extension != 0, header)
-}
-
-// Puts them as `put_given_fields` does, where it is known whether X is set.
-#[inline(always)]
-pub fn put_fields_with_x(
-    view: &HeaderView,
-    has_extension: bool,
-    header: &mut RtpHeader,
-) -> Option<()>
-    requires { has_extension ≡ is_nonzero view.now.has_extension }
-    ensures found { IfSome result (λ _. AreGivenFields view.now header.new) }
-    ensures none { IfNone result ((header : Header) → AreGivenFields view.now header → ⊥) }
-    ensures values { header.new.ext_vals ≡ header.old.ext_vals }
-{
-    if view.payload_type > 127 || view.csrc_count > 15 {
-        return None;
-    }
-    header.has_padding = view.has_padding != 0;
-    header.has_extension = has_extension;
-    header.csrc_count = usize::from(view.csrc_count);
-    header.marker = view.marker != 0;
-    header.payload_type = Pt::from(view.payload_type);
-    header.sequence_number = view.sequence_number;
-    header.timestamp = view.timestamp;
-    header.ssrc = Ssrc::from(view.ssrc);
-    header.csrc = view.csrc;
-    Some(())
 }

@@ -50,7 +50,8 @@ impl StoredMap {
     fn has_low_ids_alone(&self) -> bool
         ensures { OnTrue result ((id : ℕ) → 16 ≤ id → slice_index self.now.kind id ≡ 0) }
     {
-        are_zeros(&self.kind[16..])
+        // Each part is whole vectors, so that none is left over for a sum of its own.
+        are_zeros(&self.kind[16..32]) && are_zeros(&self.kind[32..])
     }
 
     // The index from which on each number is 0: 16 where all from there on are, or the end.

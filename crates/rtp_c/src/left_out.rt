@@ -12,7 +12,7 @@ ghost use Rattle.rtp_c.specs.GivenLayers.{IsGivenWithLayers};
 ghost use Rattle.rtp_c.specs.KindNumbers.{kind_number};
 ghost use Rattle.rtp_c.specs.LeftOut.{AreBitsOf, AreLeftOut, HasOffsetAlone, HasLayersFlag};
 
-use super::given::put_given_fields;
+use super::given_fields::GivenFields;
 use super::given_layers::with_given_layers;
 use super::given_values::GivenValues;
 use super::header::HeaderView;
@@ -22,8 +22,7 @@ use super::numbers::number_of;
 use super::status::{BAD_FIELD, OK};
 use super::values::ValuesView;
 use rtp_values::KnownKind;
-use rtp_wire::{KindSet, RtpHeader};
-use std::mem::ManuallyDrop;
+use rtp_wire::{KindSet, values_left_out};
 
 // The bit at the place of the kind's number, where the kind is in the set.
 #[inline(always)]
@@ -107,12 +106,10 @@ pub extern "C" fn rtpw_left_out(map: &StoredMap, header: &HeaderView, kinds: &mu
     let Some(values) = GivenValues::of(&header.values) else {
         return BAD_FIELD;
     };
-    let mut unfreed = ManuallyDrop::new(RtpHeader::default());
-    let rtp_header = &mut *unfreed;
-    let Some(()) = put_given_fields(header, rtp_header) else {
+    let Some(fields) = GivenFields::new(header) else {
         return BAD_FIELD;
     };
-    let mut left = rtp_header.values_left_out(&values, map);
+    let mut left = values_left_out(&fields, &values, map);
     insert_if(
         &mut left,
         KnownKind::AbsoluteCaptureTime,
@@ -149,15 +146,13 @@ pub extern "C" fn rtpw_left_out_layers(
     let Some(without) = GivenValues::of(&header.values) else {
         return BAD_FIELD;
     };
-    let mut unfreed = ManuallyDrop::new(RtpHeader::default());
-    let rtp_header = &mut *unfreed;
-    let Some(()) = put_given_fields(header, rtp_header) else {
+    let Some(fields) = GivenFields::new(header) else {
         return BAD_FIELD;
     };
     let Some(values) = with_given_layers(&without, layers) else {
         return BAD_FIELD;
     };
-    let mut left = rtp_header.values_left_out(&values, map);
+    let mut left = values_left_out(&fields, &values, map);
     insert_if(
         &mut left,
         KnownKind::AbsoluteCaptureTime,

@@ -12,6 +12,7 @@ mod changing;
 mod data;
 mod datagrams;
 mod given;
+mod given_fields;
 mod given_layers;
 mod given_parts;
 mod given_values;

@@ -5,6 +5,7 @@ ghost use Rattle.rtp_c.specs.KindNumbers.{kind_number, kind_numbered, IsNamed};
 ghost use Rattle.rtp_c.specs.StoredMap.{IsFirstNumber};
 
 use rtp_values::KnownKind;
+use std::simd::prelude::*;
 
 // The number of the kind that may have long data.
 pub(super) const LAYERS: u8 = 15;
@@ -127,17 +128,15 @@ pub(super) fn renamed(number: u8, from: u8, to: u8, lowest: u8, old: u8) -> u8
     }
 }
 
-// Whether one of the numbers is this one. Each is looked at, so that many are at once.
+// Whether one of sixteen numbers is this one. They are looked at at once.
 #[inline(always)]
 pub(super) fn has_number(numbers: &[u8], wanted: u8) -> bool
+    requires { length numbers.now ≡ 16 }
     ensures { (result ≡ false)
         ↔ ((i : ℕ) → i < length numbers.now → slice_index numbers.now i ≢ wanted) }
 {
-    let mut any = false;
-    for number in numbers {
-        any |= *number == wanted;
-    }
-    any
+    let same = u8x16::from_slice(numbers).simd_eq(u8x16::splat(wanted));
+    same.to_bitmask() != 0
 }
 
 // Whether one of the numbers is that of a kind. Each is looked at, so that many are at once.

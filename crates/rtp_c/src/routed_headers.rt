@@ -1,6 +1,6 @@
 //! One packet to all its receivers: a header for each, in one call.
 
-ghost use Rattle.std.specs.Prelude.{◌≡◌, ◌≢◌, ◌↔◌, ◌+◌, ◌<◌, ◌≤◌, ℕ, List, length, All, IsOk, IfOk, IfErr};
+ghost use Rattle.std.specs.Prelude.{◌≡◌, ◌≢◌, ◌↔◌, ◌+◌, ◌<◌, ◌≤◌, ℕ, List, length, take, All, IsOk, IfOk, IfErr};
 ghost use Rattle.rtp_base.specs.Overwriting.{overwritten};
 ghost use Rattle.rtp_wire.specs.Packet.{header_len_of};
 ghost use Rattle.rtp_wire.specs.PartsOf.{parts_of};
@@ -9,13 +9,14 @@ ghost use Rattle.rtp_route.specs.Template.{slot_lengths, total_of, pieces, LiesI
 ghost use Rattle.rtp_c.specs.RoutedHeaders.{header_in, IsWholeTemplate, IsTemplateStatus, IsReceiversAgain, IsHeaderWritten, AreHeadersWritten};
 ghost use Rattle.rtp_c.specs.SetFields.{fields_given, CanBeSet};
 ghost use Rattle.rtp_c.specs.Status.{ok, short_buffer};
-ghost use Rattle.rtp_c.specs.StoredTemplate.{slots_of, HasParts};
+ghost use Rattle.rtp_c.specs.StoredTemplate.{slots_of};
 
 use super::changing::{FieldsView, given_fields};
 use super::datagrams::slice_in;
 use super::status::{BAD_FIELD, OK, SHORT_BUFFER, status_of};
 use super::template::StoredTemplate;
-use rtp_route::{MAX_ELEMENTS, Slot, TemplateParts, write_joined, write_retransmission};
+use rtp_base::put;
+use rtp_route::{MAX_ELEMENTS, Slot, fill_copy, write_retransmission};
 use rtp_wire::RtpPacket;
 
 /// One of the receivers of a group, and the header that it gets: `rtpw_routed_header` in C, 48
@@ -41,23 +42,22 @@ pub struct RoutedHeader {
     pub status: i32,
 }
 
-// The header of the template at the front of these bytes, or the status of why it is none.
+// The header of the template at the front of these bytes, or the status of why it is none; the
+// places come first in the list.
 fn header_of<'a>(
     made: &StoredTemplate,
-    parts: &TemplateParts,
     bytes: &'a [u8],
+    slots: &mut [Slot; MAX_ELEMENTS],
 ) -> Result<RtpPacket<'a>, i32>
-    requires few { made.now.count ≤ 16 }
-    requires parts { HasParts made.now parts.now }
     ensures header { IfOk result (λ header. calls.header_in header ≡ header_in made.now bytes.now) }
+    ensures slots { IsOk result → take made.now.count slots.new ≡ slots_of made.now }
     ensures within { IfOk result (λ header.
         All (LiesInHeader (parts_of header)) (slots_of made.now)) }
-    ensures total { IsOk result → made.now.data_total ≡ total_of (slots_of made.now) }
     ensures whole { IsOk result ↔ IsWholeTemplate made.now bytes.now }
     ensures status { IfErr result (IsTemplateStatus made.now bytes.now) }
 {
     let len = made.header_len as usize;
-    if len > bytes.len() || !parts.are_in_range() || parts.data_len() != made.data_total as usize {
+    if len > bytes.len() || !made.read_slots(slots) {
         return Err(BAD_FIELD);
     }
     let header = match RtpPacket::parse(&bytes[..len]) {
@@ -135,8 +135,10 @@ fn write_one(
         receiver.status = write_again(*header, slots, own, receiver, buf);
         return;
     }
+    let copy = &mut buf[at..at + len];
+    put(copy, 0, header.header_bytes());
     let fields = given_fields(&receiver.fields);
-    write_joined(header, slots, &fields, own, &mut buf[at..at + len]);
+    fill_copy(header, slots, &fields, own, copy);
     receiver.status = OK;
 }
 
@@ -165,15 +167,12 @@ pub extern "C" fn rtpw_write_headers(
     ensures status { result ≢ ok → IsTemplateStatus made.now header.now result }
     ensures unchanged { result ≢ ok → (receivers.new ≡ receivers.old) × (buf.new ≡ buf.old) }
 {
-    if made.count as usize > MAX_ELEMENTS {
-        return BAD_FIELD;
-    }
-    let parts = made.parts();
-    let template = match header_of(made, &parts, header) {
+    let mut slots = [Slot { start: 0, len: 0 }; MAX_ELEMENTS];
+    let template = match header_of(made, header, &mut slots) {
         Ok(template) => template,
         Err(status) => return status,
     };
-    let slots = &parts.slots[..parts.count];
+    let slots = &slots[..made.count as usize];
     let data_len = made.data_total as usize;
     for receiver in receivers {
         write_one(&template, slots, data_len, bytes, receiver, buf);

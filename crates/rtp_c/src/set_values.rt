@@ -1,10 +1,11 @@
 //! What C is told of values, each kind as it is read.
 
 ghost use Rattle.std.specs.Prelude.{◌≡◌};
-ghost use Rattle.rtp_c.specs.Told.{fraction_of, degrees_of};
+ghost use Rattle.rtp_base.specs.Id.{before_padding};
+ghost use Rattle.rtp_c.specs.Told.{fraction_of, degrees_of, ended_text};
 
-use super::values::{Time, ValuesView, ended_text, flag_number, told};
-use rtp_base::{MediaTime, Mid, Rid};
+use super::values::{Time, ValuesView, flag_number, told};
+use rtp_base::{MediaTime, Mid, Rid, put};
 use rtp_values::{AbsCaptureTime, SetValues, VideoOrientation, VideoTiming};
 use rtp_vla::vla;
 use std::alloc::AllocError;
@@ -29,6 +30,24 @@ pub fn degrees(orientation: VideoOrientation) -> u16
         VideoOrientation::Deg180 => 180,
         VideoOrientation::Deg270 => 270,
     }
+}
+
+// The text of a tag, and then zeros, of which there is at least one.
+fn ended_mid(mid: Mid) -> [u8; 17]
+    ensures { result ≡ ended_text 16 (before_padding mid) }
+{
+    let mut bytes = [0; 17];
+    put(&mut bytes, 0, &mid.zero_padded());
+    bytes
+}
+
+// The same of a stream id.
+fn ended_rid(rid: Rid) -> [u8; 9]
+    ensures { result ≡ ended_text 8 (before_padding rid) }
+{
+    let mut bytes = [0; 9];
+    put(&mut bytes, 0, &rid.zero_padded());
+    bytes
 }
 
 impl SetValues for ValuesView {
@@ -97,17 +116,17 @@ impl SetValues for ValuesView {
 
     fn set_rid(&mut self, rid: Rid) {
         self.has_rid = 1;
-        self.rid = ended_text(rid.as_str());
+        self.rid = ended_rid(rid);
     }
 
     fn set_repaired_rid(&mut self, rid: Rid) {
         self.has_repaired_rid = 1;
-        self.repaired_rid = ended_text(rid.as_str());
+        self.repaired_rid = ended_rid(rid);
     }
 
     fn set_mid(&mut self, mid: Mid) {
         self.has_mid = 1;
-        self.mid = ended_text(mid.as_str());
+        self.mid = ended_mid(mid);
     }
 
     fn set_frame_marking(&mut self, marking: u32) {

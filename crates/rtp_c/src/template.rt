@@ -1,6 +1,6 @@
 //! A packet's header, made once for a group of receivers.
 
-ghost use Rattle.std.specs.Prelude.{◌≡◌, ◌≢◌, ◌↔◌, ◌<◌, ◌≤◌, length, take, Option};
+ghost use Rattle.std.specs.Prelude.{◌≡◌, ◌≢◌, ◌↔◌, ◌<◌, ◌≤◌, length, take, Option, IsTrue};
 ghost use Rattle.rtp_ext.specs.declared.form.ExtensionsForm.{ExtensionsForm};
 ghost use Rattle.rtp_ext.specs.NewIds.{new_id, ids_in_bytes};
 ghost use Rattle.rtp_wire.specs.NotAHeader.{IsNoPacket};
@@ -12,7 +12,7 @@ ghost use Rattle.rtp_route.specs.Template.{total_of};
 ghost use Rattle.rtp_c.specs.PacketView.{form_number};
 ghost use Rattle.rtp_c.specs.Status.{ok, bad_field, IsCauseStatus};
 ghost use Rattle.rtp_c.specs.RoutedStatus.{not_routed_status, IsNotRoutedStatus};
-ghost use Rattle.rtp_c.specs.StoredTemplate.{slots_of, IsInRange, HasParts};
+ghost use Rattle.rtp_c.specs.StoredTemplate.{slots_of, AreInRange, IsInRange};
 ghost use Rattle.rtp_c.specs.WrittenElements.{LieIn, elements_in};
 
 use super::growing::put_status_of;
@@ -21,7 +21,7 @@ use super::named_elements::NamedElements;
 use super::packet::{ElementView, allowed_of};
 use super::status::{BAD_FIELD, LONG_ID, OK, status_of};
 use rtp_ext::NewIds;
-use rtp_route::{Group, MAX_ELEMENTS, NotRouted, Slot, TemplateParts, make_template_into};
+use rtp_route::{Group, MAX_ELEMENTS, NotRouted, Slot, make_template};
 use rtp_wire::RtpPacket;
 
 /// How long a group's header is, and where in it the data of the group's elements lie:
@@ -42,46 +42,47 @@ pub struct StoredTemplate {
 }
 
 impl StoredTemplate {
-    // The parts that are stored.
-    pub(super) fn parts(&self) -> TemplateParts
-        requires { self.now.count ≤ 16 }
-        ensures { HasParts self.now result }
+    // Puts the places that are stored at the front of the list, and returns whether they are those of
+    // a template: at most 16, which lie in the header and have as many bytes of data as is stored.
+    pub(super) fn read_slots(&self, slots: &mut [Slot; MAX_ELEMENTS]) -> bool
+        ensures slots { IsTrue result → take self.now.count slots.new ≡ slots_of self.now }
+        ensures answer { IsTrue result ↔ AreInRange self.now }
     {
-        let count = self.count as usize;
-        let mut slots = [Slot { start: 0, len: 0 }; MAX_ELEMENTS];
-        for index in 0..count {
-            slots[index] = Slot {
-                start: self.data_at[index],
-                len: self.data_len[index],
-            };
+        if self.count as usize > MAX_ELEMENTS {
+            return false;
         }
-        TemplateParts {
-            header_len: self.header_len,
-            slots,
-            count,
+        let mut total = 0;
+        for index in 0..self.count as usize {
+            let (start, len) = (self.data_at[index], self.data_len[index]);
+            if start as usize + len as usize > self.header_len as usize {
+                return false;
+            }
+            slots[index] = Slot { start, len };
+            total += len as u16;
         }
+        total == self.data_total
     }
 
-    // Keeps the parts of a template, and zeros after the last place.
-    fn store(&mut self, parts: &TemplateParts)
-        requires { parts.now.count ≤ 16 }
-        ensures header_len { self.new.header_len ≡ parts.now.header_len }
-        ensures slots { slots_of self.new ≡ take parts.now.count parts.now.slots }
-        ensures count { self.new.count ≡ parts.now.count }
-        ensures total { self.new.data_total ≡ total_of (take parts.now.count parts.now.slots) }
+    // Keeps the length of a template and its places, and zeros after the last place.
+    fn store(&mut self, header_len: u32, slots: &[Slot])
+        requires { length slots.now ≤ 16 }
+        ensures header_len { self.new.header_len ≡ header_len }
+        ensures slots { slots_of self.new ≡ slots.now }
+        ensures count { self.new.count ≡ length slots.now }
+        ensures total { self.new.data_total ≡ total_of slots.now }
     {
         let mut total = 0;
         self.data_at = [0; MAX_ELEMENTS];
         self.data_len = [0; MAX_ELEMENTS];
-        for index in 0..parts.count {
-            let slot = parts.slots[index];
+        for index in 0..slots.len() {
+            let slot = slots[index];
             self.data_at[index] = slot.start;
             self.data_len[index] = slot.len;
             total += slot.len as u16;
         }
-        self.header_len = parts.header_len;
+        self.header_len = header_len;
         self.data_total = total;
-        self.count = parts.count as u8;
+        self.count = slots.len() as u8;
     }
 }
 
@@ -169,14 +170,10 @@ pub extern "C" fn rtpw_make_template(
         elements: &lent[..elements.len()],
         allowed,
     };
-    let mut parts = TemplateParts {
-        header_len: 0,
-        slots: [Slot { start: 0, len: 0 }; MAX_ELEMENTS],
-        count: 0,
-    };
-    match make_template_into(&packet, &group, buf, &mut parts) {
-        Ok(()) => {
-            made.store(&parts);
+    let mut slots = [Slot { start: 0, len: 0 }; MAX_ELEMENTS];
+    match make_template(&packet, &group, buf, &mut slots) {
+        Ok(len) => {
+            made.store(len as u32, &slots[..group.elements.len()]);
             OK
         }
         Err(cause) => not_routed_status(cause),

@@ -1,6 +1,6 @@
 //! The values of a block's elements.
 
-ghost use Rattle.std.specs.Prelude.{◌≡◌, ◌≢◌, ◌↔◌, ◌⊎◌, ◌-◌, ◌<◌, ◌++◌, List, length, replicate, Some};
+ghost use Rattle.std.specs.Prelude.{◌≡◌, ◌≢◌, ◌↔◌, ◌⊎◌, List, Some};
 ghost use Rattle.rtp_base.specs.Flag.{bit};
 ghost use Rattle.rtp_ext.specs.declared.form.ExtensionsForm.{ExtensionsForm};
 ghost use Rattle.rtp_ext.specs.BlockValues.{AreValues};
@@ -16,7 +16,6 @@ ghost use Rattle.rtp_c.specs.StoredMap.{numbered_slots};
 use super::kinds::StoredMap;
 use super::packet::form_of;
 use super::status::{BAD_FIELD, OK};
-use rtp_base::put;
 use rtp_ext::{ExtensionsForm, read_values};
 
 /// A time as a number of ticks of a clock: `rtpw_time` in C, 16 bytes. It is `ticks / hertz`
@@ -102,16 +101,6 @@ pub fn flag_number(is_set: bool) -> u8
     ensures { result ≡ bit is_set }
 {
     if is_set { 1 } else { 0 }
-}
-
-// The bytes of a text, and then zeros.
-pub fn ended_text<const N: usize>(text: &str) -> [u8; N]
-    requires room { length text.now < N }
-    ensures { result ≡ text.now ++ replicate (N - length text.now) 0 }
-{
-    let mut bytes = [0; N];
-    put(&mut bytes, 0, text.as_bytes());
-    bytes
 }
 
 // Whether the value is there, as 1 or 0, and the value: of one that is absent the default.

@@ -10,14 +10,13 @@ ghost use Rattle.rtp_c.specs.PacketView.{form_number};
 ghost use Rattle.rtp_c.specs.WrittenElements.{AreWritable, AreWrittenElements, AreTooLong};
 ghost use Rattle.rtp_c.specs.WrittenHeader.{CanBeWrittenWith, IsWrittenWith, IsTooLongWith};
 
-use super::given::put_given_fields;
+use super::given_fields::GivenFields;
 use super::header::HeaderView;
 use super::named_elements::NamedElements;
 use super::packet::{ElementView, allowed_of, form_of};
 use super::status::{BAD_FIELD, OK, SHORT_BUFFER};
 use rtp_ext::{ElementList, ExtensionsForm, write_elements};
-use rtp_wire::RtpHeader;
-use std::mem::ManuallyDrop;
+use rtp_wire::write_with;
 
 // The most bytes that the body of a block has: 65,535 words (RFC 3550, 5.3.1).
 const MAX_BODY_LEN: usize = 4 * 65_535;
@@ -42,15 +41,13 @@ fn write_header_with(
     ensures statuses { (result ≡ ok) ⊎ ((result ≡ short_buffer) ⊎ (result ≡ bad_field)) }
     ensures unchanged { result ≢ ok → (buf.new ≡ buf.old) × (len.new ≡ len.old) }
 {
-    let mut unfreed = ManuallyDrop::new(RtpHeader::default());
-    let rtp_header = &mut *unfreed;
-    let Some(()) = put_given_fields(header, rtp_header) else {
+    let Some(fields) = GivenFields::new(header) else {
         return BAD_FIELD;
     };
     let Some(named) = NamedElements::new(bytes, elements) else {
         return BAD_FIELD;
     };
-    if let Some(written) = rtp_header.write_with(buf, named, allowed) {
+    if let Some(written) = write_with(&fields, buf, named, allowed) {
         *len = written;
         return OK;
     }

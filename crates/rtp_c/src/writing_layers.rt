@@ -7,15 +7,14 @@ ghost use Rattle.rtp_c.specs.Status.{ok, short_buffer, bad_field};
 ghost use Rattle.rtp_c.specs.GivenLayers.{IsGivenWithLayers};
 ghost use Rattle.rtp_c.specs.WrittenHeader.{IsLengthOf, IsWrittenHeader, IsTooLong};
 
-use super::given::put_given_fields;
+use super::given_fields::GivenFields;
 use super::given_layers::with_given_layers;
 use super::given_values::GivenValues;
 use super::header::HeaderView;
 use super::kinds::StoredMap;
 use super::layers::Layers;
 use super::status::{BAD_FIELD, OK, SHORT_BUFFER};
-use rtp_wire::RtpHeader;
-use std::mem::ManuallyDrop;
+use rtp_wire::{try_write_values, values_wire_len};
 
 /// How many bytes [`rtpw_write_layers`] writes: a multiple of four. `OK`, and the number is
 /// written; `BAD_FIELD` for the causes of [`rtpw_write_layers`], and then nothing is written.
@@ -36,15 +35,13 @@ pub extern "C" fn rtpw_wire_len_layers(
     let Some(without) = GivenValues::of(&header.values) else {
         return BAD_FIELD;
     };
-    let mut unfreed = ManuallyDrop::new(RtpHeader::default());
-    let rtp_header = &mut *unfreed;
-    let Some(()) = put_given_fields(header, rtp_header) else {
+    let Some(fields) = GivenFields::new(header) else {
         return BAD_FIELD;
     };
     let Some(values) = with_given_layers(&without, layers) else {
         return BAD_FIELD;
     };
-    *len = rtp_header.values_wire_len(&values, map);
+    *len = values_wire_len(&fields, &values, map);
     OK
 }
 
@@ -76,15 +73,13 @@ pub extern "C" fn rtpw_write_layers(
     let Some(without) = GivenValues::of(&header.values) else {
         return BAD_FIELD;
     };
-    let mut unfreed = ManuallyDrop::new(RtpHeader::default());
-    let rtp_header = &mut *unfreed;
-    let Some(()) = put_given_fields(header, rtp_header) else {
+    let Some(fields) = GivenFields::new(header) else {
         return BAD_FIELD;
     };
     let Some(values) = with_given_layers(&without, layers) else {
         return BAD_FIELD;
     };
-    let Some(written) = rtp_header.try_write_values(buf, &values, map) else {
+    let Some(written) = try_write_values(&fields, buf, &values, map) else {
         return SHORT_BUFFER;
     };
     *len = written;

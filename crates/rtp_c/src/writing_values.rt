@@ -6,13 +6,12 @@ ghost use Rattle.rtp_c.specs.Status.{ok, short_buffer, bad_field};
 ghost use Rattle.rtp_c.specs.Given.{is_nonzero, AreGivenValues, IsGivenHeader};
 ghost use Rattle.rtp_c.specs.WrittenHeader.{IsLengthOf, IsWrittenHeader, IsTooLong, WritesHeader};
 
-use super::given::{put_fields_with_x, put_given_fields};
+use super::given_fields::GivenFields;
 use super::given_values::GivenValues;
 use super::header::HeaderView;
 use super::kinds::StoredMap;
 use super::status::{BAD_FIELD, OK, SHORT_BUFFER};
-use rtp_wire::RtpHeader;
-use std::mem::ManuallyDrop;
+use rtp_wire::{try_write_values, values_wire_len};
 
 /// How many bytes [`rtpw_write`] writes of the header: a multiple of four, 12 without CSRC list and
 /// block. `OK`, and the number is written; `BAD_FIELD` for the causes of [`rtpw_write`], and then
@@ -27,12 +26,10 @@ pub extern "C" fn rtpw_wire_len(map: &StoredMap, header: &HeaderView, len: &mut 
     let Some(values) = GivenValues::of(&header.values) else {
         return BAD_FIELD;
     };
-    let mut unfreed = ManuallyDrop::new(RtpHeader::default());
-    let rtp_header = &mut *unfreed;
-    let Some(()) = put_given_fields(header, rtp_header) else {
+    let Some(fields) = GivenFields::new(header) else {
         return BAD_FIELD;
     };
-    *len = rtp_header.values_wire_len(&values, map);
+    *len = values_wire_len(&fields, &values, map);
     OK
 }
 
@@ -121,12 +118,10 @@ fn write_with_x(
     ensures { WritesHeader map.now.kind (IsGivenHeader header.now) buf.old buf.new len.old len.new
         result }
 {
-    let mut unfreed = ManuallyDrop::new(RtpHeader::default());
-    let rtp_header = &mut *unfreed;
-    let Some(()) = put_fields_with_x(header, has_extension, rtp_header) else {
+    let Some(fields) = GivenFields::with_x(header, has_extension) else {
         return BAD_FIELD;
     };
-    let Some(written) = rtp_header.try_write_values(buf, &values, map) else {
+    let Some(written) = try_write_values(&fields, buf, &values, map) else {
         return SHORT_BUFFER;
     };
     *len = written;

@@ -49,7 +49,7 @@ pub use Rattle.rtp_ext.specs.KindsById.{entry_of_kind, slots_of, is_layers, laye
 pub use Rattle.rtp_ext.specs.LastAllocation.{IsLastAllocation, last_is, none_is, EndsRow, IsReadTo}
 pub use Rattle.rtp_ext.specs.MapSlots.{IsMapped, mapped_ids, updated, Puts, Swaps, items_at, inserted, RiseAbove}
 pub use Rattle.rtp_ext.specs.Memory.{HasAllocation, ReadUntilRefused, IsStopped}
-pub use Rattle.rtp_ext.specs.NewIds.{IsNewId, id_in_byte, byte_of_id, AreNewBytes, new_id, AreNewIds, CarriesExtensions, ids_in_bytes, IsRenamedId, AreRenamedIds, Renames}
+pub use Rattle.rtp_ext.specs.NewIds.{AreIds, IsNewId, id_in_byte, byte_of_id, AreNewBytes, new_id, AreNewIds, CarriesExtensions, ids_in_bytes, IsRenamedId, AreRenamedIds, Renames}
 pub use Rattle.rtp_ext.specs.PutElement.{has_id, without, put_element, row_to, IsSole}
 pub use Rattle.rtp_ext.specs.WrittenBlock.{needs_two, form_of, written_elements, image_values, fields_of_items, mapped_fields, TakesAtMost17Each, HasFewData}
 pub use Rattle.rtp_ext.specs.declared.form.ExtensionsForm.{ExtensionsForm}

@@ -1,5 +1,5 @@
 -- The ids that elements have under another map, and what a form can carry of them.
-use Rattle.rtp_ext.proofs.Common.{◌≡◌, ℕ, zero, suc, ◌≤◌, ◌<◌, List, [], ◌∷◌, length, Bool, true, ◌&&◌, Option, Some, None, IfSome, All, ◌+◌, get_or, set, map, drop, length-set, nat_le, ◌↔◌, inl, inr, IsTrue, arith, refl, sym, ap, ◌∙◌, subst, AllByRecursion, filter_map, list_all, and_parts, leb-true, le-leb, cases_lt, get_or-map, get_or_past, get_or-set_same, get_or-set_other, map-set, length-map, All-nil, All-cons, All-head, All-tail, Extension, one_kind, ExtensionsForm, OneByte, TwoByte, Element, IsElement, IsPiece, AreElements, CanRenumber, Slots, IsId, IsLowest, entry_at, extension_at, extension_of, HasNoIdAbove, AreNewBytes, new_id, IsNewId, AreNewIds, CarriesExtensions, id_in_byte, ids_in_bytes, byte_of_id, carries_id}
+use Rattle.rtp_ext.proofs.Common.{◌≡◌, ℕ, zero, suc, ◌≤◌, ◌<◌, List, [], ◌∷◌, length, Bool, true, ◌&&◌, Option, Some, None, IfSome, All, ◌+◌, get_or, set, map, length-set, nat_le, ◌↔◌, inl, inr, IsTrue, arith, refl, sym, ap, ◌∙◌, subst, AllByRecursion, filter_map, list_all, and_parts, leb-true, le-leb, cases_lt, get_or-map, get_or_past, get_or-set_same, get_or-set_other, map-set, length-map, All-nil, All-cons, All-head, All-tail, Extension, one_kind, ExtensionsForm, OneByte, TwoByte, Element, IsElement, IsPiece, AreElements, CanRenumber, Slots, IsId, IsLowest, entry_at, extension_at, extension_of, HasNoIdAbove, AreNewBytes, new_id, IsNewId, AreNewIds, CarriesExtensions, id_in_byte, ids_in_bytes, byte_of_id, carries_id, AreIds}
 
 -- ---- what a form can carry
 
@@ -141,19 +141,29 @@ IsId-byte (suc k) new below is = let same : suc k ≡ new = one is in (omega ari
 pub IsId-bytes : (bytes : List ℕ) (id new : ℕ) → ((i : ℕ) → get_or bytes i 0 < 256) → new_id (map id_in_byte bytes) id ≡ Some new → IsId new
 IsId-bytes bytes id new below is = IsId-byte (get_or bytes id 0) new (below id) (sym (new_id-byte bytes id) ∙ is)
 
--- the first byte is passed over
-pub ids_in_bytes-after : (bytes after : List ℕ) → length bytes ≡ 256 → after ≡ drop 1 bytes → None ∷ map id_in_byte after ≡ ids_in_bytes bytes
-ids_in_bytes-after [] after long is = absurd (omega (arith, long))
-ids_in_bytes-after (first ∷ bytes) after long is = ap (λ (left : List ℕ). None ∷ map id_in_byte left) is
+byte-IsId : (byte : ℕ) → byte < 256 → IfSome (id_in_byte byte) IsId
+byte-IsId zero below = tt
+byte-IsId (suc k) below = (omega arith, omega (arith, below))
 
-pub table_after : (bytes after : List ℕ) → length bytes ≡ 256 → after ≡ drop 1 bytes → ((i : ℕ) → get_or bytes i 0 < 256)
-    → (length (0 ∷ after) ≡ 256) × (get_or (0 ∷ after) 0 0 ≡ 0) × ((id : ℕ) → get_or (0 ∷ after) id 0 < 256)
-table_after [] after long is below = absurd (omega (arith, long))
-table_after (first ∷ bytes) after long is below = (ap (λ (left : List ℕ). suc (length left)) is ∙ long, refl, each)
+pub AreIds-bytes : (bytes : List ℕ) → get_or bytes 0 0 ≡ 0 → ((i : ℕ) → get_or bytes i 0 < 256) → AreIds (map id_in_byte bytes)
+AreIds-bytes bytes first below = record {
+  padding = new_id-byte bytes 0 ∙ ap id_in_byte first;
+  each = λ id. subst (λ (new : Option ℕ). IfSome new IsId) (sym (new_id-byte bytes id)) (byte-IsId (get_or bytes id 0) (below id));
+}
+
+-- the first byte is passed over
+pub ids_in_bytes-cleared : (bytes : List ℕ) → map id_in_byte (set bytes 0 0) ≡ ids_in_bytes bytes
+ids_in_bytes-cleared [] = refl
+ids_in_bytes-cleared (first ∷ bytes) = refl
+
+pub table_cleared : (bytes : List ℕ) → length bytes ≡ 256 → ((i : ℕ) → get_or bytes i 0 < 256)
+    → (length (set bytes 0 0) ≡ 256) × (get_or (set bytes 0 0) 0 0 ≡ 0) × ((id : ℕ) → get_or (set bytes 0 0) id 0 < 256)
+table_cleared [] long below = absurd (omega (arith, long))
+table_cleared (first ∷ bytes) long below = (long, refl, each)
   where
-    each : (id : ℕ) → get_or (0 ∷ after) id 0 < 256
+    each : (id : ℕ) → get_or (0 ∷ bytes) id 0 < 256
     each zero = omega arith
-    each (suc k) = subst (λ (left : List ℕ). get_or left k 0 < 256) (sym is) (below (suc k))
+    each (suc k) = below (suc k)
 
 pub ids_in_bytes-zero : (bytes : List ℕ) → get_or bytes 0 0 ≡ 0 → ids_in_bytes bytes ≡ map id_in_byte bytes
 ids_in_bytes-zero [] is = refl

@@ -1,5 +1,5 @@
 -- The ids that elements have under another map (RFC 8285, 5).
-use Rattle.std.specs.Prelude.{◌≡◌, ◌≢◌, ◌<◌, ◌⊎◌, ℕ, zero, suc, List, [], ◌∷◌, map, Option, Some, None, slice_index, slice_index_or}
+use Rattle.std.specs.Prelude.{◌≡◌, ◌≢◌, ◌<◌, ◌⊎◌, ℕ, zero, suc, List, [], ◌∷◌, map, Option, Some, None, IfSome, slice_index, slice_index_or}
 use Rattle.std.specs.Option.{unwrap_or}
 use Rattle.std.proofs.Common.{refl, ap}
 use Rattle.rtp_values.specs.declared.kind.Extension.{Extension}
@@ -8,6 +8,11 @@ use Rattle.rtp_ext.specs.ExtensionMap.{Slots, IsId, extension_at, IsUnmapped, Is
 -- the new id that a table has for an id
 abbrev pub new_id : List (Option ℕ) → ℕ → Option ℕ
 new_id ids id = slice_index_or ids id None
+
+-- the id 0, which is padding's, has no new id in the table, and each that it has is 1 to 255
+pub record AreIds (ids : List (Option ℕ)) : Type 0 where
+  pub padding : new_id ids 0 ≡ None
+  pub each : (id : ℕ) → IfSome (new_id ids id) IsId
 
 -- the id that elements of an id get from one map to another: the lowest that the second has for its extension, and none where the id is mapped to no extension that the second has
 abbrev pub IsNewId : Slots → Slots → ℕ → Option ℕ → Type 0

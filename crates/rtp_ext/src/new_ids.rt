@@ -7,7 +7,7 @@ ghost use Rattle.rtp_values.specs.KnownKind.{extension_of_kind};
 ghost use Rattle.rtp_ext.specs.declared.form.ExtensionsForm.TheVariants.{OneByte};
 ghost use Rattle.rtp_ext.specs.ElementReading.{elements_left};
 ghost use Rattle.rtp_ext.specs.ElementsInPlace.{CanRenumber};
-ghost use Rattle.rtp_ext.specs.NewIds.{new_id, AreNewIds, CarriesExtensions, AreRenamedIds, id_in_byte, ids_in_bytes};
+ghost use Rattle.rtp_ext.specs.NewIds.{new_id, AreIds, AreNewIds, CarriesExtensions, AreRenamedIds, id_in_byte, ids_in_bytes};
 ghost use Rattle.rtp_ext.specs.IdChanges.{carries_id};
 
 use super::kinds::Kinds;
@@ -118,10 +118,10 @@ impl NewIds {
     pub fn from_ids(ids: &[u8; 256]) -> Self
         ensures { result ≡ ids_in_bytes ids.now }
     {
-        let after_first = &ids[1..];
-        let mut ids = [0; IDS];
-        ids[1..].copy_from_slice(after_first);
-        NewIds { ids }
+        let mut table = [0; IDS];
+        table.copy_from_slice(&ids[..]);
+        table[0] = 0;
+        NewIds { ids: table }
     }
 
     /// The new ids, each at the index of the old one, with 0 where an id has none, as at index 0:
@@ -146,16 +146,18 @@ impl NewIds {
     // Whether the one-byte form can carry the new id of each id up to 14, if it has one.
     #[inline(always)]
     pub(super) fn fit_one_byte_form(&self) -> bool
-        ensures { OnTrue result ((id : ℕ) → id ≤ 14 →
+        ensures short { OnTrue result ((id : ℕ) → id ≤ 14 →
             IfSome (new_id self.now id) (λ new. (1 ≤ new) × (new ≤ 14))) }
+        ensures ids { AreIds self.now }
     {
         are_short(&self.ids[..8]) && are_short(&self.ids[7..15])
     }
 
     // Whether the form can carry the new ids of a body's elements.
     pub(super) fn can_renumber(&self, form: ExtensionsForm, body: &[u8]) -> bool
-        ensures { IsTrue result
+        ensures answer { IsTrue result
             ↔ All (CanRenumber form (new_id self.now)) (elements_left form body.now) }
+        ensures ids { AreIds self.now }
     {
         let ids = &self.ids;
         match form {

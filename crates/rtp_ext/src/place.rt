@@ -12,7 +12,7 @@ ghost use Rattle.rtp_ext.specs.ExtensionMap.{Slots};
 ghost use Rattle.rtp_ext.specs.BlockValues.{SaysValues};
 ghost use Rattle.rtp_values.specs.declared.value.values.ExtensionValues.{ExtensionValues};
 ghost use Rattle.std.specs.List.{filter_map};
-ghost use Rattle.rtp_ext.specs.NewIds.{new_id, CarriesExtensions};
+ghost use Rattle.rtp_ext.specs.NewIds.{new_id, AreIds, CarriesExtensions};
 ghost use Rattle.rtp_ext.specs.IdChanges.{ids_of, CanChangeIds, HasOtherIds};
 ghost use Rattle.rtp_ext.specs.WrittenBlock.{mapped_fields};
 
@@ -136,8 +136,9 @@ impl IdChange<'_> {
 // Whether the form can carry the new ids of a body's elements. These aren't looked at where it can
 // carry those of all ids that they can have, as with most tables.
 fn carries_new_ids(form: ExtensionsForm, body: &[u8], ids: &NewIds) -> bool
-    ensures { IsTrue result
+    ensures answer { IsTrue result
         ↔ All (CanRenumber form (new_id ids.now)) (elements_left form body.now) }
+    ensures ids { AreIds ids.now }
 {
     match form {
         ExtensionsForm::OneByte if ids.fit_one_byte_form() => true,
@@ -222,6 +223,7 @@ pub fn renumber(form: ExtensionsForm, body: &mut [u8], ids: &NewIds) -> bool
     ensures elements { (elements : List Element) → AreElements form body.old elements →
         OnTrue result
         (AreElements form body.new (filter_map (renumbered (new_id ids.now)) elements)) }
+    ensures ids { AreIds ids.now }
     ensures values { (from to : Slots) (values : ExtensionValues) →
         CarriesExtensions from to ids.now → SaysValues form from body.old values →
         OnTrue result (SaysValues form to body.new (mapped_fields to values)) }

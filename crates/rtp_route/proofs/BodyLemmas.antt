@@ -9,7 +9,7 @@ use Rattle.rtp_ext.specs.Form.{IsFormWord}
 use Rattle.rtp_wire.specs.Block.{IsBlock, word_at}
 use Rattle.rtp_wire.specs.Packet.{PacketParts, IsAnnouncedBlock, IsPacket, block_len}
 use Rattle.rtp_wire.proofs.PartsLemmas.{length-packet}
-use Rattle.rtp_route.proofs.WordLemmas.{word_in_front}
+use Rattle.rtp_route.proofs.WordLemmas.{packet-with, word_in_front}
 
 -- what X announces is this block, and may be another one
 pub record Announces (x : Bool) (other : Option (ℕ × List ℕ)) (part : List ℕ) (form : ExtensionsForm) (body : List ℕ) : Type 0 where
@@ -62,26 +62,12 @@ has-body bytes parts form body is none some =
       other = λ new same.
           let word : (at : ℕ) → at + 2 ≤ 4 → word_at (top ++ new) at ≡ word_at is.part at =
           λ at within. same_word at top new within four ∙ sym (same_word at top body within four) ∙ ap (λ (p : List ℕ). word_at p at) (sym part) in
-          record {
-            fixed = is.fixed;
-            groups = is.groups;
-            part = top ++ new;
-            in_order = sym (behind new);
-            fixed_is = record {
-              twelve = is.fixed_is.twelve;
-              first_is = is.fixed_is.first_is;
-              second_is = is.fixed_is.second_is;
-              number_is = is.fixed_is.number_is;
-              timestamp_is = is.fixed_is.timestamp_is;
-              ssrc_is = is.fixed_is.ssrc_is;
-            };
-            sources_are = is.sources_are;
-            part_is = announced.others (top ++ new) new (record {
-              form_is = subst (λ (w : ℕ). IsFormWord w form) (sym (word 0 (omega arith))) announced.is_block.form_is;
-              words = omega (arith, length-append top new, same, ap length part, length-append top body, announced.is_block.words, word 2 (omega arith));
-              body_is = sym (drop_at top new 4 four);
-            });
-          };
+          subst (λ (b : List ℕ). IsPacket b (record parts { block = Some (form, new) })) (behind new)
+          (packet-with bytes parts is (Some (form, new)) (top ++ new) parts.payload (announced.others (top ++ new) new (record {
+            form_is = subst (λ (w : ℕ). IsFormWord w form) (sym (word 0 (omega arith))) announced.is_block.form_is;
+            words = omega (arith, length-append top new, same, ap length part, length-append top body, announced.is_block.words, word 2 (omega arith));
+            body_is = sym (drop_at top new 4 four);
+          })));
     }
   where
     same_word : (at : ℕ) (top body : List ℕ) → at + 2 ≤ 4 → length top ≡ 4 → word_at (top ++ body) at ≡ from_be_bytes w16 (take 2 (drop at top))

@@ -1,10 +1,10 @@
 -- The steps of the calls for one packet.
-use Rattle.std.proofs.Common.{◌≡◌, ℕ, ◌<◌, Bool, true, false, List, [], ◌++◌, length, take, drop, Option, Some, None, IfSome, slice_index, refl, sym, ap, subst, ◌∙◌, arith, take_at}
+use Rattle.std.proofs.Common.{◌≡◌, ℕ, ◌<◌, ◌≤◌, Bool, true, false, List, [], ◌++◌, length, length-append, length-drop, take, drop, Option, Some, None, IfSome, slice_index, refl, sym, ap, subst, ◌∙◌, arith, take_at}
 use Rattle.std.specs.Bool.{OnTrue}
 use Rattle.std.specs.Option.{IfNone}
 use Rattle.std.specs.List.{filter_map}
 use Rattle.rtp_base.specs.Overwriting.{overwritten}
-use Rattle.rtp_base.proofs.OverwritingLemmas.{overwritten-front}
+use Rattle.rtp_base.proofs.OverwritingLemmas.{overwritten-front, length-overwritten}
 use Rattle.rtp_ext.specs.declared.form.ExtensionsForm.{ExtensionsForm}
 use Rattle.rtp_ext.specs.Elements.{Element}
 use Rattle.rtp_ext.specs.ElementsInPlace.{renumbered, ChangesIds}
@@ -83,28 +83,35 @@ header-is packet header front alone =
     let long : header_len_of (parts_of packet) ≡ length header = omega (arith, length-packet header (alone_parts packet) alone) in
     sym (ap (take (header_len_of (parts_of packet))) front ∙ take_at header (parts_of packet).payload (header_len_of (parts_of packet)) (sym long))
 
--- the header is put into the buffer, and its fields are set there
-pub record IsBegun (packet : RtpPacket) (fields : Fields) (header put set : List ℕ) : Type 0 where
+-- the header is put into a buffer of so many bytes, and its fields are set there
+pub record IsBegun (packet : RtpPacket) (fields : Fields) (header put set : List ℕ) (room : ℕ) : Type 0 where
   pub alone : IsPacket header (alone_parts packet)
   pub same : header ≡ header_in packet
-  pub put_is : take (length header) put ≡ header
   pub set_packet : (parts : PacketParts) → IsPacket header parts → IsPacket set (with_header_fields fields parts)
+  pub set_only : ChangesOnly 1 12 (header_in packet) set
   pub now_is : take (length header) (set ++ drop (length header) put) ≡ set
+  pub long : length (set ++ drop (length header) put) ≡ room
+  pub within : length (header_in packet) ≤ room
 
 pub begun : (packet : RtpPacket) (fields : Fields) (header buf put set : List ℕ) → datagram_of packet ≡ header ++ (parts_of packet).payload → IsPacket header (alone_parts packet)
     → put ≡ overwritten buf 0 header → ((parts : PacketParts) → IsPacket (take (length header) put) parts → IsPacket set (with_header_fields fields parts))
-    → length set ≡ length (take (length header) put) → IsBegun packet fields header put set
-begun packet fields header buf put set front alone written sets long =
+    → ChangesOnly 1 12 (take (length header) put) set → length header ≤ length buf → IsBegun packet fields header put set (length buf)
+begun packet fields header buf put set front alone written sets only fits =
     let put_is : take (length header) put ≡ header = front-put buf put header written in
+    let same : header ≡ header_in packet = header-is packet header front alone in
+    let long : length set ≡ length header = only.length_is ∙ ap length put_is in
+    let room : length put ≡ length buf = ap length written ∙ length-overwritten buf header 0 (omega (arith, fits)) in
     record {
       alone = alone;
-      same = header-is packet header front alone;
-      put_is = put_is;
+      same = same;
       set_packet = λ parts is. sets parts (subst (λ (b : List ℕ). IsPacket b parts) (sym put_is) is);
-      now_is = take_at set (drop (length header) put) (length header) (long ∙ ap length put_is);
+      set_only = subst (λ (b : List ℕ). ChangesOnly 1 12 b set) (put_is ∙ same) only;
+      now_is = take_at set (drop (length header) put) (length header) long;
+      long = omega (arith, length-append set (drop (length header) put), length-drop (length header) put, long, room, fits);
+      within = omega (arith, fits, ap length same);
     }
 
-module _ (packet : RtpPacket) (fields : Fields) (ids : ℕ → Option ℕ) (header put set : List ℕ) (is_begun : IsBegun packet fields header put set) where
+module _ (packet : RtpPacket) (fields : Fields) (ids : ℕ → Option ℕ) (header put set : List ℕ) (room : ℕ) (is_begun : IsBegun packet fields header put set room) where
   abbrev now : List ℕ
   now = take (length header) (set ++ drop (length header) put)
 
@@ -114,17 +121,17 @@ module _ (packet : RtpPacket) (fields : Fields) (ids : ℕ → Option ℕ) (head
   there : (elements : List Element) × AreElementsOf (alone_parts packet).block elements
   there = elements_there packet.datagram.now (parts_of packet) packet.bytes (IsPacket-found packet)
 
-  pub set-and-renumbered : (allowed : Option ExtensionsForm) (new : List ℕ) → ChangesOnly 1 12 (take (length header) put) set
+  pub set-and-renumbered : (allowed : Option ExtensionsForm) (new : List ℕ)
       → ((parts : PacketParts) (elements : List Element) → IsPacket now parts → AreElementsOf parts.block elements → IsRenumberedInForm allowed ids elements now parts new)
       → IsSetAndRenumbered (header_in packet) fields ids allowed new
-  set-and-renumbered allowed new only renumbers = record {
+  set-and-renumbered allowed new renumbers = record {
     parts = alone_parts packet;
     elements = there.0;
     was_packet = subst (λ (b : List ℕ). IsPacket b (alone_parts packet)) is_begun.same is_begun.alone;
     were_elements = there.1;
     set_bytes = set;
     set_packet = is_begun.set_packet (alone_parts packet) is_begun.alone;
-    set_only = subst (λ (b : List ℕ). ChangesOnly 1 12 b set) (is_begun.put_is ∙ is_begun.same) only;
+    set_only = is_begun.set_only;
     renumbered = subst (λ (b : List ℕ). IsRenumberedInForm allowed ids there.0 b (with_header_fields fields (alone_parts packet)) new) is_begun.now_is
         (renumbers (with_header_fields fields (alone_parts packet)) there.0 (set_now (alone_parts packet) is_begun.alone) there.1);
   }
@@ -136,11 +143,11 @@ module _ (packet : RtpPacket) (fields : Fields) (ids : ℕ → Option ℕ) (head
   one-block = record { blocks = refl; others = refl; sources = refl; payloads = refl }
 
   -- what keeps the elements from their new ids does so whatever the fields
-  pub kept-header : (allowed : Option ExtensionsForm) (room : ℕ) (cause : NotRouted) → KeepsFromNewIds now ids allowed room cause → KeepsFromNewIds (header_in packet) ids allowed room cause
-  kept-header allowed room cause kept =
+  pub kept-header : (allowed : Option ExtensionsForm) (cause : NotRouted) → KeepsFromNewIds now ids allowed room cause → KeepsFromNewIds (header_in packet) ids allowed room cause
+  kept-header allowed cause kept =
       kept_ids-there now (header_in packet) (with_header_fields fields (alone_parts packet)) (alone_parts packet) (set_now (alone_parts packet) is_begun.alone) header-alone one-block ids allowed room cause kept
 
-  pub kept-set : (allowed : Option ExtensionsForm) (room : ℕ) (cause : NotRouted) → KeepsFromNewIds (header_in packet) ids allowed room cause → KeepsFromNewIds now ids allowed room cause
-  kept-set allowed room cause kept =
+  pub kept-set : (allowed : Option ExtensionsForm) (cause : NotRouted) → KeepsFromNewIds (header_in packet) ids allowed room cause → KeepsFromNewIds now ids allowed room cause
+  kept-set allowed cause kept =
       kept_ids-there (header_in packet) now (alone_parts packet) (with_header_fields fields (alone_parts packet)) header-alone (set_now (alone_parts packet) is_begun.alone)
       (one_block-back (with_header_fields fields (alone_parts packet)) (alone_parts packet) one-block) ids allowed room cause kept

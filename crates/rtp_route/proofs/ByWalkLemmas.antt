@@ -172,6 +172,22 @@ body-in_front form ids news elements start slots buf rest end within is = record
   slots_are = is.slots_are;
 }
 
+-- the body is in the front of a buffer when what stands before it is put
+pub laid-by : (packet : RtpPacket) (ids : ℕ → Option ℕ) (news : List Element) (was form : ExtensionsForm) (header old_body front rest new : List ℕ) (end : ℕ) (elements : List Element) (slots : List Slot)
+    → datagram_of packet ≡ header ++ (parts_of packet).payload → IsPacket header (alone_parts packet) → Some (was, old_body) ≡ (parts_of packet).block
+    → IsBodyFor form ids news elements (length (front_of header old_body)) slots front end → end ≤ length front → end ≤ 262140
+    → IsFrontWith (front_of header old_body) was form (end - length (front_of header old_body)) (drop (length (front_of header old_body)) (front ++ rest)) new
+    → IsLaid packet ids news was form header old_body (front ++ rest) new end elements slots
+laid-by packet ids news was form header old_body front rest new end elements slots whole is some body_for within short laid = record {
+  whole_is = whole;
+  is_packet = is;
+  some = some;
+  body_for = body-in_front form ids news elements (length (front_of header old_body)) slots front rest end within body_for;
+  within = omega (arith, within, length-append front rest);
+  short = short;
+  laid = laid;
+}
+
 -- so it is the header of a group
 pub group-by_walk : (old : List ℕ) (ids : ℕ → Option ℕ) (news : List Element) (allowed : Option ExtensionsForm) (header : List ℕ) (slots : List Slot) → HaveOwnIds news
     → IsMadeFor old no_fields ids news allowed header slots → IsGroupHeader old ids news allowed header slots

@@ -1,9 +1,7 @@
--- A packet in a buffer whose form is changed, and what every table of new ids has.
-use Rattle.std.proofs.Common.{◌≡◌, ℕ, zero, suc, ◌<◌, ◌≤◌, List, [], ◌∷◌, length, take, map, Option, Some, None, IfSome, sym, ap, subst, ◌∙◌, arith}
-use Rattle.std.specs.Prelude.{slice_index, slice_index_or}
+-- A packet in a buffer whose form is changed.
+use Rattle.std.proofs.Common.{◌≡◌, ℕ, List, [], length, take, Option, Some, sym, ap, subst, ◌∙◌}
 use Rattle.rtp_ext.specs.declared.form.ExtensionsForm.{ExtensionsForm}
 use Rattle.rtp_ext.specs.declared.form.ExtensionsForm.TheVariants.{OneByte, TwoByte}
-use Rattle.rtp_ext.specs.NewIds.{new_id, id_in_byte, ids_in_bytes}
 use Rattle.rtp_wire.specs.declared.packet.rtp_packet_buf.RtpPacketBuf.{RtpPacketBuf}
 use Rattle.rtp_wire.specs.Packet.{PacketParts}
 use Rattle.rtp_wire.specs.PacketBuf.{whole_of, len_of, bytes_of, parts_within}
@@ -41,22 +39,3 @@ module _ (packet : RtpPacketBuf) (buf : List ℕ) (len : ℕ) (buf-is : (whole_o
       subst (λ (b : List ℕ). RemakesBlock b TwoByte [] bytes new_len) taken-is
       (subst (λ (b : List ℕ). RemakesBlock (bytes_of packet) TwoByte [] b new_len) bytes-are
       (subst (RemakesBlock (bytes_of packet) TwoByte [] (whole_of new).now) new_len-is (changed (subst (λ (f : Option ExtensionsForm). IsInOther f TwoByte) (sym form-was) tt))))
-
--- ---- the ids in bytes
-
-byte-id : (byte : ℕ) → byte < 256 → IfSome (id_in_byte byte) (λ new. (1 ≤ new) × (new ≤ 255))
-byte-id zero less = tt
-byte-id (suc k) less = (omega arith, omega (arith, less))
-
-bytes-ids : (bytes : List ℕ) → ((k : ℕ) → slice_index bytes k < 256) → (id : ℕ) → IfSome (slice_index_or (map id_in_byte bytes) id None) (λ new. (1 ≤ new) × (new ≤ 255))
-bytes-ids [] all id = tt
-bytes-ids (byte ∷ bytes) all zero = byte-id byte (all 0)
-bytes-ids (byte ∷ bytes) all (suc id) = bytes-ids bytes (λ k. all (suc k)) id
-
-table-ids : (bytes : List ℕ) → ((k : ℕ) → slice_index bytes k < 256) → (id : ℕ) → IfSome (new_id (ids_in_bytes bytes) id) (λ new. (1 ≤ new) × (new ≤ 255))
-table-ids [] all id = tt
-table-ids (first ∷ bytes) all zero = tt
-table-ids (first ∷ bytes) all (suc id) = bytes-ids bytes (λ k. all (suc k)) id
-
-pub ids-in_table : (bytes : List ℕ) (ids : List (Option ℕ)) → ids_in_bytes bytes ≡ ids → ((k : ℕ) → slice_index bytes k < 256) → (id : ℕ) → IfSome (new_id ids id) (λ new. (1 ≤ new) × (new ≤ 255))
-ids-in_table bytes ids is all id = subst (λ (xs : List (Option ℕ)). IfSome (new_id xs id) (λ new. (1 ≤ new) × (new ≤ 255))) is (table-ids bytes all id)

@@ -19,7 +19,7 @@ use Rattle.rtp_wire.proofs.PartsLemmas.{length-packet}
 use Rattle.rtp_wire.proofs.ResizedLemmas.{head_of, length-head, sources_end-is, extension-announced, no_other-announced, IsFormWord-here}
 use Rattle.rtp_route.specs.Walk.{IsFrontWith}
 use Rattle.rtp_route.specs.Routing.{word_bytes, KeepsWord}
-use Rattle.rtp_route.proofs.WordLemmas.{word_in_front, word_in_take, from_twelve, word_of, either_form}
+use Rattle.rtp_route.proofs.WordLemmas.{packet-with, word_in_front, word_in_take, from_twelve, word_of, either_form}
 
 -- ---- what stands before the body
 
@@ -187,24 +187,12 @@ module _ (header : List ℕ) (parts : PacketParts) (is : IsPacket header parts) 
     packet-laid =
         let part : List ℕ = laid.word ++ (to_be_bytes w16 (length body / 4) ++ body) in
         let block : IsBlock part form body = block-laid form laid.word body laid.two (is-form_word (either_form form was)) (omega (arith, long, whole)) (omega (arith, long, few)) in
-        record {
-          fixed = is.fixed;
-          groups = is.groups;
-          part = part;
-          in_order = bytes-are ∙ append_assoc is.fixed (concat is.groups) part ∙ ap (λ (xs : List ℕ). is.fixed ++ (concat is.groups ++ xs)) (sym (append-nil part))
-              ∙ ap (λ (p : List ℕ). is.fixed ++ (concat is.groups ++ (part ++ p))) (sym none);
-          fixed_is = record {
-            twelve = is.fixed_is.twelve;
-            first_is = is.fixed_is.first_is;
-            second_is = is.fixed_is.second_is;
-            number_is = is.fixed_is.number_is;
-            timestamp_is = is.fixed_is.timestamp_is;
-            ssrc_is = is.fixed_is.ssrc_is;
-          };
-          sources_are = is.sources_are;
-          part_is = subst (λ (x : Bool). IsAnnouncedBlock x (Some (form, body)) parts.other_block part) (sym extends)
-              (subst (λ (other : Option (ℕ × List ℕ)). IsAnnouncedBlock true (Some (form, body)) other part) (sym no-other) block);
-        }
+        subst (λ (b : List ℕ). IsPacket b with)
+        (sym (bytes-are ∙ append_assoc is.fixed (concat is.groups) part ∙ ap (λ (xs : List ℕ). is.fixed ++ (concat is.groups ++ xs)) (sym (append-nil part))
+        ∙ ap (λ (p : List ℕ). is.fixed ++ (concat is.groups ++ (part ++ p))) (sym none)))
+        (packet-with header parts is (Some (form, body)) part parts.payload
+        (subst (λ (x : Bool). IsAnnouncedBlock x (Some (form, body)) parts.other_block part) (sym extends)
+        (subst (λ (other : Option (ℕ × List ℕ)). IsAnnouncedBlock true (Some (form, body)) other part) (sym no-other) block)))
 
     -- the word of its block
     laid-word : take 2 (drop (12 + 4 * length parts.sources) header_bytes) ≡ laid.word

@@ -3,11 +3,13 @@ mod WordLemmas
 mod NoZeroLemmas
 mod StartLemmas
 mod NewFormLemmas
+mod LongIdLemmas
 mod ChangeFormLemmas
 mod ByCallsLemmas
 mod RoutingLemmas
 mod SameElementsLemmas
 mod NotPutLemmas
+mod MakeHeaderLemmas
 mod SetDataLemmas
 mod SlotLemmas
 pub mod LengthLemmas

@@ -21,6 +21,9 @@ use Rattle.rtp_route.specs.GroupHeader.{IsGroupHeader}
 use Rattle.rtp_route.specs.Retransmitted.{without_padding_bit, with_number, IsRoutedAgain, IsFilledInAgain}
 use Rattle.rtp_route.specs.Routing.{IsRouted}
 use Rattle.rtp_route.specs.Template.{with_data, slot_lengths}
+use Rattle.rtp_ext.proofs.ElementLemmasOfBodies.{AreBytes}
+use Rattle.rtp_ext.proofs.ValuesFound.{AreBytes-front, AreBytes-back}
+use Rattle.rtp_route.proofs.OneHeaderLemmas.{one-header}
 use Rattle.rtp_route.proofs.StartLemmas.{same_parts}
 use Rattle.rtp_route.proofs.TemplateLemmas.{routed-filled}
 
@@ -100,6 +103,28 @@ again-of old fields number ids news allowed header new routed bytes = record {
       subst (λ (b : List ℕ). IsPacket b (record parts { has_padding = false; payload = to_be_bytes w16 number })) (sym bytes) (packet-again header number parts none is);
   bytes_are = bytes;
 }
+
+bytes-of : (header : List ℕ) (number : ℕ) → slice_index header 0 < 256 → AreBytes (with_number header number) → AreBytes header
+bytes-of header number first all zero = first
+bytes-of header number first all (suc k) =
+    let byte : List ℕ = without_padding_bit (slice_index header 0) ∷ [] in
+    let front : AreBytes (byte ++ drop 1 header) = subst AreBytes (overwritten-front header byte) (AreBytes-front (overwritten header 0 byte) (to_be_bytes w16 number) all) in
+    let next : 1 + k ≡ suc k = omega arith in
+    omega (arith, AreBytes-back byte (drop 1 header) front k, get_or-drop 1 header k 0, ap (slice_index header) next)
+
+bytes-again : (old : List ℕ) (fields : Fields) (number : ℕ) (ids : ℕ → Option ℕ) (news : List Element) (allowed : Option ExtensionsForm) (new : List ℕ) → AreBytes new
+    → (is : IsRoutedAgain old fields number ids news allowed new) → AreBytes is.header
+bytes-again old fields number ids news allowed new all is =
+    let whole = whole_and_parts is.header _ is.routed.is_packet in
+    bytes-of is.header number (omega (arith, whole.0.version)) (subst AreBytes is.bytes_are all)
+
+-- there are no other such bytes
+pub one-again : (old : List ℕ) (fields : Fields) (number : ℕ) (ids : ℕ → Option ℕ) (news : List Element) (allowed : Option ExtensionsForm) (a b : List ℕ) → AreBytes a → AreBytes b
+    → IsRoutedAgain old fields number ids news allowed a → IsRoutedAgain old fields number ids news allowed b → a ≡ b
+one-again old fields number ids news allowed a b all_a all_b p q =
+    let same : p.header ≡ q.header =
+    one-header old fields ids news allowed p.header q.header (bytes-again old fields number ids news allowed a all_a p) (bytes-again old fields number ids news allowed b all_b q) p.routed q.routed in
+    p.bytes_are ∙ ap (λ (h : List ℕ). with_number h number) same ∙ sym q.bytes_are
 
 -- and of a group's header that is filled in
 pub routed-again : (old : List ℕ) (ids : ℕ → Option ℕ) (news : List Element) (allowed : Option ExtensionsForm) (header : List ℕ) (slots : List Slot) (fields : Fields) (number : ℕ) (contents : List (List ℕ))

@@ -22,7 +22,7 @@ use Rattle.rtp_route.specs.Calls.{ArePut, IsRoutedByCalls, header_in}
 use Rattle.rtp_route.specs.Routing.{put_all, IsFormForIds, IsFormAfter, extension_after, row_in, routed_parts, word_bytes, KeepsWord, IsRouted}
 use Rattle.rtp_route.proofs.NoZeroLemmas.{none_zero-put, none_zero-without}
 use Rattle.rtp_route.proofs.StartLemmas.{same_parts, same_elements, started, start-form, start-either}
-use Rattle.rtp_route.proofs.WordLemmas.{word_at_end, word_in_front, word_in_take, word_within, word_of, KeepsWord-then, KeepsWord-put, KeepsWord-from}
+use Rattle.rtp_route.proofs.WordLemmas.{packet-with, word_at_end, word_in_front, word_in_take, word_within, word_of, KeepsWord-then, KeepsWord-put, KeepsWord-from}
 
 -- ---- the elements that are put one after another
 
@@ -98,26 +98,7 @@ row-compact (Some block) (Some form) elements is =
 pub header-split : (bytes : List ℕ) (parts : PacketParts) → IsPacket bytes parts → (header : List ℕ) × (bytes ≡ header ++ parts.payload) × IsPacket header (record parts { payload = [] })
 header-split bytes parts is =
     let header : List ℕ = is.fixed ++ (concat is.groups ++ (is.part ++ [])) in
-    let split : bytes ≡ header ++ parts.payload = is.in_order ∙ sym (behind is.fixed (concat is.groups) is.part parts.payload) in (
-      header,
-      split,
-      record {
-        fixed = is.fixed;
-        groups = is.groups;
-        part = is.part;
-        in_order = refl;
-        fixed_is = record {
-          twelve = is.fixed_is.twelve;
-          first_is = is.fixed_is.first_is;
-          second_is = is.fixed_is.second_is;
-          number_is = is.fixed_is.number_is;
-          timestamp_is = is.fixed_is.timestamp_is;
-          ssrc_is = is.fixed_is.ssrc_is;
-        };
-        sources_are = is.sources_are;
-        part_is = is.part_is;
-      },
-    )
+    (header, is.in_order ∙ sym (behind is.fixed (concat is.groups) is.part parts.payload), packet-with bytes parts is parts.block is.part [] is.part_is)
   where
     behind : (a b c d : List ℕ) → (a ++ (b ++ (c ++ []))) ++ d ≡ a ++ (b ++ (c ++ d))
     behind a b c d =

@@ -27,7 +27,8 @@ use Rattle.rtp_route.specs.declared.template.HeaderTemplate.{HeaderTemplate}
 use Rattle.rtp_route.specs.Template.{with_data, HaveOwnIds, HasOnly, HasRow, data_lengths, slot_lengths, filled_in, AreSlots, body_start_of}
 use Rattle.rtp_route.specs.GroupHeader.{IsGroupHeader, IsFilledIn}
 use Rattle.rtp_route.specs.TemplateOf.{header_of, slots_in, lengths_of, IsTemplate}
-use Rattle.rtp_route.proofs.ByCallsLemmas.{front-put}
+use Rattle.rtp_route.proofs.ByCallsLemmas.{front-put, alone_parts, header-is}
+use Rattle.rtp_route.proofs.RoutingLemmas.{header-split}
 use Rattle.rtp_route.proofs.BodyLemmas.{has-body}
 use Rattle.rtp_route.proofs.OnlyLemmas.{elements-by_turns, filled-elements, only-put_all}
 use Rattle.rtp_route.proofs.WordLemmas.{word_of, word_in_front, from_twelve}
@@ -196,6 +197,11 @@ copied-header packet header buf new alone front put room =
     let long : header_len_of (parts_of packet) ≡ length header = omega (arith, length-packet header _ alone) in
     whole-put buf new header put (omega (arith, room, long))
     ∙ sym (ap (take (header_len_of (parts_of packet))) front ∙ take_at header (parts_of packet).payload (header_len_of (parts_of packet)) (sym long))
+
+pub header-alone : (packet : RtpPacket) → IsPacket (header_in packet) (alone_parts packet)
+header-alone packet =
+    let split = header-split (datagram_of packet) (parts_of packet) (IsPacket-found packet) in
+    subst (λ (b : List ℕ). IsPacket b (alone_parts packet)) (header-is packet split.0 split.1 split.2) split.2
 
 -- the header of a group is all of its bytes
 pub group-length : (old : List ℕ) (ids : ℕ → Option ℕ) (news : List Element) (allowed : Option ExtensionsForm) (packet : RtpPacket) (slots : List Slot)

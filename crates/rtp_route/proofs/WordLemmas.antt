@@ -1,6 +1,7 @@
 -- The word of a block's form, and how it stays while elements are put.
 use Rattle.std.proofs.Common.{◌≡◌, ◌≢◌, ℕ, ◌+◌, ◌-◌, ◌*◌, ◌≤◌, ◌⊎◌, inl, inr, true, List, [], ◌∷◌, ◌++◌, length, take, drop, Option, Some, None, refl, sym, ap, subst, ◌∙◌, arith}
 use Rattle.std.specs.Int.{w16, to_be_bytes}
+use Rattle.std.specs.List.{concat}
 use Rattle.std.proofs.lemmas.List.{drop-drop, drop-take, take-take, take-append-drop, drop-append-le, take-append-le, length-drop}
 use Rattle.rtp_ext.specs.declared.form.ExtensionsForm.{ExtensionsForm}
 use Rattle.rtp_ext.specs.declared.form.ExtensionsForm.TheVariants.{OneByte, TwoByte}
@@ -8,12 +9,32 @@ use Rattle.rtp_ext.specs.Form.{form_word}
 use Rattle.rtp_ext.specs.Elements.{Element}
 use Rattle.rtp_ext.specs.PutElement.{needed_form, allowed_form}
 use Rattle.rtp_wire.specs.NotAHeader.{sources_end}
-use Rattle.rtp_wire.specs.Packet.{PacketParts, IsPacket, block_len}
+use Rattle.rtp_wire.specs.Packet.{PacketParts, IsPacket, IsAnnouncedBlock, block_len}
 use Rattle.rtp_wire.specs.PutIntoPacket.{form_of_block, PutsElement}
 use Rattle.rtp_wire.specs.RemadeBlock.{RemakesBlock}
 use Rattle.rtp_wire.proofs.PartsLemmas.{length-packet}
 use Rattle.rtp_wire.proofs.ResizedLemmas.{sources_end-is}
 use Rattle.rtp_route.specs.Routing.{IsFormAfter, word_bytes, KeepsWord}
+
+-- a packet's header with what else X announces, and another payload
+pub packet-with : (bytes : List ℕ) (parts : PacketParts) (is : IsPacket bytes parts) (block : Option (ExtensionsForm × List ℕ)) (part payload : List ℕ)
+    → IsAnnouncedBlock parts.has_extension block parts.other_block part → IsPacket (is.fixed ++ (concat is.groups ++ (part ++ payload))) (record parts { block = block; payload = payload })
+packet-with bytes parts is block part payload announced = record {
+  fixed = is.fixed;
+  groups = is.groups;
+  part = part;
+  in_order = refl;
+  fixed_is = record {
+    twelve = is.fixed_is.twelve;
+    first_is = is.fixed_is.first_is;
+    second_is = is.fixed_is.second_is;
+    number_is = is.fixed_is.number_is;
+    timestamp_is = is.fixed_is.timestamp_is;
+    ssrc_is = is.fixed_is.ssrc_is;
+  };
+  sources_are = is.sources_are;
+  part_is = announced;
+}
 
 pub word_at_end : (s : ℕ) (a b : List ℕ) → take (s + 2) a ≡ take (s + 2) b → take 2 (drop s a) ≡ take 2 (drop s b)
 word_at_end s a b same = sym (drop-take s 2 a) ∙ ap (drop s) same ∙ drop-take s 2 b
@@ -101,49 +122,42 @@ KeepsWord-then was after form allowed new news old middle last first rest one tw
             some_same : (a b : ExtensionsForm) → Some a ≡ Some b → a ≡ b
             some_same a b same = cc
 
--- the word once an element is put
-pub KeepsWord-put : (bytes buf : List ℕ) (len : ℕ) (new : Element) (allowed : Option ExtensionsForm) (parts : PacketParts) (block : ExtensionsForm × List ℕ) → IsPacket bytes parts
-    → IsPacket (take len buf) (record parts { has_extension = true; block = Some block }) → (puts : PutsElement bytes new allowed buf len) → puts.growth.parts ≡ parts
-    → KeepsWord (form_of_block parts.block) bytes (Some puts.growth.form) (take len buf)
-KeepsWord-put bytes buf len new allowed parts block was is puts same =
+-- the word once the block is made anew in a form: it stays where that was its form, and else that of the form is written
+word-made : (bytes buf : List ℕ) (len : ℕ) (form : ExtensionsForm) (parts : PacketParts) (block : ExtensionsForm × List ℕ) → IsPacket bytes parts
+    → IsPacket (take len buf) (record parts { has_extension = true; block = Some block })
+    → (form_of_block parts.block ≡ Some form → take (sources_end bytes + 2) buf ≡ take (sources_end bytes + 2) bytes)
+    → (form_of_block parts.block ≢ Some form → take 2 (drop (sources_end bytes) buf) ≡ to_be_bytes w16 (form_word form)) → KeepsWord (form_of_block parts.block) bytes (Some form) (take len buf)
+word-made bytes buf len form parts block was is kept changed =
     let s : ℕ = 12 + 4 * length parts.sources in
     let end : sources_end bytes ≡ s = sources_end-is bytes parts was in
     let here : word_bytes (take len buf) ≡ take 2 (drop s buf) =
     word_of (take len buf) _ is ∙ word_in_take s len buf (word_within (take len buf) _ block is refl) in
     record {
       word_is = λ f form-is was-is. here
-          ∙ word_at_end s buf bytes
-          (ap (λ (k : ℕ). take (k + 2) buf) (sym end) ∙ puts.word_is (ap (λ (p : PacketParts). form_of_block p.block) same ∙ was-is ∙ sym form-is) ∙ ap (λ (k : ℕ). take (k + 2) bytes) end)
+          ∙ word_at_end s buf bytes (ap (λ (k : ℕ). take (k + 2) buf) (sym end) ∙ kept (was-is ∙ sym form-is) ∙ ap (λ (k : ℕ). take (k + 2) bytes) end)
           ∙ sym (word_of bytes parts was);
-      new_word_is = λ f form-is other. here ∙ ap (λ (k : ℕ). take 2 (drop k buf)) (sym end)
-          ∙ puts.new_word_is (λ kept. other (sym (ap (λ (p : PacketParts). form_of_block p.block) same) ∙ kept ∙ form-is))
-          ∙ ap (λ (g : ExtensionsForm). to_be_bytes w16 (form_word g)) (some_form puts.growth.form f form-is);
+      new_word_is = λ f form-is other. here ∙ ap (λ (k : ℕ). take 2 (drop k buf)) (sym end) ∙ changed (λ same. other (same ∙ form-is))
+          ∙ ap (λ (g : ExtensionsForm). to_be_bytes w16 (form_word g)) (some_form form f form-is);
     }
   where
     some_form : (a b : ExtensionsForm) → Some a ≡ Some b → a ≡ b
     some_form a b is = cc
+
+-- the word once an element is put
+pub KeepsWord-put : (bytes buf : List ℕ) (len : ℕ) (new : Element) (allowed : Option ExtensionsForm) (parts : PacketParts) (block : ExtensionsForm × List ℕ) → IsPacket bytes parts
+    → IsPacket (take len buf) (record parts { has_extension = true; block = Some block }) → (puts : PutsElement bytes new allowed buf len) → puts.growth.parts ≡ parts
+    → KeepsWord (form_of_block parts.block) bytes (Some puts.growth.form) (take len buf)
+KeepsWord-put bytes buf len new allowed parts block was is puts same =
+    let form_is : form_of_block puts.growth.parts.block ≡ form_of_block parts.block = ap (λ (p : PacketParts). form_of_block p.block) same in
+    word-made bytes buf len puts.growth.form parts block was is (λ kept. puts.word_is (form_is ∙ kept)) (λ other. puts.new_word_is (λ kept. other (sym form_is ∙ kept)))
 
 -- the word once the block is made anew
 pub KeepsWord-remade : (bytes buf : List ℕ) (len : ℕ) (form : ExtensionsForm) (parts : PacketParts) (block : ExtensionsForm × List ℕ) → IsPacket bytes parts
     → IsPacket (take len buf) (record parts { has_extension = true; block = Some block }) → (remakes : RemakesBlock bytes form [] buf len) → remakes.remade.parts ≡ parts
     → KeepsWord (form_of_block parts.block) bytes (Some form) (take len buf)
 KeepsWord-remade bytes buf len form parts block was is remakes same =
-    let s : ℕ = 12 + 4 * length parts.sources in
-    let end : sources_end bytes ≡ s = sources_end-is bytes parts was in
-    let here : word_bytes (take len buf) ≡ take 2 (drop s buf) =
-    word_of (take len buf) _ is ∙ word_in_take s len buf (word_within (take len buf) _ block is refl) in
-    record {
-      word_is = λ f form-is was-is. here
-          ∙ word_at_end s buf bytes
-          (ap (λ (k : ℕ). take (k + 2) buf) (sym end) ∙ remakes.word_is (ap (λ (p : PacketParts). form_of_block p.block) same ∙ was-is ∙ sym form-is) ∙ ap (λ (k : ℕ). take (k + 2) bytes) end)
-          ∙ sym (word_of bytes parts was);
-      new_word_is = λ f form-is other. here ∙ ap (λ (k : ℕ). take 2 (drop k buf)) (sym end)
-          ∙ remakes.new_word_is (λ kept. other (sym (ap (λ (p : PacketParts). form_of_block p.block) same) ∙ kept ∙ form-is))
-          ∙ ap (λ (g : ExtensionsForm). to_be_bytes w16 (form_word g)) (some_form form f form-is);
-    }
-  where
-    some_form : (a b : ExtensionsForm) → Some a ≡ Some b → a ≡ b
-    some_form a b is = cc
+    let form_is : form_of_block remakes.remade.parts.block ≡ form_of_block parts.block = ap (λ (p : PacketParts). form_of_block p.block) same in
+    word-made bytes buf len form parts block was is (λ kept. remakes.word_is (form_is ∙ kept)) (λ other. remakes.new_word_is (λ kept. other (sym form_is ∙ kept)))
 
 -- it stays where the fixed part was set before, and where the body changes after
 pub KeepsWord-between : (was form : Option ExtensionsForm) (old set made new : List ℕ) → word_bytes set ≡ word_bytes old → KeepsWord was set form made → word_bytes new ≡ word_bytes made

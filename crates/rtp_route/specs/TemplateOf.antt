@@ -31,15 +31,15 @@ lengths_of template = slot_lengths (slots_in template)
 abbrev pub IsTemplate : List ℕ → (ℕ → Option ℕ) → List Element → Option ExtensionsForm → HeaderTemplate → Type 0
 IsTemplate old ids news allowed template = IsGroupHeader old ids news allowed (header_of template) (slots_in template)
 
--- the cause for which nothing is written, where so many bytes are to be, by the lengths of the data that are given and the room: other lengths than those of the data that were put, or too little room
+-- the cause for which nothing is written, where so many bytes are to have room behind the header, by the lengths of the data that are given and the room: other lengths than those of the data that were put, or too little room
 abbrev pub KeepsFromWritingBytes : ℕ → HeaderTemplate → List ℕ → ℕ → NotWritten → Type 0
-KeepsFromWritingBytes len template lengths room OtherLengths = lengths ≢ lengths_of template
-KeepsFromWritingBytes len template lengths room (NoRoom needed) = (lengths ≡ lengths_of template) × (needed ≡ len) × (room < needed)
+KeepsFromWritingBytes behind template lengths room OtherLengths = lengths ≢ lengths_of template
+KeepsFromWritingBytes behind template lengths room (NoRoom needed) = (lengths ≡ lengths_of template) × (needed ≡ header_len_in template + behind) × (room < needed)
 
 -- no header is written
 abbrev pub KeepsFromWriting : HeaderTemplate → List ℕ → ℕ → NotWritten → Type 0
-KeepsFromWriting template = KeepsFromWritingBytes (header_len_in template) template
+KeepsFromWriting = KeepsFromWritingBytes 0
 
 -- nor that of a retransmission, which takes two bytes more
 abbrev pub KeepsFromWritingAgain : HeaderTemplate → List ℕ → ℕ → NotWritten → Type 0
-KeepsFromWritingAgain template = KeepsFromWritingBytes (header_len_in template + 2) template
+KeepsFromWritingAgain = KeepsFromWritingBytes 2

@@ -6,11 +6,18 @@ use Rattle.rtp_base.specs.Overwriting.{overwritten}
 use Rattle.rtp_ext.specs.declared.form.ExtensionsForm.{ExtensionsForm}
 use Rattle.rtp_ext.specs.Form.{form_word}
 use Rattle.rtp_ext.specs.Elements.{Element, elements_bytes, AreElements}
-use Rattle.rtp_ext.specs.ElementsInARow.{IsWritable}
+use Rattle.rtp_ext.specs.ElementsInARow.{elements_of, IsWritable}
 use Rattle.rtp_ext.specs.ElementsInPlace.{HasNone, renumbered, CanRenumber}
+use Rattle.rtp_ext.specs.NewIds.{new_id}
 use Rattle.rtp_ext.specs.WrittenBlock.{filled}
 use Rattle.rtp_wire.specs.declared.packet.fields.Fields.{Fields}
+use Rattle.rtp_wire.specs.declared.packet.rtp_packet.RtpPacket.{RtpPacket}
+use Rattle.rtp_wire.specs.PartsOf.{datagram_of}
+use Rattle.rtp_route.specs.declared.by_calls.Group.{Group}
+use Rattle.rtp_route.specs.declared.not_routed.NotRouted.{NotRouted}
 use Rattle.rtp_route.specs.declared.slots.Slot.{Slot}
+use Rattle.rtp_route.specs.Calls.{header_in}
+use Rattle.rtp_route.specs.NotRouted.{KeepsFromRouting}
 use Rattle.rtp_route.specs.Routing.{IsRouted, put_all, routed_elements}
 use Rattle.rtp_route.specs.Template.{IsSlot, AreSlots, data_lengths, slot_lengths, body_start_of}
 
@@ -71,3 +78,10 @@ pub record IsMadeFor (old : List ℕ) (fields : Fields) (ids : ℕ → Option �
       → AreSlots form (body_start_of routed.parts) (routed_elements ids news routed.elements) news slots
   pub lengths_are : slot_lengths slots ≡ data_lengths news
   pub within : All (λ (slot : Slot). slot.start + slot.len ≤ length header) slots
+
+-- a header of so many bytes is made in one walk at the front of a buffer, which had so many bytes before, and nothing keeps the calls from making it
+pub record IsWalked (packet : RtpPacket) (fields : Fields) (group : Group) (room : ℕ) (buf : List ℕ) (slots : List Slot) (len : ℕ) : Type 0 where
+  pub made : IsMadeFor (datagram_of packet) fields (new_id group.ids.now) (elements_of group.elements.now) group.allowed (take len buf) (take (length group.elements.now) slots)
+  pub within : len ≤ length buf
+  pub short : len ≤ 262140
+  pub none_refused : (cause : NotRouted) → KeepsFromRouting (header_in packet) fields (new_id group.ids.now) (elements_of group.elements.now) group.allowed room cause → ⊥

@@ -20,7 +20,7 @@ ghost use Rattle.rtp_route.specs.Routing.{IsRouted};
 
 use super::NotRouted;
 use super::by_walk::write_by_walk;
-use super::in_place::{change_form, is_one_byte_only, known_ids, renumber, set_fields};
+use super::in_place::{change_form, is_one_byte_only, renumber, set_fields};
 use super::slots::{MAX_ELEMENTS, Slot, have_own_ids};
 use rtp_base::put;
 use rtp_ext::{ExtensionsForm, NewIds};
@@ -90,7 +90,6 @@ fn renumber_in_form(
     if is_one_byte_only(group.allowed) {
         return Err(NotRouted::LongId);
     }
-    known_ids(group.ids);
     let new_len = change_form(buf, len)?;
     // The two-byte form carries each of them.
     renumber(

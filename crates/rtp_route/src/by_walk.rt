@@ -1,20 +1,17 @@
 //! A packet's header for a group of receivers, made in one walk over its elements.
 
-ghost use Rattle.std.specs.Prelude.{◌≡◌, ◌≢◌, ◌+◌, ◌-◌, ◌*◌, ◌≤◌, ◌⊎◌, List, Some, length, take, drop, All, IsTrue, IfSome};
+ghost use Rattle.std.specs.Prelude.{◌≡◌, ◌≢◌, ◌+◌, ◌-◌, ◌*◌, ◌≤◌, ◌⊎◌, List, Some, length, take, drop, All, IsTrue, IfOk, IfSome};
 ghost use Rattle.rtp_ext.specs.declared.form.ExtensionsForm.TheVariants.{OneByte, TwoByte};
 ghost use Rattle.rtp_ext.specs.Elements.{Element, AreElements, elements_bytes};
 ghost use Rattle.rtp_ext.specs.ElementsInARow.{elements_of, IsWritable};
 ghost use Rattle.rtp_ext.specs.NewIds.{new_id};
-ghost use Rattle.rtp_wire.specs.PartsOf.{datagram_of};
-ghost use Rattle.rtp_route.specs.declared.not_routed.NotRouted.{NotRouted};
-ghost use Rattle.rtp_route.specs.Calls.{header_in};
-ghost use Rattle.rtp_route.specs.NotRouted.{KeepsFromRouting};
 ghost use Rattle.rtp_route.specs.Routing.{IsFormForIds, IsFormAfter};
 ghost use Rattle.rtp_route.specs.Template.{HaveOwnIds};
-ghost use Rattle.rtp_route.specs.Walk.{IsFrontWith, IsMadeFor};
+ghost use Rattle.rtp_route.specs.Walk.{IsFrontWith, IsWalked};
 
 use super::Group;
 use super::in_place::{is_one_byte_only, set_fields};
+use super::no_walk::NoWalk;
 use super::slots::{MAX_ELEMENTS, Slot};
 use super::walk::write_body;
 use rtp_base::put;
@@ -103,10 +100,7 @@ fn put_front(
 // Writes the header that the packet gets with these fields for the group, as
 // [`route_header`](super::route_header) does, in one walk over its elements: it returns how many
 // bytes it has, and the places are those of the data of the group's elements. The second try is for
-// new ids that the block's form can't carry. `None` where no walk can be taken: without a block of
-// one of the two forms, for a long one, or little room, and where an element can't be put; and
-// `Some(None)` where it came to no end: for several elements of the id of one that is put, little
-// room or, at the first try, an id that can't be carried. The buffer and the places then are any.
+// new ids that the block's form can't carry. Where it makes none the buffer and the places are any.
 #[inline(always)]
 fn write_from(
     packet: &RtpPacket<'_>,
@@ -115,39 +109,38 @@ fn write_from(
     buf: &mut [u8],
     slots: &mut [Slot; MAX_ELEMENTS],
     second: bool,
-) -> Option<Option<usize>>
+) -> Result<usize, NoWalk>
     requires allowed { IsTrue second → group.now.allowed ≢ Some OneByte }
     requires payload_type { IfSome fields.now.payload_type (λ pt. pt ≤ 127) }
     requires few { length group.now.elements.now ≤ 16 }
     requires own { HaveOwnIds (elements_of group.now.elements.now) }
-    ensures made { IfSome result (λ end. IfSome end (λ len. IsMadeFor (datagram_of packet.now)
-        fields.now (new_id group.now.ids.now) (elements_of group.now.elements.now)
-        group.now.allowed (take len buf.new)
-        (take (length group.now.elements.now) slots.new))) }
-    ensures within { IfSome result (λ end. IfSome end (λ len. len ≤ length buf.new)) }
-    ensures short { IfSome result (λ end. IfSome end (λ len. len ≤ 262140)) }
+    ensures walked { IfOk result
+        (IsWalked packet.now fields.now group.now (length buf.old) buf.new slots.new) }
     ensures places { length slots.new ≡ 16 }
-    ensures none_refused { IfSome result (λ end. IfSome end (λ _. (cause : NotRouted) →
-        KeepsFromRouting (header_in packet.now) fields.now (new_id group.now.ids.now)
-        (elements_of group.now.elements.now) group.now.allowed (length buf.old) cause → ⊥)) }
 {
-    let (was, body) = packet.block()?;
+    let Some((was, body)) = packet.block() else {
+        return Err(NoWalk::NotBegun);
+    };
     if body.len() > LONG_BODY {
-        return None;
+        return Err(NoWalk::NotBegun);
     }
     let header = packet.header_bytes();
     let most = buf.len().min(MAX_LEN);
-    let room = most.checked_sub(2 * header.len() + 3)?;
-    let start = start_form(was, body, group, second)?;
-    let form = form_after(start, group, room)?;
+    let Some(room) = most.checked_sub(2 * header.len() + 3) else {
+        return Err(NoWalk::NotBegun);
+    };
+    let Some(start) = start_form(was, body, group, second) else {
+        return Err(NoWalk::NotBegun);
+    };
+    let Some(form) = form_after(start, group, room) else {
+        return Err(NoWalk::NotBegun);
+    };
     let front = &header[..header.len() - body.len()];
     let own = &mut buf[..most];
-    let Some(len) = write_body(own, front.len(), was, form, body, group, slots) else {
-        return Some(None);
-    };
+    let len = write_body(own, front.len(), was, form, body, group, slots)?;
     put_front(buf, front, was, form, len - front.len());
     set_fields(&mut buf[..len], len, Some(form), fields);
-    Some(Some(len))
+    Ok(len)
 }
 
 // The second try. It stays out of line, since few packets need it.
@@ -164,17 +157,11 @@ fn write_in_two_byte_form(
     requires payload_type { IfSome fields.now.payload_type (λ pt. pt ≤ 127) }
     requires few { length group.now.elements.now ≤ 16 }
     requires own { HaveOwnIds (elements_of group.now.elements.now) }
-    ensures made { IfSome result (λ len. IsMadeFor (datagram_of packet.now) fields.now
-        (new_id group.now.ids.now) (elements_of group.now.elements.now) group.now.allowed
-        (take len buf.new) (take (length group.now.elements.now) slots.new)) }
-    ensures within { IfSome result (λ len. len ≤ length buf.new) }
-    ensures short { IfSome result (λ len. len ≤ 262140) }
+    ensures walked { IfSome result
+        (IsWalked packet.now fields.now group.now (length buf.old) buf.new slots.new) }
     ensures places { length slots.new ≡ 16 }
-    ensures none_refused { IfSome result (λ _. (cause : NotRouted) →
-        KeepsFromRouting (header_in packet.now) fields.now (new_id group.now.ids.now)
-        (elements_of group.now.elements.now) group.now.allowed (length buf.old) cause → ⊥) }
 {
-    write_from(packet, fields, group, buf, slots, true)?
+    write_from(packet, fields, group, buf, slots, true).ok()
 }
 
 // Writes the header in one walk, in the two-byte form where the new ids need it and it is allowed;
@@ -190,19 +177,15 @@ pub(super) fn write_by_walk(
     requires payload_type { IfSome fields.now.payload_type (λ pt. pt ≤ 127) }
     requires few { length group.now.elements.now ≤ 16 }
     requires own { HaveOwnIds (elements_of group.now.elements.now) }
-    ensures made { IfSome result (λ len. IsMadeFor (datagram_of packet.now) fields.now
-        (new_id group.now.ids.now) (elements_of group.now.elements.now) group.now.allowed
-        (take len buf.new) (take (length group.now.elements.now) slots.new)) }
-    ensures within { IfSome result (λ len. len ≤ length buf.new) }
-    ensures short { IfSome result (λ len. len ≤ 262140) }
+    ensures walked { IfSome result
+        (IsWalked packet.now fields.now group.now (length buf.old) buf.new slots.new) }
     ensures places { length slots.new ≡ 16 }
-    ensures none_refused { IfSome result (λ _. (cause : NotRouted) →
-        KeepsFromRouting (header_in packet.now) fields.now (new_id group.now.ids.now)
-        (elements_of group.now.elements.now) group.now.allowed (length buf.old) cause → ⊥) }
 {
-    let end = write_from(packet, fields, group, buf, slots, false)?;
-    if end.is_some() || is_one_byte_only(group.allowed) {
-        return end;
+    match write_from(packet, fields, group, buf, slots, false) {
+        Ok(len) => Some(len),
+        Err(NoWalk::LongId) if !is_one_byte_only(group.allowed) => {
+            write_in_two_byte_form(packet, fields, group, buf, slots)
+        }
+        Err(_) => None,
     }
-    write_in_two_byte_form(packet, fields, group, buf, slots)
 }

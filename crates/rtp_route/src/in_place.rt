@@ -4,7 +4,7 @@ ghost use Rattle.std.specs.Prelude.{◌≡◌, ◌↔◌, ◌+◌, ◌<◌, ◌�
 ghost use Rattle.std.specs.Bool.{OnTrue, OnFalse};
 ghost use Rattle.rtp_ext.specs.declared.form.ExtensionsForm.TheVariants.{OneByte, TwoByte};
 ghost use Rattle.rtp_ext.specs.Elements.{Element};
-ghost use Rattle.rtp_ext.specs.NewIds.{new_id};
+ghost use Rattle.rtp_ext.specs.NewIds.{new_id, AreIds};
 ghost use Rattle.rtp_wire.specs.declared.packet.not_put.NotPut.{NotPut};
 ghost use Rattle.rtp_wire.specs.ChangedPacket.{ChangesOnly};
 ghost use Rattle.rtp_wire.specs.GivenFields.{with_header_fields};
@@ -57,6 +57,7 @@ pub(super) fn renumber(
         IsPacket header.old parts → AreElementsOf parts.block elements →
         IsTrue result ↔ CarriesIds (new_id ids.now) parts.block elements }
     ensures unchanged { OnFalse result (header.new ≡ header.old) }
+    ensures ids { OnFalse result (AreIds ids.now) }
     ensures bytes { (k : ℕ) → slice_index header.old k < 256 }
 {
     let mut packet = RtpPacketMut::new(header, header_len, form);
@@ -102,12 +103,4 @@ pub(super) fn is_one_byte_only(allowed: Option<ExtensionsForm>) -> bool
     ensures { IsTrue result ↔ (allowed ≡ Some OneByte) }
 {
     matches!(allowed, Some(ExtensionsForm::OneByte))
-}
-
-// What is so of every table: the id 0, which is padding's, has no new one, and each is 1 to 255.
-pub(super) fn known_ids(ids: &NewIds)
-    ensures zero { new_id ids.now 0 ≡ None }
-    ensures each { (id : ℕ) → IfSome (new_id ids.now id) (λ new. (1 ≤ new) × (new ≤ 255)) }
-{
-    ids.ids();
 }

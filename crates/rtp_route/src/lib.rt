@@ -21,18 +21,19 @@
 mod by_calls;
 mod by_walk;
 mod in_place;
+mod making;
+mod no_walk;
 mod not_routed;
 mod not_written;
-mod parts;
 mod retransmission;
 mod slots;
 mod template;
 mod walk;
 
 pub use by_calls::{Group, route_header, routes_as_the_calls_do};
+pub use making::make_template;
 pub use not_routed::NotRouted;
 pub use not_written::NotWritten;
-pub use parts::{TemplateParts, make_template, make_template_into};
 pub use retransmission::{repeats_the_packet, write_retransmission};
 pub use slots::{MAX_ELEMENTS, Slot};
-pub use template::{HeaderTemplate, write_joined};
+pub use template::{HeaderTemplate, fill_copy};

@@ -14,15 +14,16 @@ ghost use Rattle.rtp_route.specs.Template.{with_data, data_lengths, slot_lengths
 
 use super::in_place::send_again;
 use super::slots::Slot;
-use super::template::write_joined;
+use super::template::fill_copy;
+use rtp_base::put;
 use rtp_wire::{Fields, RtpPacket};
 
-/// What [`write_joined`](super::write_joined) writes, for a retransmission (RFC 4588, 4), of which
-/// the fields say the number, the payload type and the SSRC, and M and the timestamp where the
-/// receiver got the packet with its own: P is clear, and behind the header stands the number with
-/// which the receiver got the packet, in two bytes, the high one first. The payload without its
-/// padding, put behind that, makes it the retransmission. Requires a buffer of two bytes more than
-/// the header, and else the same.
+/// Writes what [`fill_copy`](super::fill_copy) makes of a copy of the header, for a retransmission
+/// (RFC 4588, 4), of which the fields say the number, the payload type and the SSRC, and M and the
+/// timestamp where the receiver got the packet with its own: P is clear, and behind the header
+/// stands the number with which the receiver got the packet, in two bytes, the high one first. The
+/// payload without its padding, put behind that, makes it the retransmission. Requires a buffer of
+/// two bytes more than the header, and else the same.
 pub fn write_retransmission(
     header: &RtpPacket<'_>,
     slots: &[Slot],
@@ -44,7 +45,9 @@ pub fn write_retransmission(
         (pieces (slot_lengths slots.now) bytes.now) buf.new }
 {
     let header_len = header.header_len();
-    write_joined(header, slots, fields, bytes, &mut buf[..header_len]);
+    let own = &mut buf[..header_len];
+    put(own, 0, header.header_bytes());
+    fill_copy(header, slots, fields, bytes, own);
     send_again(buf, header_len, original_number);
 }
 

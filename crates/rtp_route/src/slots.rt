@@ -132,18 +132,6 @@ pub(super) fn fill(buf: &mut [u8], slots: &[Slot], contents: &[&[u8]])
     }
 }
 
-// How many bytes the data at the places are.
-pub(super) fn total_len(slots: &[Slot]) -> usize
-    requires { length slots.now ≤ 16 }
-    ensures { result ≡ total_of slots.now }
-{
-    let mut total = 0;
-    for slot in slots {
-        total += slot.len as usize;
-    }
-    total
-}
-
 // Puts the data, which lie one after another, at their places.
 #[inline(always)]
 pub(super) fn fill_joined(buf: &mut [u8], slots: &[Slot], bytes: &[u8])
@@ -157,13 +145,4 @@ pub(super) fn fill_joined(buf: &mut [u8], slots: &[Slot], bytes: &[u8])
         put_data(buf, slots[index].start as usize, first);
         left = after;
     }
-}
-
-// Whether each place lies within so many bytes.
-pub(super) fn lie_within(slots: &[Slot], len: usize) -> bool
-    ensures { IsTrue result ↔ All (λ slot. slot.start + slot.len ≤ len) slots.now }
-{
-    slots
-        .iter()
-        .all(|slot| slot.start as usize + slot.len as usize <= len)
 }

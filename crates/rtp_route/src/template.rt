@@ -40,7 +40,7 @@ pub struct HeaderTemplate<'a> {
 }
 
 impl<'a> HeaderTemplate<'a> {
-    ghost use Rattle.rtp_route.specs.TemplateOf.{IsTemplate, KeepsFromWriting, KeepsFromWritingAgain, slots_in, lengths_of, header_len_in};
+    ghost use Rattle.rtp_route.specs.TemplateOf.{IsTemplate, KeepsFromWritingBytes, KeepsFromWriting, KeepsFromWritingAgain, header_len_in};
 
     /// Makes the header that the packet gets for the group in the buffer, which is lent to the
     /// template. One of twice the packet's header and 264 bytes for each element has room.
@@ -62,13 +62,13 @@ impl<'a> HeaderTemplate<'a> {
             × KeepsFromTemplate (header_in packet.now) (new_id group.now.ids.now)
             (elements_of group.now.elements.now) group.now.allowed (length buf.old) cause) }
     {
-        let parts = make_template(packet, group, buf)?;
-        let header = RtpPacket::parse(&buf[..parts.header_len as usize]).unwrap();
-        let slots = parts.slots;
+        let mut slots = [Slot { start: 0, len: 0 }; MAX_ELEMENTS];
+        let len = make_template(packet, group, buf, &mut slots)?;
+        let header = RtpPacket::parse(&buf[..len]).unwrap();
         Ok(HeaderTemplate {
             header,
             slots,
-            count: parts.count,
+            count: group.elements.len(),
         })
     }
 
@@ -110,16 +110,7 @@ impl<'a> HeaderTemplate<'a> {
             (map (λ bytes. length bytes.now) contents.now) (length buf.old) cause) }
         ensures unchanged { OnErr result (buf.new ≡ buf.old) }
     {
-        let slots = &self.slots[..self.count];
-        if !have_lengths(slots, contents) {
-            return Err(NotWritten::OtherLengths);
-        }
-        let needed = self.header.header_len();
-        if buf.len() < needed {
-            return Err(NotWritten::NoRoom { needed });
-        }
-        self.fill_header(fields, contents, &mut buf[..needed]);
-        Ok(needed)
+        self.write_before(0, fields, contents, buf)
     }
 
     /// Writes what [`write_header`](Self::write_header) does, for a retransmission (RFC 4588, 4), of
@@ -139,6 +130,14 @@ impl<'a> HeaderTemplate<'a> {
             (allowed : Option ExtensionsForm) → IsTemplate old ids news allowed self.now →
             IfOk result (λ len. IsRoutedAgain old fields.now original_number ids
             (with_data news (map (λ bytes. bytes.now) contents.now)) allowed (take len buf.new)) }
+
+        // There are no other such bytes.
+        ensures only { (old : List ℕ) (ids : ℕ → Option ℕ) (news : List Element)
+            (allowed : Option ExtensionsForm) → IsTemplate old ids news allowed self.now →
+            IfOk result (λ len. (again : List ℕ) → ((k : ℕ) → slice_index again k < 256) →
+            IsRoutedAgain old fields.now original_number ids
+            (with_data news (map (λ bytes. bytes.now) contents.now)) allowed again →
+            again ≡ take len buf.new) }
         ensures length { IfOk result (λ len. len ≡ header_len_in self.now + 2) }
         ensures behind { IfOk result (λ len. drop len buf.new ≡ drop len buf.old) }
         ensures cause { IfErr result (KeepsFromWritingAgain self.now
@@ -147,56 +146,72 @@ impl<'a> HeaderTemplate<'a> {
             (map (λ bytes. length bytes.now) contents.now) (length buf.old) cause) }
         ensures unchanged { OnErr result (buf.new ≡ buf.old) }
     {
-        let slots = &self.slots[..self.count];
-        if !have_lengths(slots, contents) {
-            return Err(NotWritten::OtherLengths);
-        }
-        let header_len = self.header.header_len();
+        let header_len = self.write_before(2, fields, contents, buf)?;
         let len = header_len + 2;
-        if buf.len() < len {
-            return Err(NotWritten::NoRoom { needed: len });
-        }
-        self.fill_header(fields, contents, &mut buf[..header_len]);
         send_again(&mut buf[..len], header_len, original_number);
         Ok(len)
     }
 
-    // Writes the header with these fields and data, as long as those that were put, into a buffer
-    // of the header's length.
+    // Writes the header with these fields and data where so many bytes have room behind it, up to
+    // two, and returns how many bytes it has.
     #[inline(always)]
-    fn fill_header(&self, fields: &Fields, contents: &[&[u8]], buf: &mut [u8])
+    fn write_before(
+        &self,
+        behind: usize,
+        fields: &Fields,
+        contents: &[&[u8]],
+        buf: &mut [u8],
+    ) -> Result<usize, NotWritten>
+        requires few { behind ≤ 2 }
         requires payload_type { IfSome fields.now.payload_type (λ pt. pt ≤ 127) }
-        requires lengths { map (λ bytes. length bytes.now) contents.now ≡ lengths_of self.now }
-        requires room { length buf.old ≡ header_len_in self.now }
-        ensures { (old : List ℕ) (ids : ℕ → Option ℕ) (news : List Element)
+        ensures routed { (old : List ℕ) (ids : ℕ → Option ℕ) (news : List Element)
             (allowed : Option ExtensionsForm) → IsTemplate old ids news allowed self.now →
-            IsRouted old fields.now ids
-            (with_data news (map (λ bytes. bytes.now) contents.now)) allowed buf.new }
+            IfOk result (λ len. IsRouted old fields.now ids
+            (with_data news (map (λ bytes. bytes.now) contents.now)) allowed (take len buf.new)) }
+        ensures length { IfOk result (λ len. len ≡ header_len_in self.now) }
+        ensures room { IfOk result (λ len. len + behind ≤ length buf.old) }
+        ensures behind { IfOk result (λ len. drop len buf.new ≡ drop len buf.old) }
+        ensures cause { IfErr result (KeepsFromWritingBytes behind self.now
+            (map (λ bytes. length bytes.now) contents.now) (length buf.old)) }
+        ensures refused { IsErr result ↔ ((cause : NotWritten) × KeepsFromWritingBytes behind
+            self.now (map (λ bytes. length bytes.now) contents.now) (length buf.old) cause) }
+        ensures unchanged { OnErr result (buf.new ≡ buf.old) }
     {
-        copy_header(&self.header, fields, buf);
-        fill(buf, &self.slots[..self.count], contents);
+        let slots = &self.slots[..self.count];
+        if !have_lengths(slots, contents) {
+            return Err(NotWritten::OtherLengths);
+        }
+        let len = self.header.header_len();
+        let needed = len + behind;
+        if buf.len() < needed {
+            return Err(NotWritten::NoRoom { needed });
+        }
+        let own = &mut buf[..len];
+        put(own, 0, self.header.header_bytes());
+        set_copied(&self.header, fields, own);
+        fill(own, slots, contents);
+        Ok(len)
     }
 }
 
-// Copies the header of a packet, and sets these fields.
+// Sets these fields in a copy of the header of a packet.
 #[inline(always)]
-fn copy_header(header: &RtpPacket<'_>, fields: &Fields, buf: &mut [u8])
+fn set_copied(header: &RtpPacket<'_>, fields: &Fields, buf: &mut [u8])
     requires payload_type { IfSome fields.now.payload_type (λ pt. pt ≤ 127) }
-    requires room { length buf.old ≡ header_len_of (parts_of header.now) }
+    requires copied { buf.old ≡ header_in header.now }
     ensures set { (parts : PacketParts) → IsPacket (header_in header.now) parts →
         IsPacket buf.new (with_header_fields fields.now parts) }
     ensures fixed { ChangesOnly 1 12 (header_in header.now) buf.new }
 {
-    put(buf, 0, header.header_bytes());
     set_fields(buf, header.header_len(), header.form(), fields);
 }
 
-/// Writes a header that [`make_template`](super::make_template) made, as a packet without a
-/// payload, with these fields, and with these data of the group's elements, one after another in
-/// their order, at the places, into a buffer of the header's length. Requires as many data as the
-/// places have, places that lie in the header, and a payload type of at most 127.
+/// Makes a copy of a header that [`make_template`](super::make_template) made, as a packet without
+/// a payload, that of a receiver: it gets these fields, and these data of the group's elements, one
+/// after another in their order, at the places. Requires as many data as the places have, places
+/// that lie in the header, and a payload type of at most 127.
 #[inline(always)]
-pub fn write_joined(
+pub fn fill_copy(
     header: &RtpPacket<'_>,
     slots: &[Slot],
     fields: &Fields,
@@ -206,7 +221,7 @@ pub fn write_joined(
     requires payload_type { IfSome fields.now.payload_type (λ pt. pt ≤ 127) }
     requires lengths { length bytes.now ≡ total_of slots.now }
     requires within { All (LiesInHeader (parts_of header.now)) slots.now }
-    requires room { length buf.old ≡ header_len_of (parts_of header.now) }
+    requires copied { buf.old ≡ header_in header.now }
     ensures routed { (old : List ℕ) (ids : ℕ → Option ℕ) (news : List Element)
         (allowed : Option ExtensionsForm) →
         IsGroupHeader old ids news allowed (header_in header.now) slots.now →
@@ -215,6 +230,6 @@ pub fn write_joined(
     ensures filled { IsFilledIn (header_in header.now) slots.now fields.now
         (pieces (slot_lengths slots.now) bytes.now) buf.new }
 {
-    copy_header(header, fields, buf);
+    set_copied(header, fields, buf);
     fill_joined(buf, slots, bytes);
 }

@@ -1,6 +1,6 @@
 //! The body of a group's block, written while the packet's elements are read.
 
-ghost use Rattle.std.specs.Prelude.{◌≡◌, ◌+◌, ◌%◌, ◌<◌, ◌≤◌, ◌∷◌, ◌++◌, ℕ, List, [], length, take, drop, replicate, All, IfSome, IfNone};
+ghost use Rattle.std.specs.Prelude.{◌≡◌, ◌+◌, ◌%◌, ◌<◌, ◌≤◌, ◌∷◌, ◌++◌, ℕ, List, [], length, take, drop, replicate, All, IfOk, IfSome, IfNone};
 ghost use Rattle.std.specs.Bool.{OnTrue};
 ghost use Rattle.rtp_base.specs.Overwriting.{overwritten};
 ghost use Rattle.rtp_ext.specs.declared.form.ExtensionsForm.TheVariants.{OneByte};
@@ -15,6 +15,7 @@ ghost use Rattle.rtp_route.specs.Template.{HaveOwnIds, AreSlots};
 ghost use Rattle.rtp_route.specs.Walk.{ArePlaced, AreWritten, AreKept, IsBodyFor};
 
 use super::Group;
+use super::no_walk::NoWalk;
 use super::slots::{MAX_ELEMENTS, Slot, index_of};
 use rtp_base::put;
 use rtp_ext::{Elements, ExtensionsForm, put_data};
@@ -155,9 +156,8 @@ fn carries(was: ExtensionsForm, form: ExtensionsForm, id: u8, bytes: &[u8]) -> b
 }
 
 // Writes the elements of a block's body under their new ids, those without one left out, and the
-// group's elements in the place of those of their ids; returns where they end. `None` where the form
-// can't carry one, or two have the id of one of the group's elements. It stays out of line, so that
-// the walk has the registers to itself.
+// group's elements in the place of those of their ids; returns where they end. It stays out of line,
+// so that the walk has the registers to itself.
 #[inline(never)]
 fn write_kept(
     buf: &mut [u8],
@@ -167,7 +167,7 @@ fn write_kept(
     body: &[u8],
     group: &Group<'_>,
     slots: &mut [Slot; MAX_ELEMENTS],
-) -> Option<usize>
+) -> Result<usize, NoWalk>
     requires some { 1 ≤ at }
     requires few { length group.now.elements.now ≤ 16 }
     requires room { at ≤ length buf.old }
@@ -176,22 +176,25 @@ fn write_kept(
     requires all { All (IsWritable form) (elements_of group.now.elements.now) }
     requires carries { (element : Element) → IsWritable was element → IsWritable form element }
     requires fresh { ArePlaced form at [] (elements_of group.now.elements.now) slots.old }
-    ensures kept { IfSome result (λ end. (elements : List Element) →
+    ensures kept { IfOk result (λ end. (elements : List Element) →
         AreElements was body.now elements →
         AreKept form (new_id group.now.ids.now) (elements_of group.now.elements.now)
         elements at buf.old slots.new buf.new end) }
-    ensures within { IfSome result (λ end. end ≤ length buf.old) }
+    ensures within { IfOk result (λ end. end ≤ length buf.old) }
 {
     let mut end = at;
     for (id, bytes) in Elements::new(body, was) {
         if let Some(new) = group.ids.new_id(id) {
             if !carries(was, form, new, bytes) {
-                return None;
+                return Err(NoWalk::LongId);
             }
-            end = write_next(buf, end, form, group.elements, slots, new, bytes)?;
+            let Some(next) = write_next(buf, end, form, group.elements, slots, new, bytes) else {
+                return Err(NoWalk::NotEnded);
+            };
+            end = next;
         }
     }
-    Some(end)
+    Ok(end)
 }
 
 // Writes those of the group's elements that have no place yet, and returns where they end.
@@ -248,8 +251,8 @@ fn put_padding(buf: &mut [u8], at: usize, count: usize)
 }
 
 // Writes the body that a block's body becomes for the group at the offset, which is of whole words,
-// and returns where it ends; the places are those of the group's elements. `None` where another way
-// has to be taken. The places before are passed over.
+// and returns where it ends; the places are those of the group's elements. The places before are
+// passed over.
 #[inline(always)]
 pub(super) fn write_body(
     buf: &mut [u8],
@@ -259,7 +262,7 @@ pub(super) fn write_body(
     body: &[u8],
     group: &Group<'_>,
     slots: &mut [Slot; MAX_ELEMENTS],
-) -> Option<usize>
+) -> Result<usize, NoWalk>
     requires some { 1 ≤ at }
     requires whole { at % 4 ≡ 0 }
     requires few { length group.now.elements.now ≤ 16 }
@@ -268,19 +271,21 @@ pub(super) fn write_body(
     requires own { HaveOwnIds (elements_of group.now.elements.now) }
     requires all { All (IsWritable form) (elements_of group.now.elements.now) }
     requires carries { (element : Element) → IsWritable was element → IsWritable form element }
-    ensures written { IfSome result (λ end. (elements : List Element) →
+    ensures written { IfOk result (λ end. (elements : List Element) →
         AreElements was body.now elements →
         IsBodyFor form (new_id group.now.ids.now) (elements_of group.now.elements.now)
         elements at (take (length group.now.elements.now) slots.new) buf.new end) }
-    ensures within { IfSome result (λ end. end ≤ length buf.old) }
+    ensures within { IfOk result (λ end. end ≤ length buf.old) }
 {
     *slots = [Slot { start: 0, len: 0 }; MAX_ELEMENTS];
     let kept = write_kept(buf, at, was, form, body, group, slots)?;
-    let len = write_lacking(buf, kept, form, group.elements, slots)?;
+    let Some(len) = write_lacking(buf, kept, form, group.elements, slots) else {
+        return Err(NoWalk::NotEnded);
+    };
     let end = len.next_multiple_of(4);
     if end > buf.len() {
-        return None;
+        return Err(NoWalk::NotEnded);
     }
     put_padding(buf, len, end - len);
-    Some(end)
+    Ok(end)
 }

@@ -91,8 +91,9 @@ fn says_nothing(buf: &[u8]) -> bool
 pub fn is_allocation(buf: &[u8]) -> bool
     ensures { IsTrue result ↔ ((a : Allocation) × Means buf.now a) }
 {
-    if says_nothing(buf) {
-        return true;
+    // One byte is too short for masks and counts.
+    if buf.len() == 1 {
+        return buf[0] == 0;
     }
     layout_of(buf, &mut [0; 4]).is_some()
 }

@@ -7,7 +7,10 @@ mod packet;
 mod payload;
 mod run;
 
-pub use header::{NotAHeader, RtpHeader};
+pub use header::{
+    GetFields, NotAHeader, RtpHeader, try_write_values, values_left_out, values_wire_len,
+    write_with,
+};
 pub use packet::{
     BlockNotPut, Csrcs, Fields, NotAPacket, NotInBuffer, NotPut, NotRetransmitted, OriginalFields,
     RetransmissionFields, RtpPacket, RtpPacketBuf, RtpPacketMut, compact, compact_copy,

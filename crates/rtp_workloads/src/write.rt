@@ -6,7 +6,7 @@ use crate::layers::Allocation;
 use crate::made::{map, templates};
 use crate::numbers::Numbers;
 use rtp_wire::vla::VideoLayers;
-use rtp_wire::{ExtensionMap, RtpHeader, WithLayers};
+use rtp_wire::{ExtensionMap, RtpHeader, WithLayers, try_write_values, write_with};
 use std::alloc::{AllocError, Global};
 
 // The room for a header.
@@ -29,7 +29,7 @@ fn write_elements(header: &RtpHeader, buf: &mut [u8], mid: &str) -> Option<usize
     let level = [(header.ssrc.get() % 128) as u8];
     let number = header.sequence_number.to_be_bytes();
     let elements: [(u8, &[u8]); 3] = [(1, &level), (3, &number), (4, mid.as_bytes())];
-    header.write_with(buf, elements.as_slice(), None)
+    write_with(header, buf, elements.as_slice(), None)
 }
 
 // What is kept from packet to packet.
@@ -64,7 +64,7 @@ fn write_one(
             values: &header.ext_vals,
             layers,
         };
-        return header.try_write_values(buf, &values, exts);
+        return try_write_values(header, buf, &values, exts);
     }
     match way % 8 {
         0 => write_elements(header, buf, mid_of(way)),

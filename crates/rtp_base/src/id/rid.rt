@@ -1,7 +1,7 @@
 //! The identifier of a stream of a simulcast.
 
 ghost use Rattle.std.specs.Prelude.{◌≡◌, ◌==◌, ◌≤◌, ◌↔◌, length, IsTrue, IsSome, IfSome, IsUtf8};
-ghost use Rattle.rtp_base.specs.Id.{before_padding, IsIdOf, IsIdArray};
+ghost use Rattle.rtp_base.specs.Id.{before_padding, zero_padded, IsIdOf, IsIdArray};
 
 use super::text::IdText;
 use std::fmt;
@@ -91,6 +91,14 @@ impl Rid {
         ensures back { IsIdOf 8 result.now self.now }
     {
         self.text.as_str()
+    }
+
+    /// Returns the text, filled up with zeros in place of spaces, as C keeps it.
+    #[inline(always)]
+    pub fn zero_padded(&self) -> [u8; 8]
+        ensures { result ≡ zero_padded 8 (before_padding self.now) }
+    {
+        self.text.zero_padded()
     }
 }
 

@@ -1,10 +1,10 @@
 //! What `Mid` and `Rid` have in common: texts in a fixed number of bytes.
 
-ghost use Rattle.std.specs.Prelude.{◌≡◌, not, IsUtf8, ◌≢◌, ℕ, ◌<◌, ◌≤◌, ◌||◌, ◌↔◌, length, take, drop, slice_index, nat_lt, nat_le, IsTrue, map, IsSome, IfSome, IfNone, All, ◌==◌};
+ghost use Rattle.std.specs.Prelude.{◌≡◌, not, IsUtf8, ◌≢◌, ℕ, ◌<◌, ◌≤◌, ◌||◌, ◌↔◌, length, take, drop, slice_index, nat_lt, nat_le, IsTrue, map, IsSome, IfSome, IfNone, All, ◌==◌, if◌then◌else◌};
 ghost use Rattle.std.specs.List.{position_or_len, count_by};
 ghost use Rattle.std.specs.Bool.{OnTrue};
 ghost use Rattle.std.specs.Str.{IsAscii};
-ghost use Rattle.rtp_base.specs.Id.{id_char, id_text, before_padding, IsIdOf, IsIdByte, IsIdArray};
+ghost use Rattle.rtp_base.specs.Id.{id_char, id_text, before_padding, zero_padded, IsIdOf, IsIdByte, IsIdArray};
 
 use std::marker::Model;
 use std::simd::prelude::*;
@@ -87,6 +87,14 @@ fn count_kept(bytes: &[u8]) -> usize
 {
     let kept = u8x16::from_slice(bytes).simd_ne(u8x16::splat(b' '));
     kept.to_bitmask().count_ones() as usize
+}
+
+// A zero in place of a space, and any other byte as it is.
+#[inline(always)]
+fn zero_for_space(byte: u8) -> u8
+    ensures { result ≡ if byte == 32 then 0 else byte }
+{
+    if byte == b' ' { 0 } else { byte }
 }
 
 // Whether each byte is a letter, a digit or an underscore.
@@ -222,5 +230,17 @@ impl<const N: usize> IdText<N> {
         let text = &self.bytes[..self.len()];
         // The bytes of an identifier are ASCII.
         unsafe { str::from_utf8_unchecked(text) }
+    }
+
+    // The text, filled up with zeros.
+    #[inline(always)]
+    pub(super) fn zero_padded(&self) -> [u8; N]
+        ensures { result ≡ zero_padded N (before_padding self.now) }
+    {
+        let mut bytes = self.bytes;
+        for byte in bytes.iter_mut() {
+            *byte = zero_for_space(*byte);
+        }
+        bytes
     }
 }

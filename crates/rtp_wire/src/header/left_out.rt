@@ -8,7 +8,8 @@ ghost use Rattle.rtp_ext.specs.WrittenBlock.{IsLeftOut};
 ghost use Rattle.rtp_wire.specs.Written.{image_of, with_values};
 
 use super::RtpHeader;
-use rtp_ext::{KindSet, Kinds, KnownIds, ValueKinds, values_left_out};
+use super::get_fields::GetFields;
+use rtp_ext::{KindSet, Kinds, KnownIds, ValueKinds};
 
 impl RtpHeader {
     /// The kinds of which the header has a value and that no element carries which
@@ -26,19 +27,25 @@ impl RtpHeader {
             ↔ IsLeftOut self.now.ext_vals (image_of (K.slots exts.now) self.now).ext_vals
             (extension_of_kind kind) }
     {
-        self.values_left_out(&self.ext_vals, exts)
+        values_left_out(self, &self.ext_vals, exts)
     }
+}
 
-    /// The same of these values in place of `ext_vals`, as
-    /// [`try_write_values`](Self::try_write_values) writes them.
-    pub fn values_left_out<K: Kinds, V: ValueKinds>(&self, values: &V, exts: &K) -> KindSet
-        ensures { (kind : KnownKind) → (has result kind ≡ true)
-            ↔ IsLeftOut (V.values values.now) (image_of (K.slots exts.now)
-            (with_values self.now (V.values values.now))).ext_vals (extension_of_kind kind) }
-    {
-        if !self.has_extension {
-            return values.kinds();
-        }
-        values_left_out(&KnownIds::of(exts), values)
+/// The kinds of which there is a value and that no element carries which
+/// [`try_write_values`](super::writing_values::try_write_values) writes under the map, as
+/// [`RtpHeader::left_out`] has them.
+pub fn values_left_out<H: GetFields, K: Kinds, V: ValueKinds>(
+    fields: &H,
+    values: &V,
+    exts: &K,
+) -> KindSet
+    ensures { (kind : KnownKind) → (has result kind ≡ true)
+        ↔ IsLeftOut (V.values values.now) (image_of (K.slots exts.now)
+        (with_values (H.header fields.now) (V.values values.now))).ext_vals
+        (extension_of_kind kind) }
+{
+    if !fields.has_extension() {
+        return values.kinds();
     }
+    rtp_ext::values_left_out(&KnownIds::of(exts), values)
 }

@@ -1,6 +1,6 @@
-//! From a header to bytes, with its own values or others.
+//! From the fields and the values of a header to bytes.
 
-ghost use Rattle.std.specs.Prelude.{◌≡◌, ℕ, ◌+◌, ◌*◌, ◌%◌, ◌<◌, ◌≤◌, ◌↔◌, ◌++◌, List, length, drop, Some, IsTrue, IsNone, IfSome, IfNone};
+ghost use Rattle.std.specs.Prelude.{◌≡◌, ℕ, ◌+◌, ◌*◌, ◌%◌, ◌≤◌, ◌↔◌, ◌++◌, List, length, drop, Some, IsTrue, IsNone, IfSome, IfNone};
 ghost use Rattle.rtp_ext.specs.declared.form.ExtensionsForm.TheVariants.{OneByte};
 ghost use Rattle.rtp_ext.specs.ExtensionMap.{Slots, mapped_count, HasNoIdAbove};
 ghost use Rattle.rtp_values.specs.declared.value.values.ExtensionValues.{ExtensionValues};
@@ -10,170 +10,174 @@ ghost use Rattle.rtp_wire.specs.Header.{IsWire};
 ghost use Rattle.rtp_wire.specs.Written.{extension_bytes, wire_bytes, image_of, with_values, CannotBeWritten};
 ghost use Rattle.rtp_wire.specs.WrittenInForm.{announced_form, IsWithinMap};
 
-use super::RtpHeader;
 use super::block::{BLOCK_HEADER_LEN, block_fits, block_len, write_block};
+use super::fixed_part::{fixed_bytes, put_csrc};
+use super::get_fields::GetFields;
 use rtp_base::put;
 use rtp_ext::{ElementValues, ExtensionsForm, Kinds, KnownIds, values_form};
 
-impl RtpHeader {
-    /// Returns how many bytes [`try_write_values`](Self::try_write_values) writes, within the
-    /// bounds of [`wire_len`](Self::wire_len). Requires at most 15 contributing sources.
-    pub fn values_wire_len<K: Kinds, V: ElementValues>(&self, values: &V, exts: &K) -> usize
-        requires sources { self.now.csrc_count ≤ 15 }
-        ensures length { result ≡ length
-            (wire_bytes (K.slots exts.now) (with_values self.now (V.values values.now))) }
-        ensures words { result % 4 ≡ 0 }
-        ensures by_map { result ≤ 76 + whole_words (257 * mapped_count (K.slots exts.now)) }
-        ensures small { HasNoIdAbove 16 (K.slots exts.now) → result ≤ 4188 }
-        ensures bound { result ≤ 65612 }
-    {
-        let before = 12 + 4 * self.csrc_count;
-        if !self.has_extension {
-            return before;
-        }
-        let ids = KnownIds::of(exts);
-        before + block_len(&ids, values, values_form(&ids, values))
+/// Returns how many bytes [`try_write_values`] writes, within the
+/// bounds of [`RtpHeader::wire_len`](super::RtpHeader::wire_len). Requires at most 15 contributing sources.
+pub fn values_wire_len<H: GetFields, K: Kinds, V: ElementValues>(
+    fields: &H,
+    values: &V,
+    exts: &K,
+) -> usize
+    requires sources { (H.header fields.now).csrc_count ≤ 15 }
+    ensures length { result ≡ length
+        (wire_bytes (K.slots exts.now) (with_values (H.header fields.now) (V.values values.now))) }
+    ensures words { result % 4 ≡ 0 }
+    ensures by_map { result ≤ 76 + whole_words (257 * mapped_count (K.slots exts.now)) }
+    ensures small { HasNoIdAbove 16 (K.slots exts.now) → result ≤ 4188 }
+    ensures bound { result ≤ 65612 }
+{
+    let before = 12 + 4 * fields.csrc_count();
+    if !fields.has_extension() {
+        return before;
     }
+    let ids = KnownIds::of(exts);
+    before + block_len(&ids, values, values_form(&ids, values))
+}
 
-    /// Writes the header as [`try_write_to`](Self::try_write_to) does, with these values in place
-    /// of `ext_vals`: those of [`WithLayers`](crate::WithLayers) have a layer allocation that took
-    /// no memory. `None` where the payload type is above 127, there are more than 15 contributing
-    /// sources, or the buffer has fewer than [`values_wire_len`](Self::values_wire_len) bytes, and
-    /// then nothing is written.
-    #[inline(always)]
-    pub fn try_write_values<K: Kinds, V: ElementValues>(
-        &self,
-        buf: &mut [u8],
-        values: &V,
-        exts: &K,
-    ) -> Option<usize>
-        ensures refused { IsNone result ↔ CannotBeWritten (K.slots exts.now)
-            (with_values self.now (V.values values.now)) (length buf.old) }
-        ensures unchanged { IfNone result (buf.new ≡ buf.old) }
-        ensures written { IfSome result (λ len. buf.new
-            ≡ wire_bytes (K.slots exts.now) (with_values self.now (V.values values.now))
-            ++ drop len buf.old) }
-        ensures length { IfSome result (λ len. len ≡ length
-            (wire_bytes (K.slots exts.now) (with_values self.now (V.values values.now)))) }
+/// Writes the header as [`RtpHeader::try_write_to`](super::RtpHeader::try_write_to) does, with these values in place of
+/// `ext_vals`: those of [`WithLayers`](crate::WithLayers) have a layer allocation that took no
+/// memory. `None` where the payload type is above 127, there are more than 15 contributing
+/// sources, or the buffer has fewer than [`values_wire_len`] bytes, and
+/// then nothing is written.
+#[inline(always)]
+pub fn try_write_values<H: GetFields, K: Kinds, V: ElementValues>(
+    fields: &H,
+    buf: &mut [u8],
+    values: &V,
+    exts: &K,
+) -> Option<usize>
+    ensures refused { IsNone result ↔ CannotBeWritten (K.slots exts.now)
+        (with_values (H.header fields.now) (V.values values.now)) (length buf.old) }
+    ensures unchanged { IfNone result (buf.new ≡ buf.old) }
+    ensures written { IfSome result (λ len. buf.new
+        ≡ wire_bytes (K.slots exts.now) (with_values (H.header fields.now) (V.values values.now))
+        ++ drop len buf.old) }
+    ensures length { IfSome result (λ len. len ≡ length
+        (wire_bytes (K.slots exts.now) (with_values (H.header fields.now) (V.values values.now)))) }
 
-        // What was written, followed by anything, is read as the image of the header with them.
-        ensures read_back { IfSome result (λ _. (rest : List ℕ) → IsWire (K.slots exts.now)
-            (wire_bytes (K.slots exts.now) (with_values self.now (V.values values.now)) ++ rest)
-            (image_of (K.slots exts.now) (with_values self.now (V.values values.now)))) }
-    {
-        if self.csrc_count > 15 || self.payload_type.get() > 127 {
-            return None;
-        }
-        if buf.len() < self.least_len() {
-            return None;
-        }
-        if !self.has_extension {
-            // So nothing of the map is looked at.
-            return Some(self.write_in(&KnownIds::of(exts), values, None, buf));
-        }
-        let ids = KnownIds::of(exts);
-        let form = self.form(&ids, values);
-        if !self.fits(&ids, values, form, buf.len()) {
-            return None;
-        }
-        Some(self.write_in(&ids, values, form, buf))
+    // What was written, followed by anything, is read as the image of the header with them.
+    ensures read_back { IfSome result (λ _. (rest : List ℕ) → IsWire (K.slots exts.now)
+        (wire_bytes (K.slots exts.now) (with_values (H.header fields.now) (V.values values.now))
+        ++ rest)
+        (image_of (K.slots exts.now) (with_values (H.header fields.now) (V.values values.now)))) }
+{
+    if fields.csrc_count() > 15 || fields.payload_type().get() > 127 {
+        return None;
     }
-
-    // At least so many bytes are written, whatever the map and the values are.
-    #[inline(always)]
-    fn least_len(&self) -> usize
-        requires { self.now.csrc_count ≤ 15 }
-        ensures least { (exts : Slots) (values : ExtensionValues) →
-            result ≤ length (wire_bytes exts (with_values self.now values)) }
-        ensures before { 12 + 4 * self.now.csrc_count ≤ result }
-    {
-        let before = 12 + 4 * self.csrc_count;
-        if self.has_extension {
-            before + BLOCK_HEADER_LEN
-        } else {
-            before
-        }
+    if buf.len() < least_len(fields) {
+        return None;
     }
-
-    // The form of the block that X announces, and `None` where X is clear.
-    #[inline(always)]
-    pub(super) fn form<K: Kinds, V: ElementValues>(
-        &self,
-        ids: &KnownIds<'_, K>,
-        values: &V,
-    ) -> Option<ExtensionsForm>
-        ensures form { result
-            ≡ announced_form ids.now self.now.has_extension (V.values values.now) }
-        ensures short { result ≡ Some OneByte
-            → TakesAtMost17Each (known_slots ids.now) (V.values values.now) }
-        ensures few { IfSome result (λ _. HasFewData (V.values values.now)) }
-    {
-        if !self.has_extension {
-            return None;
-        }
-        Some(values_form(ids, values))
+    if !fields.has_extension() {
+        // So nothing of the map is looked at.
+        return Some(write_in(fields, &KnownIds::of(exts), values, None, buf));
     }
-
-    // Whether the header has room, with its block in this form, where what stands before the block
-    // has it.
-    #[inline(always)]
-    fn fits<K: Kinds, V: ElementValues>(
-        &self,
-        ids: &KnownIds<'_, K>,
-        values: &V,
-        form: Option<ExtensionsForm>,
-        room: usize,
-    ) -> bool
-        requires sources { self.now.csrc_count ≤ 15 }
-        requires before { 12 + 4 * self.now.csrc_count ≤ room }
-        requires form { form
-            ≡ announced_form ids.now self.now.has_extension (V.values values.now) }
-        requires short { form ≡ Some OneByte
-            → TakesAtMost17Each (known_slots ids.now) (V.values values.now) }
-        requires few { IfSome form (λ _. HasFewData (V.values values.now)) }
-        ensures { IsTrue result ↔ (length
-            (wire_bytes ids.now (with_values self.now (V.values values.now))) ≤ room) }
-    {
-        match form {
-            Some(form) => block_fits(ids, values, form, room - (12 + 4 * self.csrc_count)),
-            None => true,
-        }
+    let ids = KnownIds::of(exts);
+    let form = announced_form(fields, &ids, values);
+    if !fits(fields, &ids, values, form, buf.len()) {
+        return None;
     }
+    Some(write_in(fields, &ids, values, form, buf))
+}
 
-    // Writes the header, with its block in this form, to the front of the buffer, and returns its
-    // length.
-    #[inline(always)]
-    pub(super) fn write_in<K: Kinds, V: ElementValues>(
-        &self,
-        ids: &KnownIds<'_, K>,
-        values: &V,
-        form: Option<ExtensionsForm>,
-        buf: &mut [u8],
-    ) -> usize
-        requires payload_type { self.now.payload_type ≤ 127 }
-        requires sources { self.now.csrc_count ≤ 15 }
-        requires form { form
-            ≡ announced_form ids.now self.now.has_extension (V.values values.now) }
-        requires room { length
-            (wire_bytes ids.now (with_values self.now (V.values values.now)))
-            ≤ length buf.old }
-        ensures written { buf.new
-            ≡ wire_bytes ids.now (with_values self.now (V.values values.now))
-            ++ drop result buf.old }
-        ensures length { result ≡ length
-            (wire_bytes ids.now (with_values self.now (V.values values.now))) }
-        ensures few { IsWithinMap ids.now
-            (length (extension_bytes ids.now
-            self.now.has_extension (V.values values.now))) }
-        ensures read_back { (rest : List ℕ) → IsWire ids.now
-            (wire_bytes ids.now (with_values self.now (V.values values.now)) ++ rest)
-            (image_of ids.now (with_values self.now (V.values values.now))) }
-    {
-        let end = put(buf, 0, &self.fixed_bytes(self.has_extension));
-        let end = self.put_csrc(buf, end);
-        let Some(form) = form else {
-            return end;
-        };
-        end + write_block(ids, values, form, &mut buf[end..])
+// At least so many bytes are written, whatever the map and the values are.
+#[inline(always)]
+fn least_len<H: GetFields>(fields: &H) -> usize
+    requires { (H.header fields.now).csrc_count ≤ 15 }
+    ensures least { (exts : Slots) (values : ExtensionValues) →
+        result ≤ length (wire_bytes exts (with_values (H.header fields.now) values)) }
+    ensures before { 12 + 4 * (H.header fields.now).csrc_count ≤ result }
+{
+    let before = 12 + 4 * fields.csrc_count();
+    if fields.has_extension() {
+        before + BLOCK_HEADER_LEN
+    } else {
+        before
     }
+}
+
+// The form of the block that X announces, and `None` where X is clear.
+#[inline(always)]
+pub(super) fn announced_form<H: GetFields, K: Kinds, V: ElementValues>(
+    fields: &H,
+    ids: &KnownIds<'_, K>,
+    values: &V,
+) -> Option<ExtensionsForm>
+    ensures form { result
+        ≡ announced_form ids.now (H.header fields.now).has_extension (V.values values.now) }
+    ensures short { result ≡ Some OneByte
+        → TakesAtMost17Each (known_slots ids.now) (V.values values.now) }
+    ensures few { IfSome result (λ _. HasFewData (V.values values.now)) }
+{
+    if !fields.has_extension() {
+        return None;
+    }
+    Some(values_form(ids, values))
+}
+
+// Whether the header has room, with its block in this form, where what stands before the block has
+// it.
+#[inline(always)]
+fn fits<H: GetFields, K: Kinds, V: ElementValues>(
+    fields: &H,
+    ids: &KnownIds<'_, K>,
+    values: &V,
+    form: Option<ExtensionsForm>,
+    room: usize,
+) -> bool
+    requires sources { (H.header fields.now).csrc_count ≤ 15 }
+    requires before { 12 + 4 * (H.header fields.now).csrc_count ≤ room }
+    requires form { form
+        ≡ announced_form ids.now (H.header fields.now).has_extension (V.values values.now) }
+    requires short { form ≡ Some OneByte
+        → TakesAtMost17Each (known_slots ids.now) (V.values values.now) }
+    requires few { IfSome form (λ _. HasFewData (V.values values.now)) }
+    ensures { IsTrue result ↔ (length
+        (wire_bytes ids.now (with_values (H.header fields.now) (V.values values.now))) ≤ room) }
+{
+    let before = 12 + 4 * fields.csrc_count();
+    match form {
+        Some(form) => block_fits(ids, values, form, room - before),
+        None => true,
+    }
+}
+
+// Writes the header, with its block in this form, to the front of the buffer, and returns its
+// length.
+#[inline(always)]
+pub(super) fn write_in<H: GetFields, K: Kinds, V: ElementValues>(
+    fields: &H,
+    ids: &KnownIds<'_, K>,
+    values: &V,
+    form: Option<ExtensionsForm>,
+    buf: &mut [u8],
+) -> usize
+    requires payload_type { (H.header fields.now).payload_type ≤ 127 }
+    requires sources { (H.header fields.now).csrc_count ≤ 15 }
+    requires form { form
+        ≡ announced_form ids.now (H.header fields.now).has_extension (V.values values.now) }
+    requires room { length
+        (wire_bytes ids.now (with_values (H.header fields.now) (V.values values.now)))
+        ≤ length buf.old }
+    ensures written { buf.new
+        ≡ wire_bytes ids.now (with_values (H.header fields.now) (V.values values.now))
+        ++ drop result buf.old }
+    ensures length { result ≡ length
+        (wire_bytes ids.now (with_values (H.header fields.now) (V.values values.now))) }
+    ensures few { IsWithinMap ids.now (length (extension_bytes ids.now
+        (H.header fields.now).has_extension (V.values values.now))) }
+    ensures read_back { (rest : List ℕ) → IsWire ids.now
+        (wire_bytes ids.now (with_values (H.header fields.now) (V.values values.now)) ++ rest)
+        (image_of ids.now (with_values (H.header fields.now) (V.values values.now))) }
+{
+    let end = put(buf, 0, &fixed_bytes(fields, fields.has_extension()));
+    let end = put_csrc(fields, buf, end);
+    let Some(form) = form else {
+        return end;
+    };
+    end + write_block(ids, values, form, &mut buf[end..])
 }

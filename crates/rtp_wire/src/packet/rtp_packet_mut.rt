@@ -10,7 +10,7 @@ ghost use Rattle.rtp_values.specs.Values.{Reads, with_fields, IsWellFormed};
 ghost use Rattle.rtp_ext.specs.Elements.{Element};
 ghost use Rattle.rtp_ext.specs.ElementsInPlace.{HasNone, HasLastOf, SetsLast, ChangesIds, CanRenumber, renumbered, all_but};
 ghost use Rattle.rtp_ext.specs.ExtensionMap.{Slots, extension_at, IsOnlyId};
-ghost use Rattle.rtp_ext.specs.NewIds.{new_id, CarriesExtensions};
+ghost use Rattle.rtp_ext.specs.NewIds.{new_id, AreIds, CarriesExtensions};
 ghost use Rattle.rtp_ext.specs.ElementPlaces.{WritesLast};
 ghost use Rattle.rtp_ext.specs.WrittenBlock.{mapped_fields};
 ghost use Rattle.rtp_wire.specs.ChangedPacket.{ChangesBlock, ChangesOnly, ChangesOnlyBody};
@@ -270,6 +270,9 @@ impl<'a> RtpPacketMut<'a> {
         ensures values { (from to : Slots) (values : ExtensionValues) →
             CarriesExtensions from to ids.now → HasValues from (parts_in self.old).block values →
             OnTrue result (HasValues to (parts_in self.new).block (mapped_fields to values)) }
+
+        // Every table is so.
+        ensures ids { OnFalse result (AreIds ids.now) }
         ensures same_buffer { (buffer_of self.new).ghost_name ≡ (buffer_of self.old).ghost_name }
     {
         let Some(form) = self.form else {

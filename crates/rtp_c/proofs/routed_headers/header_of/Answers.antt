@@ -3,7 +3,7 @@ use Rattle.rtp_wire.specs.Packet.{PacketParts}
 use Rattle.rtp_wire.specs.PartsOf.{parts_of}
 use Rattle.rtp_c.specs.RoutedHeaders.{payload}
 use Rattle.rtp_c.specs.StoredTemplate.{IsInRange}
-use Rattle.rtp_c.proofs.RoutedLemmas.{in-range, no-bytes, all-header}
+use Rattle.rtp_c.proofs.RoutedLemmas.{no-bytes, all-header}
 use Rattle.rtp_c.proofs.routed_headers.header_of.Goals as goal
 
 pub returns-in-Err-clause-whole : goal.returns-in-Err-clause-whole
@@ -26,10 +26,8 @@ returns-then-header_len-len-clause-whole c =
 pub returns-then-header_len-len-clause-status : goal.returns-then-header_len-len-clause-status
 returns-then-header_len-len-clause-status c =
     let header = c.in-Ok.header in
-    let found = c.if-not-are_in_range.ensures.0 refl in
     let all = all-header c.args.bytes.now c.args.made.now.header_len (parts_of header) c.if-len-bytes.false c.in-Ok.ensures.found in
-    let range : IsInRange c.args.made.now (length c.args.bytes.now) =
-    in-range c.args.made.now c.args.parts.now (length c.args.bytes.now) c.data_len.result c.requires.parts c.requires.few c.if-len-bytes.false found.1 c.data_len.ensures c.if-data_len-made.false in
+    let range : IsInRange c.args.made.now (length c.args.bytes.now) = record { there = c.if-len-bytes.false; places = c.if-not-read_slots.ensures.answer.0 refl } in
     payload (parts_of header) range c.in-Ok.ensures.found
     (λ (none : (parts_of header).payload ≡ []). c.if-header_len-len.true (omega (arith, all, ap length none, c.header_len.ensures)))
     refl
@@ -37,10 +35,9 @@ returns-then-header_len-len-clause-status c =
 pub returns-clause-whole : goal.returns-clause-whole
 returns-clause-whole c =
     let header = c.in-Ok.header in
-    let found = c.if-not-are_in_range.ensures.0 refl in
     let all = all-header c.args.bytes.now c.args.made.now.header_len (parts_of header) c.if-len-bytes.false c.in-Ok.ensures.found in (
       λ _. record {
-        in_range = in-range c.args.made.now c.args.parts.now (length c.args.bytes.now) c.data_len.result c.requires.parts c.requires.few c.if-len-bytes.false found.1 c.data_len.ensures c.if-data_len-made.false;
+        in_range = record { there = c.if-len-bytes.false; places = c.if-not-read_slots.ensures.answer.0 refl };
         is_header = record {
           parts = parts_of header;
           is_packet = c.in-Ok.ensures.found;

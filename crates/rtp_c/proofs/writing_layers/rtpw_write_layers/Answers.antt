@@ -10,15 +10,15 @@ use Rattle.rtp_c.proofs.writing_layers.rtpw_write_layers.Goals as goal
 use Rattle.rtp_c.proofs.writing_layers.rtpw_write_layers.Goals.{In-Some-with_given_layers}
 
 -- the header that is given, with its layers
-given_there : (c : In-Some-with_given_layers) → IsGivenWithLayers c.args.header.now c.args.layers.now (with_values c.put_given_fields.new.header c.in-Some-with_given_layers.values)
+given_there : (c : In-Some-with_given_layers) → IsGivenWithLayers c.args.header.now c.args.layers.now (with_values c.in-Some-new.fields c.in-Some-with_given_layers.values)
 given_there c =
-    let found = c.in-Some-with_given_layers.ensures.found in given_with c.args.header.now c.args.layers.now c.put_given_fields.new.header c.in-Some.without _ found.0 (IsGivenHeader-with c.args.header.now c.put_given_fields.new.header c.in-Some.without c.in-Some-put_given_fields.ensures.found c.in-Some.ensures.found) found.1 found.2
+    let found = c.in-Some-with_given_layers.ensures.found in given_with c.args.header.now c.args.layers.now c.in-Some-new.fields c.in-Some.without _ found.0 (IsGivenHeader-with c.args.header.now c.in-Some-new.fields c.in-Some.without c.in-Some-new.ensures.found c.in-Some.ensures.found) found.1 found.2
 
 pub returns-in_default-try_write_values-clause-short : goal.returns-in_default-try_write_values-clause-short
 returns-in_default-try_write_values-clause-short c _ =
     let there = given_there (goal.at.returns-in_default-try_write_values-clause-short c).In-Some-with_given_layers in
     IsTooLong-refused c.args.map.now.kind (IsGivenWithLayers c.args.header.now c.args.layers.now) (numbered_slots c.args.map.now.kind)
-    (with_values c.put_given_fields.new.header c.in-Some-with_given_layers.values) (length c.args.buf.now)
+    (with_values c.in-Some-new.fields c.in-Some-with_given_layers.values) (length c.args.buf.now)
     (record { has_kinds = HasKinds-numbered c.args.map.now.kind; is_given = there })
     (with_layers-type_fits c.args.header.now c.args.layers.now _ there) (with_layers-few_sources c.args.header.now c.args.layers.now _ there)
     (c.in_default-try_write_values.ensures.refused.0 refl)
@@ -26,7 +26,7 @@ returns-in_default-try_write_values-clause-short c _ =
 pub returns-clause-written : goal.returns-clause-written
 returns-clause-written c _ = record {
   slots = numbered_slots c.args.map.now.kind;
-  header = with_values c.put_given_fields.new.header c.in-Some-with_given_layers.values;
+  header = with_values c.in-Some-new.fields c.in-Some-with_given_layers.values;
   is_given = record { has_kinds = HasKinds-numbered c.args.map.now.kind; is_given = given_there (goal.at.returns-clause-written c).In-Some-with_given_layers };
   len_is = c.in-Some-try_write_values.ensures.length;
   written = c.in-Some-try_write_values.ensures.written;
@@ -36,8 +36,8 @@ returns-clause-written c _ = record {
 pub returns-in_default-clause-bad_field : goal.returns-in_default-clause-bad_field
 returns-in_default-clause-bad_field c = (λ _ h is. c.in_default.ensures.none is.without.ext_vals is.is_given.values, λ _. refl)
 
-pub returns-in_default-put_given_fields-clause-bad_field : goal.returns-in_default-put_given_fields-clause-bad_field
-returns-in_default-put_given_fields-clause-bad_field c = (λ _ h is. c.in_default-put_given_fields.ensures.none is.without is.is_given.fields, λ _. refl)
+pub returns-in_default-new-clause-bad_field : goal.returns-in_default-new-clause-bad_field
+returns-in_default-new-clause-bad_field c = (λ _ h is. c.in_default-new.ensures.none is.without is.is_given.fields, λ _. refl)
 
 short_is_not : short_buffer ≡ bad_field → ⊥
 short_is_not same = cc

@@ -11,10 +11,10 @@ returns-in_default c = WritesHeader-bad (λ h is. c.in_default.ensures.none h is
 
 pub returns-in_default-try_write_values : goal.returns-in_default-try_write_values
 returns-in_default-try_write_values c =
-    let there = IsGivenHeader-with c.args.header.now c.put_fields_with_x.new.header c.args.values c.in-Some.ensures.found c.requires.values in
+    let there = IsGivenHeader-with c.args.header.now c.in-Some.fields c.args.values c.in-Some.ensures.found c.requires.values in
     let numbers = c.args.map.now.kind in
     rw c.in_default-try_write_values.ensures.unchanged (WritesHeader-short
-    (IsTooLong-refused numbers (IsGivenHeader c.args.header.now) (numbered_slots numbers) (with_values c.put_fields_with_x.new.header c.args.values) (length c.args.buf.now)
+    (IsTooLong-refused numbers (IsGivenHeader c.args.header.now) (numbered_slots numbers) (with_values c.in-Some.fields c.args.values) (length c.args.buf.now)
     (record { has_kinds = HasKinds-numbered numbers; is_given = there })
     (type_fits c.args.header.now _ there.fields) (few_sources c.args.header.now _ there.fields)
     (c.in_default-try_write_values.ensures.refused.0 refl)))
@@ -24,8 +24,8 @@ returns c =
     let numbers = c.args.map.now.kind in
     WritesHeader-written (record {
       slots = numbered_slots numbers;
-      header = with_values c.put_fields_with_x.new.header c.args.values;
-      is_given = record { has_kinds = HasKinds-numbered numbers; is_given = IsGivenHeader-with c.args.header.now c.put_fields_with_x.new.header c.args.values c.in-Some.ensures.found c.requires.values };
+      header = with_values c.in-Some.fields c.args.values;
+      is_given = record { has_kinds = HasKinds-numbered numbers; is_given = IsGivenHeader-with c.args.header.now c.in-Some.fields c.args.values c.in-Some.ensures.found c.requires.values };
       len_is = c.in-Some-try_write_values.ensures.length;
       written = c.in-Some-try_write_values.ensures.written;
       read_back = c.in-Some-try_write_values.ensures.read_back;

@@ -7,21 +7,21 @@ use Rattle.rtp_ext.proofs.place.renumber.Goals as goal
 pub returns-then-not-carries_new_ids-clause-answer : goal.returns-then-not-carries_new_ids-clause-answer
 returns-then-not-carries_new_ids-clause-answer c = λ elements are.
     subst (λ es. IsTrue false ↔ All (CanRenumber c.args.form (new_id c.args.ids.now)) es) (sym (AreElements-only c.args.form c.args.body.now elements are))
-    (c.if-not-carries_new_ids.ensures)
+    c.if-not-carries_new_ids.ensures.answer
 
 pub change_ids-requires : goal.change_ids-requires
-change_ids-requires c = may-can c.args.form (new_id c.args.ids.now) _ (c.carries_new_ids.ensures.0 c.if-not-carries_new_ids.false)
+change_ids-requires c = may-can c.args.form (new_id c.args.ids.now) _ (c.carries_new_ids.ensures.answer.0 c.if-not-carries_new_ids.false)
 
 pub returns-clause-answer : goal.returns-clause-answer
 returns-clause-answer c = λ elements are.
     subst (λ es. IsTrue true ↔ All (CanRenumber c.args.form (new_id c.args.ids.now)) es) (sym (AreElements-only c.args.form c.args.body.now elements are))
-    (c.if-not-carries_new_ids.ensures)
+    c.if-not-carries_new_ids.ensures.answer
 
 elements_new : goal.returns-clause-elements
 elements_new c = λ elements are.
     AreElements-renumbered c.args.form (new_id c.args.ids.now) c.args.body.now c.change_ids.new.body elements c.change_ids.ensures.changed are
     (may-can c.args.form (new_id c.args.ids.now) elements
-    (subst (All (CanRenumber c.args.form (new_id c.args.ids.now))) (sym (AreElements-only c.args.form c.args.body.now elements are)) (c.if-not-carries_new_ids.ensures.0 refl)))
+    (subst (All (CanRenumber c.args.form (new_id c.args.ids.now))) (sym (AreElements-only c.args.form c.args.body.now elements are)) (c.if-not-carries_new_ids.ensures.answer.0 refl)))
 
 pub returns-clause-elements : goal.returns-clause-elements
 returns-clause-elements c = elements_new c

@@ -1,4 +1,4 @@
-use Rattle.std.proofs.Common.{rules, ◌≡◌, ◌≤◌, inl, inr, ℕ, List, ◌++◌, length, take, drop, refl, sym, ap, subst, arith, take_at}
+use Rattle.std.proofs.Common.{rules, ◌≡◌, ◌≤◌, inl, ℕ, List, ◌++◌, length, take, refl, sym, ap, subst, arith, take_at}
 use Rattle.std.proofs.lemmas.Bool.{false≢true}
 use Rattle.std.proofs.lemmas.Result.{err_from_is_err_and}
 use Rattle.rtp_ext.specs.NewIds.{new_id}
@@ -14,11 +14,10 @@ use Rattle.rtp_wire.proofs.CompactLemmas.{Compacts-front}
 use Rattle.rtp_wire.proofs.NotAPacketLemmas.{no_packet-refused}
 use Rattle.rtp_wire.proofs.PartsLemmas.{length-packet}
 use Rattle.rtp_route.specs.declared.not_routed.NotRouted.TheVariants.{NotPut}
-use Rattle.rtp_route.specs.NotPutAmong.{IsNotPutAmong}
-use Rattle.rtp_route.specs.NotRouted.{KeepsFromNewIds, KeepsFromRouting}
-use Rattle.rtp_route.specs.Calls.{IsSetAndRenumbered, header_in}
-use Rattle.rtp_route.proofs.ByCallsLemmas.{front-put, alone_parts, header-is, begun, set-and-renumbered, kept-header, kept-set}
-use Rattle.rtp_route.proofs.NotPutLemmas.{ArePut-packet, none-kept, ids-kept}
+use Rattle.rtp_route.specs.Calls.{header_in}
+use Rattle.rtp_route.proofs.ByCallsLemmas.{front-put, alone_parts, header-is, begun}
+use Rattle.rtp_route.proofs.MakeHeaderLemmas.{ids-refused, start-made, put-refused, none-refused}
+use Rattle.rtp_route.proofs.NotPutLemmas.{ArePut-packet}
 use Rattle.rtp_route.proofs.StartLemmas.{started}
 use Rattle.rtp_route.proofs.by_calls.make_header.Goals as goal
 
@@ -57,156 +56,83 @@ returns-then-buf-needed-clause-refused c =
 
 pub returns-in_err-start-clause-cause : goal.returns-in_err-start-clause-cause
 returns-in_err-start-clause-cause c =
-    let packet = c.args.packet.now in
-    let ids = new_id c.args.group.now.ids.now in
-    let header = c.header_bytes-header.result.now in
-    let is_begun = begun packet c.args.fields.now header c.args.buf.now c.put.new.buf c.set_fields.new.header c.header_bytes-header.ensures.front c.header_bytes-header.ensures.alone c.put.ensures.written
-    c.set_fields.ensures.set c.set_fields.auto.header in
-    let news = elements_of c.args.group.now.elements.now in
-    let allowed = c.args.group.now.allowed in
-    let room : ℕ = length c.args.buf.now in
-    let set_buf : List ℕ = c.set_fields.new.header ++ drop (length header) c.put.new.buf in
-    let long_set : length set_buf ≡ room = search rules in
-    let within : length (header_in packet) ≤ room = omega (arith, c.if-buf-needed.false, ap length is_begun.same) in
-    let cause = c.in_err-start.field-0.0 in
-    let kept : KeepsFromNewIds (header_in packet) ids allowed room cause =
-    kept-header packet c.args.fields.now ids header c.put.new.buf c.set_fields.new.header is_begun allowed room cause
-    (subst (λ (k : ℕ). KeepsFromNewIds (take (length header) set_buf) ids allowed k cause) long_set c.in_err-start.ensures.cause) in
+    let is =
+    begun c.args.packet.now c.args.fields.now _ c.args.buf.now _ _ c.header_bytes-header.ensures.front c.header_bytes-header.ensures.alone c.put.ensures.written c.set_fields.ensures.set c.set_fields.ensures.fixed
+    (omega (arith, c.if-buf-needed.false)) in
+    let kept = ids-refused _ _ (new_id c.args.group.now.ids.now) (elements_of c.args.group.now.elements.now) c.args.group.now.allowed _ _ _ _ is c.in_err-start.field-0.0 c.in_err-start.ensures.cause in
     let p = err_from_is_err_and c.from_residual.result c.from_residual.ensures.1 in
-    rw (p.1, p.2) (ids-kept (header_in packet) c.args.fields.now ids news allowed room within cause kept)
+    rw (p.1, p.2) kept
 
 pub returns-in_err-start-clause-refused : goal.returns-in_err-start-clause-refused
 returns-in_err-start-clause-refused c =
-    let packet = c.args.packet.now in
-    let ids = new_id c.args.group.now.ids.now in
-    let header = c.header_bytes-header.result.now in
-    let is_begun = begun packet c.args.fields.now header c.args.buf.now c.put.new.buf c.set_fields.new.header c.header_bytes-header.ensures.front c.header_bytes-header.ensures.alone c.put.ensures.written
-    c.set_fields.ensures.set c.set_fields.auto.header in
-    let news = elements_of c.args.group.now.elements.now in
-    let allowed = c.args.group.now.allowed in
-    let room : ℕ = length c.args.buf.now in
-    let set_buf : List ℕ = c.set_fields.new.header ++ drop (length header) c.put.new.buf in
-    let long_set : length set_buf ≡ room = search rules in
-    let within : length (header_in packet) ≤ room = omega (arith, c.if-buf-needed.false, ap length is_begun.same) in
-    let cause = c.in_err-start.field-0.0 in
-    let kept : KeepsFromNewIds (header_in packet) ids allowed room cause =
-    kept-header packet c.args.fields.now ids header c.put.new.buf c.set_fields.new.header is_begun allowed room cause
-    (subst (λ (k : ℕ). KeepsFromNewIds (take (length header) set_buf) ids allowed k cause) long_set c.in_err-start.ensures.cause) in
-    (λ _. (cause, ids-kept (header_in packet) c.args.fields.now ids news allowed room within cause kept), λ _. c.from_residual.ensures.0)
+    let is =
+    begun c.args.packet.now c.args.fields.now _ c.args.buf.now _ _ c.header_bytes-header.ensures.front c.header_bytes-header.ensures.alone c.put.ensures.written c.set_fields.ensures.set c.set_fields.ensures.fixed
+    (omega (arith, c.if-buf-needed.false)) in
+    let kept = ids-refused _ _ (new_id c.args.group.now.ids.now) (elements_of c.args.group.now.elements.now) c.args.group.now.allowed _ _ _ _ is c.in_err-start.field-0.0 c.in_err-start.ensures.cause in
+    (λ _. (c.in_err-start.field-0.0, kept), λ _. c.from_residual.ensures.0)
 
 pub returns-in_err-len-clause-cause : goal.returns-in_err-len-clause-cause
 returns-in_err-len-clause-cause c =
-    let packet = c.args.packet.now in
-    let ids = new_id c.args.group.now.ids.now in
-    let header = c.header_bytes-header.result.now in
-    let is_begun = begun packet c.args.fields.now header c.args.buf.now c.put.new.buf c.set_fields.new.header c.header_bytes-header.ensures.front c.header_bytes-header.ensures.alone c.put.ensures.written
-    c.set_fields.ensures.set c.set_fields.auto.header in
-    let news = elements_of c.args.group.now.elements.now in
-    let allowed = c.args.group.now.allowed in
-    let room : ℕ = length c.args.buf.now in
-    let set_buf : List ℕ = c.set_fields.new.header ++ drop (length header) c.put.new.buf in
-    let long_set : length set_buf ≡ room = search rules in
-    let within : length (header_in packet) ≤ room = omega (arith, c.if-buf-needed.false, ap length is_begun.same) in
-    let now : List ℕ = take c.in_ok-start.start c.renumber_in_form.new.buf in
-    let start : IsSetAndRenumbered (header_in packet) c.args.fields.now ids allowed now =
-    set-and-renumbered packet c.args.fields.now ids header c.put.new.buf c.set_fields.new.header is_begun allowed now c.set_fields.ensures.fixed c.in_ok-start.ensures.renumbered in
-    let long_now : length c.renumber_in_form.new.buf ≡ room = search rules in
+    let is =
+    begun c.args.packet.now c.args.fields.now _ c.args.buf.now _ _ c.header_bytes-header.ensures.front c.header_bytes-header.ensures.alone c.put.ensures.written c.set_fields.ensures.set c.set_fields.ensures.fixed
+    (omega (arith, c.if-buf-needed.false)) in
+    let kept =
+    put-refused _ _ (new_id c.args.group.now.ids.now) (elements_of c.args.group.now.elements.now) c.args.group.now.allowed _ _ _ _ is
+    c.renumber_in_form.new.buf c.in_ok-start.start c.renumber_in_form.auto.buf c.in_ok-start.ensures.renumbered c.in_err-len.field-0.0 c.in_err-len.ensures.cause in
     let p = err_from_is_err_and c.from_residual-in_err-len.result c.from_residual-in_err-len.ensures.1 in
-    let refused : KeepsFromRouting (header_in packet) c.args.fields.now ids news allowed room (NotPut c.in_err-len.field-0.0) =
-    inr (inr (now, within, start, subst (λ (k : ℕ). IsNotPutAmong now news allowed k c.in_err-len.field-0.0) long_now c.in_err-len.ensures.cause)) in
-    rw (p.1, p.2) refused
+    rw (p.1, p.2) kept
 
 pub returns-in_err-len-clause-refused : goal.returns-in_err-len-clause-refused
 returns-in_err-len-clause-refused c =
-    let packet = c.args.packet.now in
-    let ids = new_id c.args.group.now.ids.now in
-    let header = c.header_bytes-header.result.now in
-    let is_begun = begun packet c.args.fields.now header c.args.buf.now c.put.new.buf c.set_fields.new.header c.header_bytes-header.ensures.front c.header_bytes-header.ensures.alone c.put.ensures.written
-    c.set_fields.ensures.set c.set_fields.auto.header in
-    let news = elements_of c.args.group.now.elements.now in
-    let allowed = c.args.group.now.allowed in
-    let room : ℕ = length c.args.buf.now in
-    let set_buf : List ℕ = c.set_fields.new.header ++ drop (length header) c.put.new.buf in
-    let long_set : length set_buf ≡ room = search rules in
-    let within : length (header_in packet) ≤ room = omega (arith, c.if-buf-needed.false, ap length is_begun.same) in
-    let now : List ℕ = take c.in_ok-start.start c.renumber_in_form.new.buf in
-    let start : IsSetAndRenumbered (header_in packet) c.args.fields.now ids allowed now =
-    set-and-renumbered packet c.args.fields.now ids header c.put.new.buf c.set_fields.new.header is_begun allowed now c.set_fields.ensures.fixed c.in_ok-start.ensures.renumbered in
-    let long_now : length c.renumber_in_form.new.buf ≡ room = search rules in
-    let refused : KeepsFromRouting (header_in packet) c.args.fields.now ids news allowed room (NotPut c.in_err-len.field-0.0) =
-    inr (inr (now, within, start, subst (λ (k : ℕ). IsNotPutAmong now news allowed k c.in_err-len.field-0.0) long_now c.in_err-len.ensures.cause)) in
-    (λ _. (NotPut c.in_err-len.field-0.0, refused), λ _. c.from_residual-in_err-len.ensures.0)
+    let is =
+    begun c.args.packet.now c.args.fields.now _ c.args.buf.now _ _ c.header_bytes-header.ensures.front c.header_bytes-header.ensures.alone c.put.ensures.written c.set_fields.ensures.set c.set_fields.ensures.fixed
+    (omega (arith, c.if-buf-needed.false)) in
+    let kept =
+    put-refused _ _ (new_id c.args.group.now.ids.now) (elements_of c.args.group.now.elements.now) c.args.group.now.allowed _ _ _ _ is
+    c.renumber_in_form.new.buf c.in_ok-start.start c.renumber_in_form.auto.buf c.in_ok-start.ensures.renumbered c.in_err-len.field-0.0 c.in_err-len.ensures.cause in
+    (λ _. (NotPut c.in_err-len.field-0.0, kept), λ _. c.from_residual-in_err-len.ensures.0)
 
 pub unwrap-requires : goal.unwrap-requires
 unwrap-requires c =
     let packet = c.args.packet.now in
     let ids = new_id c.args.group.now.ids.now in
-    let header = c.header_bytes-header.result.now in
-    let is_begun = begun packet c.args.fields.now header c.args.buf.now c.put.new.buf c.set_fields.new.header c.header_bytes-header.ensures.front c.header_bytes-header.ensures.alone c.put.ensures.written
-    c.set_fields.ensures.set c.set_fields.auto.header in
-    let news = elements_of c.args.group.now.elements.now in
     let allowed = c.args.group.now.allowed in
-    let room : ℕ = length c.args.buf.now in
-    let set_buf : List ℕ = c.set_fields.new.header ++ drop (length header) c.put.new.buf in
-    let long_set : length set_buf ≡ room = search rules in
-    let within : length (header_in packet) ≤ room = omega (arith, c.if-buf-needed.false, ap length is_begun.same) in
-    let now : List ℕ = take c.in_ok-start.start c.renumber_in_form.new.buf in
-    let start : IsSetAndRenumbered (header_in packet) c.args.fields.now ids allowed now =
-    set-and-renumbered packet c.args.fields.now ids header c.put.new.buf c.set_fields.new.header is_begun allowed now c.set_fields.ensures.fixed c.in_ok-start.ensures.renumbered in
-    let long_now : length c.renumber_in_form.new.buf ≡ room = search rules in
-    let packet_now = ArePut-packet news allowed now (take c.in_ok-len.len c.put_each.new.buf) _ (started (header_in packet) c.args.fields.now ids allowed now start).is_packet c.in_ok-len.ensures.put in
+    let is =
+    begun c.args.packet.now c.args.fields.now _ c.args.buf.now _ _ c.header_bytes-header.ensures.front c.header_bytes-header.ensures.alone c.put.ensures.written c.set_fields.ensures.set c.set_fields.ensures.fixed
+    (omega (arith, c.if-buf-needed.false)) in
+    let start =
+    start-made _ _ (new_id c.args.group.now.ids.now) (elements_of c.args.group.now.elements.now) c.args.group.now.allowed _ _ _ _ is
+    c.renumber_in_form.new.buf c.in_ok-start.start c.renumber_in_form.auto.buf c.in_ok-start.ensures.renumbered in
+    let now = take c.in_ok-start.start c.renumber_in_form.new.buf in
+    let packet_now =
+    ArePut-packet (elements_of c.args.group.now.elements.now) allowed now (take c.in_ok-len.len c.put_each.new.buf) _
+    (started (header_in packet) c.args.fields.now ids allowed now start).is_packet c.in_ok-len.ensures.put in
     let refused : IsNoPacket (take c.in_ok-len.len c.put_each.new.buf) → ⊥ = λ none. no_packet-refused _ packet_now.0 none packet_now.1 in
     search rules
 
 pub returns-clause-made : goal.returns-clause-made
 returns-clause-made c =
-    let packet = c.args.packet.now in
-    let ids = new_id c.args.group.now.ids.now in
-    let header = c.header_bytes-header.result.now in
-    let is_begun = begun packet c.args.fields.now header c.args.buf.now c.put.new.buf c.set_fields.new.header c.header_bytes-header.ensures.front c.header_bytes-header.ensures.alone c.put.ensures.written
-    c.set_fields.ensures.set c.set_fields.auto.header in
-    let news = elements_of c.args.group.now.elements.now in
-    let allowed = c.args.group.now.allowed in
-    let room : ℕ = length c.args.buf.now in
-    let set_buf : List ℕ = c.set_fields.new.header ++ drop (length header) c.put.new.buf in
-    let long_set : length set_buf ≡ room = search rules in
-    let within : length (header_in packet) ≤ room = omega (arith, c.if-buf-needed.false, ap length is_begun.same) in
-    let now : List ℕ = take c.in_ok-start.start c.renumber_in_form.new.buf in
-    let start : IsSetAndRenumbered (header_in packet) c.args.fields.now ids allowed now =
-    set-and-renumbered packet c.args.fields.now ids header c.put.new.buf c.set_fields.new.header is_begun allowed now c.set_fields.ensures.fixed c.in_ok-start.ensures.renumbered in
-    let long_now : length c.renumber_in_form.new.buf ≡ room = search rules in
-    let is : Compacts (take c.in_ok-len.len c.put_each.new.buf) c.compact_copy.new.datagram c.unwrap.result = rw c.unwrap.ensures at c.compact_copy.ensures.compacted in
+    let is =
+    begun c.args.packet.now c.args.fields.now _ c.args.buf.now _ _ c.header_bytes-header.ensures.front c.header_bytes-header.ensures.alone c.put.ensures.written c.set_fields.ensures.set c.set_fields.ensures.fixed
+    (omega (arith, c.if-buf-needed.false)) in
+    let is_compact : Compacts (take c.in_ok-len.len c.put_each.new.buf) c.compact_copy.new.datagram c.unwrap.result = rw c.unwrap.ensures at c.compact_copy.ensures.compacted in
     let fits : c.unwrap.result ≤ length (take c.in_ok-len.len c.put_each.new.buf) = rw c.unwrap.ensures at c.compact_copy.ensures.within in
     record {
-      start_bytes = now;
-      start = start;
+      start_bytes = take c.in_ok-start.start c.renumber_in_form.new.buf;
+      start = start-made _ _ (new_id c.args.group.now.ids.now) (elements_of c.args.group.now.elements.now) c.args.group.now.allowed _ _ _ _ is
+          c.renumber_in_form.new.buf c.in_ok-start.start c.renumber_in_form.auto.buf c.in_ok-start.ensures.renumbered;
       put_bytes = take c.in_ok-len.len c.put_each.new.buf;
       are_put = c.in_ok-len.ensures.put;
-      compacted = Compacts-front _ c.compact_copy.new.datagram _ c.unwrap.result (omega (arith, fits, c.compact_copy.auto.datagram)) is;
+      compacted = Compacts-front _ c.compact_copy.new.datagram _ c.unwrap.result (omega (arith, fits, c.compact_copy.auto.datagram)) is_compact;
     }
 
 pub returns-clause-refused : goal.returns-clause-refused
 returns-clause-refused c =
-    let packet = c.args.packet.now in
-    let ids = new_id c.args.group.now.ids.now in
-    let header = c.header_bytes-header.result.now in
-    let is_begun = begun packet c.args.fields.now header c.args.buf.now c.put.new.buf c.set_fields.new.header c.header_bytes-header.ensures.front c.header_bytes-header.ensures.alone c.put.ensures.written
-    c.set_fields.ensures.set c.set_fields.auto.header in
-    let news = elements_of c.args.group.now.elements.now in
-    let allowed = c.args.group.now.allowed in
-    let room : ℕ = length c.args.buf.now in
-    let set_buf : List ℕ = c.set_fields.new.header ++ drop (length header) c.put.new.buf in
-    let long_set : length set_buf ≡ room = search rules in
-    let within : length (header_in packet) ≤ room = omega (arith, c.if-buf-needed.false, ap length is_begun.same) in
-    let now : List ℕ = take c.in_ok-start.start c.renumber_in_form.new.buf in
-    let start : IsSetAndRenumbered (header_in packet) c.args.fields.now ids allowed now =
-    set-and-renumbered packet c.args.fields.now ids header c.put.new.buf c.set_fields.new.header is_begun allowed now c.set_fields.ensures.fixed c.in_ok-start.ensures.renumbered in
-    let long_now : length c.renumber_in_form.new.buf ≡ room = search rules in
-    let none = none-kept (header_in packet) c.args.fields.now ids news allowed room now within start
-    (λ cause kept. false≢true (c.in_ok-start.ensures.refused.1 (
-      cause,
-      subst (λ (k : ℕ). KeepsFromNewIds (take (length header) set_buf) ids allowed k cause) (sym long_set)
-          (kept-set packet c.args.fields.now ids header c.put.new.buf c.set_fields.new.header is_begun allowed room cause kept),
-    )))
-    (λ other cause same is. false≢true (c.in_ok-len.ensures.refused other cause same (subst (λ (k : ℕ). IsNotPutAmong other news allowed k cause) (sym long_now) is))) in
+    let is =
+    begun c.args.packet.now c.args.fields.now _ c.args.buf.now _ _ c.header_bytes-header.ensures.front c.header_bytes-header.ensures.alone c.put.ensures.written c.set_fields.ensures.set c.set_fields.ensures.fixed
+    (omega (arith, c.if-buf-needed.false)) in
+    let none =
+    none-refused _ _ (new_id c.args.group.now.ids.now) (elements_of c.args.group.now.elements.now) c.args.group.now.allowed _ _ _ _ is
+    c.renumber_in_form.new.buf c.in_ok-start.start c.renumber_in_form.auto.buf c.in_ok-start.ensures.renumbered (λ cause kept. false≢true (c.in_ok-start.ensures.refused.1 (cause, kept)))
+    (λ other cause same refused. false≢true (c.in_ok-len.ensures.refused other cause same refused)) in
     (λ no_error. absurd (false≢true no_error), λ kept. absurd (none kept.0 kept.1))

@@ -28,7 +28,7 @@ returns-clause-only c =
 pub returns-in-Some-clause-only : goal.returns-in-Some-clause-only
 returns-in-Some-clause-only c header bytes routed =
     one-header (datagram_of c.args.packet.now) c.args.fields.now (new_id c.args.group.now.ids.now) (elements_of c.args.group.now.elements.now) c.args.group.now.allowed header
-    (take c.in-Some.len c.write_by_walk.new.buf) bytes (are_taken c.in-Some.len c.write_by_walk.new.buf (λ k. omega (arith, c.type_inv.buf k))) routed c.in-Some.ensures.made.routed
+    (take c.in-Some.len c.write_by_walk.new.buf) bytes (are_taken c.in-Some.len c.write_by_walk.new.buf (λ k. omega (arith, c.type_inv.buf k))) routed c.in-Some.ensures.walked.made.routed
 
 pub returns-clause-cause : goal.returns-clause-cause
 returns-clause-cause c =

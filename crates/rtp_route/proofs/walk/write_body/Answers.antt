@@ -25,13 +25,13 @@ returns-clause-written c elements are =
     let news = elements_of c.args.group.now.elements.now in
     let slots = take (length c.args.group.now.elements.now) c.write_lacking.new.slots in
     let kept = c.in_ok-kept.ensures.kept elements are in
-    let written = c.in_ok-len.ensures.written at c.args.buf.now kept.written c.requires.some kept.are_written in
+    let written = c.in-Some.ensures.written at c.args.buf.now kept.written c.requires.some kept.are_written in
     let row : List Element = put_all news kept.written in
     let same : row ≡ put_all news (filter_map (renumbered ids) elements) = put_all-like news kept.written (filter_map (renumbered ids) elements) kept.like in
     let rounded = c.next_multiple_of-end.ensures in
     let body : take (c.next_multiple_of-end.result - at) (drop at c.put_padding.new.buf) ≡ filled (elements_bytes form row) =
-    body-filled c.args.buf.now c.write_lacking.new.buf c.put_padding.new.buf (elements_bytes form row) at c.in_ok-len.len c.next_multiple_of-end.result written.0.bytes_are written.0.at_is
-    (omega (arith, written.0.as_long, c.in_ok-len.ensures.within, c.write_kept.auto.buf)) (omega (arith, rounded.lower_bound)) (omega (arith, rounded.upper_bound)) (omega (arith, rounded.multiple)) c.requires.whole
+    body-filled c.args.buf.now c.write_lacking.new.buf c.put_padding.new.buf (elements_bytes form row) at c.in-Some.len c.next_multiple_of-end.result written.0.bytes_are written.0.at_is
+    (omega (arith, written.0.as_long, c.in-Some.ensures.within, c.write_kept.auto.buf)) (omega (arith, rounded.lower_bound)) (omega (arith, rounded.upper_bound)) (omega (arith, rounded.multiple)) c.requires.whole
     c.put_padding.ensures in
     record {
       after = omega (arith, written.0.at_is, rounded.lower_bound);

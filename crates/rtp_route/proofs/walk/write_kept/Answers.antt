@@ -23,12 +23,12 @@ loop-id-preserved-in-Some-new_id c =
     let news = elements_of c.args.group.now.elements.now in (
       tt,
       tt,
-      omega (arith, c.in_ok-end.ensures.within, c.write_next.auto.buf),
+      omega (arith, c.in-Some-write_next.ensures.within, c.write_next.auto.buf),
       omega (arith, c.loop-id.invariant.3, c.write_next.auto.buf),
       search rules,
-      kept-new c.args.form (new_id c.args.group.now.ids.now) news c.args.at c.args.buf.now c.loop-id.slots c.write_next.new.slots c.loop-id.buf c.write_next.new.buf c.loop-id.end c.in_ok-end.end
+      kept-new c.args.form (new_id c.args.group.now.ids.now) news c.args.at c.args.buf.now c.loop-id.slots c.write_next.new.slots c.loop-id.buf c.write_next.new.buf c.loop-id.end c.in-Some-write_next.next
           c.in-Some-new_id.new c.loop-id.yielded (c.in-Some.id, c.in-Some.bytes) c.loop-id.invariant.5 (sym c.new_id.ensures ∙ c.in-Some-new_id.is) c.if-not-carries.ensures
-          (λ written is. c.in_ok-end.ensures.written c.args.at c.args.buf.now written c.requires.some is),
+          (λ written is. c.in-Some-write_next.ensures.written c.args.at c.args.buf.now written c.requires.some is),
     )
 
 pub loop-id-preserved : goal.loop-id-preserved

@@ -9,12 +9,12 @@ pub loop-index-preserved : goal.loop-index-preserved
 loop-index-preserved c =
     let none : Slot = record { start = 0; len = 0 } in
     let at = c.loop-index in
-    let slots = c.args.parts.now.slots in
-    let there : at.index < length slots = omega (arith, c.args.parts.now.long, c.requires, c.loop-index-test.true) in
+    let slots = c.args.slots.now in
+    let there : at.index < length slots = omega (arith, c.requires, c.loop-index-test.true) in
     let more = sum_by_more (λ (s : Slot). s.len) slots at.index none there in (
-      stored-more slots at.self.data_at at.self.data_len at.index none (omega (arith, at.invariant.1, at.invariant.2)) (omega (arith, at.invariant.1, c.args.parts.now.long, there)) there at.invariant.0,
+      stored-more slots at.self.data_at at.self.data_len at.index none (omega (arith, at.invariant.1, at.invariant.2)) (omega (arith, at.invariant.1, c.requires, there)) there at.invariant.0,
       length-set at.self.data_at at.index _ ∙ at.invariant.1,
       length-set at.self.data_len at.index _ ∙ at.invariant.2,
       omega (arith, more, at.invariant.3),
-      omega (arith, at.invariant.4, c.type_inv.parts),
+      omega (arith, at.invariant.4),
     )

@@ -6,8 +6,8 @@ use Rattle.rtp_c.proofs.template.StoredTemplate.store.Given as goal
 -- the places before the index are stored
 abbrev pub invariant-loop-index : goal.invariant-loop-index
 invariant-loop-index l =
-    (take l.index (slots_at l.self.data_at l.self.data_len) ≡ take l.index l.parts.slots)
+    (take l.index (slots_at l.self.data_at l.self.data_len) ≡ take l.index l.slots)
     × (length l.self.data_at ≡ 16)
     × (length l.self.data_len ≡ 16)
-    × (l.total ≡ total_of (take l.index l.parts.slots))
+    × (l.total ≡ total_of (take l.index l.slots))
     × (l.total ≤ 255 * l.index)

@@ -1,11 +1,11 @@
-use Rattle.rtp_ext.proofs.Common.{◌≡◌, true, ℕ, Bor, List, rules, arith, refl, sym, ap, ◌∙◌, subst, list_all, YieldsList-from_first, Element, elements_left, new_id, carries_id, OneByte}
+use Rattle.rtp_ext.proofs.Common.{◌≡◌, true, ℕ, Bor, List, rules, arith, refl, sym, ap, ◌∙◌, subst, list_all, YieldsList-from_first, Element, elements_left, new_id, carries_id, OneByte, AreIds}
 use Rattle.std.proofs.lemmas.Iterator.Search.{all_from_yields_List}
 use Rattle.rtp_ext.proofs.ElementLemmasOfBodies.{AreElements-found}
-use Rattle.rtp_ext.proofs.NewIdLemmas.{carried-CanRenumber, two_byte-carried, IsId-bytes, new_id-byte}
+use Rattle.rtp_ext.proofs.NewIdLemmas.{AreIds-bytes, carried-CanRenumber, two_byte-carried, IsId-bytes, new_id-byte}
 use Rattle.rtp_ext.proofs.new_ids.NewIds.can_renumber.Goals as goal
 
-pub returns-in-TwoByte : goal.returns-in-TwoByte
-returns-in-TwoByte c =
+pub returns-in-TwoByte-clause-answer : goal.returns-in-TwoByte-clause-answer
+returns-in-TwoByte-clause-answer c =
     let ids = new_id c.args.self.now in
     let left = elements_left c.args.form c.args.body.now in
     carried-CanRenumber c.args.form ids c.args.body.now left true
@@ -13,8 +13,8 @@ returns-in-TwoByte c =
     (AreElements-found c.args.form c.args.body.now (λ i. omega (arith, c.type_inv.body i)))
     (subst (λ form. true ≡ list_all (λ (e : Element). carries_id form (ids e.0)) left) (sym c.in-TwoByte.is) (two_byte-carried ids left))
 
-pub returns-in-OneByte : goal.returns-in-OneByte
-returns-in-OneByte c =
+pub returns-in-OneByte-clause-answer : goal.returns-in-OneByte-clause-answer
+returns-in-OneByte-clause-answer c =
     let ids = new_id c.args.self.now in
     let left = elements_left c.args.form c.args.body.now in
     let are = AreElements-found c.args.form c.args.body.now (λ i. omega (arith, c.type_inv.body i)) in
@@ -29,3 +29,9 @@ returns-in-OneByte c =
     (λ id new is. IsId-bytes c.self.inside.ids id new c.self.invariant.2 (ap (λ slots. new_id slots id) c.self.view_is ∙ is)) are
     (ran ∙ (ap (list_all (λ (e : Element). carries_id OneByte (ids e.0))) (sym (c.new.ensures.only left are))
     ∙ ap (λ form. list_all (λ (e : Element). carries_id form (ids e.0)) left) (sym c.in-OneByte.is)))
+
+pub returns-in-TwoByte-clause-ids : goal.returns-in-TwoByte-clause-ids
+returns-in-TwoByte-clause-ids c = subst AreIds c.self.view_is (AreIds-bytes c.self.inside.ids c.self.invariant.1 c.self.invariant.2)
+
+pub returns-in-OneByte-clause-ids : goal.returns-in-OneByte-clause-ids
+returns-in-OneByte-clause-ids c = subst AreIds c.self.view_is (AreIds-bytes c.self.inside.ids c.self.invariant.1 c.self.invariant.2)

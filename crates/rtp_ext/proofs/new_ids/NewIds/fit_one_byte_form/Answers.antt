@@ -1,5 +1,5 @@
-use Rattle.rtp_ext.proofs.Common.{◌≡◌, ◌∙◌, ◌≤◌, ◌<◌, ◌+◌, ◌-◌, ap, sym, subst, ℕ, zero, suc, inl, inr, Bool, true, false, take, drop, map, get_or, List, Option, IfSome, arith, OnTrue, cases_lt, get_or-take, get_or-drop, new_id, id_in_byte}
-use Rattle.rtp_ext.proofs.NewIdLemmas.{new_id-byte}
+use Rattle.rtp_ext.proofs.Common.{◌≡◌, ◌∙◌, ◌≤◌, ◌<◌, ◌+◌, ◌-◌, ap, sym, subst, ℕ, zero, suc, inl, inr, Bool, true, false, take, drop, map, get_or, List, Option, IfSome, arith, OnTrue, cases_lt, get_or-take, get_or-drop, new_id, id_in_byte, AreIds}
+use Rattle.rtp_ext.proofs.NewIdLemmas.{AreIds-bytes, new_id-byte}
 use Rattle.rtp_ext.proofs.new_ids.NewIds.fit_one_byte_form.Goals as goal
 
 -- a byte of at most 14 says such an id, or none
@@ -27,6 +27,12 @@ short_ids ids slots true is low high = λ id few.
     subst (λ found. IfSome (new_id found id) (λ new. (1 ≤ new) × (new ≤ 14))) is
     (subst (λ found. IfSome found (λ new. (1 ≤ new) × (new ≤ 14))) (sym (new_id-byte ids id)) (short_id (get_or ids id 0) (byte_short ids low high id few)))
 
-pub returns-then-are_short : goal.returns-then-are_short
-returns-then-are_short c =
+pub returns-then-are_short-clause-short : goal.returns-then-are_short-clause-short
+returns-then-are_short-clause-short c =
     short_ids c.self.inside.ids c.args.self.now c.are_short-then-are_short.result c.self.view_is c.if-are_short.ensures c.are_short-then-are_short.ensures
+
+pub returns-then-are_short-clause-ids : goal.returns-then-are_short-clause-ids
+returns-then-are_short-clause-ids c = subst AreIds c.self.view_is (AreIds-bytes c.self.inside.ids c.self.invariant.1 c.self.invariant.2)
+
+pub returns-else-are_short-clause-ids : goal.returns-else-are_short-clause-ids
+returns-else-are_short-clause-ids c = subst AreIds c.self.view_is (AreIds-bytes c.self.inside.ids c.self.invariant.1 c.self.invariant.2)

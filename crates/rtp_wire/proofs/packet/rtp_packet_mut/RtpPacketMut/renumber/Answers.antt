@@ -1,4 +1,4 @@
-use Rattle.rtp_wire.proofs.Common.{rules, ◌≡◌, ◌+◌, ◌≤◌, ◌↔◌, arith, refl, sym, subst, ◌∙◌, ap, ℕ, [], List, Option, IsTrue, All, IfSome, filter_map, OnTrue_at, OnTrue_from, no_values, ExtensionsForm, Element, ChangesIds, CanRenumber, renumbered, AreValues, new_id, mapped_fields, sources_end, parts_in, AreElementsOf}
+use Rattle.rtp_wire.proofs.Common.{rules, ◌≡◌, ◌+◌, ◌≤◌, ◌↔◌, arith, refl, sym, subst, ◌∙◌, ap, ℕ, [], List, Option, IsTrue, All, IfSome, filter_map, OnTrue_at, OnTrue_from, OnFalse_from, no_values, ExtensionsForm, Element, ChangesIds, CanRenumber, renumbered, AreValues, new_id, mapped_fields, sources_end, parts_in, AreElementsOf}
 use Rattle.rtp_ext.proofs.RenumberedValuesLemmas.{AreValues-renumbered}
 use Rattle.rtp_wire.proofs.BytesBetween.{ChangesOnly-nothing, if_some}
 use Rattle.rtp_wire.proofs.ChangedPackets.{no_block, no_elements, if_none, if_not_none, body_in, block_in, HasValues-in, HasValues-out, AreElements-in, AreElements-out, HasHeader-body, ChangesBlock-body, between}
@@ -81,3 +81,6 @@ pub returns-clause-bytes : goal.returns-clause-bytes
 returns-clause-bytes c =
     between c.args.self.now c.in-Some.form c.body_start-start.result c.in-Some.is (omega (arith, c.body_start-start.ensures))
     c.renumber.new.body c.renumber.auto.body
+
+pub returns-clause-ids : goal.returns-clause-ids
+returns-clause-ids c = OnFalse_from _ _ (λ refused. c.renumber.ensures.ids)

@@ -1,0 +1,70 @@
+//! The fixed part and the CSRC list of a header, as they are written.
+
+ghost use Rattle.std.specs.Prelude.{◌≡◌, ℕ, ◌+◌, ◌*◌, ◌^◌, ◌<◌, ◌≤◌, length, take, slice_index};
+ghost use Rattle.std.specs.List.{flat_map};
+ghost use Rattle.std.specs.Int.{w32, to_be_bytes};
+ghost use Rattle.rtp_base.specs.Overwriting.{overwritten};
+ghost use Rattle.rtp_wire.specs.Written.{fixed_bytes, source_bytes};
+
+use super::get_fields::GetFields;
+use crate::packet::flag;
+use rtp_base::put;
+
+// The twelve bytes that every header begins with, with this X. The ranges are those of the types, of
+// which a caller is told that doesn't read the fields itself.
+#[inline(always)]
+pub(super) fn fixed_bytes<H: GetFields>(fields: &H, has_extension: bool) -> [u8; 12]
+    requires payload_type { (H.header fields.now).payload_type ≤ 127 }
+    requires sources { (H.header fields.now).csrc_count ≤ 15 }
+    ensures bytes { result
+        ≡ fixed_bytes (record (H.header fields.now) { has_extension = has_extension }) }
+    ensures slots { length (H.header fields.now).csrc ≡ 15 }
+    ensures number { (H.header fields.now).sequence_number < 2 ^ 16 }
+    ensures timestamp { (H.header fields.now).timestamp < 2 ^ 32 }
+    ensures ssrc { (H.header fields.now).ssrc < 2 ^ 32 }
+{
+    let sequence_number = fields.sequence_number();
+    let timestamp = fields.timestamp();
+    // The bits lie apart, so the sums are their `|`.
+    let first = 0x80
+        + flag(fields.has_padding(), 0x20)
+        + flag(has_extension, 0x10)
+        + fields.csrc_count() as u8;
+    let second = flag(fields.marker(), 0x80) + fields.payload_type().get();
+    let mut bytes = [first, second, 0, 0, 0, 0, 0, 0, 0, 0, 0, 0];
+    put(&mut bytes, 2, &sequence_number.to_be_bytes());
+    put(&mut bytes, 4, &timestamp.to_be_bytes());
+    put(&mut bytes, 8, &fields.ssrc().get().to_be_bytes());
+    bytes
+}
+
+// Puts four bytes for each source, and returns the offset after them.
+#[inline(always)]
+pub(super) fn put_csrc<H: GetFields>(fields: &H, buf: &mut [u8], at: usize) -> usize
+    requires sources { (H.header fields.now).csrc_count ≤ 15 }
+    requires room { at + 4 * (H.header fields.now).csrc_count ≤ length buf.old }
+    ensures written { buf.new ≡ overwritten buf.old at (source_bytes (H.header fields.now)) }
+    ensures end { result
+        ≡ at + 4 * length (take (H.header fields.now).csrc_count (H.header fields.now).csrc) }
+    ensures in_range { (i : ℕ) → slice_index
+        (take (H.header fields.now).csrc_count (H.header fields.now).csrc) i < 2 ^ 32 }
+{
+    if fields.csrc_count() == 0 {
+        return at;
+    }
+    put_sources(buf, at, fields.csrc())
+}
+
+// Puts four bytes for each source, and returns the offset after them.
+fn put_sources(buf: &mut [u8], at: usize, sources: &[u32]) -> usize
+    requires { at + 4 * length sources.now ≤ length buf.old }
+    ensures written { buf.new ≡ overwritten buf.old at (flat_map (to_be_bytes w32) sources.now) }
+    ensures end { result ≡ at + 4 * length sources.now }
+    ensures in_range { (i : ℕ) → slice_index sources.now i < 2 ^ 32 }
+{
+    let mut end = at;
+    for source in sources {
+        end = put(buf, end, &source.to_be_bytes());
+    }
+    end
+}
