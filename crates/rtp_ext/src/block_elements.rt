@@ -23,15 +23,22 @@ use rtp_values::{ElementValues, ExtensionValues, KnownKind};
 // Most buffers have room for so many bytes.
 const MOST_BUFFERS: usize = 1_024;
 
-// How many bytes the element of a kind takes, 0 where a value that it needs is absent.
-fn element_len<V: ElementValues>(kind: KnownKind, ev: &V, form: ExtensionsForm) -> usize
-    ensures length { (id : ℕ) → result ≡ length
+// A length with that of a kind's element added to it, which takes no bytes where a value that it
+// needs is absent.
+fn with_element<V: ElementValues>(
+    len: usize,
+    kind: KnownKind,
+    ev: &V,
+    form: ExtensionsForm,
+) -> usize
+    requires few { len ≤ 65278 }
+    ensures length { (id : ℕ) → result ≡ len + length
         (element_or_nothing form id (spelled_data (extension_of_kind kind) (V.values ev.now))) }
-    ensures few { result ≤ 257 }
+    ensures few { result ≤ len + 257 }
 {
     match ev.data_len(kind) {
-        Some(len) => element_header_len(form) + len,
-        None => 0,
+        Some(data) => len + (element_header_len(form) + data),
+        None => len,
     }
 }
 
@@ -149,7 +156,7 @@ pub fn values_len<K: Kinds, V: ElementValues>(
     let mut items = ids.iter();
     let mut len = 0;
     while let Some((_, kind)) = items.next() {
-        len += element_len(kind, ev, form);
+        len = with_element(len, kind, ev, form);
     }
     len
 }

@@ -4,6 +4,9 @@ use Rattle.rtp_ext.proofs.KnownWritingLemmas.{known_bytes}
 use Rattle.rtp_ext.proofs.KnownItemsLemmas.{count_known}
 use Rattle.rtp_ext.proofs.block_elements.values_len.Goals as goal
 
+pub with_element-len-requires : goal.with_element-len-requires
+with_element-len-requires g c = omega (arith, ap length c.in-Some.ensures.some, c.loop-kind.invariant.1, c.loop-kind.invariant.2)
+
 pub loop-kind-preserved : goal.loop-kind-preserved
 loop-kind-preserved g c =
     let id = c.in-Some.field-0-0 in
@@ -12,8 +15,8 @@ loop-kind-preserved g c =
     let split = ap length (ap (items_bytes c.args.form (g.V.ElementValues.values c.args.ev.now)) c.in-Some.ensures.some
     ∙ items_bytes-cons c.args.form (g.V.ElementValues.values c.args.ev.now) (id, (extension_of_kind c.in-Some.kind)) more) in
     let long = length-append (element_or_nothing c.args.form id data_is) (items_bytes c.args.form (g.V.ElementValues.values c.args.ev.now) more) in (
-      omega (arith, c.loop-kind.invariant.0, split, long, c.element_len-len.ensures.length id),
-      omega (arith, ap length c.in-Some.ensures.some, c.loop-kind.invariant.1, c.element_len-len.ensures.few),
+      omega (arith, c.loop-kind.invariant.0, split, long, c.with_element-len.ensures.length id),
+      omega (arith, ap length c.in-Some.ensures.some, c.loop-kind.invariant.1, c.with_element-len.ensures.few),
       c.loop-kind.invariant.2,
     )
 
