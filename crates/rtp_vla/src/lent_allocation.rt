@@ -153,6 +153,6 @@ impl<'a, S: Layered> MeasuredAllocation<'a, S> {
         ensures written { buf.new ≡ written.written_of self.now ++ drop result buf.old }
         ensures length { result ≡ length (written.written_of self.now) }
     {
-        put_allocation(&self.allocation, &self.masks, buf)
+        put_allocation(&self.allocation, &self.masks, self.len, buf)
     }
 }

@@ -35,3 +35,6 @@ returns-clause-written g c =
 
 pub returns-clause-length : goal.returns-clause-length
 returns-clause-length g c = c.put_streams.ensures.end ∙ ap length (packed g (goal.at.returns-clause-length g c).Else-streams-eq0)
+
+pub put_streams-requires-clause-len : goal.put_streams-requires-clause-len
+put_streams-requires-clause-len g c = c.requires.len ∙ sym (ap length (packed g (goal.at.put_streams-requires-clause-len g c).Else-streams-eq0))
