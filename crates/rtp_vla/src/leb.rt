@@ -1,9 +1,11 @@
 //! Rates as LEB128 numbers.
 
-ghost use Rattle.std.specs.Prelude.{◌≡◌, ℕ, ◌+◌, ◌^◌, ◌<◌, ◌≤◌, ◌⊎◌, ◌++◌, List, length, drop, IfSome, IfNone};
+ghost use Rattle.std.specs.Prelude.{◌≡◌, ℕ, ◌+◌, ◌/◌, ◌%◌, ◌^◌, ◌<◌, ◌≤◌, ◌⊎◌, ◌∷◌, [], ◌++◌, List, length, drop, IfSome, IfNone};
 ghost use Rattle.rtp_base.specs.Overwriting.{overwritten};
 ghost use Rattle.rtp_vla.specs.Leb.{IsShortest, ReadsLeb, shortest_of};
 ghost use Rattle.rtp_vla.specs.LebReading.{leb_number};
+
+use rtp_base::put;
 
 // The number at the front, and how many bytes spell it. It is apart, so that the numbers of one and
 // two bytes are read where they are asked for.
@@ -96,9 +98,10 @@ pub(super) fn checked_leb_len(value: u64) -> Option<usize>
     Some(2)
 }
 
-// Puts the shortest spelling at an offset, and returns the offset after it.
-#[inline(never)]
-fn put_long_leb(buf: &mut [u8], at: usize, value: u64) -> usize
+// Puts the shortest spelling at an offset, and returns the offset after it. It is inlined, since a
+// call would take the registers of the loop over the rates.
+#[inline(always)]
+fn put_any_leb(buf: &mut [u8], at: usize, value: u64) -> usize
     requires small { value < 2 ^ 63 }
     requires room { at + length (shortest_of value) ≤ length buf.old }
     ensures written { buf.new ≡ overwritten buf.old at (shortest_of value) }
@@ -115,7 +118,14 @@ fn put_long_leb(buf: &mut [u8], at: usize, value: u64) -> usize
     end + 1
 }
 
-// The same.
+// The two bytes of a number, the low one first.
+fn low_and_high(number: u16) -> [u8; 2]
+    ensures { result ≡ (number % 256) ∷ (number / 256) ∷ [] }
+{
+    number.to_le_bytes()
+}
+
+// The same as of any number. Most rates in use have two bytes: between them comes a bit that is set.
 #[inline(always)]
 pub(super) fn put_leb(buf: &mut [u8], at: usize, value: u64) -> usize
     requires small { value < 2 ^ 63 }
@@ -123,16 +133,11 @@ pub(super) fn put_leb(buf: &mut [u8], at: usize, value: u64) -> usize
     ensures written { buf.new ≡ overwritten buf.old at (shortest_of value) }
     ensures end { result ≡ at + length (shortest_of value) }
 {
-    if value < 0x80 {
-        buf[at] = value as u8;
-        return at + 1;
+    if value >= 0x80 && value < 0x4000 {
+        let spread = value + value / 128 * 128 + 128;
+        return put(buf, at, &low_and_high(spread as u16));
     }
-    if value < 0x4000 {
-        buf[at] = (value % 128) as u8 + 128;
-        buf[at + 1] = (value / 128) as u8;
-        return at + 2;
-    }
-    put_long_leb(buf, at, value)
+    put_any_leb(buf, at, value)
 }
 
 /// Writes the shortest spelling of the number to the front of the buffer, and returns how many

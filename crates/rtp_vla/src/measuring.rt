@@ -23,12 +23,13 @@ fn rates_len(rates: &[TemporalLayerAllocation]) -> Option<usize>
     if rates.len() > 4 {
         return None;
     }
-    let mut len = 0;
+    // Two bytes for each rate at first, as most have.
+    let mut len = 2 * rates.len();
     for rate in rates {
         let Some(rate_len) = checked_leb_len(rate.cumulative_kbps) else {
             return None;
         };
-        len += rate_len;
+        len = len + rate_len - 2;
     }
     Some(len)
 }

@@ -53,7 +53,9 @@ fn put_masks(buf: &mut [u8], at: usize, masks: &[u8], shared: u8) -> usize
 }
 
 // Puts streams, of which there are some, with these masks and of this length. Where no resolution
-// follows the rates none is looked for.
+// follows the rates none is looked for. It stays out of line, since few packets have an allocation and
+// the other kinds of values need the registers.
+#[inline(never)]
 fn put_streams<S: Layered>(
     buf: &mut [u8],
     index: u8,
