@@ -22,7 +22,6 @@ quarters_step layer (a ∷ b ∷ []) = λ i. short i ∷ []
     short = omega arith
 quarters_step layer (a ∷ b ∷ c ∷ layers) = refl
 
-
 -- ---- What counts weigh
 
 pub count_bits-append : (weight : ℕ) (xs ys : List Layer) → count_bits weight (xs ++ ys) ≡ count_bits weight xs + count_bits (weight_after weight xs) ys
@@ -145,4 +144,3 @@ bytes-four (layer ∷ layers) few fit =
     quarters_step layer layers
     ∙ (λ i. high i ∷ (bytes-three rest (omega (arith, few, length-after layers)) (counted_after layers fit.1) ∙ (λ j. take ((length rest + 3) / 4) (p0 j ∷ p1 j ∷ p2 j ∷ []))) i)
     ∙ ap (λ (n : ℕ). take n (x / 16777216 ∷ x / 65536 % 256 ∷ x / 256 % 256 ∷ x % 256 ∷ [])) more
-

@@ -5,7 +5,7 @@ ghost use Rattle.rtp_vla.specs.AllocationWritten as written;
 
 use super::allocation::{SimulcastStreamAllocation, VideoLayersAllocation};
 use super::lent::Layered;
-use super::measuring::{masks_and_len, writable_len};
+use super::measuring::{Measured, measure_of, writable_len};
 use super::video_layers::{VideoLayers, VideoStream};
 use super::writing::put_allocation;
 use std::marker::Model;
@@ -101,11 +101,10 @@ impl<'a, S: Layered> LentAllocation<'a, S> {
             written.Writable self.entry × (measured ≡ self.entry)) }
         ensures none { IfNone result (written.Writable self.entry → ⊥) }
     {
-        let (masks, len) = masks_and_len(&self)?;
+        let measured = measure_of(&self)?;
         Some(MeasuredAllocation {
             allocation: self,
-            masks,
-            len,
+            measured,
         })
     }
 }
@@ -115,24 +114,22 @@ impl<'a, S: Layered> LentAllocation<'a, S> {
 #[derive(Drop)]
 pub struct MeasuredAllocation<'a, S: Layered> {
     allocation: LentAllocation<'a, S>,
-    // The masks of its streams, and how many bytes it has.
-    masks: [u8; 4],
-    len: usize,
+    measured: Measured,
 }
 
 impl<'a, S: Layered> Model for MeasuredAllocation<'a, S> {
-    ghost use Rattle.std.specs.Prelude.{◌≡◌, true, length};
+    ghost use Rattle.std.specs.Prelude.{◌≡◌, true};
     ghost use Rattle.rtp_vla.specs.Allocation.{Allocation};
-    ghost use Rattle.rtp_vla.specs.AllocationWritten.{can_be_written, written_of};
-    ghost use Rattle.rtp_vla.specs.Measuring.{AreMasksOf};
+    ghost use Rattle.rtp_vla.specs.AllocationWritten.{can_be_written};
+    ghost use Rattle.rtp_vla.specs.Measuring.{IsMeasureOf};
 
     ghost Value = { Allocation };
 
     ghost view = { λ measured. measured.allocation };
 
     ghost invariant = { λ measured. (can_be_written measured.allocation ≡ true)
-        × AreMasksOf measured.allocation measured.masks
-        × (measured.len ≡ length (written_of measured.allocation)) };
+        × IsMeasureOf measured.allocation measured.measured.masks measured.measured.shared
+        measured.measured.active measured.measured.len };
 }
 
 impl<'a, S: Layered> MeasuredAllocation<'a, S> {
@@ -142,7 +139,7 @@ impl<'a, S: Layered> MeasuredAllocation<'a, S> {
         ensures writable { written.Writable self.now }
         ensures length { result ≡ length (written.written_of self.now) }
     {
-        self.len
+        self.measured.len
     }
 
     /// Writes the allocation to the front of the buffer, as [`LentAllocation::write_to`] does, and returns
@@ -153,6 +150,6 @@ impl<'a, S: Layered> MeasuredAllocation<'a, S> {
         ensures written { buf.new ≡ written.written_of self.now ++ drop result buf.old }
         ensures length { result ≡ length (written.written_of self.now) }
     {
-        put_allocation(&self.allocation, &self.masks, self.len, buf)
+        put_allocation(&self.allocation, &self.measured, buf)
     }
 }

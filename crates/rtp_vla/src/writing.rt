@@ -1,20 +1,16 @@
 //! From an allocation to bytes.
 
-ghost use Rattle.std.specs.Prelude.{◌≡◌, ◌↔◌, true, false, ◌+◌, ◌*◌, ◌/◌, ◌%◌, ◌<◌, ◌≤◌, ◌∷◌, [], ◌++◌, List, length, drop, map, is_some, IsTrue, IfSome, IfNone};
+ghost use Rattle.std.specs.Prelude.{◌≡◌, ◌↔◌, true, false, ◌+◌, ◌*◌, ◌/◌, ◌%◌, ◌<◌, ◌≤◌, ◌∷◌, [], ◌++◌, List, length, take, drop, map, is_some, IsTrue, IfSome, IfNone};
 ghost use Rattle.std.specs.List.{AllByRecursion, flat_map};
 ghost use Rattle.rtp_base.specs.Overwriting.{overwritten};
-ghost use Rattle.rtp_vla.specs.Allocation.{Layer, Means, IsCounted, count_of, mask_of};
+ghost use Rattle.rtp_vla.specs.Allocation.{Means, active_layers, mask_of};
 ghost use Rattle.rtp_vla.specs.AllocationWritten as written;
-ghost use Rattle.rtp_vla.specs.AllocationPutting as putting;
-ghost use Rattle.rtp_vla.specs.Leaving.{Leaves};
-ghost use Rattle.rtp_vla.specs.Leb.{shortest_of};
-ghost use Rattle.rtp_vla.specs.Measuring.{AreMasksOf};
+ghost use Rattle.rtp_vla.specs.Measuring.{IsMeasureOf};
 
 use super::allocation::VideoLayersAllocation;
 use super::lent::Layered;
 use super::lent_allocation::LentAllocation;
-use super::measuring::{shared_of, writable_len};
-use super::parts::active_count;
+use super::measuring::{Measured, writable_len};
 use super::putting::{put_counts_and_rates, put_resolutions};
 use super::video_layers::VideoLayers;
 use rtp_base::put;
@@ -52,56 +48,50 @@ fn put_masks(buf: &mut [u8], at: usize, masks: &[u8], shared: u8) -> usize
     }
 }
 
-// Puts streams, of which there are some, with these masks and of this length. Where no resolution
-// follows the rates none is looked for. It stays out of line, since few packets have an allocation and
-// the other kinds of values need the registers.
+// Puts streams, of which there are some, and returns how many bytes they have. It stays out of line,
+// since few packets have an allocation and the other kinds of values need the registers.
 #[inline(never)]
-fn put_streams<S: Layered>(
-    buf: &mut [u8],
-    index: u8,
-    streams: &[S],
-    masks: &[u8],
-    len: usize,
-) -> usize
+fn put_streams<S: Layered>(buf: &mut [u8], index: u8, streams: &[S], measured: &Measured) -> usize
     requires some { 1 ≤ length (map S.stream streams.now) }
-    requires masks { masks.now ≡ map mask_of (map S.stream streams.now) }
     requires fit { written.streams_fit index (map S.stream streams.now) ≡ true }
-    requires len { len ≡ length (written.packed_bytes index (map S.stream streams.now)) }
+    requires masks { take (length streams.now) measured.now.masks
+        ≡ map mask_of (map S.stream streams.now) }
+    requires shared { measured.now.shared
+        ≡ written.shared_of (map mask_of (map S.stream streams.now)) }
+    requires active { measured.now.active ≡ length (active_layers (map S.stream streams.now)) }
+    requires len { measured.now.len
+        ≡ length (written.packed_bytes index (map S.stream streams.now)) }
     requires room { length (written.packed_bytes index (map S.stream streams.now)) ≤ length buf.old }
     ensures written { buf.new ≡ overwritten buf.old 0 (written.packed_bytes index (map S.stream streams.now)) }
     ensures end { result ≡ length (written.packed_bytes index (map S.stream streams.now)) }
 {
-    let shared = shared_of(masks);
-    let head = 64 * index + 16 * (streams.len() - 1) as u8 + shared;
+    let head = 64 * index + 16 * (streams.len() - 1) as u8 + measured.shared;
     let end = put(buf, 0, &[head]);
-    let end = put_masks(buf, end, masks, shared);
-    let active = active_count(masks);
-    let end = put_counts_and_rates(buf, end, streams, active);
-    if end == len {
+    let end = put_masks(buf, end, &measured.masks[..streams.len()], measured.shared);
+    let end = put_counts_and_rates(buf, end, streams, usize::from(measured.active));
+    if end == measured.len {
         return end;
     }
     put_resolutions(buf, end, streams)
 }
 
-// Puts an allocation with these masks and of this length, and returns how many bytes it has.
+// Puts an allocation of this measure, and returns how many bytes it has.
 pub(super) fn put_allocation<S: Layered>(
     v: &LentAllocation<S>,
-    masks: &[u8; 4],
-    len: usize,
+    measured: &Measured,
     buf: &mut [u8],
 ) -> usize
     requires writable { written.can_be_written v.now ≡ true }
-    requires masks { AreMasksOf v.now masks.now }
-    requires len { len ≡ length (written.written_of v.now) }
+    requires measured { IsMeasureOf v.now
+        measured.now.masks measured.now.shared measured.now.active measured.now.len }
     requires room { length (written.written_of v.now) ≤ length buf.old }
     ensures written { buf.new ≡ written.written_of v.now ++ drop result buf.old }
     ensures length { result ≡ length (written.written_of v.now) }
 {
-    let streams = v.streams.len();
-    if streams == 0 {
+    if v.streams.is_empty() {
         return put(buf, 0, &[0]);
     }
-    put_streams(buf, v.index, v.streams, &masks[..streams], len)
+    put_streams(buf, v.index, v.streams, measured)
 }
 
 /// Whether the allocation can be written: some bytes mean it, once the layers at the end of each

@@ -1,23 +1,22 @@
-use Rattle.rtp_vla.proofs.Common.{◌≡◌, ◌≤◌, ◌+◌, ◌-◌, ◌*◌, ◌∷◌, ◌++◌, [], ◌∙◌, ap, sym, subst, arith, length, length-append, append_assoc, map, List, ℕ, true, false, AllByRecursion, flat_map, Layer, IsCounted, active_layers, active_count, mask_of, count_of, shared_of, mask_bytes, quarters_of, rate_bytes, resolution_bytes, packed_bytes, overwritten, overwritten-nil, nil_from_length, length-map}
-use Rattle.rtp_vla.proofs.AllocationWriting.{can_put, active_masks}
-use Rattle.rtp_vla.proofs.AllocationWritingLemmas.{length-packed_bytes, length-quarters_of}
+use Rattle.rtp_vla.proofs.Common.{◌≡◌, ◌≤◌, ◌+◌, ◌-◌, ◌*◌, ◌∷◌, ◌++◌, [], ◌∙◌, ap, sym, subst, arith, length, length-append, append_assoc, take, map, List, ℕ, true, false, AllByRecursion, flat_map, Layer, IsCounted, active_layers, mask_of, count_of, shared_of, mask_bytes, quarters_of, rate_bytes, resolution_bytes, packed_bytes, overwritten, overwritten-nil, nil_from_length, length-map}
+use Rattle.rtp_vla.proofs.AllocationWriting.{can_put}
+use Rattle.rtp_vla.proofs.AllocationWritingLemmas.{length-active, length-packed_bytes, length-quarters_of}
 use Rattle.rtp_vla.proofs.LeavingLemmas.{overwritten-four}
 use Rattle.rtp_vla.proofs.writing.put_streams.Goals as goal
 use Rattle.rtp_vla.proofs.writing.put_streams.Goals.{After-put_counts_and_rates-end}
+
+pub put_masks-end-requires-clause-shared : goal.put_masks-end-requires-clause-shared
+put_masks-end-requires-clause-shared g c = c.requires.shared ∙ sym (ap (λ (ms : List ℕ). shared_of ms) c.requires.masks)
 
 pub put_masks-end-requires-clause-fit : goal.put_masks-end-requires-clause-fit
 put_masks-end-requires-clause-fit g c =
     subst (AllByRecursion (λ mask. mask ≤ 15)) (sym c.requires.masks) (can_put c.args.index (map g.S.Layered.stream c.args.streams.now) c.requires.some c.requires.fit).masks
 
-pub active_count-active-requires-clause-fit : goal.active_count-active-requires-clause-fit
-active_count-active-requires-clause-fit g c =
-    subst (AllByRecursion (λ mask. mask ≤ 15)) (sym c.requires.masks) (can_put c.args.index (map g.S.Layered.stream c.args.streams.now) c.requires.some c.requires.fit).masks
-
-pub put_counts_and_rates-end-requires-clause-active : goal.put_counts_and_rates-end-requires-clause-active
-put_counts_and_rates-end-requires-clause-active g c =
+pub put_counts_and_rates-end-requires-clause-few : goal.put_counts_and_rates-end-requires-clause-few
+put_counts_and_rates-end-requires-clause-few g c =
     let streams = map g.S.Layered.stream c.args.streams.now in
-    c.active_count-active.ensures.active ∙ ap active_count c.requires.masks
-    ∙ active_masks streams (can_put c.args.index streams c.requires.some c.requires.fit).fits
+    let can = can_put c.args.index streams c.requires.some c.requires.fit in
+    omega (arith, c.requires.active, length-active streams can.fits, can.few)
 
 pub put_counts_and_rates-end-requires-clause-fit : goal.put_counts_and_rates-end-requires-clause-fit
 put_counts_and_rates-end-requires-clause-fit g c = (can_put c.args.index (map g.S.Layered.stream c.args.streams.now) c.requires.some c.requires.fit).counted
@@ -77,15 +76,14 @@ all_put g c buf end buf-is end-is =
     let counts = quarters_of (map count_of layers) in
     let rates = flat_map rate_bytes layers in
     let resolutions = flat_map resolution_bytes layers in
-    let shared : c.shared_of-shared.result ≡ shared_of (map mask_of streams) = c.shared_of-shared.ensures ∙ ap (λ (ms : List ℕ). shared_of ms) c.requires.masks in
-    let mask_part : mask_bytes c.args.masks.now ≡ masks = ap (λ (ms : List ℕ). mask_bytes ms) c.requires.masks in
+    let mask_part : mask_bytes (take (length c.args.streams.now) c.args.measured.now.masks) ≡ masks = ap (λ (ms : List ℕ). mask_bytes ms) c.requires.masks in
     let whole : head ∷ (masks ++ ((counts ++ rates) ++ resolutions)) ≡ head ∷ (masks ++ (counts ++ (rates ++ resolutions))) = ap (λ (bs : List ℕ). head ∷ (masks ++ bs)) (append_assoc counts rates resolutions) in
     subst (λ (bs : List ℕ). (buf ≡ overwritten c.args.buf.now 0 bs) × (end ≡ length bs)) whole
     (overwritten-four c.args.buf.now c.put-end.new.buf c.put_masks-end.new.buf c.put_counts_and_rates-end.new.buf buf
     (head ∷ []) masks (counts ++ rates) resolutions
     c.put-end.result c.put_masks-end.result c.put_counts_and_rates-end.result end
     (omega (arith, c.requires.room, ap length whole))
-    (c.put-end.ensures.written ∙ (λ j. overwritten c.args.buf.now 0 ((64 * c.args.index + 16 * (sym (length-map c.args.streams.now g.S.Layered.stream) j - 1) + shared j) ∷ [])))
+    (c.put-end.ensures.written ∙ (λ j. overwritten c.args.buf.now 0 ((64 * c.args.index + 16 * (sym (length-map c.args.streams.now g.S.Layered.stream) j - 1) + c.requires.shared j) ∷ [])))
     c.put-end.ensures.end
     (c.put_masks-end.ensures.written ∙ ap (overwritten c.put-end.new.buf c.put-end.result) mask_part)
     (c.put_masks-end.ensures.end ∙ ap (λ (bs : List ℕ). c.put-end.result + length bs) mask_part)
@@ -94,7 +92,7 @@ all_put g c buf end buf-is end-is =
     buf-is end-is)
 
 -- where that is all, there are no resolutions
-without : (g : _) (c : After-put_counts_and_rates-end g) → c.put_counts_and_rates-end.result ≡ c.args.len → (c.put_counts_and_rates-end.new.buf ≡ overwritten c.args.buf.now 0 (packed_bytes c.args.index (map g.S.Layered.stream c.args.streams.now)))
+without : (g : _) (c : After-put_counts_and_rates-end g) → c.put_counts_and_rates-end.result ≡ c.args.measured.now.len → (c.put_counts_and_rates-end.new.buf ≡ overwritten c.args.buf.now 0 (packed_bytes c.args.index (map g.S.Layered.stream c.args.streams.now)))
     × (c.put_counts_and_rates-end.result ≡ length (packed_bytes c.args.index (map g.S.Layered.stream c.args.streams.now)))
 without g c is =
     let resolutions = flat_map resolution_bytes (active_layers (map g.S.Layered.stream c.args.streams.now)) in
@@ -103,8 +101,8 @@ without g c is =
     (sym (overwritten-nil c.put_counts_and_rates-end.new.buf c.put_counts_and_rates-end.result) ∙ ap (overwritten c.put_counts_and_rates-end.new.buf c.put_counts_and_rates-end.result) (sym none))
     (omega (arith, ap length none))
 
-pub returns-then-end-len-clause-written : goal.returns-then-end-len-clause-written
-returns-then-end-len-clause-written g c = (without g (goal.at.returns-then-end-len-clause-written g c).After-put_counts_and_rates-end c.if-end-len.true).0
+pub returns-then-end-measured-clause-written : goal.returns-then-end-measured-clause-written
+returns-then-end-measured-clause-written g c = (without g (goal.at.returns-then-end-measured-clause-written g c).After-put_counts_and_rates-end c.if-end-measured.true).0
 
 pub returns-clause-written : goal.returns-clause-written
 returns-clause-written g c =
