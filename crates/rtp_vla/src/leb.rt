@@ -80,22 +80,22 @@ fn long_leb_len(value: u64) -> usize
     len
 }
 
-// The same, where the number is below 2^63. Most rates in use have one or two bytes.
+// The same, where the number is below 2^63. Most rates in use have two bytes.
 #[inline(always)]
 pub(super) fn checked_leb_len(value: u64) -> Option<usize>
     ensures fits { IfSome result (λ len. (value < 2 ^ 63) × (len ≡ length (shortest_of value))) }
     ensures unfit { IfNone result (2 ^ 63 ≤ value) }
 {
-    if value >= 0x4000 {
-        if value >= 1 << 63 {
-            return None;
-        }
-        return Some(long_leb_len(value));
+    if value >= 0x80 && value < 0x4000 {
+        return Some(2);
     }
     if value < 0x80 {
         return Some(1);
     }
-    Some(2)
+    if value >= 1 << 63 {
+        return None;
+    }
+    Some(long_leb_len(value))
 }
 
 // Puts the shortest spelling at an offset, and returns the offset after it. It is inlined, since a

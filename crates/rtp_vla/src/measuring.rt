@@ -23,13 +23,12 @@ fn rates_len(rates: &[TemporalLayerAllocation]) -> Option<usize>
     if rates.len() > 4 {
         return None;
     }
-    // Two bytes for each rate at first, as most have.
-    let mut len = 2 * rates.len();
+    let mut len = 0;
     for rate in rates {
         let Some(rate_len) = checked_leb_len(rate.cumulative_kbps) else {
             return None;
         };
-        len = len + rate_len - 2;
+        len += rate_len;
     }
     Some(len)
 }
@@ -121,13 +120,15 @@ fn add_stream<L: Lendable>(mut layers: LentLayers<L>, measure: &mut Measure) -> 
         if mask > 7 {
             return None;
         }
-        let active = !layer.temporal_layers.is_empty();
-        if active {
+        if layer.temporal_layers.is_empty() {
+            if layer.resolution_and_framerate.is_some() {
+                return None;
+            }
+            mask *= 2;
+        } else {
             measure.add(&layer)?;
-        } else if layer.resolution_and_framerate.is_some() {
-            return None;
+            mask = 2 * mask + 1;
         }
-        mask = 2 * mask + u8::from(active);
     }
     Some(mask)
 }
