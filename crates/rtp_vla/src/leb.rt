@@ -66,13 +66,14 @@ pub fn parse_leb_u63(buf: &[u8]) -> (u64, &[u8])
     (0, buf)
 }
 
-// How many bytes the shortest spelling has.
+// How many bytes the shortest spelling of a number from 2^14 on has.
 fn long_leb_len(value: u64) -> usize
-    requires { value < 2 ^ 63 }
+    requires long { 16384 ≤ value }
+    requires small { value < 2 ^ 63 }
     ensures { result ≡ length (shortest_of value) }
 {
-    let mut left = value;
-    let mut len = 1;
+    let mut left = value >> 14;
+    let mut len = 3;
     while left >= 0x80 {
         left >>= 7;
         len += 1;
@@ -80,7 +81,7 @@ fn long_leb_len(value: u64) -> usize
     len
 }
 
-// The same, where the number is below 2^63. Most rates in use have two bytes.
+// How many bytes the shortest spelling of any number below 2^63 has. Most rates in use have two.
 #[inline(always)]
 pub(super) fn checked_leb_len(value: u64) -> Option<usize>
     ensures fits { IfSome result (λ len. (value < 2 ^ 63) × (len ≡ length (shortest_of value))) }

@@ -15,7 +15,7 @@ use std::marker::Model;
 /// sees the allocation.
 #[derive(Drop)]
 pub struct LentAllocation<'a, S: Layered> {
-    pub(super) index: u8,
+    pub(super) index: usize,
     pub(super) streams: &'a [S],
 }
 
@@ -38,7 +38,7 @@ impl<'a> LentAllocation<'a, SimulcastStreamAllocation> {
         ensures { result ≡ v.now }
     {
         LentAllocation {
-            index: v.current_simulcast_stream_index,
+            index: usize::from(v.current_simulcast_stream_index),
             streams: &v.simulcast_streams,
         }
     }
@@ -51,7 +51,7 @@ impl<'a> LentAllocation<'a, VideoStream> {
         ensures { result ≡ v.now }
     {
         LentAllocation {
-            index: v.current_simulcast_stream_index(),
+            index: usize::from(v.current_simulcast_stream_index()),
             streams: v.simulcast_streams(),
         }
     }
@@ -66,7 +66,10 @@ impl<'a, S: Layered> LentAllocation<'a, S> {
           simulcast_streams = map S.stream streams.now;
         } }
     {
-        LentAllocation { index, streams }
+        LentAllocation {
+            index: usize::from(index),
+            streams,
+        }
     }
 
     /// How many bytes [`write_to`](Self::write_to) writes, and `None` exactly when the allocation
@@ -88,7 +91,11 @@ impl<'a, S: Layered> LentAllocation<'a, S> {
         ensures written { buf.new ≡ written.written_of self.now ++ drop result buf.old }
         ensures length { result ≡ length (written.written_of self.now) }
     {
-        match LentAllocation::new(self.index, self.streams).measure() {
+        let lent = LentAllocation {
+            index: self.index,
+            streams: self.streams,
+        };
+        match lent.measure() {
             Some(measured) => measured.write_to(buf),
             None => 0,
         }
@@ -139,7 +146,7 @@ impl<'a, S: Layered> MeasuredAllocation<'a, S> {
         ensures writable { written.Writable self.now }
         ensures length { result ≡ length (written.written_of self.now) }
     {
-        self.measured.len
+        usize::from(self.measured.len)
     }
 
     /// Writes the allocation to the front of the buffer, as [`LentAllocation::write_to`] does, and returns

@@ -198,7 +198,7 @@ pub(super) struct Measured {
     pub(super) shared: u8,
     // How many layers are active, and how many bytes the allocation has.
     pub(super) active: u8,
-    pub(super) len: usize,
+    pub(super) len: u16,
 }
 
 // The allocation, measured, where it can be written: the test and the measure in one. It is inlined, so
@@ -236,7 +236,7 @@ pub(super) fn measure_of<S: Layered>(v: &LentAllocation<S>) -> Option<Measured>
         masks,
         shared,
         active: layers.active as u8,
-        len,
+        len: len as u16,
     })
 }
 
@@ -246,5 +246,5 @@ pub(super) fn writable_len<S: Layered>(v: &LentAllocation<S>) -> Option<usize>
         × (len ≡ length (written.written_of v.now))) }
     ensures unfit { IfNone result (written.can_be_written v.now ≡ false) }
 {
-    Some(measure_of(v)?.len)
+    Some(usize::from(measure_of(v)?.len))
 }

@@ -51,7 +51,12 @@ fn put_masks(buf: &mut [u8], at: usize, masks: &[u8], shared: u8) -> usize
 // Puts streams, of which there are some, and returns how many bytes they have. It stays out of line,
 // since few packets have an allocation and the other kinds of values need the registers.
 #[inline(never)]
-fn put_streams<S: Layered>(buf: &mut [u8], index: u8, streams: &[S], measured: &Measured) -> usize
+fn put_streams<S: Layered>(
+    buf: &mut [u8],
+    index: usize,
+    streams: &[S],
+    measured: &Measured,
+) -> usize
     requires some { 1 ≤ length (map S.stream streams.now) }
     requires fit { written.streams_fit index (map S.stream streams.now) ≡ true }
     requires masks { take (length streams.now) measured.now.masks
@@ -65,11 +70,11 @@ fn put_streams<S: Layered>(buf: &mut [u8], index: u8, streams: &[S], measured: &
     ensures written { buf.new ≡ overwritten buf.old 0 (written.packed_bytes index (map S.stream streams.now)) }
     ensures end { result ≡ length (written.packed_bytes index (map S.stream streams.now)) }
 {
-    let head = 64 * index + 16 * (streams.len() - 1) as u8 + measured.shared;
+    let head = (64 * index + 16 * (streams.len() - 1)) as u8 + measured.shared;
     let end = put(buf, 0, &[head]);
     let end = put_masks(buf, end, &measured.masks[..streams.len()], measured.shared);
     let end = put_counts_and_rates(buf, end, streams, usize::from(measured.active));
-    if end == measured.len {
+    if end == usize::from(measured.len) {
         return end;
     }
     put_resolutions(buf, end, streams)

@@ -41,7 +41,7 @@ loop-layer-preserved g c =
       active = omega (arith, c.in_ok-add.ensures.active, so_far.active, ap (λ (ls : List Layer). length (filter is_active ls)) more.0, ap length (filter_active layer taken active));
       few = search rules;
       measured = λ after measured.
-        subst (λ (ls : List Layer). AreMeasured (ls ++ after) c.add.new.self.active c.add.new.self.len c.add.new.self.is_sized)
-        (sym (ap (filter is_active) more.0 ∙ filter_active layer taken active))
-        (c.in_ok-add.ensures.fits (filter is_active taken ++ after) (so_far.measured after measured));
+          subst (λ (ls : List Layer). AreMeasured (ls ++ after) c.add.new.self.active c.add.new.self.len c.add.new.self.is_sized)
+          (sym (ap (filter is_active) more.0 ∙ filter_active layer taken active))
+          (c.in_ok-add.ensures.fits (filter is_active taken ++ after) (so_far.measured after measured));
     }

@@ -1,4 +1,4 @@
-use Rattle.rtp_vla.proofs.Common.{◌≡◌, ◌≤◌, ◌+◌, ◌-◌, ◌*◌, ◌∷◌, ◌++◌, [], ◌∙◌, ap, sym, subst, arith, length, length-append, append_assoc, take, map, List, ℕ, true, false, AllByRecursion, flat_map, Layer, IsCounted, active_layers, mask_of, count_of, shared_of, mask_bytes, quarters_of, rate_bytes, resolution_bytes, packed_bytes, overwritten, overwritten-nil, nil_from_length, length-map}
+use Rattle.rtp_vla.proofs.Common.{rules, ◌≡◌, ◌≤◌, ◌+◌, ◌-◌, ◌*◌, ◌∷◌, ◌++◌, [], ◌∙◌, ap, sym, subst, arith, length, length-append, append_assoc, take, map, List, ℕ, true, false, AllByRecursion, flat_map, Layer, IsCounted, active_layers, mask_of, count_of, shared_of, mask_bytes, quarters_of, rate_bytes, resolution_bytes, packed_bytes, overwritten, overwritten-nil, nil_from_length, length-map}
 use Rattle.rtp_vla.proofs.AllocationWriting.{can_put}
 use Rattle.rtp_vla.proofs.AllocationWritingLemmas.{length-active, length-packed_bytes, length-quarters_of}
 use Rattle.rtp_vla.proofs.LeavingLemmas.{overwritten-four}
@@ -101,8 +101,8 @@ without g c is =
     (sym (overwritten-nil c.put_counts_and_rates-end.new.buf c.put_counts_and_rates-end.result) ∙ ap (overwritten c.put_counts_and_rates-end.new.buf c.put_counts_and_rates-end.result) (sym none))
     (omega (arith, ap length none))
 
-pub returns-then-end-measured-clause-written : goal.returns-then-end-measured-clause-written
-returns-then-end-measured-clause-written g c = (without g (goal.at.returns-then-end-measured-clause-written g c).After-put_counts_and_rates-end c.if-end-measured.true).0
+pub returns-then-end-from-clause-written : goal.returns-then-end-from-clause-written
+returns-then-end-from-clause-written g c = (without g (goal.at.returns-then-end-from-clause-written g c).After-put_counts_and_rates-end (c.if-end-from.true ∙ search rules)).0
 
 pub returns-clause-written : goal.returns-clause-written
 returns-clause-written g c =
