@@ -1,5 +1,5 @@
 -- What is measured and written of an allocation, part by part.
-use Rattle.rtp_vla.proofs.Common.{◌≡◌, ℕ, zero, suc, ◌+◌, ◌*◌, ◌/◌, ◌^◌, ◌<◌, ◌≤◌, ⊎_elim, cond, map, List, [], ◌∷◌, ◌++◌, length, take, drop, get_or, Bool, true, false, leb, refl, sym, ap, ◌∙◌, subst, arith, length-append, AllByRecursion, flat_map, list_all, filter, pow-suc, pow-le-pow_right, lt-leb, and_left, and_parts, leb-true, eq-eqb, ne_eqb, le-leb, and_from, cases_lt, take_more, append-nil, length-map, Layer, Stream, Allocation, is_active, active_layers, mask_of, count_of}
+use Rattle.rtp_vla.proofs.Common.{◌≡◌, ℕ, zero, suc, ◌+◌, ◌*◌, ◌/◌, ◌^◌, ◌<◌, ◌≤◌, ⊎_elim, cond, map, List, [], ◌∷◌, ◌++◌, length, take, drop, get_or, Bool, true, false, leb, refl, ap, ◌∙◌, subst, arith, length-append, AllByRecursion, flat_map, list_all, filter, pow-suc, pow-le-pow_right, lt-leb, and_left, and_parts, leb-true, eq-eqb, ne_eqb, le-leb, and_from, cases_lt, take_more, append-nil, length-map, Layer, Stream, Allocation, is_active, active_layers, mask_of, count_of}
 use Rattle.std.proofs.lemmas.List.Concat.{flat_map-append}
 use Rattle.rtp_vla.specs.AllocationWritten.{stream_fits, bare_or_active, shared_of, halves_of, quarters_of, mask_bytes, rate_bytes, resolution_bytes, packed_bytes, layers_fit, streams_fit, streams_bytes, written_of}
 

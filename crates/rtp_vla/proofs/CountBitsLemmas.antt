@@ -1,5 +1,5 @@
 -- The counts of layers in a number of 32 bits, which is put as bytes.
-use Rattle.rtp_vla.proofs.Common.{◌≡◌, ℕ, zero, suc, ◌+◌, ◌-◌, ◌*◌, ◌/◌, ◌%◌, ◌<◌, ◌≤◌, List, [], ◌∷◌, ◌++◌, length, take, drop, map, refl, sym, ap, ◌∙◌, arith, length-drop, AllByRecursion, mul-le, nil_from_length, Layer, IsCounted, count_of, quarters_of, count_bits, weight_after, four_bytes}
+use Rattle.rtp_vla.proofs.Common.{◌≡◌, ℕ, suc, ◌+◌, ◌-◌, ◌*◌, ◌/◌, ◌%◌, ◌<◌, ◌≤◌, List, [], ◌∷◌, ◌++◌, length, take, drop, map, refl, ap, ◌∙◌, arith, length-drop, AllByRecursion, mul-le, nil_from_length, Layer, IsCounted, count_of, quarters_of, count_bits, weight_after}
 
 -- the count of the first layer, and 0 where there is none
 abbrev first_count : List Layer → ℕ

@@ -126,6 +126,12 @@ pub shortest-two : (value : ℕ) → 128 ≤ value → value < 16384 → shortes
 shortest-two value high low =
     shortest-leb_of value ∙ leb_of-high 8 value high ∙ ap (λ (bytes : List ℕ). (value % 128 + 128) ∷ bytes) (leb_of-low 7 (value / 128) (omega arith))
 
+pub put_one : (buf : List ℕ) (at value : ℕ) → value < 128 → at + length (shortest_of value) ≤ length buf → set buf at value ≡ overwritten buf at (shortest_of value)
+put_one buf at value low room =
+    let one = shortest-one value low in
+    let first = Leaves-byte buf [] buf (value ∷ []) at at value (Leaves-start buf (value ∷ []) at (omega (arith, room, ap length one))) in
+    (Leaves-end (set buf at value) buf (value ∷ []) (at + 1) at first).0 ∙ ap (overwritten buf at) (sym one)
+
 -- the two bytes in one number
 pub spread_two : (value spread : ℕ) → 128 ≤ value → value < 16384 → spread ≡ value + value / 128 * 128 + 128 → (spread % 256) ∷ (spread / 256) ∷ [] ≡ shortest_of value
 spread_two value spread high low is =

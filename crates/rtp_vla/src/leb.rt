@@ -81,28 +81,29 @@ fn long_leb_len(value: u64) -> usize
     len
 }
 
-// How many bytes the shortest spelling of any number below 2^63 has. Most rates in use have two.
+// How many bytes the shortest spelling of any number below 2^63 has. Most rates in use have one or
+// two.
 #[inline(always)]
 pub(super) fn checked_leb_len(value: u64) -> Option<usize>
     ensures fits { IfSome result (λ len. (value < 2 ^ 63) × (len ≡ length (shortest_of value))) }
     ensures unfit { IfNone result (2 ^ 63 ≤ value) }
 {
-    if value >= 0x80 && value < 0x4000 {
-        return Some(2);
+    if value >= 0x4000 {
+        if value >= 1 << 63 {
+            return None;
+        }
+        return Some(long_leb_len(value));
     }
     if value < 0x80 {
         return Some(1);
     }
-    if value >= 1 << 63 {
-        return None;
-    }
-    Some(long_leb_len(value))
+    Some(2)
 }
 
 // Puts the shortest spelling at an offset, and returns the offset after it. It is inlined, since a
 // call would take the registers of the loop over the rates.
 #[inline(always)]
-fn put_any_leb(buf: &mut [u8], at: usize, value: u64) -> usize
+fn put_long_leb(buf: &mut [u8], at: usize, value: u64) -> usize
     requires small { value < 2 ^ 63 }
     requires room { at + length (shortest_of value) ≤ length buf.old }
     ensures written { buf.new ≡ overwritten buf.old at (shortest_of value) }
@@ -126,7 +127,7 @@ fn low_and_high(number: u16) -> [u8; 2]
     number.to_le_bytes()
 }
 
-// The same as of any number. Most rates in use have two bytes: between them comes a bit that is set.
+// The same. Most rates in use have one or two bytes: between two comes a bit that is set.
 #[inline(always)]
 pub(super) fn put_leb(buf: &mut [u8], at: usize, value: u64) -> usize
     requires small { value < 2 ^ 63 }
@@ -134,11 +135,15 @@ pub(super) fn put_leb(buf: &mut [u8], at: usize, value: u64) -> usize
     ensures written { buf.new ≡ overwritten buf.old at (shortest_of value) }
     ensures end { result ≡ at + length (shortest_of value) }
 {
-    if value >= 0x80 && value < 0x4000 {
+    if value < 0x80 {
+        buf[at] = value as u8;
+        return at + 1;
+    }
+    if value < 0x4000 {
         let spread = value + value / 128 * 128 + 128;
         return put(buf, at, &low_and_high(spread as u16));
     }
-    put_any_leb(buf, at, value)
+    put_long_leb(buf, at, value)
 }
 
 /// Writes the shortest spelling of the number to the front of the buffer, and returns how many

@@ -109,7 +109,7 @@ fn four_bytes(number: u32) -> [u8; 4]
     number.to_be_bytes()
 }
 
-// Puts so many counts, four in a byte. Most allocations have up to four.
+// Puts so many counts, four in a byte.
 #[inline(always)]
 fn put_counts(buf: &mut [u8], at: usize, bits: u32, count: usize)
     requires few { count ≤ 16 }
@@ -117,13 +117,9 @@ fn put_counts(buf: &mut [u8], at: usize, bits: u32, count: usize)
     ensures { buf.new ≡ overwritten buf.old at (take ((count + 3) / 4) (putting.four_bytes bits)) }
 {
     let [a, b, c, d] = four_bytes(bits);
-    let len = (count + 3) / 4;
-    if len == 1 {
-        put(buf, at, &[a]);
-        return;
-    }
-    match len {
+    match (count + 3) / 4 {
         0 => at,
+        1 => put(buf, at, &[a]),
         2 => put(buf, at, &[a, b]),
         3 => put(buf, at, &[a, b, c]),
         _ => put(buf, at, &[a, b, c, d]),

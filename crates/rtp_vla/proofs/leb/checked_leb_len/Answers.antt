@@ -5,5 +5,5 @@ use Rattle.rtp_vla.proofs.leb.checked_leb_len.Goals as goal
 pub returns-then-value-lt128-clause-fits : goal.returns-then-value-lt128-clause-fits
 returns-then-value-lt128-clause-fits c = (omega arith, omega (arith, ap length (shortest-one c.args.value c.if-value-lt128.true)))
 
-pub returns-then-value-lt16384-clause-fits : goal.returns-then-value-lt16384-clause-fits
-returns-then-value-lt16384-clause-fits c = (omega arith, omega (arith, ap length (shortest-two c.args.value c.if-value-ge128.true c.if-value-lt16384.true)))
+pub returns-clause-fits : goal.returns-clause-fits
+returns-clause-fits c = (omega arith, omega (arith, ap length (shortest-two c.args.value c.if-value-lt128.false c.if-value-ge16384.false)))

@@ -1,8 +1,7 @@
-use Rattle.rtp_vla.proofs.Common.{rules, ◌≡◌, ◌<◌, ◌≤◌, ◌∷◌, ◌++◌, [], ap, sym, ◌∙◌, subst, length, drop, arith, List, true, false, length-append, filter, is_active, and_left, Layer}
-use Rattle.rtp_vla.specs.declared.measuring.Measure.{Measure}
+use Rattle.rtp_vla.proofs.Common.{rules, ◌≡◌, ◌<◌, ◌≤◌, ◌∷◌, ◌++◌, [], ap, sym, ◌∙◌, subst, length, drop, arith, List, true, length-append, filter, is_active, and_left, Layer}
 use Rattle.rtp_vla.specs.Measuring.{AreMeasured}
 use Rattle.rtp_vla.proofs.AllocationWritingLemmas.{mask_unfit}
-use Rattle.rtp_vla.proofs.MeasuringLemmas.{taken_more, unfit_stream, few_below, filter_active, filter_idle, if_none}
+use Rattle.rtp_vla.proofs.MeasuringLemmas.{taken_more, unfit_stream, few_below, filter_active, if_none}
 use Rattle.rtp_vla.proofs.measuring.add_stream.Goals as goal
 
 pub returns-then-mask-gt7-clause-unfit : goal.returns-then-mask-gt7-clause-unfit

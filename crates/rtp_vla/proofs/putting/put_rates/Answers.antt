@@ -1,4 +1,4 @@
-use Rattle.rtp_vla.proofs.Common.{◌≡◌, ◌++◌, [], ◌∙◌, ap, sym, refl, arith, List, ℕ, ◌+◌, length, length-append, length-map, drop, drop_all, map, Some, slice_get, option_map, filter, flat_map, Layer, Stream, is_active, active_layers, IsCounted, HasSmallRates, count_bits, weight_after, rate_bytes}
+use Rattle.rtp_vla.proofs.Common.{◌≡◌, ◌++◌, [], ◌∙◌, ap, sym, refl, arith, List, ℕ, ◌+◌, length, length-append, length-map, drop, drop_all, map, Some, slice_get, option_map, filter, flat_map, Stream, is_active, active_layers, IsCounted, HasSmallRates, count_bits, rate_bytes}
 use Rattle.std.proofs.lemmas.Option.{slice_get-map, slice_get_read}
 use Rattle.rtp_vla.proofs.LeavingLemmas.{Leaves-part, Leaves-end}
 use Rattle.rtp_vla.proofs.CountBitsLemmas.{count_bits-append}

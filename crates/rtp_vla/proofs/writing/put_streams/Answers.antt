@@ -1,4 +1,4 @@
-use Rattle.rtp_vla.proofs.Common.{rules, ◌≡◌, ◌≤◌, ◌+◌, ◌-◌, ◌*◌, ◌∷◌, ◌++◌, [], ◌∙◌, ap, sym, subst, arith, length, length-append, append_assoc, take, map, List, ℕ, true, false, AllByRecursion, flat_map, Layer, IsCounted, active_layers, mask_of, count_of, shared_of, mask_bytes, quarters_of, rate_bytes, resolution_bytes, packed_bytes, overwritten, overwritten-nil, nil_from_length, length-map}
+use Rattle.rtp_vla.proofs.Common.{rules, ◌≡◌, ◌≤◌, ◌+◌, ◌-◌, ◌*◌, ◌∷◌, ◌++◌, [], ◌∙◌, ap, sym, subst, arith, length, length-append, append_assoc, take, map, List, ℕ, AllByRecursion, flat_map, active_layers, mask_of, count_of, shared_of, mask_bytes, quarters_of, rate_bytes, resolution_bytes, packed_bytes, overwritten, overwritten-nil, nil_from_length, length-map}
 use Rattle.rtp_vla.proofs.AllocationWriting.{can_put}
 use Rattle.rtp_vla.proofs.AllocationWritingLemmas.{length-active, length-packed_bytes, length-quarters_of}
 use Rattle.rtp_vla.proofs.LeavingLemmas.{overwritten-four}

@@ -1,8 +1,8 @@
 use Rattle.std.proofs.Common.{◌≡◌, ◌-◌, ◌+◌, suc, arith}
 use Rattle.rtp_vla.proofs.LeavingLemmas.{Leaves-start}
 use Rattle.rtp_vla.proofs.LebSpellingLemmas.{shortest-leb_of, put_more, put_last, put_within}
-use Rattle.rtp_vla.proofs.leb.put_any_leb.Goals as goal
-use Rattle.rtp_vla.proofs.leb.put_any_leb.Goals.{In-loop-left, After-loop-left}
+use Rattle.rtp_vla.proofs.leb.put_long_leb.Goals as goal
+use Rattle.rtp_vla.proofs.leb.put_long_leb.Goals.{In-loop-left, After-loop-left}
 
 pub loop-left-init : goal.loop-left-init
 loop-left-init c =

@@ -1,5 +1,5 @@
 use Rattle.rtp_vla.proofs.Common.{◌+◌, ◌-◌, ◌^◌, ◌<◌, ◌≤◌, leb_of, shortest_of, Leaves}
-use Rattle.rtp_vla.proofs.leb.put_any_leb.Given as goal
+use Rattle.rtp_vla.proofs.leb.put_long_leb.Given as goal
 
 -- what is left is put after the bytes so far
 abbrev pub invariant-loop-left : goal.invariant-loop-left
