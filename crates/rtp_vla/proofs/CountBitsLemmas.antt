@@ -28,10 +28,6 @@ pub count_bits-append : (weight : ℕ) (xs ys : List Layer) → count_bits weigh
 count_bits-append weight [] ys = omega arith
 count_bits-append weight (x ∷ xs) ys = omega (arith, count_bits-append (weight / 4) xs ys)
 
-pub weight_after-append : (weight : ℕ) (xs ys : List Layer) → weight_after weight (xs ++ ys) ≡ weight_after (weight_after weight xs) ys
-weight_after-append weight [] ys = refl
-weight_after-append weight (x ∷ xs) ys = weight_after-append (weight / 4) xs ys
-
 count_small : (count weight : ℕ) → count ≤ 3 → count * weight ≤ 3 * weight
 count_small count weight few = mul-le count weight 3 weight few (omega arith)
 
