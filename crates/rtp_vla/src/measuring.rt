@@ -201,8 +201,8 @@ pub(super) struct Measured {
     pub(super) len: u16,
 }
 
-// The allocation, measured, where it can be written: the test and the measure in one. It is inlined, so
-// that nothing sent costs little besides the call.
+// The allocation, measured, where it can be written: the test and the measure in one. It is inlined,
+// so that nothing sent costs little besides the call.
 #[inline(always)]
 #[tactic(auto, unfolding(crate::specs::AllocationWritten::written_of))]
 pub(super) fn measure_of<S: Layered>(v: &LentAllocation<S>) -> Option<Measured>

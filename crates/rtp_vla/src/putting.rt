@@ -65,7 +65,8 @@ fn put_stream_rates<L: Lendable>(
     requires within { counts.old.bits + 4 * counts.old.weight ≤ 4294967296 }
     ensures written { buf.new ≡ overwritten buf.old at
         (flat_map written.rate_bytes (filter is_active layers.entry)) }
-    ensures end { result ≡ at + length (flat_map written.rate_bytes (filter is_active layers.entry)) }
+    ensures end { result ≡ at + length
+        (flat_map written.rate_bytes (filter is_active layers.entry)) }
     ensures bits { counts.new.bits ≡ counts.old.bits
         + putting.count_bits counts.old.weight (filter is_active layers.entry) }
     ensures weight { counts.new.weight
@@ -138,9 +139,10 @@ pub(super) fn put_counts_and_rates<S: Layered>(
     requires fit { AllByRecursion IsCounted (active_layers (map S.stream streams.now)) }
     requires small { AllByRecursion putting.HasSmallRates
         (active_layers (map S.stream streams.now)) }
-    requires room { at + length (written.quarters_of (map count_of
-        (active_layers (map S.stream streams.now)))
-        ++ flat_map written.rate_bytes (active_layers (map S.stream streams.now))) ≤ length buf.old }
+    requires room { at + length (written.quarters_of
+        (map count_of (active_layers (map S.stream streams.now)))
+        ++ flat_map written.rate_bytes (active_layers (map S.stream streams.now)))
+        ≤ length buf.old }
     ensures written { buf.new ≡ overwritten buf.old at
         (written.quarters_of (map count_of (active_layers (map S.stream streams.now)))
         ++ flat_map written.rate_bytes (active_layers (map S.stream streams.now))) }

@@ -48,8 +48,8 @@ fn put_masks(buf: &mut [u8], at: usize, masks: &[u8], shared: u8) -> usize
     }
 }
 
-// Puts streams, of which there are some, and returns how many bytes they have. It stays out of line,
-// since few packets have an allocation and the other kinds of values need the registers.
+// Puts streams, of which there are some, and returns how many bytes they have. It stays out of
+// line, since few packets have an allocation and the other kinds of values need the registers.
 #[inline(never)]
 fn put_streams<S: Layered>(
     buf: &mut [u8],
@@ -66,8 +66,10 @@ fn put_streams<S: Layered>(
     requires active { measured.now.active ≡ length (active_layers (map S.stream streams.now)) }
     requires len { measured.now.len
         ≡ length (written.packed_bytes index (map S.stream streams.now)) }
-    requires room { length (written.packed_bytes index (map S.stream streams.now)) ≤ length buf.old }
-    ensures written { buf.new ≡ overwritten buf.old 0 (written.packed_bytes index (map S.stream streams.now)) }
+    requires room { length (written.packed_bytes index (map S.stream streams.now))
+        ≤ length buf.old }
+    ensures written { buf.new ≡ overwritten buf.old 0
+        (written.packed_bytes index (map S.stream streams.now)) }
     ensures end { result ≡ length (written.packed_bytes index (map S.stream streams.now)) }
 {
     let head = (64 * index + 16 * (streams.len() - 1)) as u8 + measured.shared;
