@@ -1,9 +1,8 @@
 -- What is written means the allocation without its trailing bare layers, and what can be written is what some bytes mean.
-use Rattle.rtp_vla.proofs.Common.{◌≡◌, ℕ, ◌+◌, ◌-◌, ◌*◌, ◌<◌, ◌≤◌, ◌&&◌, inl, inr, ⊎_elim, List, [], ◌∷◌, ◌++◌, length, map, Bool, true, false, not, eqb, leb, ltb, None, Some, Option, refl, sym, ap, ◌∙◌, subst, arith, is_none, is_some, IfSome, IfNone, unwrap_or, AllByRecursion, flat_map, list_all, and_parts, and_from, le-leb, leb-true, ltb-true, eq-eqb, eqb-true, false≢true, length-map, nil_from_length, ResolutionAndFramerate, Layer, Stream, Allocation, active_layers, active_count, mask_of, count_of, AreMasks, AreQuarters, AreRates, AreResolutions, IsCounted, IsPacked, Means, without_bare_tail, trimmed, Writable, bare_or_active, stream_fits, resolution_fits, resolutions_in_front, layers_fit, streams_fit, can_be_written, shared_of, mask_bytes, quarters_of, rate_bytes, resolution_field, resolution_bytes, packed_bytes, streams_bytes, written_of, HasSmallRates, IsSized, HasSizedResolution}
+use Rattle.rtp_vla.proofs.Common.{◌≡◌, ℕ, ◌+◌, ◌-◌, ◌*◌, ◌<◌, ◌≤◌, ◌&&◌, inl, inr, ⊎_elim, List, [], ◌∷◌, ◌++◌, length, map, Bool, true, false, eqb, leb, ltb, None, Some, Option, refl, sym, ap, ◌∙◌, subst, arith, is_none, is_some, IfSome, IfNone, unwrap_or, AllByRecursion, flat_map, list_all, and_parts, and_from, le-leb, leb-true, ltb-true, eq-eqb, eqb-true, false≢true, length-map, nil_from_length, ResolutionAndFramerate, Layer, Stream, Allocation, active_layers, mask_of, count_of, AreMasks, AreQuarters, AreRates, AreResolutions, IsCounted, IsPacked, Means, without_bare_tail, trimmed, Writable, bare_or_active, stream_fits, resolution_fits, resolutions_in_front, layers_fit, streams_fit, can_be_written, shared_of, mask_bytes, quarters_of, rate_bytes, resolution_bytes, packed_bytes, streams_bytes, written_of, HasSmallRates, IsSized, HasSizedResolution}
 use Rattle.rtp_vla.proofs.AllocationWritingLemmas.{written-bytes, streams_bytes-some}
 use Rattle.rtp_vla.proofs.AllocationParts.{AreBytes, AreBytes-parts, rates_in, resolutions_of}
-use Rattle.rtp_vla.proofs.AllocationDealing.{dealt_streams-back}
-use Rattle.rtp_vla.proofs.AllocationTrimming.{masks-trimmed, active-trimmed, readable_from, fits_from, none_is}
+use Rattle.rtp_vla.proofs.AllocationTrimming.{masks-trimmed, active-trimmed, readable_from, fits_from}
 use Rattle.rtp_vla.proofs.AllocationSpelling.{shared_small, AreMasks-of, AreQuarters-of, layer_fits, AreRates-layers, counted_from, layers_small, sizes, AreResolutions-of, front_from, AreBytes-append, AreBytes-masks, AreBytes-quarters, AreBytes-layers, AreBytes-resolutions, after_bytes}
 use Rattle.rtp_vla.proofs.AllocationMeaning.{counts_fit}
 
@@ -143,51 +142,6 @@ sized_all e (layer ∷ layers) fits =
     let parts = and_parts (resolution_fits e layer.resolution_and_framerate) (resolutions_in_front (is_none layer.resolution_and_framerate) layers) fits in
     (sized_one e layer.resolution_and_framerate parts.0, sized_all (is_none layer.resolution_and_framerate) layers parts.1)
 
-none_one : (o : Option ResolutionAndFramerate) → resolution_fits true o ≡ true → resolution_field o ≡ []
-none_one None fits = refl
-none_one (Some r) fits = absurd (false≢true fits)
-
-no_resolution : (o : Option ResolutionAndFramerate) (layers : List Layer) → resolution_fits true o ≡ true → resolutions_in_front (is_none o) layers ≡ true → resolutions_in_front true layers ≡ true
-no_resolution None layers fits rest = rest
-no_resolution (Some r) layers fits rest = absurd (false≢true fits)
-
-none_all : (layers : List Layer) → resolutions_in_front true layers ≡ true → flat_map resolution_bytes layers ≡ []
-none_all [] fits = refl
-none_all (layer ∷ layers) fits =
-    let parts = and_parts (resolution_fits true layer.resolution_and_framerate) (resolutions_in_front (is_none layer.resolution_and_framerate) layers) fits in
-    let none = none_one layer.resolution_and_framerate parts.0 in
-    let rest = none_all layers (no_resolution layer.resolution_and_framerate layers parts.0 parts.1) in
-    (λ i. none i ++ rest i)
-
--- what the test for none says
-pub none_by_test : (o : Option ResolutionAndFramerate) (test : Bool) → is_some o ≡ not test → is_none o ≡ test
-none_by_test None true e = refl
-none_by_test None false e = absurd (false≢true e)
-none_by_test (Some r) true e = absurd (false≢true (sym e))
-none_by_test (Some r) false e = refl
-
--- where the first layer has no resolution, no bytes are left
-pub none_left : (all rest : List Layer) (layer : Layer) → all ≡ layer ∷ rest → is_none layer.resolution_and_framerate ≡ true → resolutions_in_front false all ≡ true
-    → flat_map resolution_bytes all ≡ []
-none_left all rest layer is absent front =
-    let none = none_is layer.resolution_and_framerate absent in
-    let parts = and_parts (resolution_fits false layer.resolution_and_framerate) (resolutions_in_front (is_none layer.resolution_and_framerate) rest) (subst (λ (ls : List Layer). resolutions_in_front false ls ≡ true) is front) in
-    let after : resolutions_in_front true rest ≡ true = subst (λ (o : Option ResolutionAndFramerate). resolutions_in_front (is_none o) rest ≡ true) none parts.1 in
-    ap (λ (ls : List Layer). flat_map resolution_bytes ls) is ∙ (λ i. resolution_field (none i) ++ none_all rest after i)
-
--- the layers after a first one that has a resolution
-pub front_more : (all rest : List Layer) (layer : Layer) → all ≡ layer ∷ rest → is_none layer.resolution_and_framerate ≡ false → resolutions_in_front false all ≡ true
-    → resolutions_in_front false rest ≡ true
-front_more all rest layer is some front =
-    let parts = and_parts (resolution_fits false layer.resolution_and_framerate) (resolutions_in_front (is_none layer.resolution_and_framerate) rest) (subst (λ (ls : List Layer). resolutions_in_front false ls ≡ true) is front) in
-    subst (λ (b : Bool). resolutions_in_front b rest ≡ true) some parts.1
-
--- as many layers are active as the masks mark
-pub active_masks : (streams : List Stream) → list_all stream_fits streams ≡ true → active_count (map mask_of streams) ≡ length (active_layers streams)
-active_masks streams fits =
-    ap active_count (sym (masks-trimmed streams)) ∙ (dealt_streams-back (map without_bare_tail streams) (readable_from streams fits)).1
-    ∙ ap length (active-trimmed streams)
-
 pub record CanPut (index : ℕ) (streams : List Stream) : Type 0 where
   pub low : index ≤ 3
   pub few : length streams ≤ 4
@@ -197,7 +151,6 @@ pub record CanPut (index : ℕ) (streams : List Stream) : Type 0 where
   pub counted : AllByRecursion IsCounted (active_layers streams)
   pub small : AllByRecursion HasSmallRates (active_layers streams)
   pub sized : AllByRecursion HasSizedResolution (active_layers streams)
-  pub front : resolutions_in_front false (active_layers streams) ≡ true
 
 pub can_put : (index : ℕ) (streams : List Stream) → 1 ≤ length streams → streams_fit index streams ≡ true → CanPut index streams
 can_put index [] some fits = absurd (omega arith)
@@ -216,7 +169,6 @@ can_put index (stream ∷ streams) some fits =
       counted = counted_from (active_layers all) ok.0;
       small = small_all (active_layers all) ok.0;
       sized = sized_all false (active_layers all) ok.1;
-      front = ok.1;
     }
 
 pub written-none : (a : Allocation) → length a.simulcast_streams ≡ 0 → written_of a ≡ 0 ∷ []

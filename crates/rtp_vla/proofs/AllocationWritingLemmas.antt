@@ -1,5 +1,5 @@
 -- What is measured and written of an allocation, part by part.
-use Rattle.rtp_vla.proofs.Common.{◌≡◌, ℕ, zero, suc, ◌+◌, ◌*◌, ◌/◌, ◌^◌, ◌<◌, ◌≤◌, ⊎_elim, cond, map, List, [], ◌∷◌, ◌++◌, length, take, drop, get_or, Bool, true, false, leb, refl, sym, ap, ◌∙◌, subst, arith, length-append, AllByRecursion, flat_map, list_all, filter, pow-suc, pow-le-pow_right, lt-leb, and_left, and_parts, leb-true, eq-eqb, ne_eqb, le-leb, and_from, cases_lt, take_more, append-nil, length-map, Layer, Stream, Allocation, is_active, active_layers, mask_of, count_of, first_count}
+use Rattle.rtp_vla.proofs.Common.{◌≡◌, ℕ, zero, suc, ◌+◌, ◌*◌, ◌/◌, ◌^◌, ◌<◌, ◌≤◌, ⊎_elim, cond, map, List, [], ◌∷◌, ◌++◌, length, take, drop, get_or, Bool, true, false, leb, refl, ap, ◌∙◌, subst, arith, length-append, AllByRecursion, flat_map, list_all, filter, pow-suc, pow-le-pow_right, lt-leb, and_left, and_parts, leb-true, eq-eqb, ne_eqb, le-leb, and_from, cases_lt, take_more, append-nil, length-map, Layer, Stream, Allocation, is_active, active_layers, mask_of, count_of}
 use Rattle.std.proofs.lemmas.List.Concat.{flat_map-append}
 use Rattle.rtp_vla.specs.AllocationWritten.{stream_fits, bare_or_active, shared_of, halves_of, quarters_of, mask_bytes, rate_bytes, resolution_bytes, packed_bytes, layers_fit, streams_fit, streams_bytes, written_of}
 
@@ -79,33 +79,6 @@ pub length-mask_bytes : (masks : List ℕ) → shared_of masks ≡ 0 → length 
 length-mask_bytes masks none = rw (eq-eqb (shared_of masks) 0 none) (length-halves_of 0 masks)
 
 -- ---- What is put
-
-quarters_step : (layer : Layer) (layers : List Layer) → quarters_of (map count_of (layer ∷ layers))
-    ≡ (64 * count_of layer + 16 * first_count layers + 4 * first_count (drop 1 layers) + first_count (drop 1 (drop 1 layers))) ∷ quarters_of (map count_of (drop 1 (drop 1 (drop 1 layers))))
-quarters_step layer [] = λ i. short i ∷ []
-  where
-    short : 64 * count_of layer ≡ 64 * count_of layer + 16 * 0 + 4 * 0 + 0
-    short = omega arith
-quarters_step layer (a ∷ []) = λ i. short i ∷ []
-  where
-    short : 64 * count_of layer + 16 * count_of a ≡ 64 * count_of layer + 16 * count_of a + 4 * 0 + 0
-    short = omega arith
-quarters_step layer (a ∷ b ∷ []) = λ i. short i ∷ []
-  where
-    short : 64 * count_of layer + 16 * count_of a + 4 * count_of b ≡ 64 * count_of layer + 16 * count_of a + 4 * count_of b + 0
-    short = omega arith
-quarters_step layer (a ∷ b ∷ c ∷ layers) = refl
-
-pub quarters_more : (all l₁ l₂ l₃ l₄ : List Layer) (layer : Layer) (c₁ c₂ c₃ c₄ : ℕ) → all ≡ layer ∷ l₁ → c₁ ≡ count_of layer → c₂ ≡ first_count l₁ → l₂ ≡ drop 1 l₁
-    → c₃ ≡ first_count l₂ → l₃ ≡ drop 1 l₂ → c₄ ≡ first_count l₃ → l₄ ≡ drop 1 l₃
-    → quarters_of (map count_of all) ≡ (64 * c₁ + 16 * c₂ + 4 * c₃ + c₄) ∷ quarters_of (map count_of l₄)
-quarters_more all l₁ l₂ l₃ l₄ layer c₁ c₂ c₃ c₄ is p₁ p₂ q₂ p₃ q₃ p₄ q₄ =
-    let third : l₃ ≡ drop 1 (drop 1 l₁) = q₃ ∙ ap (drop 1) q₂ in
-    let n₃ : c₃ ≡ first_count (drop 1 l₁) = p₃ ∙ ap first_count q₂ in
-    let n₄ : c₄ ≡ first_count (drop 1 (drop 1 l₁)) = p₄ ∙ ap first_count third in
-    let rest : l₄ ≡ drop 1 (drop 1 (drop 1 l₁)) = q₄ ∙ ap (drop 1) third in
-    ap (λ (ls : List Layer). quarters_of (map count_of ls)) is ∙ quarters_step layer l₁
-    ∙ (λ i. (64 * sym p₁ i + 16 * sym p₂ i + 4 * sym n₃ i + sym n₄ i) ∷ quarters_of (map count_of (sym rest i)))
 
 pub halves_two : (masks : List ℕ) → length masks ≡ 2 → halves_of 0 masks ≡ (16 * get_or masks 0 0 + get_or masks 1 0) ∷ []
 halves_two [] len = absurd (omega arith)

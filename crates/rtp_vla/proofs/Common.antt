@@ -11,7 +11,7 @@ pub use Rattle.std.specs.Option.{is_none, is_some, unwrap_or, option_map}
 pub use Rattle.rtp_base.proofs.OverwritingLemmas.{overwritten-nil, overwritten-overwritten, length-overwritten, overwritten-front}
 pub use Rattle.rtp_base.specs.Overwriting.{overwritten}
 pub use Rattle.rtp_vla.specs.Allocation.{Layer, Stream, is_active, active_layers, mask_of, EndsActive, IsBareUnlessActive, IsReadable, count_of, AreMasks, AreRates, AreResolutions, IsCounted, Allocation, AreQuarters, IsPacked, Means, AreHalves, nothing_sent}
-pub use Rattle.rtp_vla.specs.AllocationPutting.{HasSmallRates, IsSized, HasSizedResolution, first_count}
+pub use Rattle.rtp_vla.specs.AllocationPutting.{HasSmallRates, IsSized, HasSizedResolution, count_bits, weight_after, four_bytes}
 pub use Rattle.rtp_vla.specs.AllocationReading.{quarters, active_count, dealt_streams, after_rates, FitResolutions, layers_read, rate_count, IsLaidOut, next_len, halves, rates_of, resolution_in, after_resolution, HasMasks, LacksMasks, IsCutShort, layer_room, and_stream, marks_of, active_in, dealt, counts_in, Deals, DealsOn}
 pub use Rattle.rtp_vla.specs.AllocationWritten.{rates_fit, resolution_fits, resolutions_in_front, shared_of, halves_of, mask_bytes, quarters_of, rate_bytes, resolution_field, resolution_bytes, in_front_of, without_bare_tail, bare_or_active, stream_fits, trimmed, Writable, layers_fit, streams_fit, can_be_written, packed_bytes, streams_bytes, written_of}
 pub use Rattle.rtp_vla.specs.Leaving.{Leaves}

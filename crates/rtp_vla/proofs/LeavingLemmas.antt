@@ -1,6 +1,5 @@
 -- Bytes that are put into a buffer step by step.
-use Rattle.rtp_vla.proofs.Common.{◌≡◌, ℕ, ◌+◌, ◌<◌, ◌≤◌, List, [], ◌∷◌, ◌++◌, length, take, drop, set, refl, sym, ap, ◌∙◌, arith, append_assoc, length-append, take_more_set, take-append-drop, take_at, length-take-le, drop-set-lt, length-set, overwritten-nil, overwritten-overwritten, length-overwritten, Leaves}
-use Rattle.std.proofs.lemmas.List.{set-append_left}
+use Rattle.rtp_vla.proofs.Common.{◌≡◌, ℕ, ◌+◌, ◌<◌, ◌≤◌, List, [], ◌∷◌, ◌++◌, length, take, drop, set, refl, sym, ap, ◌∙◌, arith, append_assoc, length-append, take_more_set, drop-set-lt, length-set, overwritten-nil, overwritten-overwritten, length-overwritten, Leaves}
 use Rattle.rtp_base.specs.Overwriting.{overwritten}
 
 -- one byte, and then the rest
@@ -38,36 +37,6 @@ Leaves-part buf new xs ys first all at end from h new-is end-is =
 
 pub Leaves-end : (buf first all : List ℕ) (at from : ℕ) → Leaves buf at [] first from all → (buf ≡ overwritten first from all) × (at ≡ from + length all)
 Leaves-end buf first all at from h = (sym (overwritten-nil buf at) ∙ h.makes, omega (arith, h.ends))
-
--- what is left after one step and another
-pub Leaves-then : (b₂ l₂ b₁ l₁ first all : List ℕ) (e₂ e₁ from : ℕ) → Leaves b₂ e₂ l₂ b₁ e₁ l₁ → Leaves b₁ e₁ l₁ first from all → Leaves b₂ e₂ l₂ first from all
-Leaves-then b₂ l₂ b₁ l₁ first all e₂ e₁ from later sooner = record {
-  makes = later.makes ∙ sooner.makes;
-  ends = later.ends ∙ sooner.ends;
-  room = later.room;
-}
-
-take_set : (buf : List ℕ) (end at x : ℕ) → at < end → end ≤ length buf → take end (set buf at x) ≡ set (take end buf) at x
-take_set buf end at x below within =
-    let len : length (take end buf) ≡ end = length-take-le end buf within in
-    ap (λ (ys : List ℕ). take end (set ys at x)) (sym (take-append-drop end buf))
-    ∙ ap (take end) (set-append_left (take end buf) (drop end buf) at x (omega (arith, below, len)))
-    ∙ take_at (set (take end buf) at x) (drop end buf) end (length-set (take end buf) at x ∙ len)
-
--- a byte that is put before others
-pub set-before : (buf bytes : List ℕ) (end at x : ℕ) → at < end → end ≤ length buf → overwritten (set buf at x) end bytes ≡ set (overwritten buf end bytes) at x
-unfolding overwritten
-set-before buf bytes end at x below within =
-    let len : length (take end buf) ≡ end = length-take-le end buf within in
-    (λ i. take_set buf end at x below within i ++ (bytes ++ drop-set-lt (end + length bytes) buf at x (omega (arith, below)) i))
-    ∙ sym (set-append_left (take end buf) (bytes ++ drop (end + length bytes) buf) at x (omega (arith, below, len)))
-
--- a byte, and others behind it with what is left of them, make what all of them make
-pub two_rows : (buf more bytes counts : List ℕ) (end at byte : ℕ) → at < end → end + length bytes ≤ length buf
-    → overwritten buf end bytes ≡ more → overwritten (overwritten (set buf at byte) end bytes) (at + 1) counts ≡ overwritten more at (byte ∷ counts)
-two_rows buf more bytes counts end at byte below room makes =
-    ap (λ (b : List ℕ). overwritten b (at + 1) counts) (set-before buf bytes end at byte below (omega (arith, room)) ∙ ap (λ (b : List ℕ). set b at byte) makes)
-    ∙ set-overwritten more counts at byte (omega (arith, below, room, ap length (sym makes), length-overwritten buf bytes end room))
 
 -- four parts in a row, from the front on
 pub overwritten-four : (buf b₁ b₂ b₃ b₄ x₁ x₂ x₃ x₄ : List ℕ) (e₁ e₂ e₃ e₄ : ℕ) → length (x₁ ++ (x₂ ++ (x₃ ++ x₄))) ≤ length buf

@@ -1,5 +1,5 @@
 -- LEB128: the shortest spelling.
-use Rattle.rtp_vla.proofs.Common.{◌≡◌, ℕ, zero, suc, ◌+◌, ◌/◌, ◌%◌, ◌^◌, ◌<◌, ◌≤◌, inl, ⊎_elim, List, [], ◌∷◌, ◌++◌, length, refl, sym, ap, ◌∙◌, subst, arith, length-append, set, AllByRecursion, mod-eq_of_lt, pow-suc, lt-ltb, le-ltb, cases_lt, overwritten, Leaves}
+use Rattle.rtp_vla.proofs.Common.{◌≡◌, ℕ, zero, suc, ◌+◌, ◌*◌, ◌/◌, ◌%◌, ◌^◌, ◌<◌, ◌≤◌, inl, ⊎_elim, List, [], ◌∷◌, ◌++◌, length, refl, sym, ap, ◌∙◌, subst, arith, length-append, set, AllByRecursion, mod-eq_of_lt, pow-suc, lt-ltb, le-ltb, cases_lt, overwritten, Leaves}
 use Rattle.rtp_vla.specs.Leb.{base128_value, IsShortest, leb_of, shortest_of}
 use Rattle.rtp_vla.proofs.LeavingLemmas.{Leaves-start, Leaves-byte, Leaves-end}
 use Rattle.rtp_vla.proofs.LebLemmas.{base128_value-below}
@@ -132,15 +132,12 @@ put_one buf at value low room =
     let first = Leaves-byte buf [] buf (value ∷ []) at at value (Leaves-start buf (value ∷ []) at (omega (arith, room, ap length one))) in
     (Leaves-end (set buf at value) buf (value ∷ []) (at + 1) at first).0 ∙ ap (overwritten buf at) (sym one)
 
-pub put_two : (buf : List ℕ) (at value : ℕ) → 128 ≤ value → value < 16384 → at + length (shortest_of value) ≤ length buf
-    → set (set buf at (value % 128 + 128)) (at + 1) (value / 128) ≡ overwritten buf at (shortest_of value)
-put_two buf at value high low room =
-    let two = shortest-two value high low in
-    let a = value % 128 + 128 in
-    let b = value / 128 in
-    let first = Leaves-byte buf (b ∷ []) buf (a ∷ b ∷ []) at at a (Leaves-start buf (a ∷ b ∷ []) at (omega (arith, room, ap length two))) in
-    let second = Leaves-byte (set buf at a) [] buf (a ∷ b ∷ []) (at + 1) at b first in
-    (Leaves-end (set (set buf at a) (at + 1) b) buf (a ∷ b ∷ []) (at + 1 + 1) at second).0 ∙ ap (overwritten buf at) (sym two)
+-- the two bytes in one number
+pub spread_two : (value spread : ℕ) → 128 ≤ value → value < 16384 → spread ≡ value + value / 128 * 128 + 128 → (spread % 256) ∷ (spread / 256) ∷ [] ≡ shortest_of value
+spread_two value spread high low is =
+    let first : spread % 256 ≡ value % 128 + 128 = omega (arith, is) in
+    let second : spread / 256 ≡ value / 128 = omega (arith, is) in
+    (λ i. first i ∷ second i ∷ []) ∙ sym (shortest-two value high low)
 
 -- ---- The loops that write it and measure it
 

@@ -2,6 +2,7 @@ mod Common
 pub mod LeavingLemmas
 pub mod LebLemmas
 pub mod LebSpellingLemmas
+pub mod CountBitsLemmas
 pub mod CountsLemmas
 pub mod AllocationReadingLemmas
 pub mod AllocationDealing
@@ -16,4 +17,5 @@ pub mod AllocationWriting
 pub mod UpToLemmas
 pub mod LentLemmas
 pub mod MeasuringLemmas
+pub mod PuttingLemmas
 mod SettingLemmas

@@ -1,13 +1,22 @@
 -- What the functions of `writing` ask of layers that can be written.
-use Rattle.std.specs.Prelude.{ℕ, ◌<◌, ◌≤◌, List, [], ◌∷◌, Option, Some, None}
+use Rattle.std.specs.Prelude.{ℕ, ◌+◌, ◌*◌, ◌/◌, ◌%◌, ◌<◌, ◌≤◌, List, [], ◌∷◌, Option, Some, None}
 use Rattle.std.specs.List.{AllByRecursion}
 use Rattle.rtp_vla.specs.declared.allocation.ResolutionAndFramerate.{ResolutionAndFramerate}
 use Rattle.rtp_vla.specs.Allocation.{Layer, count_of}
 
--- the count of the first layer, and 0 where there is none
-abbrev pub first_count : List Layer → ℕ
-first_count [] = 0
-first_count (layer ∷ layers) = count_of layer
+-- what the counts of layers weigh together: the first one's by this weight, and each other's a quarter as much as the one's before it
+abbrev pub count_bits : ℕ → List Layer → ℕ
+count_bits weight [] = 0
+count_bits weight (layer ∷ layers) = count_of layer * weight + count_bits (weight / 4) layers
+
+-- what a count after them weighs
+abbrev pub weight_after : ℕ → List Layer → ℕ
+weight_after weight [] = weight
+weight_after weight (layer ∷ layers) = weight_after (weight / 4) layers
+
+-- the bytes of a number of 32 bits, the highest first
+abbrev pub four_bytes : ℕ → List ℕ
+four_bytes n = n / 16777216 ∷ n / 65536 % 256 ∷ n / 256 % 256 ∷ n % 256 ∷ []
 
 abbrev pub HasSmallRates : Layer → Type 0
 HasSmallRates layer = AllByRecursion (λ rate. rate < 9223372036854775808) layer.temporal_layers

@@ -1,8 +1,8 @@
 -- What is measured of an allocation that can be written.
 use Rattle.std.specs.Prelude.{◌≡◌, ℕ, ◌+◌, List, length, map, take, Bool, true, not}
 use Rattle.std.specs.List.{flat_map}
-use Rattle.rtp_vla.specs.Allocation.{Layer, Allocation, mask_of}
-use Rattle.rtp_vla.specs.AllocationWritten.{layers_fit, resolutions_in_front, rate_bytes, resolution_bytes}
+use Rattle.rtp_vla.specs.Allocation.{Layer, Allocation, active_layers, mask_of}
+use Rattle.rtp_vla.specs.AllocationWritten.{layers_fit, resolutions_in_front, rate_bytes, resolution_bytes, shared_of, written_of}
 
 -- how many they are, how many bytes their rates and resolutions have, and whether one has a resolution, so that an active layer without one can't stand before them
 pub record AreMeasured (layers : List Layer) (active len : ℕ) (is_sized : Bool) : Type 0 where
@@ -11,6 +11,9 @@ pub record AreMeasured (layers : List Layer) (active len : ℕ) (is_sized : Bool
   pub len_is : len ≡ length (flat_map rate_bytes layers) + length (flat_map resolution_bytes layers)
   pub sized_is : resolutions_in_front true layers ≡ not is_sized
 
--- the masks of the streams in the first places
-abbrev pub AreMasksOf : Allocation → List ℕ → Type 0
-AreMasksOf a masks = take (length a.simulcast_streams) masks ≡ map mask_of a.simulcast_streams
+-- the masks of the streams in the first places, the mask that all of them have or 0, how many layers are active, and how many bytes the allocation has
+pub record IsMeasureOf (a : Allocation) (masks : List ℕ) (shared active len : ℕ) : Type 0 where
+  pub masks_are : take (length a.simulcast_streams) masks ≡ map mask_of a.simulcast_streams
+  pub shared_is : shared ≡ shared_of (map mask_of a.simulcast_streams)
+  pub active_is : active ≡ length (active_layers a.simulcast_streams)
+  pub len_is : len ≡ length (written_of a)

@@ -1,9 +1,11 @@
 //! Rates as LEB128 numbers.
 
-ghost use Rattle.std.specs.Prelude.{◌≡◌, ℕ, ◌+◌, ◌^◌, ◌<◌, ◌≤◌, ◌⊎◌, ◌++◌, List, length, drop, IfSome, IfNone};
+ghost use Rattle.std.specs.Prelude.{◌≡◌, ℕ, ◌+◌, ◌/◌, ◌%◌, ◌^◌, ◌<◌, ◌≤◌, ◌⊎◌, ◌∷◌, [], ◌++◌, List, length, drop, IfSome, IfNone};
 ghost use Rattle.rtp_base.specs.Overwriting.{overwritten};
 ghost use Rattle.rtp_vla.specs.Leb.{IsShortest, ReadsLeb, shortest_of};
 ghost use Rattle.rtp_vla.specs.LebReading.{leb_number};
+
+use rtp_base::put;
 
 // The number at the front, and how many bytes spell it. It is apart, so that the numbers of one and
 // two bytes are read where they are asked for.
@@ -64,13 +66,14 @@ pub fn parse_leb_u63(buf: &[u8]) -> (u64, &[u8])
     (0, buf)
 }
 
-// How many bytes the shortest spelling has.
+// How many bytes the shortest spelling of a number from 2^14 on has.
 fn long_leb_len(value: u64) -> usize
-    requires { value < 2 ^ 63 }
+    requires long { 16384 ≤ value }
+    requires small { value < 2 ^ 63 }
     ensures { result ≡ length (shortest_of value) }
 {
-    let mut left = value;
-    let mut len = 1;
+    let mut left = value >> 14;
+    let mut len = 3;
     while left >= 0x80 {
         left >>= 7;
         len += 1;
@@ -78,7 +81,8 @@ fn long_leb_len(value: u64) -> usize
     len
 }
 
-// The same, where the number is below 2^63. Most rates in use have one or two bytes.
+// How many bytes the shortest spelling of any number below 2^63 has. Most rates in use have one or
+// two.
 #[inline(always)]
 pub(super) fn checked_leb_len(value: u64) -> Option<usize>
     ensures fits { IfSome result (λ len. (value < 2 ^ 63) × (len ≡ length (shortest_of value))) }
@@ -96,8 +100,9 @@ pub(super) fn checked_leb_len(value: u64) -> Option<usize>
     Some(2)
 }
 
-// Puts the shortest spelling at an offset, and returns the offset after it.
-#[inline(never)]
+// Puts the shortest spelling at an offset, and returns the offset after it. It is inlined, since a
+// call would take the registers of the loop over the rates.
+#[inline(always)]
 fn put_long_leb(buf: &mut [u8], at: usize, value: u64) -> usize
     requires small { value < 2 ^ 63 }
     requires room { at + length (shortest_of value) ≤ length buf.old }
@@ -115,7 +120,14 @@ fn put_long_leb(buf: &mut [u8], at: usize, value: u64) -> usize
     end + 1
 }
 
-// The same.
+// The two bytes of a number, the low one first.
+fn low_and_high(number: u16) -> [u8; 2]
+    ensures { result ≡ (number % 256) ∷ (number / 256) ∷ [] }
+{
+    number.to_le_bytes()
+}
+
+// The same. Most rates in use have one or two bytes: between two comes a bit that is set.
 #[inline(always)]
 pub(super) fn put_leb(buf: &mut [u8], at: usize, value: u64) -> usize
     requires small { value < 2 ^ 63 }
@@ -128,9 +140,8 @@ pub(super) fn put_leb(buf: &mut [u8], at: usize, value: u64) -> usize
         return at + 1;
     }
     if value < 0x4000 {
-        buf[at] = (value % 128) as u8 + 128;
-        buf[at + 1] = (value / 128) as u8;
-        return at + 2;
+        let spread = value + value / 128 * 128 + 128;
+        return put(buf, at, &low_and_high(spread as u16));
     }
     put_long_leb(buf, at, value)
 }

@@ -5,7 +5,7 @@ ghost use Rattle.rtp_vla.specs.AllocationWritten as written;
 
 use super::allocation::{SimulcastStreamAllocation, VideoLayersAllocation};
 use super::lent::Layered;
-use super::measuring::{masks_and_len, writable_len};
+use super::measuring::{Measured, measure_of, writable_len};
 use super::video_layers::{VideoLayers, VideoStream};
 use super::writing::put_allocation;
 use std::marker::Model;
@@ -15,7 +15,7 @@ use std::marker::Model;
 /// sees the allocation.
 #[derive(Drop)]
 pub struct LentAllocation<'a, S: Layered> {
-    pub(super) index: u8,
+    pub(super) index: usize,
     pub(super) streams: &'a [S],
 }
 
@@ -38,7 +38,7 @@ impl<'a> LentAllocation<'a, SimulcastStreamAllocation> {
         ensures { result ≡ v.now }
     {
         LentAllocation {
-            index: v.current_simulcast_stream_index,
+            index: usize::from(v.current_simulcast_stream_index),
             streams: &v.simulcast_streams,
         }
     }
@@ -51,7 +51,7 @@ impl<'a> LentAllocation<'a, VideoStream> {
         ensures { result ≡ v.now }
     {
         LentAllocation {
-            index: v.current_simulcast_stream_index(),
+            index: usize::from(v.current_simulcast_stream_index()),
             streams: v.simulcast_streams(),
         }
     }
@@ -66,7 +66,10 @@ impl<'a, S: Layered> LentAllocation<'a, S> {
           simulcast_streams = map S.stream streams.now;
         } }
     {
-        LentAllocation { index, streams }
+        LentAllocation {
+            index: usize::from(index),
+            streams,
+        }
     }
 
     /// How many bytes [`write_to`](Self::write_to) writes, and `None` exactly when the allocation
@@ -88,7 +91,11 @@ impl<'a, S: Layered> LentAllocation<'a, S> {
         ensures written { buf.new ≡ written.written_of self.now ++ drop result buf.old }
         ensures length { result ≡ length (written.written_of self.now) }
     {
-        match LentAllocation::new(self.index, self.streams).measure() {
+        let lent = LentAllocation {
+            index: self.index,
+            streams: self.streams,
+        };
+        match lent.measure() {
             Some(measured) => measured.write_to(buf),
             None => 0,
         }
@@ -101,11 +108,10 @@ impl<'a, S: Layered> LentAllocation<'a, S> {
             written.Writable self.entry × (measured ≡ self.entry)) }
         ensures none { IfNone result (written.Writable self.entry → ⊥) }
     {
-        let (masks, len) = masks_and_len(&self)?;
+        let measured = measure_of(&self)?;
         Some(MeasuredAllocation {
             allocation: self,
-            masks,
-            len,
+            measured,
         })
     }
 }
@@ -115,24 +121,22 @@ impl<'a, S: Layered> LentAllocation<'a, S> {
 #[derive(Drop)]
 pub struct MeasuredAllocation<'a, S: Layered> {
     allocation: LentAllocation<'a, S>,
-    // The masks of its streams, and how many bytes it has.
-    masks: [u8; 4],
-    len: usize,
+    measured: Measured,
 }
 
 impl<'a, S: Layered> Model for MeasuredAllocation<'a, S> {
-    ghost use Rattle.std.specs.Prelude.{◌≡◌, true, length};
+    ghost use Rattle.std.specs.Prelude.{◌≡◌, true};
     ghost use Rattle.rtp_vla.specs.Allocation.{Allocation};
-    ghost use Rattle.rtp_vla.specs.AllocationWritten.{can_be_written, written_of};
-    ghost use Rattle.rtp_vla.specs.Measuring.{AreMasksOf};
+    ghost use Rattle.rtp_vla.specs.AllocationWritten.{can_be_written};
+    ghost use Rattle.rtp_vla.specs.Measuring.{IsMeasureOf};
 
     ghost Value = { Allocation };
 
     ghost view = { λ measured. measured.allocation };
 
     ghost invariant = { λ measured. (can_be_written measured.allocation ≡ true)
-        × AreMasksOf measured.allocation measured.masks
-        × (measured.len ≡ length (written_of measured.allocation)) };
+        × IsMeasureOf measured.allocation measured.measured.masks measured.measured.shared
+        measured.measured.active measured.measured.len };
 }
 
 impl<'a, S: Layered> MeasuredAllocation<'a, S> {
@@ -142,7 +146,7 @@ impl<'a, S: Layered> MeasuredAllocation<'a, S> {
         ensures writable { written.Writable self.now }
         ensures length { result ≡ length (written.written_of self.now) }
     {
-        self.len
+        usize::from(self.measured.len)
     }
 
     /// Writes the allocation to the front of the buffer, as [`LentAllocation::write_to`] does, and returns
@@ -153,6 +157,6 @@ impl<'a, S: Layered> MeasuredAllocation<'a, S> {
         ensures written { buf.new ≡ written.written_of self.now ++ drop result buf.old }
         ensures length { result ≡ length (written.written_of self.now) }
     {
-        put_allocation(&self.allocation, &self.masks, buf)
+        put_allocation(&self.allocation, &self.measured, buf)
     }
 }

@@ -1,7 +1,6 @@
 //! The layers that a sender of video keeps active, as a header extension.
 #![tactic(auto)]
 
-mod active;
 mod allocation;
 mod comparing;
 mod counts;
@@ -12,6 +11,7 @@ mod lent_allocation;
 mod measuring;
 mod parsing;
 mod parts;
+mod putting;
 mod set_layers;
 mod streams;
 mod up_to;

@@ -6,7 +6,7 @@ ghost use Rattle.std.specs.List.{filter, flat_map, list_all};
 ghost use Rattle.rtp_vla.specs.Allocation.{Layer, is_active, active_layers, mask_of};
 ghost use Rattle.rtp_vla.specs.AllocationWritten as written;
 ghost use Rattle.rtp_vla.specs.Leb.{shortest_of};
-ghost use Rattle.rtp_vla.specs.Measuring.{AreMeasured, AreMasksOf};
+ghost use Rattle.rtp_vla.specs.Measuring.{AreMeasured, IsMeasureOf};
 
 use super::allocation::{ResolutionAndFramerate, TemporalLayerAllocation};
 use super::leb::checked_leb_len;
@@ -120,33 +120,31 @@ fn add_stream<L: Lendable>(mut layers: LentLayers<L>, measure: &mut Measure) -> 
         if mask > 7 {
             return None;
         }
-        let active = !layer.temporal_layers.is_empty();
-        if active {
+        if layer.temporal_layers.is_empty() {
+            if layer.resolution_and_framerate.is_some() {
+                return None;
+            }
+            mask *= 2;
+        } else {
             measure.add(&layer)?;
-        } else if layer.resolution_and_framerate.is_some() {
-            return None;
+            mask = 2 * mask + 1;
         }
-        mask = 2 * mask + u8::from(active);
     }
     Some(mask)
 }
 
-// Measures streams, from the last one on, and puts their masks: how many bytes the counts, rates and
-// resolutions have of those that can be written.
-fn streams_len<S: Layered>(streams: &[S], masks: &mut [u8]) -> Option<usize>
+// Measures streams, from the last one on, and puts their masks; `None` where they can't be written.
+fn measure_streams<S: Layered>(streams: &[S], masks: &mut [u8]) -> Option<Measure>
     requires len { length streams.now ≡ length masks.old }
     requires few { length streams.now ≤ 4 }
-    ensures fits { IfSome result (λ len.
+    ensures fits { IfSome result (λ measure.
         (list_all written.stream_fits (map S.stream streams.now) ≡ true)
-        × (written.layers_fit (active_layers (map S.stream streams.now)) ≡ true)
-        × (len ≡ (length (active_layers (map S.stream streams.now)) + 3) / 4
-        + (length (flat_map written.rate_bytes (active_layers (map S.stream streams.now)))
-        + length (flat_map written.resolution_bytes
-        (active_layers (map S.stream streams.now)))))) }
+        × AreMeasured (active_layers (map S.stream streams.now))
+        measure.active measure.len measure.is_sized) }
     ensures masks { IfSome result (λ _. masks.new ≡ map mask_of (map S.stream streams.now)) }
     ensures unfit { IfNone result ((list_all written.stream_fits (map S.stream streams.now)
         && written.layers_fit (active_layers (map S.stream streams.now))) ≡ false) }
-    ensures few { IfSome result (λ len. len ≤ 660) }
+    ensures few { IfSome result (λ measure. (measure.active ≤ 16) × (measure.len ≤ 656)) }
 {
     let mut measure = Measure {
         active: 0,
@@ -158,7 +156,7 @@ fn streams_len<S: Layered>(streams: &[S], masks: &mut [u8]) -> Option<usize>
         i -= 1;
         masks[i] = add_stream(streams[i].layers(), &mut measure)?;
     }
-    Some((measure.active + 3) / 4 + measure.len)
+    Some(measure)
 }
 
 // Whether all masks are this one.
@@ -169,7 +167,7 @@ fn all_are(masks: &[u8], mask: u8) -> bool
 }
 
 // The mask that all streams have, or 0.
-pub(super) fn shared_of(masks: &[u8]) -> u8
+fn shared_of(masks: &[u8]) -> u8
     ensures { result ≡ written.shared_of masks.now }
 {
     let Some((first, others)) = masks.split_first() else {
@@ -178,32 +176,52 @@ pub(super) fn shared_of(masks: &[u8]) -> u8
     if all_are(others, *first) { *first } else { 0 }
 }
 
-// How many bytes the masks have after the head.
-fn masks_len(masks: &[u8]) -> usize
-    requires { length masks.now ≤ 4 }
+// How many bytes the masks have after the head, which has the one that all streams have.
+fn masks_len(masks: &[u8], shared: u8) -> usize
+    requires few { length masks.now ≤ 4 }
+    requires shared { shared ≡ written.shared_of masks.now }
     ensures len { result ≡ length (written.mask_bytes masks.now) }
     ensures few { result ≤ 2 }
 {
-    if shared_of(masks) == 0 {
+    if shared == 0 {
         (masks.len() + 1) / 2
     } else {
         0
     }
 }
 
-// The masks of the allocation, and how many bytes it has, where it can be written: the test and the
-// measure in one. It is inlined, so that nothing sent costs little besides the call.
+/// What is measured of an allocation that can be written.
+#[derive(Drop)]
+pub(super) struct Measured {
+    // The masks of its streams, and the one that all of them have, or 0.
+    pub(super) masks: [u8; 4],
+    pub(super) shared: u8,
+    // How many layers are active, and how many bytes the allocation has.
+    pub(super) active: u8,
+    pub(super) len: u16,
+}
+
+// The allocation, measured, where it can be written: the test and the measure in one. It is inlined,
+// so that nothing sent costs little besides the call.
 #[inline(always)]
 #[tactic(auto, unfolding(crate::specs::AllocationWritten::written_of))]
-pub(super) fn masks_and_len<S: Layered>(v: &LentAllocation<S>) -> Option<([u8; 4], usize)>
+pub(super) fn measure_of<S: Layered>(v: &LentAllocation<S>) -> Option<Measured>
     ensures fits { IfSome result (λ found. (written.can_be_written v.now ≡ true)
-        × AreMasksOf v.now found.0 × (found.1 ≡ length (written.written_of v.now))) }
+        × IsMeasureOf v.now found.masks found.shared found.active found.len) }
     ensures unfit { IfNone result (written.can_be_written v.now ≡ false) }
 {
     let mut masks = [0; 4];
     let streams = v.streams.len();
     if streams == 0 {
-        return if v.index == 0 { Some((masks, 1)) } else { None };
+        if v.index > 0 {
+            return None;
+        }
+        return Some(Measured {
+            masks,
+            shared: 0,
+            active: 0,
+            len: 1,
+        });
     }
     if v.index > 3 {
         return None;
@@ -211,9 +229,15 @@ pub(super) fn masks_and_len<S: Layered>(v: &LentAllocation<S>) -> Option<([u8; 4
     if streams > 4 {
         return None;
     }
-    let layers = streams_len(v.streams, &mut masks[..streams])?;
-    let len = 1 + masks_len(&masks[..streams]) + layers;
-    Some((masks, len))
+    let layers = measure_streams(v.streams, &mut masks[..streams])?;
+    let shared = shared_of(&masks[..streams]);
+    let len = 1 + masks_len(&masks[..streams], shared) + (layers.active + 3) / 4 + layers.len;
+    Some(Measured {
+        masks,
+        shared,
+        active: layers.active as u8,
+        len: len as u16,
+    })
 }
 
 // How many bytes the allocation has, where it can be written.
@@ -222,6 +246,5 @@ pub(super) fn writable_len<S: Layered>(v: &LentAllocation<S>) -> Option<usize>
         × (len ≡ length (written.written_of v.now))) }
     ensures unfit { IfNone result (written.can_be_written v.now ≡ false) }
 {
-    let (_, len) = masks_and_len(v)?;
-    Some(len)
+    Some(usize::from(measure_of(v)?.len))
 }

@@ -1,22 +1,17 @@
 //! From an allocation to bytes.
 
-ghost use Rattle.std.specs.Prelude.{◌≡◌, ◌↔◌, true, false, ◌+◌, ◌*◌, ◌/◌, ◌%◌, ◌<◌, ◌≤◌, ◌∷◌, [], ◌++◌, List, length, drop, map, is_some, IsTrue, IfSome, IfNone};
+ghost use Rattle.std.specs.Prelude.{◌≡◌, ◌↔◌, true, false, ◌+◌, ◌*◌, ◌/◌, ◌%◌, ◌<◌, ◌≤◌, ◌∷◌, [], ◌++◌, List, length, take, drop, map, is_some, IsTrue, IfSome, IfNone};
 ghost use Rattle.std.specs.List.{AllByRecursion, flat_map};
 ghost use Rattle.rtp_base.specs.Overwriting.{overwritten};
-ghost use Rattle.rtp_vla.specs.Allocation.{Layer, Means, IsCounted, count_of, mask_of};
+ghost use Rattle.rtp_vla.specs.Allocation.{Means, active_layers, mask_of};
 ghost use Rattle.rtp_vla.specs.AllocationWritten as written;
-ghost use Rattle.rtp_vla.specs.AllocationPutting as putting;
-ghost use Rattle.rtp_vla.specs.Leaving.{Leaves};
-ghost use Rattle.rtp_vla.specs.Leb.{shortest_of};
-ghost use Rattle.rtp_vla.specs.Measuring.{AreMasksOf};
+ghost use Rattle.rtp_vla.specs.Measuring.{IsMeasureOf};
 
-use super::active::ActiveLayers;
-use super::allocation::{ResolutionAndFramerate, TemporalLayerAllocation, VideoLayersAllocation};
-use super::leb::put_leb;
+use super::allocation::VideoLayersAllocation;
 use super::lent::Layered;
 use super::lent_allocation::LentAllocation;
-use super::measuring::{shared_of, writable_len};
-use super::parts::active_count;
+use super::measuring::{Measured, writable_len};
+use super::putting::{put_counts_and_rates, put_resolutions};
 use super::video_layers::VideoLayers;
 use rtp_base::put;
 
@@ -37,115 +32,6 @@ fn put_halves(buf: &mut [u8], at: usize, masks: &[u8]) -> usize
     }
 }
 
-// Puts the rates of a layer.
-fn put_layer_rates(buf: &mut [u8], at: usize, rates: &[TemporalLayerAllocation]) -> usize
-    requires small { AllByRecursion (λ rate. rate < 9223372036854775808) rates.now }
-    requires room { at + length (flat_map shortest_of rates.now) ≤ length buf.old }
-    ensures written { buf.new ≡ overwritten buf.old at (flat_map shortest_of rates.now) }
-    ensures end { result ≡ at + length (flat_map shortest_of rates.now) }
-{
-    let mut end = at;
-    for rate in rates {
-        end = put_leb(buf, end, rate.cumulative_kbps);
-    }
-    end
-}
-
-// Puts the rates of the next layer, and returns its count and the offset after them; after the last
-// layer 0 and the same offset.
-#[inline(always)]
-fn put_next<S: Layered>(buf: &mut [u8], at: usize, left: &mut ActiveLayers<S>) -> (u8, usize)
-    requires fit { AllByRecursion IsCounted left.old }
-    requires small { AllByRecursion putting.HasSmallRates left.old }
-    requires room { at + length (flat_map written.rate_bytes left.old) ≤ length buf.old }
-    ensures count { result.0 ≡ putting.first_count left.old }
-    ensures left { left.new ≡ drop 1 left.old }
-    ensures rates { Leaves buf.new result.1 (flat_map written.rate_bytes left.new)
-        buf.old at (flat_map written.rate_bytes left.old) }
-    ensures few { (result.0 ≤ 3) × (at ≤ result.1) }
-    ensures fit { AllByRecursion IsCounted left.new }
-    ensures small { AllByRecursion putting.HasSmallRates left.new }
-{
-    let Some(layer) = left.next() else {
-        return (0, at);
-    };
-    let count = layer.temporal_layers.len().saturating_sub(1) as u8;
-    (count, put_layer_rates(buf, at, layer.temporal_layers))
-}
-
-// Puts the counts of the layers, four in a byte, and after them the rates.
-fn put_counts_and_rates<S: Layered>(
-    buf: &mut [u8],
-    at: usize,
-    mut left: ActiveLayers<S>,
-    active: usize,
-) -> usize
-    requires active { active ≡ length left }
-    requires few { active ≤ 16 }
-    requires fit { AllByRecursion IsCounted left }
-    requires small { AllByRecursion putting.HasSmallRates left }
-    requires room { at + length
-        (written.quarters_of (map count_of left) ++ flat_map written.rate_bytes left) ≤ length buf.old }
-    ensures written { buf.new ≡ overwritten buf.old at
-        (written.quarters_of (map count_of left.entry) ++ flat_map written.rate_bytes left.entry) }
-    ensures end { result ≡ at + length
-        (written.quarters_of (map count_of left.entry) ++ flat_map written.rate_bytes left.entry) }
-{
-    let mut end = at + (active + 3) / 4;
-    let mut count_at = at;
-    while let Some(layer) = left.next() {
-        let first = layer.temporal_layers.len().saturating_sub(1) as u8;
-        let after_first = put_layer_rates(buf, end, layer.temporal_layers);
-        let (second, after_second) = put_next(buf, after_first, &mut left);
-        let (third, after_third) = put_next(buf, after_second, &mut left);
-        let (fourth, after_fourth) = put_next(buf, after_third, &mut left);
-        end = after_fourth;
-        buf[count_at] = 64 * first + 16 * second + 4 * third + fourth;
-        count_at += 1;
-    }
-    end
-}
-
-// The two bytes of a number.
-fn high_and_low(number: u16) -> [u8; 2]
-    ensures { result ≡ (number / 256) ∷ (number % 256) ∷ [] }
-{
-    number.to_be_bytes()
-}
-
-// Puts the resolution of a layer, if it has one.
-fn put_resolution(buf: &mut [u8], at: usize, resolution: &Option<ResolutionAndFramerate>) -> usize
-    requires some { putting.IsSized resolution.now }
-    requires room { at + length (written.resolution_field resolution.now) ≤ length buf.old }
-    ensures written { buf.new ≡ overwritten buf.old at (written.resolution_field resolution.now) }
-    ensures end { result ≡ at + length (written.resolution_field resolution.now) }
-{
-    let Some(resolution) = resolution else {
-        return at;
-    };
-    let [x, y] = high_and_low(resolution.width - 1);
-    let [z, u] = high_and_low(resolution.height - 1);
-    put(buf, at, &[x, y, z, u, resolution.framerate])
-}
-
-// Puts the resolutions. The first layer without one ends them.
-fn put_resolutions<S: Layered>(buf: &mut [u8], at: usize, mut left: ActiveLayers<S>) -> usize
-    requires some { AllByRecursion putting.HasSizedResolution left }
-    requires front { written.resolutions_in_front false left ≡ true }
-    requires room { at + length (flat_map written.resolution_bytes left) ≤ length buf.old }
-    ensures written { buf.new ≡ overwritten buf.old at (flat_map written.resolution_bytes left.entry) }
-    ensures end { result ≡ at + length (flat_map written.resolution_bytes left.entry) }
-{
-    let mut end = at;
-    while let Some(layer) = left.next() {
-        if layer.resolution_and_framerate.is_none() {
-            return end;
-        }
-        end = put_resolution(buf, end, &layer.resolution_and_framerate);
-    }
-    end
-}
-
 // Puts the masks, unless the head has one that all streams share.
 fn put_masks(buf: &mut [u8], at: usize, masks: &[u8], shared: u8) -> usize
     requires few { length masks.now ≤ 4 }
@@ -162,41 +48,57 @@ fn put_masks(buf: &mut [u8], at: usize, masks: &[u8], shared: u8) -> usize
     }
 }
 
-// Puts streams, of which there are some, with these masks, and returns how many bytes they have.
-fn put_streams<S: Layered>(buf: &mut [u8], index: u8, streams: &[S], masks: &[u8]) -> usize
+// Puts streams, of which there are some, and returns how many bytes they have. It stays out of
+// line, since few packets have an allocation and the other kinds of values need the registers.
+#[inline(never)]
+fn put_streams<S: Layered>(
+    buf: &mut [u8],
+    index: usize,
+    streams: &[S],
+    measured: &Measured,
+) -> usize
     requires some { 1 ≤ length (map S.stream streams.now) }
-    requires masks { masks.now ≡ map mask_of (map S.stream streams.now) }
     requires fit { written.streams_fit index (map S.stream streams.now) ≡ true }
-    requires room { length (written.packed_bytes index (map S.stream streams.now)) ≤ length buf.old }
-    ensures written { buf.new ≡ overwritten buf.old 0 (written.packed_bytes index (map S.stream streams.now)) }
+    requires masks { take (length streams.now) measured.now.masks
+        ≡ map mask_of (map S.stream streams.now) }
+    requires shared { measured.now.shared
+        ≡ written.shared_of (map mask_of (map S.stream streams.now)) }
+    requires active { measured.now.active ≡ length (active_layers (map S.stream streams.now)) }
+    requires len { measured.now.len
+        ≡ length (written.packed_bytes index (map S.stream streams.now)) }
+    requires room { length (written.packed_bytes index (map S.stream streams.now))
+        ≤ length buf.old }
+    ensures written { buf.new ≡ overwritten buf.old 0
+        (written.packed_bytes index (map S.stream streams.now)) }
     ensures end { result ≡ length (written.packed_bytes index (map S.stream streams.now)) }
 {
-    let shared = shared_of(masks);
-    let head = 64 * index + 16 * (streams.len() - 1) as u8 + shared;
+    let head = (64 * index + 16 * (streams.len() - 1)) as u8 + measured.shared;
     let end = put(buf, 0, &[head]);
-    let end = put_masks(buf, end, masks, shared);
-    let active = active_count(masks);
-    let end = put_counts_and_rates(buf, end, ActiveLayers::new(streams), active);
-    put_resolutions(buf, end, ActiveLayers::new(streams))
+    let end = put_masks(buf, end, &measured.masks[..streams.len()], measured.shared);
+    let end = put_counts_and_rates(buf, end, streams, usize::from(measured.active));
+    if end == usize::from(measured.len) {
+        return end;
+    }
+    put_resolutions(buf, end, streams)
 }
 
-// Puts an allocation with these masks, and returns how many bytes it has.
+// Puts an allocation of this measure, and returns how many bytes it has.
 pub(super) fn put_allocation<S: Layered>(
     v: &LentAllocation<S>,
-    masks: &[u8; 4],
+    measured: &Measured,
     buf: &mut [u8],
 ) -> usize
     requires writable { written.can_be_written v.now ≡ true }
-    requires masks { AreMasksOf v.now masks.now }
+    requires measured { IsMeasureOf v.now
+        measured.now.masks measured.now.shared measured.now.active measured.now.len }
     requires room { length (written.written_of v.now) ≤ length buf.old }
     ensures written { buf.new ≡ written.written_of v.now ++ drop result buf.old }
     ensures length { result ≡ length (written.written_of v.now) }
 {
-    let streams = v.streams.len();
-    if streams == 0 {
+    if v.streams.is_empty() {
         return put(buf, 0, &[0]);
     }
-    put_streams(buf, v.index, v.streams, &masks[..streams])
+    put_streams(buf, v.index, v.streams, measured)
 }
 
 /// Whether the allocation can be written: some bytes mean it, once the layers at the end of each

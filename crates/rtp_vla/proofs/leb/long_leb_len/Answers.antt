@@ -1,9 +1,15 @@
-use Rattle.std.proofs.Common.{◌≡◌, ◌-◌, ◌+◌, suc, ap, arith, length}
+use Rattle.std.proofs.Common.{◌≡◌, ◌-◌, ◌+◌, ◌/◌, suc, ap, arith, length}
 use Rattle.rtp_vla.proofs.LebSpellingLemmas.{shortest-leb_of, measured_more, measured_all}
+use Rattle.rtp_vla.specs.Leb.{shortest_of}
 use Rattle.rtp_vla.proofs.leb.long_leb_len.Goals as goal
 
 pub loop-left-init : goal.loop-left-init
-loop-left-init c = record { all = omega (arith, ap length (shortest-leb_of c.args.value)); below = c.requires; some = omega arith; few = omega arith }
+loop-left-init c =
+    let value = c.args.value in
+    let one = measured_more 8 1 value (length (shortest_of value) + 1) (omega (arith, c.requires.long)) c.requires.small (omega (arith, ap length (shortest-leb_of value))) in
+    let two = measured_more 7 2 (value / 128) (length (shortest_of value) + 1) (omega (arith, c.requires.long)) one.1 one.0 in
+    let same : value / 128 / 128 ≡ value / 16384 = omega arith in
+    record { all = rw same at two.0; below = rw same at two.1; some = omega arith; few = omega arith }
 
 pub loop-left-preserved : goal.loop-left-preserved
 loop-left-preserved c =

@@ -1,10 +1,8 @@
-use Rattle.rtp_vla.proofs.Common.{rules, ◌≡◌, ◌<◌, ◌≤◌, ◌∷◌, ◌++◌, [], ap, sym, ◌∙◌, subst, length, drop, arith, List, true, false, length-append, filter, is_active, and_left, Layer}
-use Rattle.rtp_vla.specs.declared.measuring.Measure.{Measure}
+use Rattle.rtp_vla.proofs.Common.{rules, ◌≡◌, ◌<◌, ◌≤◌, ◌∷◌, ◌++◌, [], ap, sym, ◌∙◌, subst, length, drop, arith, List, true, length-append, filter, is_active, and_left, Layer}
 use Rattle.rtp_vla.specs.Measuring.{AreMeasured}
 use Rattle.rtp_vla.proofs.AllocationWritingLemmas.{mask_unfit}
-use Rattle.rtp_vla.proofs.MeasuringLemmas.{taken_more, unfit_stream, few_below, filter_active, filter_idle, if_none}
+use Rattle.rtp_vla.proofs.MeasuringLemmas.{taken_more, unfit_stream, few_below, filter_active, if_none}
 use Rattle.rtp_vla.proofs.measuring.add_stream.Goals as goal
-use Rattle.rtp_vla.proofs.measuring.add_stream.Goals.{then-active+in_ok-add, else-active+else-is_some}
 
 pub returns-then-mask-gt7-clause-unfit : goal.returns-then-mask-gt7-clause-unfit
 returns-then-mask-gt7-clause-unfit g c after measured =
@@ -33,31 +31,16 @@ loop-layer-preserved g c =
     let layer = c.in-Some.layer in
     let so_far = c.loop-layer.invariant in
     let more = taken_more c.loop-layer.layers c.next_back.new.self taken c.args.layers layer so_far.joined c.in-Some.ensures.found in
+    let active : is_active layer ≡ true = search rules in
     record {
       joined = ap (λ (ls : List Layer). c.next_back.new.self ++ ls) more.0 ∙ sym more.1;
       mask = search rules;
       fits = search rules;
       small = search rules;
-      active = elim c.if-active.branch [
-        | then-active+in_ok-add w ↦
-            let active : is_active layer ≡ true = search rules in
-            omega (arith, ap (λ (m : Measure). m.active) w.measure-is, w.in_ok-add.ensures.active, so_far.active, ap (λ (ls : List Layer). length (filter is_active ls)) more.0, ap length (filter_active layer taken active))
-        | else-active+else-is_some w ↦
-            let idle : is_active layer ≡ false = search rules in
-            omega (arith, ap (λ (m : Measure). m.active) w.measure-is, so_far.active, ap (λ (ls : List Layer). length (filter is_active ls)) more.0, ap length (filter_idle layer taken idle))
-      ];
+      active = omega (arith, c.in_ok-add.ensures.active, so_far.active, ap (λ (ls : List Layer). length (filter is_active ls)) more.0, ap length (filter_active layer taken active));
       few = search rules;
-      measured = λ after measured. elim c.if-active.branch [
-        | then-active+in_ok-add w ↦
-            let active : is_active layer ≡ true = search rules in
-            subst (λ (ls : List Layer). AreMeasured (ls ++ after) c.if-active.measure.active c.if-active.measure.len c.if-active.measure.is_sized)
-            (sym (ap (filter is_active) more.0 ∙ filter_active layer taken active))
-            (subst (λ (m : Measure). AreMeasured (layer ∷ (filter is_active taken ++ after)) m.active m.len m.is_sized) (sym w.measure-is)
-            (w.in_ok-add.ensures.fits (filter is_active taken ++ after) (so_far.measured after measured)))
-        | else-active+else-is_some w ↦
-            let idle : is_active layer ≡ false = search rules in
-            subst (λ (ls : List Layer). AreMeasured (ls ++ after) c.if-active.measure.active c.if-active.measure.len c.if-active.measure.is_sized)
-            (sym (ap (filter is_active) more.0 ∙ filter_idle layer taken idle))
-            (subst (λ (m : Measure). AreMeasured (filter is_active taken ++ after) m.active m.len m.is_sized) (sym w.measure-is) (so_far.measured after measured))
-      ];
+      measured = λ after measured.
+          subst (λ (ls : List Layer). AreMeasured (ls ++ after) c.add.new.self.active c.add.new.self.len c.add.new.self.is_sized)
+          (sym (ap (filter is_active) more.0 ∙ filter_active layer taken active))
+          (c.in_ok-add.ensures.fits (filter is_active taken ++ after) (so_far.measured after measured));
     }

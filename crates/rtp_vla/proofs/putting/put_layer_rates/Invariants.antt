@@ -1,5 +1,5 @@
 use Rattle.rtp_vla.proofs.Common.{drop, flat_map, shortest_of, Leaves}
-use Rattle.rtp_vla.proofs.writing.put_layer_rates.Given as goal
+use Rattle.rtp_vla.proofs.putting.put_layer_rates.Given as goal
 
 -- what is left is put after the bytes so far
 abbrev pub invariant-loop-rate : goal.invariant-loop-rate

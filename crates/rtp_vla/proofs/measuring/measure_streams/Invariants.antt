@@ -1,6 +1,6 @@
 use Rattle.rtp_vla.proofs.Common.{◌≡◌, ◌≤◌, ◌+◌, ◌*◌, drop, length, map, true, list_all, active_layers, mask_of, stream_fits}
 use Rattle.rtp_vla.specs.Measuring.{AreMeasured}
-use Rattle.rtp_vla.proofs.measuring.streams_len.Given as goal
+use Rattle.rtp_vla.proofs.measuring.measure_streams.Given as goal
 
 -- the streams from this one on fit, with these masks, and their active layers are measured
 abbrev pub invariant-loop-i : goal.invariant-loop-i

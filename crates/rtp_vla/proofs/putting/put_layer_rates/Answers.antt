@@ -1,6 +1,6 @@
 use Rattle.rtp_vla.proofs.Common.{◌≡◌, ◌++◌, ◌∙◌, ap, drop, get_or, ℕ, ◌+◌, [], sym, flat_map, drop_more, drop_all, get_or_read, shortest_of}
 use Rattle.rtp_vla.proofs.LeavingLemmas.{Leaves-part, Leaves-end}
-use Rattle.rtp_vla.proofs.writing.put_layer_rates.Goals as goal
+use Rattle.rtp_vla.proofs.putting.put_layer_rates.Goals as goal
 
 pub loop-rate-preserved : goal.loop-rate-preserved
 loop-rate-preserved c =

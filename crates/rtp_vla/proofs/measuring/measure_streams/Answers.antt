@@ -4,8 +4,8 @@ use Rattle.std.proofs.lemmas.Option.{slice_get-map, slice_get_read}
 use Rattle.rtp_vla.specs.Measuring.{AreMeasured}
 use Rattle.rtp_vla.proofs.AllocationWritingLemmas.{length-active}
 use Rattle.rtp_vla.proofs.MeasuringLemmas.{drop_with, drop_set, unfit_streams, if_none}
-use Rattle.rtp_vla.proofs.measuring.streams_len.Goals as goal
-use Rattle.rtp_vla.proofs.measuring.streams_len.Goals.{After-layers}
+use Rattle.rtp_vla.proofs.measuring.measure_streams.Goals as goal
+use Rattle.rtp_vla.proofs.measuring.measure_streams.Goals.{After-layers}
 
 -- the stream that stands at the index
 at : (g : _) (c : After-layers g) → slice_get (map g.S.Layered.stream c.args.streams.now) (c.loop-i.i - 1) ≡ Some c.layers.result
