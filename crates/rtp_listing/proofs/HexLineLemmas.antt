@@ -1,6 +1,7 @@
 -- Which lines are hexadecimal.
-use Rattle.std.proofs.Common.{◌≡◌, ℕ, ◌%◌, ◌/◌, ◌+◌, ◌*◌, ◌^◌, ◌<◌, ◌≤◌, List, length, take, drop, Result, Ok, Err, true, refl, sym, ap, ◌∙◌, arith, bit_and}
+use Rattle.std.proofs.Common.{◌≡◌, ℕ, ◌%◌, ◌/◌, ◌+◌, ◌*◌, ◌^◌, ◌<◌, ◌≤◌, List, length, take, drop, Result, Ok, Err, Bool, true, false, get_or, below_more, ◌&&◌, refl, sym, ap, ◌∙◌, arith, bit_and}
 use Rattle.std.specs.Prelude.{IsOk, Some}
+use Rattle.std.specs.Bool.{MatchBool}
 use Rattle.std.specs.List.{All}
 use Rattle.std.specs.Char.{IsAsciiHexdigit, IsNotAsciiHexdigit}
 use Rattle.std.proofs.lemmas.Grind.{common_steps}
@@ -76,5 +77,19 @@ decoded_front s out i room fits inv =
     let same : take i (take i out) ≡ take i out = take_all i (take i out) (omega arith) in
     decode_done s (take i out) i (omega arith) fits (rw same inv)
 
-pub not_both : (c : ℕ) → IsAsciiHexdigit c → IsNotAsciiHexdigit c → ⊥
-not_both c digit other = grind (arith, common_steps)
+-- whether all of the first bytes are digits
+pub record AreDigits (line : List ℕ) (count : ℕ) (all : Bool) : Type 0 where
+  pub sound : all ≡ true → (k : ℕ) → k < count → IsAsciiHexdigit (get_or line k 0)
+  pub complete : ((k : ℕ) → k < count → IsAsciiHexdigit (get_or line k 0)) → all ≡ true
+
+pub AreDigits-none : (line : List ℕ) → AreDigits line 0 true
+AreDigits-none line = record { sound = λ all k below. absurd (omega arith); complete = λ each. refl }
+
+no_digit : (c : ℕ) → IsAsciiHexdigit c → IsNotAsciiHexdigit c → ⊥
+no_digit c digit other = grind (arith, common_steps)
+
+pub AreDigits-more : (line : List ℕ) (count : ℕ) (all here : Bool) → MatchBool here (IsAsciiHexdigit (get_or line count 0)) (IsNotAsciiHexdigit (get_or line count 0)) → AreDigits line count all
+    → AreDigits line (count + 1) (all && here)
+AreDigits-more line count true true is so_far = record { sound = λ all. below_more (λ k. IsAsciiHexdigit (get_or line k 0)) count (so_far.sound refl) is; complete = λ each. refl }
+AreDigits-more line count true false is so_far = record { sound = λ all. absurd (cc all); complete = λ each. absurd (no_digit _ (each count (omega arith)) is) }
+AreDigits-more line count false here is so_far = record { sound = λ all. absurd (cc all); complete = λ each. so_far.complete (λ k lower. each k (omega arith)) }
