@@ -37,16 +37,24 @@ fn write_bytes(digits: &[u8], from: usize, bytes: &mut [u8])
     }
 }
 
-/// Whether the line is hexadecimal: an even number of digits. None ends the loop early, so that many
-/// are tested at once.
+/// Whether all bytes are hexadecimal digits. None ends the loop early, so that many are tested at
+/// once.
+#[inline(always)]
+pub(super) fn are_digits(bytes: &[u8]) -> bool
+    ensures { IsTrue result ↔ All IsAsciiHexdigit bytes.now }
+{
+    let mut all = true;
+    for byte in bytes {
+        all &= byte.is_ascii_hexdigit();
+    }
+    all
+}
+
+/// Whether the line is hexadecimal: an even number of digits.
 pub(super) fn is_hex(line: &[u8]) -> bool
     ensures { IsTrue result ↔ IsOk (decode_of line.now) }
 {
-    let mut digits = true;
-    for byte in line {
-        digits &= byte.is_ascii_hexdigit();
-    }
-    digits && line.len() % 2 == 0
+    line.len() % 2 == 0 && are_digits(line)
 }
 
 /// Returns the bytes of a line of hexadecimal digits of either case, two digits a byte, and `None`

@@ -6,7 +6,7 @@ ghost use Rattle.rtp_listing.specs.declared.input.InputError.TheVariants.{NoMemo
 ghost use Rattle.rtp_listing.specs.Input.{AreHex, Spells, IsFirstBadLine};
 ghost use Rattle.rtp_listing.specs.Front.{MapsFirst, MapsNoneFirst, IsFront, IsFirstNotHex, IsHexText};
 
-use super::hex_line::is_hex;
+use super::hex_line::{are_digits, is_hex};
 use super::line::first_line;
 use super::map_line::map_line;
 use rtp_wire::{Extension, ExtensionMap};
@@ -77,6 +77,11 @@ fn first_not_hex(text: &[u8], lines_before: u64) -> Option<u64>
     let mut rest = text;
     let mut number = lines_before;
     while !rest.is_empty() {
+        // The digits of a long line are passed before its end is looked for.
+        if rest.len() >= 64 && are_digits(&rest[..64]) {
+            rest = &rest[64..];
+            continue;
+        }
         let (line, after) = first_line(rest);
         number += 1;
         if !is_hex(line) {
