@@ -37,17 +37,19 @@ fn write_bytes(digits: &[u8], from: usize, bytes: &mut [u8])
     }
 }
 
-/// Whether all bytes are hexadecimal digits. None ends the loop early, so that many are tested at
-/// once.
+/// Whether all bytes are hexadecimal digits: none is past `0` to `9` and past the letters of either
+/// case too. Each is looked at, so that many are at once.
 #[inline(always)]
 pub(super) fn are_digits(bytes: &[u8]) -> bool
     ensures { IsTrue result ↔ All IsAsciiHexdigit bytes.now }
 {
-    let mut all = true;
+    let mut past = 0;
     for byte in bytes {
-        all &= byte.is_ascii_hexdigit();
+        let past_9 = byte.wrapping_sub(b'0').saturating_sub(9);
+        let past_f = (byte & 0xDF).wrapping_sub(b'A').saturating_sub(5);
+        past |= past_9.min(past_f);
     }
-    all
+    past == 0
 }
 
 /// Whether the line is hexadecimal: an even number of digits.
