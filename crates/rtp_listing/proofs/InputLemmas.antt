@@ -1,5 +1,5 @@
 -- Lines of hexadecimal that are tested one after the other.
-use Rattle.rtp_listing.proofs.Common.{◌≡◌, ◌≢◌, ℕ, ◌+◌, ◌-◌, ◌<◌, ◌≤◌, ◌%◌, ◌==◌, List, [], ◌∷◌, ◌++◌, length, map, take, drop, Result, Ok, Err, refl, sym, ap, ◌∙◌, subst, arith, inl, inr, append_assoc, append-nil, length-append, lines, lines_of_parts, strip_carriage_return, slice_split, map_push, length_push, ne_eqb, cases_eq, take-append-drop, decode_of, FromHexError, AreHex, IsHexText, IsFirstNotHex, All, IsAsciiHexdigit, IsOk, IsErr, common_steps, Bool, true, false, suc, if◌then◌else◌, get_or, length-take-le, length-drop}
+use Rattle.rtp_listing.proofs.Common.{◌≡◌, ◌≢◌, ℕ, ◌+◌, ◌-◌, ◌<◌, ◌≤◌, ◌%◌, ◌==◌, List, [], ◌∷◌, ◌++◌, length, map, take, drop, Result, Ok, Err, refl, sym, ap, ◌∙◌, arith, append_assoc, append-nil, length-append, lines, lines_of_parts, strip_carriage_return, slice_split, map_push, length_push, ne_eqb, take-append-drop, decode_of, FromHexError, AreHex, IsHexText, IsFirstNotHex, All, IsAsciiHexdigit, IsOk, IsErr, common_steps, Bool, true, false, suc, if◌then◌else◌, get_or, length-take-le, length-drop}
 use Rattle.rtp_listing.proofs.HexLineLemmas.{value, IsOk-digits, digits_from_ok}
 use Rattle.std.specs.List.{onto_first}
 use Rattle.std.proofs.lemmas.List.Splits.{slice_split-cons_no}
@@ -49,7 +49,7 @@ lines-digits (byte ∷ front) rest line others digits is =
     let (no_feed, no_return) = no_end byte (All-head IsAsciiHexdigit byte front digits) in
     ap lines_of_parts (slice_split-cons_no (λ b. b == 10) byte (front ++ rest) (ne_eqb byte 10 no_feed))
     ∙ parts-cons byte (slice_split (λ b. b == 10) (front ++ rest)) (front ++ line) others no_return
-      (lines-digits front rest line others (All-tail IsAsciiHexdigit byte front digits) is)
+    (lines-digits front rest line others (All-tail IsAsciiHexdigit byte front digits) is)
 
 -- the lines before the rest of the text are hexadecimal, and so is what is before it of the line that it begins in
 pub record SoFar (text rest : List ℕ) (start number : ℕ) : Type 0 where
@@ -84,7 +84,7 @@ SoFar-passed text rest n start number within even digits so_far = record {
   in_order =
       so_far.in_order
       ∙ ap (λ (xs : List ℕ). so_far.done ++ lines xs)
-        (ap (λ (xs : List ℕ). so_far.front ++ xs) (sym (take-append-drop n rest)) ∙ sym (append_assoc so_far.front (take n rest) (drop n rest)));
+      (ap (λ (xs : List ℕ). so_far.front ++ xs) (sym (take-append-drop n rest)) ∙ sym (append_assoc so_far.front (take n rest) (drop n rest)));
   datagrams = so_far.datagrams;
   spelled = so_far.spelled;
   digits = All-append IsAsciiHexdigit so_far.front (take n rest) so_far.digits digits;

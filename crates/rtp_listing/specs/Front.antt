@@ -1,17 +1,10 @@
 -- The text read in two steps: the map lines at its front, and the rest.
-use Rattle.std.specs.Prelude.{◌≡◌, ℕ, ◌+◌, ◌<◌, ◌≤◌, List, ◌∷◌, ◌++◌, length, IsErr}
+use Rattle.std.specs.Prelude.{◌≡◌, ℕ, ◌+◌, ◌≤◌, List, ◌∷◌, ◌++◌, length, IsErr}
 use Rattle.std.specs.Str.Lines.{lines}
 use Rattle.hex.specs.Hex.{decode_of}
 use Rattle.rtp_ext.specs.ExtensionMap.{Slots}
 use Rattle.rtp_listing.specs.MapLine.{IsMapLine}
 use Rattle.rtp_listing.specs.Input.{Item, AreMapLines, AreMapped, AreHex}
-
--- the first line is a map line, and this follows it
-pub record MapsFirst (text : List ℕ) (id : ℕ) (uri after : List ℕ) : Type 0 where
-  pub line : List ℕ
-  pub first : lines text ≡ line ∷ lines after
-  pub is_map : IsMapLine line id uri
-  pub shorter : length after < length text
 
 -- the first line, if there is one, is no map line
 abbrev pub MapsNoneFirst : List ℕ → Type 0

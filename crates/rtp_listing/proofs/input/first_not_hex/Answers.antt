@@ -1,5 +1,5 @@
-use Rattle.rtp_listing.proofs.Common.{◌-◌, ◌≤◌, ◌*◌, length, take, drop, refl, sym, ap, subst, arith, ◌∙◌, nil_from_length, eqb-true, take_rest, true, All, IsAsciiHexdigit}
-use Rattle.rtp_listing.proofs.InputLemmas.{SoFar, SoFar-none, SoFar-passed, SoFar-more, IsFirstNotHex-here, IsHexText-all}
+use Rattle.rtp_listing.proofs.Common.{refl, sym, ◌∙◌, nil_from_length, eqb-true, take_rest}
+use Rattle.rtp_listing.proofs.InputLemmas.{SoFar-none, SoFar-passed, SoFar-more, IsFirstNotHex-here, IsHexText-all}
 use Rattle.rtp_listing.proofs.input.first_not_hex.Goals as goal
 
 pub loop-rest-init : goal.loop-rest-init
