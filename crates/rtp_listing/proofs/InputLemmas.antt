@@ -6,13 +6,13 @@ use Rattle.std.proofs.lemmas.List.Splits.{slice_split-cons_no}
 use Rattle.std.proofs.lemmas.List.Elements.{All-head, All-tail, All-append}
 use Rattle.rtp_listing.proofs.LineLemmas.{lines-last}
 
+one_less : (n : ℕ) → suc n - 1 ≡ n
+one_less n = omega arith
+
 -- a byte before a line that is no CR stays, whether the line ends with CR or not
 cut : (is_return : Bool) (byte next : ℕ) (line : List ℕ)
     → (if is_return then take (suc (suc (length line)) - 1) (byte ∷ next ∷ line) else byte ∷ next ∷ line) ≡ byte ∷ (if is_return then take (suc (length line) - 1) (next ∷ line) else next ∷ line)
 cut true byte next line = ap (λ (n : ℕ). take n (byte ∷ next ∷ line)) (one_less (suc (length line))) ∙ ap (λ (n : ℕ). byte ∷ take n (next ∷ line)) (sym (one_less (length line)))
-  where
-    one_less : (n : ℕ) → suc n - 1 ≡ n
-    one_less n = omega arith
 cut false byte next line = refl
 
 strip-cons : (byte : ℕ) (line : List ℕ) → byte ≢ 13 → strip_carriage_return (byte ∷ line) ≡ byte ∷ strip_carriage_return line
@@ -22,9 +22,6 @@ strip-cons byte (next ∷ line) other =
     ap (λ (n : ℕ). get_or (byte ∷ next ∷ line) n 0) (one_less (suc (length line))) ∙ ap (λ (n : ℕ). get_or (next ∷ line) n 0) (sym (one_less (length line))) in
     ap (λ (l : ℕ). if l == 13 then take (suc (suc (length line)) - 1) (byte ∷ next ∷ line) else byte ∷ next ∷ line) last
     ∙ cut (get_or (next ∷ line) (suc (length line) - 1) 0 == 13) byte next line
-  where
-    one_less : (n : ℕ) → suc n - 1 ≡ n
-    one_less n = omega arith
 
 -- and is the first of the line that it stands before
 one_part : (byte : ℕ) (part : List ℕ) → lines_of_parts ((byte ∷ part) ∷ []) ≡ (byte ∷ part) ∷ []
@@ -50,6 +47,14 @@ lines-digits (byte ∷ front) rest line others digits is =
     ap lines_of_parts (slice_split-cons_no (λ b. b == 10) byte (front ++ rest) (ne_eqb byte 10 no_feed))
     ∙ parts-cons byte (slice_split (λ b. b == 10) (front ++ rest)) (front ++ line) others no_return
     (lines-digits front rest line others (All-tail IsAsciiHexdigit byte front digits) is)
+
+-- one line of hexadecimal more
+AreHex-more : (done datagrams : List (List ℕ)) (line bytes : List ℕ) → AreHex done datagrams → decode_of line ≡ Ok bytes → AreHex (done ++ line ∷ []) (datagrams ++ bytes ∷ [])
+AreHex-more done datagrams line bytes spelled decoded =
+    map_push decode_of done line
+    ∙ ap (λ (rs : List (Result (List ℕ) FromHexError)). rs ++ decode_of line ∷ []) spelled
+    ∙ ap (λ (r : Result (List ℕ) FromHexError). map Ok datagrams ++ r ∷ []) decoded
+    ∙ sym (map_push Ok datagrams bytes)
 
 -- the lines before the rest of the text are hexadecimal, and so is what is before it of the line that it begins in
 pub record SoFar (text rest : List ℕ) (start number : ℕ) : Type 0 where
@@ -111,11 +116,7 @@ module _ (text rest after line : List ℕ) (start number : ℕ) (first : lines r
         front = [];
         in_order = in_order ∙ sym (append_assoc so_far.done (whole ∷ []) (lines after));
         datagrams = so_far.datagrams ++ bytes ∷ [];
-        spelled =
-            map_push decode_of so_far.done whole
-            ∙ ap (λ (rs : List (Result (List ℕ) FromHexError)). rs ++ decode_of whole ∷ []) so_far.spelled
-            ∙ ap (λ (r : Result (List ℕ) FromHexError). map Ok so_far.datagrams ++ r ∷ []) decoded
-            ∙ sym (map_push Ok so_far.datagrams bytes);
+        spelled = AreHex-more so_far.done so_far.datagrams whole bytes so_far.spelled decoded;
         digits = λ k d below. absurd (omega arith);
         even = refl;
         number_is = omega (arith, so_far.number_is, length_push so_far.done whole);
@@ -156,8 +157,5 @@ IsHexText-all text rest start number none so_far =
         let last = lines-last (byte ∷ front) (omega arith) (λ k below feed. (no_end _ (digits k 0 below)).0 feed) in
         let (bytes, decoded) = value (decode_of (byte ∷ front)) (IsOk-digits (byte ∷ front) even digits) in (
           so_far.datagrams ++ bytes ∷ [],
-          ap (map decode_of) (is ∙ ap (λ (ls : List (List ℕ)). so_far.done ++ ls) last) ∙ map_push decode_of so_far.done (byte ∷ front)
-              ∙ ap (λ (rs : List (Result (List ℕ) FromHexError)). rs ++ decode_of (byte ∷ front) ∷ []) so_far.spelled
-              ∙ ap (λ (r : Result (List ℕ) FromHexError). map Ok so_far.datagrams ++ r ∷ []) decoded
-              ∙ sym (map_push Ok so_far.datagrams bytes),
+          ap (map decode_of) (is ∙ ap (λ (ls : List (List ℕ)). so_far.done ++ ls) last) ∙ AreHex-more so_far.done so_far.datagrams (byte ∷ front) bytes so_far.spelled decoded,
         )

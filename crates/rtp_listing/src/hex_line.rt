@@ -1,7 +1,7 @@
 //! The lines that are datagrams in hexadecimal.
 
-ghost use Rattle.std.specs.Prelude.{◌≡◌, ◌↔◌, ◌*◌, ◌/◌, ◌%◌, ◌<◌, ◌≤◌, List, ℕ, length, take, slice_index, All, IfOk, IfSome, IfNone, IsErr, IsOk, IsSomeAnd, IsTrue, OnOk};
-ghost use Rattle.std.specs.Char.{IsAsciiHexdigit, IsNotAsciiHexdigit};
+ghost use Rattle.std.specs.Prelude.{◌≡◌, ◌↔◌, ◌*◌, ◌/◌, ◌%◌, ◌<◌, ◌≤◌, List, ℕ, length, take, All, IfOk, IfSome, IsErr, IsOk, IsSomeAnd, IsTrue, OnOk};
+ghost use Rattle.std.specs.Char.{IsAsciiHexdigit};
 ghost use Rattle.std.specs.Vec.{vec_len};
 ghost use Rattle.hex.specs.Hex.{decode_of, pair_value};
 
@@ -37,8 +37,8 @@ fn write_bytes(digits: &[u8], from: usize, bytes: &mut [u8])
     }
 }
 
-/// Whether all bytes are hexadecimal digits: none is past `0` to `9` and past the letters of either
-/// case too. Each is looked at, so that many are at once.
+/// Whether all bytes are hexadecimal digits: how far each is past `0` to `9`, or past the letters of
+/// either case, is 0. Each is looked at, so that many are at once.
 #[inline(always)]
 pub(super) fn are_digits(bytes: &[u8]) -> bool
     ensures { IsTrue result ↔ All IsAsciiHexdigit bytes.now }
