@@ -1,5 +1,5 @@
 -- The map lines at the front, and the map that they make.
-use Rattle.rtp_listing.proofs.Common.{◌≡◌, ℕ, ◌+◌, List, [], ◌∷◌, ◌++◌, refl, sym, ap, ◌∙◌, subst, arith, append_assoc, Bool, true, false, ◌==◌, Option, Some, if◌then◌else◌, find, lines, reverse-append, length_push, eqb-true, eqb-false, Slots, entry_at, unlocked, IsEmpty, Sets, IsMapLine, Item, AreMapLines, IsEntryOf, AreMapped, last_for, IsFront, MapsFirst}
+use Rattle.rtp_listing.proofs.Common.{◌≡◌, ℕ, ◌+◌, List, [], ◌∷◌, ◌++◌, refl, sym, ap, ◌∙◌, subst, arith, append_assoc, Bool, true, false, ◌==◌, Option, Some, if◌then◌else◌, find, lines, reverse-append, length_push, eqb-true, eqb-false, Slots, entry_at, unlocked, IsEmpty, Sets, IsMapLine, Item, AreMapLines, IsEntryOf, AreMapped, last_for, IsFront, length, ◌<◌}
 use Rattle.rtp_values.specs.declared.kind.Extension.{Extension}
 use Rattle.rtp_values.specs.Kind.{IsNamedBy}
 
@@ -40,14 +40,14 @@ IsFront-none text exts empty = record {
   fits = omega arith;
 }
 
-pub IsFront-more : (text rest after uri : List ℕ) (old new : Slots) (count id : ℕ) (extension : Extension) → IsFront text old count rest → MapsFirst rest id uri after
-    → IsNamedBy uri extension → Sets old new id (unlocked extension) → IsFront text new (count + 1) after
-IsFront-more text rest after uri old new count id extension front first named sets = record {
-  maps = front.maps ++ first.line ∷ [];
+pub IsFront-more : (text rest line after uri : List ℕ) (old new : Slots) (count id : ℕ) (extension : Extension) → IsFront text old count rest → lines rest ≡ line ∷ lines after
+    → length after < length rest → IsMapLine line id uri → IsNamedBy uri extension → Sets old new id (unlocked extension) → IsFront text new (count + 1) after
+IsFront-more text rest line after uri old new count id extension front first shorter is_map named sets = record {
+  maps = front.maps ++ line ∷ [];
   items = front.items ++ (id, uri) ∷ [];
-  in_order = front.in_order ∙ ap (λ (ls : List (List ℕ)). front.maps ++ ls) first.first ∙ sym (append_assoc front.maps (first.line ∷ []) (lines after));
-  are_maps = AreMapLines-push front.maps front.items first.line (id, uri) front.are_maps first.is_map;
+  in_order = front.in_order ∙ ap (λ (ls : List (List ℕ)). front.maps ++ ls) first ∙ sym (append_assoc front.maps (line ∷ []) (lines after));
+  are_maps = AreMapLines-push front.maps front.items line (id, uri) front.are_maps is_map;
   exts_are = AreMapped-more old new front.items id uri extension named sets front.exts_are;
-  count_is = omega (arith, front.count_is, length_push front.maps first.line);
-  fits = let fits = front.fits in let shorter = first.shorter in omega arith;
+  count_is = omega (arith, front.count_is, length_push front.maps line);
+  fits = let fits = front.fits in omega arith;
 }

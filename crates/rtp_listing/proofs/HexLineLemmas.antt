@@ -1,10 +1,11 @@
 -- Which lines are hexadecimal.
-use Rattle.std.proofs.Common.{◌≡◌, ℕ, ◌%◌, ◌/◌, ◌+◌, ◌*◌, ◌^◌, ◌<◌, ◌≤◌, List, length, take, drop, Result, Ok, Err, true, refl, sym, ap, ◌∙◌, arith, bit_and}
+use Rattle.std.proofs.Common.{◌≡◌, ℕ, ◌%◌, ◌/◌, ◌+◌, ◌*◌, ◌^◌, ◌<◌, ◌≤◌, List, length, take, drop, Result, Ok, Err, true, get_or, below_more, ◌-◌, min, bit_or, refl, sym, ap, ◌∙◌, arith, bit_and}
 use Rattle.std.specs.Prelude.{IsOk, Some}
 use Rattle.std.specs.List.{All}
-use Rattle.std.specs.Char.{IsAsciiHexdigit, IsNotAsciiHexdigit}
+use Rattle.std.specs.Char.{IsAsciiHexdigit}
 use Rattle.std.proofs.lemmas.Grind.{common_steps}
-use Rattle.std.proofs.lemmas.Nat.{and_block, and_mask}
+use Rattle.std.proofs.lemmas.Nat.{and_block, and_mask, le_or_l, le_or_r}
+use Rattle.std.specs.Int.Bits.{or_zero_l}
 use Rattle.std.proofs.lemmas.List.{length-take-le, take_all}
 use Rattle.hex.specs.Hex.{decode_of, decode_pairs, hex_digit_value, is_hex_digit, pair_value}
 use Rattle.hex.specs.declared.error.FromHexError.{FromHexError}
@@ -76,5 +77,33 @@ decoded_front s out i room fits inv =
     let same : take i (take i out) ≡ take i out = take_all i (take i out) (omega arith) in
     decode_done s (take i out) i (omega arith) fits (rw same inv)
 
-pub not_both : (c : ℕ) → IsAsciiHexdigit c → IsNotAsciiHexdigit c → ⊥
-not_both c digit other = grind (arith, common_steps)
+-- letters of either case are those of one
+one_case : (c : ℕ) → c < 256 → bit_and c 223 ≡ c / 64 * 64 + c % 32
+one_case c small =
+    ap (λ (n : ℕ). bit_and n 223) (omega arith) ∙ and_block 6 (c / 64) 3 (c % 64) 31 (omega arith) (omega arith)
+    ∙ ap (λ (n : ℕ). n * 2 ^ 6 + bit_and (c % 64) 31) (and_mask (c / 64) 2) ∙ ap (λ (n : ℕ). c / 64 % 4 * 64 + n) (and_mask (c % 64) 5) ∙ omega arith
+
+-- a byte that is past neither the digits nor the letters is a digit
+near_digit : (c : ℕ) → c < 256 → min ((c + 208) % 256 - 9) ((bit_and c 223 + 191) % 256 - 5) ≡ 0 → IsAsciiHexdigit c
+near_digit c small near = let same = one_case c small in grind (arith, common_steps)
+
+digit_near : (c : ℕ) → c < 256 → IsAsciiHexdigit c → min ((c + 208) % 256 - 9) ((bit_and c 223 + 191) % 256 - 5) ≡ 0
+digit_near c small digit = let same = one_case c small in grind (arith, common_steps)
+
+-- whether all of the first bytes are digits
+pub record AreDigits (line : List ℕ) (count past : ℕ) : Type 0 where
+  pub sound : past ≡ 0 → (k : ℕ) → k < count → IsAsciiHexdigit (get_or line k 0)
+  pub complete : ((k : ℕ) → k < count → IsAsciiHexdigit (get_or line k 0)) → past ≡ 0
+
+pub AreDigits-none : (line : List ℕ) → AreDigits line 0 0
+AreDigits-none line = record { sound = λ all k below. absurd (omega arith); complete = λ each. refl }
+
+pub AreDigits-more : (line : List ℕ) (count past here : ℕ) → get_or line count 0 < 256
+    → here ≡ min ((get_or line count 0 + 208) % 256 - 9) ((bit_and (get_or line count 0) 223 + 191) % 256 - 5) → AreDigits line count past → AreDigits line (count + 1) (bit_or past here)
+AreDigits-more line count past here small here_is so_far = record {
+  sound = λ all.
+      below_more (λ k. IsAsciiHexdigit (get_or line k 0)) count (so_far.sound (omega (arith, all, le_or_l past here)))
+      (near_digit _ small (sym here_is ∙ omega (arith, all, le_or_r past here)));
+  complete = λ each.
+      ap (λ (n : ℕ). bit_or n here) (so_far.complete (λ k lower. each k (omega arith))) ∙ or_zero_l here ∙ here_is ∙ digit_near _ small (each count (omega arith));
+}

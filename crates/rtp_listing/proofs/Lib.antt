@@ -2,10 +2,10 @@ mod Common
 mod HexLineLemmas
 mod DecodedLemmas
 mod HeaderBytesLemmas
+mod FeedLemmas
 mod LineLemmas
 mod MapLineLemmas
 mod InputLemmas
-mod FirstLineLemmas
 mod FrontLemmas
 mod ReadLemmas
 mod PrintLemmas

@@ -1,5 +1,5 @@
 -- The first line of a text, and the lines after it.
-use Rattle.rtp_listing.proofs.Common.{◌≡◌, ℕ, ◌+◌, ◌-◌, ◌<◌, ◌≤◌, Bool, true, false, inl, inr, eqb, List, [], ◌∷◌, ◌++◌, length, take, drop, get_or, refl, sym, ap, ◌∙◌, subst, arith, below_more, ◌&&◌, ◌↔◌, IsTrue, slice_split, All, lines, lines_of_parts, strip_carriage_return, ne_eqb, cases_lt, take-append-drop, drop_more, get_or-take, get_or-drop, length-take-le, All-from_get_or}
+use Rattle.rtp_listing.proofs.Common.{◌≡◌, ℕ, ◌+◌, ◌<◌, Bool, false, eqb, List, [], ◌∷◌, ◌++◌, length, take, drop, get_or, refl, sym, ap, ◌∙◌, arith, slice_split, All, lines, lines_of_parts, strip_carriage_return, ne_eqb, take-append-drop, drop_more, get_or-take, length-take-le, All-from_get_or}
 use Rattle.std.proofs.lemmas.List.Splits.{slice_split_none, slice_split_at, length-slice_split}
 
 abbrev is_feed : ℕ → Bool
@@ -30,29 +30,3 @@ lines-last text some none =
     let whole : slice_split is_feed text ≡ text ∷ [] =
     slice_split_none is_feed text (All-from_get_or (λ b. is_feed b ≡ false) text 0 (λ i below. ne_eqb _ 10 (none i below))) in
     ap lines_of_parts whole ∙ rw (ne_eqb (length text) 0 (λ e. absurd (omega arith))) refl
-
--- what all bytes of a front are, and all of a chunk behind it, those of both are
-pub all_more : (P : ℕ → Type 0) (text : List ℕ) (len step : ℕ) → step ≤ length (drop len text) → ((k : ℕ) → k < len → P (get_or text k 0)) → All P (take step (drop len text))
-    → (k : ℕ) → k < len + step → P (get_or text k 0)
-all_more P text len step fits before chunk k below = elim (cases_lt k len) [
-  | inl here ↦ before k here
-  | inr there ↦
-      let i = k - len in
-      let within : i < length (take step (drop len text)) = omega (arith, length-take-le step (drop len text) fits) in
-      let same : get_or (take step (drop len text)) i 0 ≡ get_or text k 0 =
-      get_or-take step (drop len text) i 0 (omega arith) ∙ get_or-drop len text i 0 ∙ ap (λ (j : ℕ). get_or text j 0) (omega arith) in
-      subst P same (chunk i 0 within)
-]
-
--- whether all of the first bytes are of a class
-pub record SoFar (P : ℕ → Type 0) (bytes : List ℕ) (count : ℕ) (all : Bool) : Type 0 where
-  pub sound : all ≡ true → (k : ℕ) → k < count → P (get_or bytes k 0)
-  pub complete : ((k : ℕ) → k < count → P (get_or bytes k 0)) → all ≡ true
-
-pub SoFar-none : (P : ℕ → Type 0) (bytes : List ℕ) → SoFar P bytes 0 true
-SoFar-none P bytes = record { sound = λ all k below. absurd (omega arith); complete = λ each. refl }
-
-pub SoFar-more : (P : ℕ → Type 0) (bytes : List ℕ) (count : ℕ) (all here : Bool) → IsTrue here ↔ P (get_or bytes count 0) → SoFar P bytes count all → SoFar P bytes (count + 1) (all && here)
-SoFar-more P bytes count true true is so_far = record { sound = λ all. below_more (λ k. P (get_or bytes k 0)) count (so_far.sound refl) (is.0 refl); complete = λ each. refl }
-SoFar-more P bytes count true false is so_far = record { sound = λ all. absurd (cc all); complete = λ each. is.1 (each count (omega arith)) }
-SoFar-more P bytes count false here is so_far = record { sound = λ all. absurd (cc all); complete = λ each. so_far.complete (λ k lower. each k (omega arith)) }

@@ -6,6 +6,7 @@ use Rattle.rtp_receive.specs.Receivers.{ReceiverStates}
 use Rattle.rtp_receive.specs.Verdicts.{IsVerdict}
 use Rattle.rtp_receive.specs.Sources.{numbers_beside}
 use Rattle.rtp_receive.specs.EachSource.{HoldsEach, taken_after_each}
+use Rattle.rtp_listing.proofs.ReadLemmas.{hex_first}
 use Rattle.rtp_listing.proofs.PrintLemmas.{Printed, Printed-none, Printed-more, Printed-written}
 
 -- the lines of the datagrams so far are printed or in the text, and the rest of the input is the lines of the others
@@ -22,12 +23,6 @@ Printing-none exts input old text receivers same empty none = record {
   left = λ datagrams hex. hex;
 }
 
--- the first of some lines of hexadecimal
-first_line_of : (line : List ℕ) (others datagrams : List (List ℕ)) → AreHex (line ∷ others) datagrams
-    → (bytes : List ℕ) × (more : List (List ℕ)) × (datagrams ≡ bytes ∷ more) × (decode_of line ≡ Ok bytes) × AreHex others more
-first_line_of line others [] hex = absurd (cc)
-first_line_of line others (bytes ∷ more) hex = (bytes, more, refl, cc, cc)
-
 -- some datagram is left where some line is
 some_left : (done : ℕ) (datagrams : List (List ℕ)) (bytes : List ℕ) (more : List (List ℕ)) → drop done datagrams ≡ bytes ∷ more → done < length datagrams
 some_left done datagrams bytes more is = omega (arith, length-drop done datagrams, ap length is)
@@ -41,7 +36,7 @@ pub record NextLine (line after : List ℕ) (datagrams : List (List ℕ)) (done 
 pub NextLine-left : (rest line after : List ℕ) (datagrams : List (List ℕ)) (done : ℕ) → AreHex (lines rest) (drop done datagrams) → lines rest ≡ line ∷ lines after
     → NextLine line after datagrams done
 NextLine-left rest line after datagrams done left first =
-    let step = first_line_of line (lines after) (drop done datagrams) (subst (λ (ls : List (List ℕ)). AreHex ls (drop done datagrams)) first left) in
+    let step = hex_first line (lines after) (drop done datagrams) (subst (λ (ls : List (List ℕ)). AreHex ls (drop done datagrams)) first left) in
     let below : done < length datagrams = some_left done datagrams step.0 step.1 step.2 in
     let cut : drop done datagrams ≡ get_or datagrams done [] ∷ drop (done + 1) datagrams = drop_more datagrams done [] below in
     let here : step.0 ≡ get_or datagrams done [] = cc (step.2, cut) in

@@ -4,10 +4,10 @@ use Rattle.hex.specs.Hex.{decode_of, decode_pairs}
 use Rattle.hex.specs.declared.error.FromHexError.TheVariants.{InvalidHexCharacter, OddLength}
 
 -- the first of some lines of hexadecimal, and the others
-hex_first : (line : List ℕ) (others datagrams : List (List ℕ)) → AreHex (line ∷ others) datagrams
-    → (bytes : List ℕ) × (more : List (List ℕ)) × (decode_of line ≡ Ok bytes) × AreHex others more
+pub hex_first : (line : List ℕ) (others datagrams : List (List ℕ)) → AreHex (line ∷ others) datagrams
+    → (bytes : List ℕ) × (more : List (List ℕ)) × (datagrams ≡ bytes ∷ more) × (decode_of line ≡ Ok bytes) × AreHex others more
 hex_first line others [] spelled = absurd (cc)
-hex_first line others (bytes ∷ more) spelled = (bytes, more, cc, cc)
+hex_first line others (bytes ∷ more) spelled = (bytes, more, refl, cc, cc)
 
 -- what decodes is no error
 no_error : (r : Result (List ℕ) FromHexError) (bytes : List ℕ) → r ≡ Ok bytes → IsErr r → ⊥
@@ -16,9 +16,9 @@ no_error (Err e) bytes ok err = absurd (cc)
 
 -- among lines of hexadecimal is no other
 hex_any : (before : List (List ℕ)) (bad : List ℕ) (after datagrams : List (List ℕ)) → AreHex (before ++ bad ∷ after) datagrams → IsErr (decode_of bad) → ⊥
-hex_any [] bad after datagrams spelled err = let first = hex_first bad after datagrams spelled in no_error (decode_of bad) first.0 first.2 err
+hex_any [] bad after datagrams spelled err = let first = hex_first bad after datagrams spelled in no_error (decode_of bad) first.0 first.3 err
 hex_any (line ∷ before) bad after datagrams spelled err =
-    let first = hex_first line (before ++ bad ∷ after) datagrams spelled in hex_any before bad after first.1 first.3 err
+    let first = hex_first line (before ++ bad ∷ after) datagrams spelled in hex_any before bad after first.1 first.4 err
 
 -- no datagrams, no lines
 hex_none : (before : List (List ℕ)) → AreHex before [] → before ≡ []
@@ -46,7 +46,7 @@ none_bad [] items others datagrams [] items' others' datagrams' bad after are he
 none_bad [] items others datagrams (line ∷ maps') [] others' datagrams' bad after are hex are' hex' same err no_map = absurd are'
 none_bad [] items others datagrams (line ∷ maps') (item ∷ items') others' datagrams' bad after are hex are' hex' same err no_map =
     let first = hex_first line (maps' ++ (others' ++ bad ∷ after)) datagrams (subst (λ (ls : List (List ℕ)). AreHex ls datagrams) same hex) in
-    map_is_no_hex line item.0 item.1 first.0 are'.0 first.2
+    map_is_no_hex line item.0 item.1 first.0 are'.0 first.3
 none_bad (line ∷ maps) [] others datagrams maps' items' others' datagrams' bad after are hex are' hex' same err no_map = absurd are
 none_bad (line ∷ maps) (item ∷ items) others datagrams [] items' [] [] bad after are hex are' hex' same err no_map =
     no_map refl item.0 item.1 (subst (λ (l : List ℕ). IsMapLine l item.0 item.1) (cc) are.0)
@@ -54,7 +54,7 @@ none_bad (line ∷ maps) (item ∷ items) others datagrams [] items' [] (bytes �
 none_bad (line ∷ maps) (item ∷ items) others datagrams [] items' (other ∷ others') datagrams' bad after are hex are' hex' same err no_map =
     let first = hex_first other others' datagrams' hex' in
     let here : line ≡ other = cc in
-    map_is_no_hex line item.0 item.1 first.0 are.0 (ap decode_of here ∙ first.2)
+    map_is_no_hex line item.0 item.1 first.0 are.0 (ap decode_of here ∙ first.3)
 none_bad (line ∷ maps) (item ∷ items) others datagrams (line' ∷ maps') [] others' datagrams' bad after are hex are' hex' same err no_map = absurd are'
 none_bad (line ∷ maps) (item ∷ items) others datagrams (line' ∷ maps') (item' ∷ items') others' datagrams' bad after are hex are' hex' same err no_map =
     none_bad maps items others datagrams maps' items' others' datagrams' bad after are.1 hex are'.1 hex' (ap (drop 1) same) err no_map

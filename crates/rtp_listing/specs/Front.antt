@@ -1,25 +1,10 @@
 -- The text read in two steps: the map lines at its front, and the rest.
-use Rattle.std.specs.Prelude.{◌≡◌, ◌≢◌, ℕ, ◌+◌, ◌<◌, ◌≤◌, ◌⊎◌, List, [], ◌∷◌, ◌++◌, length, IsErr, Ok}
-use Rattle.std.specs.Char.{IsAsciiHexdigit}
+use Rattle.std.specs.Prelude.{◌≡◌, ℕ, ◌+◌, ◌≤◌, List, ◌∷◌, ◌++◌, length, IsErr}
 use Rattle.std.specs.Str.Lines.{lines}
 use Rattle.hex.specs.Hex.{decode_of}
 use Rattle.rtp_ext.specs.ExtensionMap.{Slots}
-use Rattle.rtp_listing.specs.declared.line.Class.{Class}
-use Rattle.rtp_listing.specs.declared.line.Class.TheVariants.{Digits, Without}
 use Rattle.rtp_listing.specs.MapLine.{IsMapLine}
 use Rattle.rtp_listing.specs.Input.{Item, AreMapLines, AreMapped, AreHex}
-
--- the bytes of a class
-abbrev pub IsOf : Class → ℕ → Type 0
-IsOf Digits byte = IsAsciiHexdigit byte
-IsOf (Without other) byte = byte ≢ other
-
--- the first line is a map line, and this follows it
-pub record MapsFirst (text : List ℕ) (id : ℕ) (uri after : List ℕ) : Type 0 where
-  pub line : List ℕ
-  pub first : lines text ≡ line ∷ lines after
-  pub is_map : IsMapLine line id uri
-  pub shorter : length after < length text
 
 -- the first line, if there is one, is no map line
 abbrev pub MapsNoneFirst : List ℕ → Type 0
@@ -49,22 +34,3 @@ pub record IsFirstNotHex (all : List (List ℕ)) (start number : ℕ) : Type 0 w
   pub datagrams : List (List ℕ)
   pub good_before : AreHex before datagrams
   pub not_hex : IsErr (decode_of bad)
-
--- the first line is hexadecimal of these bytes, and this follows it
-pub record IsHexFirst (text after : List ℕ) : Type 0 where
-  pub line : List ℕ
-  pub bytes : List ℕ
-  pub first : lines text ≡ line ∷ lines after
-  pub decoded : decode_of line ≡ Ok bytes
-  pub shorter : length after < length text
-
--- the first line is not hexadecimal
-pub record IsNotHexFirst (text : List ℕ) : Type 0 where
-  pub line : List ℕ
-  pub others : List (List ℕ)
-  pub first : lines text ≡ line ∷ others
-  pub not_hex : IsErr (decode_of line)
-
--- a line ends at the front, with LF, CR LF or the text, and this follows it
-abbrev pub IsLineEnd : List ℕ → List ℕ → Type 0
-IsLineEnd text after = ((text ≡ []) × (after ≡ [])) ⊎ ((text ≡ 10 ∷ after) ⊎ (text ≡ 13 ∷ 10 ∷ after))

@@ -1,12 +1,10 @@
 //! The lines that are datagrams in hexadecimal.
 
-ghost use Rattle.std.specs.Prelude.{◌≡◌, ◌↔◌, ◌*◌, ◌/◌, ◌%◌, ◌<◌, ◌≤◌, List, ℕ, length, take, slice_index, All, IfOk, IfSome, IfNone, IsErr, IsOk, IsSomeAnd, IsTrue, OnOk};
-ghost use Rattle.std.specs.Char.{IsAsciiHexdigit, IsNotAsciiHexdigit};
+ghost use Rattle.std.specs.Prelude.{◌≡◌, ◌↔◌, ◌*◌, ◌/◌, ◌%◌, ◌<◌, ◌≤◌, List, ℕ, length, take, All, IfOk, IfSome, IsErr, IsOk, IsSomeAnd, IsTrue, OnOk};
+ghost use Rattle.std.specs.Char.{IsAsciiHexdigit};
 ghost use Rattle.std.specs.Vec.{vec_len};
 ghost use Rattle.hex.specs.Hex.{decode_of, pair_value};
-ghost use Rattle.rtp_listing.specs.Front.{IsHexFirst, IsNotHexFirst, IsLineEnd};
 
-use super::line::{Class, are_of, front_of};
 use std::alloc::{AllocError, Global};
 
 // The byte of two hexadecimal digits. The low four bits of `0` to `9` are a digit's value, those
@@ -39,76 +37,26 @@ fn write_bytes(digits: &[u8], from: usize, bytes: &mut [u8])
     }
 }
 
-// So many bytes are tested by sixteen: most lines are too short to gain by tests of 64 bytes, of
-// which the last one is for nothing.
-const BY_SIXTEEN: usize = 208;
-
-// The length of a front of digits, where the first `from` bytes are digits, behind which fewer than
-// eight digits are left. It is no part of its caller, so that what that has read doesn't keep eight
-// bytes from one test.
-#[inline(never)]
-fn eights(text: &[u8], from: usize) -> usize
-    requires front { from ≤ length text.now }
-    requires before { (k : ℕ) → k < from → IsAsciiHexdigit (slice_index text.now k) }
-    ensures within { result ≤ length text.now }
-    ensures digits { (k : ℕ) → k < result → IsAsciiHexdigit (slice_index text.now k) }
+/// Whether all bytes are hexadecimal digits: how far each is past `0` to `9`, or past the letters of
+/// either case, is 0. Each is looked at, so that many are at once.
+#[inline(always)]
+pub(super) fn are_digits(bytes: &[u8]) -> bool
+    ensures { IsTrue result ↔ All IsAsciiHexdigit bytes.now }
 {
-    front_of(text, Class::Digits, from, 8)
+    let mut past = 0;
+    for byte in bytes {
+        let past_9 = byte.wrapping_sub(b'0').saturating_sub(9);
+        let past_f = (byte & 0xDF).wrapping_sub(b'A').saturating_sub(5);
+        past |= past_9.min(past_f);
+    }
+    past == 0
 }
 
-// The length of the longest front of hexadecimal digits. What ends a line is less than any digit.
-fn digits_at_front(text: &[u8]) -> usize
-    ensures within { result ≤ length text.now }
-    ensures digits { (k : ℕ) → k < result → IsAsciiHexdigit (slice_index text.now k) }
-    ensures end { result < length text.now → IsNotAsciiHexdigit (slice_index text.now result) }
-{
-    let mut front = front_of(&text[..text.len().min(BY_SIXTEEN)], Class::Digits, 0, 16);
-    if front == BY_SIXTEEN {
-        front = front_of(text, Class::Digits, front, 64);
-        front = front_of(text, Class::Digits, front, 16);
-    }
-    if front == text.len() || text[front] < b'0' {
-        return front;
-    }
-    let front = if front == 0 { 0 } else { eights(text, front) };
-    front_of(text, Class::Digits, front, 1)
-}
-
-// The text after the end of a line, where that is at the front: LF, CR LF, or the end of the text.
-fn after_line_end(text: &[u8]) -> Option<&[u8]>
-    ensures found { IfSome result (λ after. IsLineEnd text.now after.now) }
-    ensures none { IfNone result ((after : List ℕ) → IsLineEnd text.now after → ⊥) }
-{
-    match text {
-        [] => Some(&[]),
-        [b'\n', after @ ..] => Some(after),
-        [b'\r', b'\n', after @ ..] => Some(after),
-        _ => None,
-    }
-}
-
-/// The text after the first line, when that is hexadecimal. Requires that the text is not empty.
-pub(super) fn after_hex_line(text: &[u8]) -> Option<&[u8]>
-    requires { 0 < length text.now }
-    ensures found { IfSome result (λ after. IsHexFirst text.now after.now) }
-    ensures none { IfNone result (IsNotHexFirst text.now) }
-{
-    // A line without digits ends at its front.
-    if let Some(after) = after_line_end(text) {
-        return Some(after);
-    }
-    let digits = digits_at_front(text);
-    if digits % 2 != 0 {
-        return None;
-    }
-    after_line_end(&text[digits..])
-}
-
-// Whether the line is hexadecimal: an even number of digits.
-fn is_hex(line: &[u8]) -> bool
+/// Whether the line is hexadecimal: an even number of digits.
+pub(super) fn is_hex(line: &[u8]) -> bool
     ensures { IsTrue result ↔ IsOk (decode_of line.now) }
 {
-    line.len() % 2 == 0 && are_of(line, Class::Digits)
+    line.len() % 2 == 0 && are_digits(line)
 }
 
 /// Returns the bytes of a line of hexadecimal digits of either case, two digits a byte, and `None`

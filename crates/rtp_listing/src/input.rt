@@ -4,9 +4,9 @@ ghost use Rattle.std.specs.Prelude.{◌≡◌, ◌+◌, ◌<◌, ◌^◌, ℕ, L
 ghost use Rattle.std.specs.Str.Lines.{lines};
 ghost use Rattle.rtp_listing.specs.declared.input.InputError.TheVariants.{NoMemory};
 ghost use Rattle.rtp_listing.specs.Input.{AreHex, Spells, IsFirstBadLine};
-ghost use Rattle.rtp_listing.specs.Front.{MapsFirst, MapsNoneFirst, IsFront, IsFirstNotHex, IsHexText};
+ghost use Rattle.rtp_listing.specs.Front.{MapsNoneFirst, IsFront, IsFirstNotHex, IsHexText};
 
-use super::hex_line::after_hex_line;
+use super::hex_line::{are_digits, is_hex};
 use super::line::first_line;
 use super::map_line::map_line;
 use rtp_wire::{Extension, ExtensionMap};
@@ -39,19 +39,6 @@ impl From<AllocError> for InputError {
     }
 }
 
-// The id and the URI of the first line, when it is a map line, and the text after it.
-fn first_map_line(text: &[u8]) -> Option<(u8, &str, &[u8])>
-    ensures found { IfSome result (λ found. MapsFirst text.now found.0 found.1.now found.2.now) }
-    ensures none { IfNone result (MapsNoneFirst text.now) }
-{
-    if text.is_empty() {
-        return None;
-    }
-    let (line, after) = first_line(text);
-    let (id, uri) = map_line(line)?;
-    Some((id, uri, after))
-}
-
 // The map that the map lines at the front make, the number of these lines, and the text after them.
 fn map_lines(alloc: Global, text: &[u8]) -> Result<(ExtensionMap, u64, &[u8]), AllocError>
     ensures front { IfOk result (λ front. IsFront text.now front.0 front.1 front.2.now) }
@@ -60,7 +47,11 @@ fn map_lines(alloc: Global, text: &[u8]) -> Result<(ExtensionMap, u64, &[u8]), A
     let mut exts = ExtensionMap::empty();
     let mut count = 0u64;
     let mut rest = text;
-    while let Some((id, uri, after)) = first_map_line(rest) {
+    while !rest.is_empty() {
+        let (line, after) = first_line(rest);
+        let Some((id, uri)) = map_line(line) else {
+            break;
+        };
         exts.set(id, Extension::from_sdp_uri(alloc, uri)?);
         count += 1;
         rest = after;
@@ -77,11 +68,17 @@ fn first_not_hex(text: &[u8], lines_before: u64) -> Option<u64>
     let mut rest = text;
     let mut number = lines_before;
     while !rest.is_empty() {
-        number += 1;
-        match after_hex_line(rest) {
-            Some(after) => rest = after,
-            None => return Some(number),
+        // The digits of a long line are passed before its end is looked for.
+        if rest.len() >= 64 && are_digits(&rest[..64]) {
+            rest = &rest[64..];
+            continue;
         }
+        let (line, after) = first_line(rest);
+        number += 1;
+        if !is_hex(line) {
+            return Some(number);
+        }
+        rest = after;
     }
     None
 }

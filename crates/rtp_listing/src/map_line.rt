@@ -1,7 +1,6 @@
 //! The lines that map an id to an extension.
 
-ghost use Rattle.std.specs.Prelude.{◌≡◌, ◌≢◌, ◌↔◌, ◌∷◌, ◌++◌, List, ℕ, All, IfSome, IsTrue, IsSomeAnd};
-ghost use Rattle.std.specs.Char.{IsAsciiDigit};
+ghost use Rattle.std.specs.Prelude.{◌≡◌, ◌≢◌, ◌∷◌, ◌++◌, List, ℕ, All, IfSome, IsSomeAnd};
 ghost use Rattle.rtp_listing.specs.MapLine.{IsIdText, IsMapLine};
 
 use super::line::position_of;

@@ -1,10 +1,10 @@
 //! The two lines of each datagram, written to the output.
 
-ghost use Rattle.std.specs.Prelude.{◌≡◌, ◌+◌, ◌≤◌, ◌++◌, List, ℕ, length, take, IsOk, IfOk, IfErr, OnOk, OnErr};
+ghost use Rattle.std.specs.Prelude.{◌≡◌, ◌+◌, ◌++◌, List, ℕ, IsOk, IfOk, IfErr, OnOk, OnErr};
 ghost use Rattle.std.specs.Str.Lines.{lines};
 ghost use Rattle.std.specs.Io.KnownBytes.{Appends};
 ghost use Rattle.hex.specs.Hex.{decode_of};
-ghost use Rattle.std.specs.Option.{option_map, option_copied};
+ghost use Rattle.std.specs.Option.{option_map};
 ghost use Rattle.rtp_base.specs.Window.{Numbers};
 ghost use Rattle.rtp_receive.specs.Verdicts.{IsVerdict};
 ghost use Rattle.rtp_wire.specs.PacketIds.{packet_id_of};
@@ -12,7 +12,7 @@ ghost use Rattle.rtp_receive.specs.Sources.{numbers_beside};
 ghost use Rattle.rtp_receive.specs.EachSource.{HoldsEach, taken_after_each};
 ghost use Rattle.rtp_listing.specs.Input.{AreHex};
 ghost use Rattle.rtp_listing.specs.Front.{IsHexText};
-ghost use Rattle.rtp_listing.specs.Output.{IsHeader, packet_lines, IsListing, Prints};
+ghost use Rattle.rtp_listing.specs.Output.{IsHeader, IsListing, Prints};
 ghost use Rattle.rtp_listing.specs.Stopping.{IsPartialListing, read_header};
 
 use super::header_bytes::decode_header;

@@ -1,7 +1,6 @@
 //! One run of the program: all input is read, and then listed.
 
-ghost use Rattle.std.specs.Prelude.{◌≡◌, ◌≢◌, ◌↔◌, ◌⊎◌, IfOk, IfErr, IfSome, OnOk};
-ghost use Rattle.std.specs.IoError.{error_kind};
+ghost use Rattle.std.specs.Prelude.{◌≡◌, ◌≢◌, IfErr, IfSome, OnOk};
 ghost use Rattle.rtp_listing.specs.Input.{IsInput, HasBadLine};
 ghost use Rattle.rtp_listing.specs.Output.{IsOutputOf, IsBadLineOf, IsWantOf, IsBeginningOf, status_of, Prints};
 ghost use Rattle.rtp_listing.specs.Stopping.{IsLeft};
@@ -10,7 +9,6 @@ ghost use Rattle.rtp_listing.specs.declared.program.RunEnd.TheVariants.{NoMemory
 use super::input::{InputError, read_input};
 use super::printing::{print_all, write_text};
 use std::alloc::{AllocError, Global};
-use std::io;
 use std::io::{ErrorKind, Read, Write};
 
 /// How a run of the program ended.
@@ -49,17 +47,6 @@ impl From<AllocError> for RunEnd {
     }
 }
 
-// The end of a run whose read failed.
-fn unread(error: io::Error) -> RunEnd
-    ensures memory { (result ≡ RunEnd.NoMemory) ↔ (error_kind error ≡ ErrorKind.OutOfMemory) }
-    ensures failed { (result ≡ RunEnd.NoMemory) ⊎ (result ≡ RunEnd.Io) }
-{
-    match error.kind() {
-        ErrorKind::OutOfMemory => RunEnd::NoMemory,
-        _ => RunEnd::Io,
-    }
-}
-
 // Prints the lines of all datagrams of the text, or the line that names its first bad line.
 fn list_text<W: Write>(alloc: Global, text: &[u8], output: &mut W) -> Result<(), RunEnd>
     ensures ok { OnOk result
@@ -86,7 +73,12 @@ fn list_input<R: Read, W: Write>(alloc: Global, input: &mut R, output: &mut W) -
         Prints (W.contents output.old) (W.contents output.new) (IsLeft text end))) }
 {
     let mut text = Vec::new(alloc);
-    input.read_to_end(&mut text).map_err(unread)?;
+    if let Err(error) = input.read_to_end(&mut text) {
+        return Err(match error.kind() {
+            ErrorKind::OutOfMemory => RunEnd::NoMemory,
+            _ => RunEnd::Io,
+        });
+    }
     list_text(alloc, &text, output)
 }
 

@@ -1,7 +1,7 @@
 //! Pieces of text, put into a buffer behind the text that it begins with. Each is told where that
 //! ends, and says where it ends then. There is room for all of them, so that none tests it.
 
-ghost use Rattle.std.specs.Prelude.{◌≡◌, ◌+◌, ◌/◌, ◌%◌, ◌<◌, ◌≤◌, ◌∷◌, ◌++◌, [], ℕ, List, length, take};
+ghost use Rattle.std.specs.Prelude.{◌≡◌, ◌+◌, ◌/◌, ◌%◌, ◌<◌, ◌≤◌, ◌++◌, ℕ, List, length, take};
 ghost use Rattle.std.specs.Fmt.{decimal, signed_decimal};
 ghost use Rattle.rtp_base.specs.Id.{before_padding};
 ghost use Rattle.rtp_listing.specs.Digits.{two_digits, four_digits};

@@ -1,12 +1,23 @@
-use Rattle.std.proofs.Common.{◌++◌, ◌∷◌, []}
-use Rattle.rtp_listing.proofs.InputLemmas.{SoFar-more}
+use Rattle.rtp_listing.proofs.Common.{refl, sym, ◌∙◌, nil_from_length, eqb-true, take_rest}
+use Rattle.rtp_listing.proofs.InputLemmas.{SoFar-none, SoFar-passed, SoFar-more, IsFirstNotHex-here, IsHexText-all}
 use Rattle.rtp_listing.proofs.input.first_not_hex.Goals as goal
+
+pub loop-rest-init : goal.loop-rest-init
+loop-rest-init c = SoFar-none c.args.text.now c.args.lines_before
+
+pub loop-rest-preserved-then-are_digits : goal.loop-rest-preserved-then-are_digits
+loop-rest-preserved-then-are_digits c =
+    rw (take_rest c.loop-rest.rest.now 64) (SoFar-passed c.args.text.now c.loop-rest.rest.now 64 _ _ c.if-rest-ge64.true refl (c.are_digits.ensures.0 c.if-are_digits.true) c.loop-rest.invariant)
 
 pub loop-rest-preserved : goal.loop-rest-preserved
 loop-rest-preserved c =
-    let next = c.in-Some.ensures.found in
-    let so_far = c.loop-rest.invariant in (
-      so_far.0 ++ next.bytes ∷ [],
-      SoFar-more c.args.text.now c.loop-rest.rest.now c.in-Some.after.now next.line next.bytes so_far.0 c.args.lines_before c.loop-rest.number
-          next.first next.shorter next.decoded so_far.1,
-    )
+    SoFar-more c.args.text.now c.loop-rest.rest.now c.first_line.result.1.now _ _ _ c.first_line.ensures.first c.loop-rest.invariant c.first_line.ensures.shorter (c.is_hex.ensures.0 c.if-not-is_hex.false)
+
+pub returns-then-not-is_hex-clause-found : goal.returns-then-not-is_hex-clause-found
+returns-then-not-is_hex-clause-found c =
+    IsFirstNotHex-here c.args.text.now c.loop-rest.rest.now c.first_line.result.1.now _ _ _ c.first_line.ensures.first c.loop-rest.invariant
+    (λ ok. let is = c.is_hex.ensures.1 ok in absurd (cc))
+
+pub returns-clause-none : goal.returns-clause-none
+returns-clause-none c =
+    IsHexText-all c.args.text.now _ _ _ (nil_from_length _ (eqb-true _ 0 (sym c.is_empty.ensures ∙ c.loop-rest-test.false))) c.loop-rest.invariant

@@ -1,14 +1,10 @@
-use Rattle.rtp_listing.proofs.Common.{◌≡◌, inl, inr, subst, rules, IfErr, ◌⊎◌, NoMemory, Io}
-use Rattle.rtp_listing.proofs.PrintLemmas.{handed_on}
 use Rattle.rtp_listing.proofs.RunLemmas.{for_known, Prints-none, Prints-unread}
 use Rattle.rtp_listing.proofs.program.list_input.Goals as goal
+use Rattle.rtp_listing.proofs.program.list_input.Goals.{in-OutOfMemory, in_default-kind}
 
-pub returns-in_err-map_err-clause-err : goal.returns-in_err-map_err-clause-err
-returns-in_err-map_err-clause-err g c =
-    let failed : IfErr c.map_err.result (λ end. (end ≡ NoMemory) ⊎ (end ≡ Io)) = search rules in
-    elim (subst (λ r. IfErr r (λ end. (end ≡ NoMemory) ⊎ (end ≡ Io))) c.in_err-map_err.was failed) [
-      | inl no_memory ↦ handed_on c.from_residual.result c.in_err-map_err.field-0.0 NoMemory _ c.from_residual.ensures.1 no_memory
-          (for_known (g.R.Read.remaining c.args.input.now) _ (λ text. Prints-none text (g.W.Write.contents c.args.output.now)))
-      | inr io ↦ handed_on c.from_residual.result c.in_err-map_err.field-0.0 Io _ c.from_residual.ensures.1 io
-          (for_known (g.R.Read.remaining c.args.input.now) _ (λ text. Prints-unread text (g.W.Write.contents c.args.output.now)))
+pub returns-in-Err-clause-err : goal.returns-in-Err-clause-err
+returns-in-Err-clause-err g c =
+    elim c.match-kind.branch [
+      | in-OutOfMemory w ↦ rw w.result-is (for_known (g.R.Read.remaining c.args.input.now) _ (λ text. Prints-none text (g.W.Write.contents c.args.output.now)))
+      | in_default-kind w ↦ rw w.result-is (for_known (g.R.Read.remaining c.args.input.now) _ (λ text. Prints-unread text (g.W.Write.contents c.args.output.now)))
     ]
