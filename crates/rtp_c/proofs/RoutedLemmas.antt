@@ -11,22 +11,10 @@ use Rattle.rtp_route.specs.Template.{slot_lengths, total_of, pieces}
 use Rattle.rtp_route.proofs.LengthLemmas.{pieces-lengths}
 use Rattle.rtp_route.proofs.RetransmittedLemmas.{routed-again}
 use Rattle.rtp_route.proofs.TemplateLemmas.{routed-filled}
-use Rattle.rtp_c.specs.declared.template.StoredTemplate.{StoredTemplate}
 use Rattle.rtp_c.specs.PacketView.{slice_at}
 use Rattle.rtp_c.specs.Given.{is_nonzero}
 use Rattle.rtp_c.specs.declared.routed_headers.RoutedHeader.{RoutedHeader}
 use Rattle.rtp_c.specs.RoutedHeaders.{IsReceivers, IsReceiversAgain, len_for}
-use Rattle.rtp_c.specs.StoredTemplate.{slots_of, IsInRange}
-
--- what is stored, where the places are found to be in range
-pub in-range : (made : StoredTemplate) (slots : List Slot) (size total : ℕ) → slots ≡ slots_of made → made.count ≤ 16 → made.header_len ≤ size → All (λ (s : Slot). s.start + s.len ≤ made.header_len) slots
-    → total ≡ total_of slots → total ≡ made.data_total → IsInRange made size
-in-range made slots size total slots-are few there within total_is same = record {
-  few = few;
-  there = there;
-  within = subst (λ (ss : List Slot). All (λ (s : Slot). s.start + s.len ≤ made.header_len) ss) slots-are within;
-  total_is = sym same ∙ total_is ∙ ap total_of slots-are;
-}
 
 pub no-bytes : (xs : List ℕ) → length xs ≡ 0 → xs ≡ []
 no-bytes [] none = refl

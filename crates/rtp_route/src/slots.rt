@@ -1,6 +1,6 @@
 //! Where the data of elements lie in a header.
 
-ghost use Rattle.std.specs.Prelude.{◌≡◌, ◌↔◌, ◌+◌, ◌<◌, ◌≤◌, ◌∷◌, ℕ, List, [], Some, length, map, take, drop, All, IsTrue, IsSome, IfSome, IfNone};
+ghost use Rattle.std.specs.Prelude.{◌≡◌, ◌↔◌, ◌+◌, ◌<◌, ◌≤◌, ◌∷◌, ℕ, List, [], Some, length, map, take, drop, slice_get, All, IsTrue, IsSome, IfSome, IfNone};
 ghost use Rattle.std.specs.Bool.{OnTrue, OnFalse};
 ghost use Rattle.std.specs.List.{AllByRecursion};
 ghost use Rattle.rtp_ext.specs.declared.form.ExtensionsForm.{ExtensionsForm};
@@ -24,6 +24,35 @@ pub struct Slot {
     pub start: u32,
     /// How many they are.
     pub len: u8,
+}
+
+/// Places in a header, in order. A slice of places is such a list.
+pub trait SlotList: Copy {
+    ghost use Rattle.rtp_route.specs.declared.slots.Slot.{Slot};
+
+    // The places of it, in order.
+    ghost slots: { Self → List Slot };
+
+    /// How many there are.
+    fn count(&self) -> usize
+        ensures { result ≡ length (slots self.now) };
+
+    /// The place at the index, which is below the count.
+    fn at(&self, index: usize) -> Slot
+        requires { index < length (slots self.now) }
+        ensures { slice_get (slots self.now) index ≡ Some result };
+}
+
+impl SlotList for &[Slot] {
+    ghost slots = { λ slots. slots.now };
+
+    fn count(&self) -> usize {
+        (*self).len()
+    }
+
+    fn at(&self, index: usize) -> Slot {
+        self[index]
+    }
 }
 
 // Which of the elements has the id.
@@ -146,15 +175,17 @@ pub fn total_len(slots: &[Slot]) -> usize
 
 // Puts the data, which lie one after another, at their places.
 #[inline(always)]
-pub(super) fn fill_joined(buf: &mut [u8], slots: &[Slot], bytes: &[u8])
-    requires lengths { length bytes.now ≡ total_of slots.now }
-    requires within { All (λ slot. slot.start + slot.len ≤ length buf.old) slots.now }
-    ensures { buf.new ≡ filled_in slots.now (pieces (slot_lengths slots.now) bytes.now) buf.old }
+pub(super) fn fill_joined<S: SlotList>(buf: &mut [u8], slots: S, bytes: &[u8])
+    requires lengths { length bytes.now ≡ total_of (S.slots slots) }
+    requires within { All (λ slot. slot.start + slot.len ≤ length buf.old) (S.slots slots) }
+    ensures { buf.new
+        ≡ filled_in (S.slots slots) (pieces (slot_lengths (S.slots slots)) bytes.now) buf.old }
 {
     let mut left = bytes;
-    for index in 0..slots.len() {
-        let (first, after) = left.split_at(slots[index].len as usize);
-        put_data(buf, slots[index].start as usize, first);
+    for index in 0..slots.count() {
+        let slot = slots.at(index);
+        let (first, after) = left.split_at(slot.len as usize);
+        put_data(buf, slot.start as usize, first);
         left = after;
     }
 }

@@ -1,11 +1,14 @@
 use Rattle.rtp_c.proofs.Common.{◌≡◌, ℕ, ◌+◌, ◌-◌, ◌<◌, ℤ, w32, to_z, of_z, List, ◌++◌, length, take, drop, refl, ap, subst, ◌∙◌, arith, length-take, length-drop}
 use Rattle.rtp_base.proofs.OverwritingLemmas.{overwritten-copied}
+use Rattle.rtp_wire.proofs.PartsLemmas.{length-packet}
 use Rattle.rtp_route.specs.Calls as calls
 use Rattle.rtp_route.specs.Template.{slot_lengths, total_of, pieces}
 use Rattle.rtp_c.specs.PacketView.{slice_at}
 use Rattle.rtp_c.specs.RoutedHeaders.{IsReceiversAgain, len_for}
 use Rattle.rtp_c.specs.SetFields.{fields_given, CanBeSet}
+use Rattle.rtp_c.specs.StoredTemplate.{slots_of}
 use Rattle.rtp_route.proofs.ByCallsLemmas.{header_in-length}
+use Rattle.rtp_route.proofs.TemplateLemmas.{copied-header}
 use Rattle.rtp_c.proofs.RoutedLemmas.{receivers-header, len-packet, len-again, len-least}
 use Rattle.rtp_c.proofs.routed_headers.write_one.Goals as goal
 use Rattle.rtp_c.proofs.routed_headers.write_one.Goals.{else-receiver-ne0-via-then-receiver-ne0+else-receiver-gt127, else-receiver-ne0-via-else-receiver-ne0, then-len-buf-via-then-len-buf, then-len-buf-via-else-len-buf+then-at-buf}
@@ -38,7 +41,7 @@ pub returns-then-receiver-ne0-2 : goal.returns-then-receiver-ne0-2
 returns-then-receiver-ne0-2 c =
     let receiver = c.args.receiver.now in
     let header = calls.header_in c.args.header.now in
-    let slots = c.args.slots.now in
+    let slots = (slots_of c.args.slots.made.now) in
     let bytes = c.args.bytes.now in
     let again = c.write_again-receiver in
     let long = header_in-length c.args.header.now in
@@ -74,8 +77,8 @@ pub returns : goal.returns
 returns c =
     let receiver = c.args.receiver.now in
     let header = calls.header_in c.args.header.now in
-    let slots = c.args.slots.now in
-    let own = c.write_joined.new.buf in
+    let slots = (slots_of c.args.slots.made.now) in
+    let own = c.fill_copy.new.buf in
     let buf = c.args.buf.now in
     let at = receiver.at in
     let len = c.header_len-len.result in
@@ -87,7 +90,7 @@ returns c =
     ] in
     let none : receiver.is_retransmission ≡ 0 = omega (arith, c.if-receiver-ne0-2.false) in
     let alone : len_for header receiver ≡ length header = len-packet header receiver none in
-    let own_len : len ≡ length own = omega (arith, c.write_joined.auto.buf, c.if-at-buf.false, c.if-len-buf.false, length-take (at + len - at) (drop at buf), length-drop at buf) in
+    let own_len : len ≡ length own = omega (arith, c.fill_copy.auto.buf, c.if-at-buf.false, c.if-len-buf.false, length-take (at + len - at) (drop at buf), length-drop at buf) in
     record {
       given_is = refl;
       written = λ served room. (
@@ -96,7 +99,7 @@ returns c =
           own,
           record {
             packet = λ _. receivers-header header slots (fields_given receiver.fields) c.given_fields-fields.result c.args.bytes.now c.in-Some.own.now receiver.data_at c.args.data_len own c.given_fields-fields.ensures c.in-Some.ensures.found.1 c.requires.total
-                c.in-Some.ensures.found.0 c.write_joined.ensures.filled;
+                c.in-Some.ensures.found.0 c.fill_copy.ensures.filled;
             retransmission = λ some. absurd (omega (arith, some, none));
           },
           ap (λ (n : ℕ). take at buf ++ (own ++ drop (at + n - at) (drop at buf))) own_len ∙ overwritten-copied buf own at,
@@ -106,3 +109,26 @@ returns c =
       refused = λ not. absurd (not (record { fields = can; within = omega (arith, c.in-Some.ensures.found.0, c.requires.total) }));
       unchanged = λ other. absurd (other refl);
     }
+
+pub put-requires : goal.put-requires
+put-requires c =
+    let at = c.args.receiver.now.at in
+    let len = c.header_len-len.result in
+    let buf = c.args.buf.now in
+    omega (
+      arith,
+      c.header_len-len.ensures,
+      length-packet c.header_bytes.result.now _ c.header_bytes.ensures.alone,
+      c.if-at-buf.false,
+      c.if-len-buf.false,
+      length-take (at + len - at) (drop at buf),
+      length-drop at buf,
+    )
+
+pub fill_copy-requires-clause-copied : goal.fill_copy-requires-clause-copied
+fill_copy-requires-clause-copied c =
+    let at = c.args.receiver.now.at in
+    let len = c.header_len-len.result in
+    let buf = c.args.buf.now in
+    copied-header c.args.header.now c.header_bytes.result.now _ c.put.new.buf c.header_bytes.ensures.alone c.header_bytes.ensures.front c.put.ensures.written
+    (omega (arith, c.put.auto.buf, c.header_len-len.ensures, c.if-at-buf.false, c.if-len-buf.false, length-take (at + len - at) (drop at buf), length-drop at buf))
