@@ -16,7 +16,6 @@ use super::datagrams::slice_in;
 use super::status::{BAD_FIELD, OK, SHORT_BUFFER, status_of};
 use super::stored_slots::StoredSlots;
 use super::template::StoredTemplate;
-use rtp_base::put;
 use rtp_route::{fill_copy, write_retransmission};
 use rtp_wire::RtpPacket;
 
@@ -98,6 +97,15 @@ fn write_again(
     OK
 }
 
+// Copies a header. It stays out of line, so that the loop over the receivers keeps its registers.
+#[inline(never)]
+fn copy_header(buf: &mut [u8], header: &[u8])
+    requires { length buf.old ≡ length header.now }
+    ensures { buf.new ≡ header.now }
+{
+    buf.copy_from_slice(header);
+}
+
 // Writes what a receiver gets at its place, where it can be served and there is room.
 fn write_one(
     header: &RtpPacket<'_>,
@@ -130,7 +138,7 @@ fn write_one(
         return;
     }
     let copy = &mut buf[at..at + len];
-    put(copy, 0, header.header_bytes());
+    copy_header(copy, header.header_bytes());
     let fields = given_fields(&receiver.fields);
     fill_copy(header, slots, &fields, own, copy);
     receiver.status = OK;

@@ -3,6 +3,7 @@
 ghost use Rattle.std.specs.Prelude.{◌≡◌, ◌↔◌, ◌+◌, ◌<◌, ◌≤◌, ◌∷◌, ℕ, List, [], Some, length, map, take, drop, slice_get, All, IsTrue, IsSome, IfSome, IfNone};
 ghost use Rattle.std.specs.Bool.{OnTrue, OnFalse};
 ghost use Rattle.std.specs.List.{AllByRecursion};
+ghost use Rattle.rtp_base.specs.Overwriting.{overwritten};
 ghost use Rattle.rtp_ext.specs.declared.form.ExtensionsForm.{ExtensionsForm};
 ghost use Rattle.rtp_ext.specs.Elements.{Element};
 ghost use Rattle.rtp_ext.specs.ElementsInARow.{elements_of};
@@ -11,6 +12,7 @@ ghost use Rattle.rtp_wire.specs.PartsOf.{parts_of};
 ghost use Rattle.rtp_route.specs.declared.slots.Slot.{Slot};
 ghost use Rattle.rtp_route.specs.Template.{HaveOwnIds, HasOnly, HasRow, IsSlot, AreSlots, LiesInHeader, body_start_of, slot_lengths, total_of, pieces, filled_in};
 
+use rtp_base::put;
 use rtp_ext::{last_place, put_data};
 use rtp_wire::RtpPacket;
 
@@ -173,6 +175,38 @@ pub fn total_len(slots: &[Slot]) -> usize
     total
 }
 
+// Puts longer data at the offset. It stays out of line, so that the loop over the places keeps its
+// registers.
+#[inline(never)]
+fn put_long(buf: &mut [u8], at: usize, piece: &[u8])
+    requires { at + length piece.now ≤ length buf.old }
+    ensures { buf.new ≡ overwritten buf.old at piece.now }
+{
+    put(buf, at, piece);
+}
+
+// Puts data at the offset. Up to three bytes, as most elements have, are put one by one, or two
+// together, since a copy of so few takes longer.
+#[inline(always)]
+fn put_piece(buf: &mut [u8], at: usize, piece: &[u8])
+    requires { at + length piece.now ≤ length buf.old }
+    ensures { buf.new ≡ overwritten buf.old at piece.now }
+{
+    match piece {
+        [first] => {
+            put(buf, at, &[*first]);
+        }
+        [first, second] => {
+            put(buf, at, &[*first, *second]);
+        }
+        [first, second, third] => {
+            put(buf, at, &[*first, *second]);
+            put(buf, at + 2, &[*third]);
+        }
+        _ => put_long(buf, at, piece),
+    }
+}
+
 // Puts the data, which lie one after another, at their places.
 #[inline(always)]
 pub(super) fn fill_joined<S: SlotList>(buf: &mut [u8], slots: S, bytes: &[u8])
@@ -185,7 +219,7 @@ pub(super) fn fill_joined<S: SlotList>(buf: &mut [u8], slots: S, bytes: &[u8])
     for index in 0..slots.count() {
         let slot = slots.at(index);
         let (first, after) = left.split_at(slot.len as usize);
-        put_data(buf, slot.start as usize, first);
+        put_piece(buf, slot.start as usize, first);
         left = after;
     }
 }

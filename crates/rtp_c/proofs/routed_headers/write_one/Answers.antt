@@ -7,8 +7,7 @@ use Rattle.rtp_c.specs.PacketView.{slice_at}
 use Rattle.rtp_c.specs.RoutedHeaders.{IsReceiversAgain, len_for}
 use Rattle.rtp_c.specs.SetFields.{fields_given, CanBeSet}
 use Rattle.rtp_c.specs.StoredTemplate.{slots_of}
-use Rattle.rtp_route.proofs.ByCallsLemmas.{header_in-length}
-use Rattle.rtp_route.proofs.TemplateLemmas.{copied-header}
+use Rattle.rtp_route.proofs.ByCallsLemmas.{header-is, header_in-length}
 use Rattle.rtp_c.proofs.RoutedLemmas.{receivers-header, len-packet, len-again, len-least}
 use Rattle.rtp_c.proofs.routed_headers.write_one.Goals as goal
 use Rattle.rtp_c.proofs.routed_headers.write_one.Goals.{else-receiver-ne0-via-then-receiver-ne0+else-receiver-gt127, else-receiver-ne0-via-else-receiver-ne0, then-len-buf-via-then-len-buf, then-len-buf-via-else-len-buf+then-at-buf}
@@ -110,8 +109,8 @@ returns c =
       unchanged = λ other. absurd (other refl);
     }
 
-pub put-requires : goal.put-requires
-put-requires c =
+pub copy_header-requires : goal.copy_header-requires
+copy_header-requires c =
     let at = c.args.receiver.now.at in
     let len = c.header_len-len.result in
     let buf = c.args.buf.now in
@@ -127,8 +126,4 @@ put-requires c =
 
 pub fill_copy-requires-clause-copied : goal.fill_copy-requires-clause-copied
 fill_copy-requires-clause-copied c =
-    let at = c.args.receiver.now.at in
-    let len = c.header_len-len.result in
-    let buf = c.args.buf.now in
-    copied-header c.args.header.now c.header_bytes.result.now _ c.put.new.buf c.header_bytes.ensures.alone c.header_bytes.ensures.front c.put.ensures.written
-    (omega (arith, c.put.auto.buf, c.header_len-len.ensures, c.if-at-buf.false, c.if-len-buf.false, length-take (at + len - at) (drop at buf), length-drop at buf))
+    c.copy_header.ensures ∙ header-is c.args.header.now c.header_bytes.result.now c.header_bytes.ensures.front c.header_bytes.ensures.alone

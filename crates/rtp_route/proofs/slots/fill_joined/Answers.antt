@@ -7,8 +7,8 @@ use Rattle.rtp_route.proofs.slots.fill_joined.Goals as goal
 pub split_at-requires : goal.split_at-requires
 split_at-requires g c = (joined-at (g.S.SlotList.slots c.args.slots) c.loop-index.index c.at-slot.result c.loop-index.left.now c.at-slot.ensures c.loop-index.invariant.2).0
 
-pub put_data-requires : goal.put_data-requires
-put_data-requires g c =
+pub put_piece-requires : goal.put_piece-requires
+put_piece-requires g c =
     let lies = one-of (λ (s : Slot). s.start + s.len ≤ length c.args.buf.now) (g.S.SlotList.slots c.args.slots) c.loop-index.index c.at-slot.result c.at-slot.ensures c.requires.within in
     omega (arith, lies, c.split_at.ensures, c.loop-index.invariant.1)
 
@@ -20,7 +20,7 @@ loop-index-preserved g c =
     let left = c.loop-index.left.now in
     let next = joined-on slots i slot left c.loop-index.buf (filled_in slots (pieces (slot_lengths slots) c.args.bytes.now) c.args.buf.now) c.at-slot.ensures c.loop-index.invariant.0 in
     let after = (joined-at slots i slot left c.at-slot.ensures c.loop-index.invariant.2).1 in (
-      rw (c.put_data.ensures, c.split_at.ensures.front, c.split_at.ensures.back) next,
-      omega (arith, c.put_data.auto.buf, c.loop-index.invariant.1),
+      rw (c.put_piece.ensures, c.split_at.ensures.front, c.split_at.ensures.back) next,
+      omega (arith, c.put_piece.auto.buf, c.loop-index.invariant.1),
       rw c.split_at.ensures.back after,
     )
