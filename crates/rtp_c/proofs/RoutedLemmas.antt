@@ -24,7 +24,7 @@ no-bytes (x ∷ xs) none = absurd (omega (arith, none))
 pub all-header : (bytes : List ℕ) (len : ℕ) (parts : PacketParts) → len ≤ length bytes → IsPacket (take len bytes) parts → header_len_of parts + length parts.payload ≡ len
 all-header bytes len parts there is = omega (arith, length-packet (take len bytes) parts is, length-take len bytes, there)
 
-length-slice : (bytes : List ℕ) (at len : ℕ) → at + len ≤ length bytes → length (slice_at bytes at len) ≡ len
+pub length-slice : (bytes : List ℕ) (at len : ℕ) → at + len ≤ length bytes → length (slice_at bytes at len) ≡ len
 length-slice bytes at len within = omega (arith, within, length-take (at + len - at) (drop at bytes), length-drop at bytes)
 
 -- the header with the receiver's fields and data

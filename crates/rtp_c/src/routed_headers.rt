@@ -2,7 +2,10 @@
 
 ghost use Rattle.std.specs.Prelude.{◌≡◌, ◌≢◌, ◌↔◌, ◌+◌, ◌<◌, ◌≤◌, ℕ, List, length, All, IsOk, IfOk, IfErr};
 ghost use Rattle.rtp_base.specs.Overwriting.{overwritten};
-ghost use Rattle.rtp_wire.specs.Packet.{header_len_of};
+ghost use Rattle.rtp_wire.specs.ChangedPacket.{ChangesOnly};
+ghost use Rattle.rtp_wire.specs.GivenFields.{with_header_fields};
+ghost use Rattle.rtp_wire.specs.Packet.{PacketParts, IsPacket, header_len_of};
+ghost use Rattle.rtp_wire.specs.PartsAt.{HasLayout};
 ghost use Rattle.rtp_wire.specs.PartsOf.{parts_of};
 ghost use Rattle.rtp_route.specs.Calls as calls;
 ghost use Rattle.rtp_route.specs.Template.{slot_lengths, total_of, pieces, LiesInHeader};
@@ -13,11 +16,14 @@ ghost use Rattle.rtp_c.specs.StoredTemplate.{slots_of, IsInRange};
 
 use super::changing::{FieldsView, given_fields};
 use super::datagrams::slice_in;
+use super::given::given;
 use super::status::{BAD_FIELD, OK, SHORT_BUFFER, status_of};
 use super::stored_slots::StoredSlots;
 use super::template::StoredTemplate;
-use rtp_route::{fill_copy, write_retransmission};
-use rtp_wire::RtpPacket;
+use rtp_base::{Pt, Ssrc};
+use rtp_ext::ExtensionsForm;
+use rtp_route::{fill_joined, write_retransmission};
+use rtp_wire::{Fields, RtpPacket, RtpPacketMut};
 
 /// One of the receivers of a group, and the header that it gets: `rtpw_routed_header` in C, 48
 /// bytes.
@@ -106,6 +112,41 @@ fn copy_header(buf: &mut [u8], header: &[u8])
     buf.copy_from_slice(header);
 }
 
+// Sets the fields that are given in a header alone, one by one: each is read when it is set, so that
+// few are held at once.
+#[inline(always)]
+fn set_given(buf: &mut [u8], form: Option<ExtensionsForm>, view: &FieldsView)
+    requires held { HasLayout buf.old (length buf.old) form }
+    requires payload_type { CanBeSet view.now }
+    ensures set { (parts : PacketParts) → IsPacket buf.old parts →
+        IsPacket buf.new (with_header_fields (fields_given view.now) parts) }
+    ensures fixed { ChangesOnly 1 12 buf.old buf.new }
+{
+    let none = Fields::default();
+    let len = buf.len();
+    let mut packet = RtpPacketMut::new(buf, len, form);
+    packet.set_fields(&Fields {
+        marker: given(view.has_marker, view.marker != 0),
+        ..none
+    });
+    packet.set_fields(&Fields {
+        payload_type: given(view.has_payload_type, Pt::from(view.payload_type)),
+        ..none
+    });
+    packet.set_fields(&Fields {
+        sequence_number: given(view.has_sequence_number, view.sequence_number),
+        ..none
+    });
+    packet.set_fields(&Fields {
+        timestamp: given(view.has_timestamp, view.timestamp),
+        ..none
+    });
+    packet.set_fields(&Fields {
+        ssrc: given(view.has_ssrc, Ssrc::from(view.ssrc)),
+        ..none
+    });
+}
+
 // Writes what a receiver gets at its place, where it can be served and there is room.
 fn write_one(
     header: &RtpPacket<'_>,
@@ -139,8 +180,8 @@ fn write_one(
     }
     let copy = &mut buf[at..at + len];
     copy_header(copy, header.header_bytes());
-    let fields = given_fields(&receiver.fields);
-    fill_copy(header, slots, &fields, own, copy);
+    set_given(copy, header.form(), &receiver.fields);
+    fill_joined(copy, slots, own);
     receiver.status = OK;
 }
 

@@ -207,9 +207,10 @@ fn put_piece(buf: &mut [u8], at: usize, piece: &[u8])
     }
 }
 
-// Puts the data, which lie one after another, at their places.
+/// Puts the data of the group's elements, one after another in their order, at their places.
+/// Requires as many as the places have, and places that lie in the buffer.
 #[inline(always)]
-pub(super) fn fill_joined<S: SlotList>(buf: &mut [u8], slots: S, bytes: &[u8])
+pub fn fill_joined<S: SlotList>(buf: &mut [u8], slots: S, bytes: &[u8])
     requires lengths { length bytes.now ≡ total_of (S.slots slots) }
     requires within { All (λ slot. slot.start + slot.len ≤ length buf.old) (S.slots slots) }
     ensures { buf.new

@@ -16,10 +16,9 @@ ghost use Rattle.rtp_route.specs.Retransmitted.{IsRoutedAgain};
 ghost use Rattle.rtp_route.specs.Routing.{IsRouted};
 ghost use Rattle.rtp_route.specs.Template.{with_data, data_lengths, slot_lengths, total_of, pieces, LiesInHeader};
 
-use super::in_place::{copy_header, send_again, set_fields};
+use super::in_place::{copy_header, send_again};
 use super::slots::{MAX_ELEMENTS, Slot, SlotList, fill, fill_joined, have_lengths};
 use super::{Group, NotRouted, NotWritten, make_template};
-use rtp_base::put;
 use rtp_wire::{Fields, RtpPacket};
 
 /// A packet's header for a group of receivers: what they have in common is made once, and each then
@@ -191,36 +190,10 @@ impl<'a> HeaderTemplate<'a> {
     }
 }
 
-/// Makes a copy of a header that [`make_template`](super::make_template) made, as a packet without
-/// a payload, that of a receiver: it gets these fields, and these data of the group's elements, one
-/// after another in their order, at the places. Requires as many data as the places have, places
-/// that lie in the header, and a payload type of at most 127.
-#[inline(always)]
-pub fn fill_copy<S: SlotList>(
-    header: &RtpPacket<'_>,
-    slots: S,
-    fields: &Fields,
-    bytes: &[u8],
-    buf: &mut [u8],
-)
-    requires payload_type { IfSome fields.now.payload_type (λ pt. pt ≤ 127) }
-    requires lengths { length bytes.now ≡ total_of (S.slots slots) }
-    requires within { All (LiesInHeader (parts_of header.now)) (S.slots slots) }
-    requires copied { buf.old ≡ header_in header.now }
-    ensures routed { (old : List ℕ) (ids : ℕ → Option ℕ) (news : List Element)
-        (allowed : Option ExtensionsForm) →
-        IsGroupHeader old ids news allowed (header_in header.now) (S.slots slots) →
-        IsRouted old fields.now ids (with_data news (pieces (data_lengths news) bytes.now)) allowed
-        buf.new }
-    ensures filled { IsFilledIn (header_in header.now) (S.slots slots) fields.now
-        (pieces (slot_lengths (S.slots slots)) bytes.now) buf.new }
-{
-    set_fields(buf, header.form(), fields);
-    fill_joined(buf, slots, bytes);
-}
-
-/// Writes such a header with these fields and data, as [`fill_copy`] makes it of a copy, into a
-/// buffer of the header's length. Requires the same.
+/// Writes a header that [`make_template`](super::make_template) made, as a packet without a
+/// payload, with these fields, and with these data of the group's elements, one after another in
+/// their order, at the places, into a buffer of the header's length. Requires as many data as the
+/// places have, places that lie in the header, and a payload type of at most 127.
 #[inline(always)]
 pub fn write_joined<S: SlotList>(
     header: &RtpPacket<'_>,
@@ -241,6 +214,6 @@ pub fn write_joined<S: SlotList>(
     ensures filled { IsFilledIn (header_in header.now) (S.slots slots) fields.now
         (pieces (slot_lengths (S.slots slots)) bytes.now) buf.new }
 {
-    put(buf, 0, header.header_bytes());
-    fill_copy(header, slots, fields, bytes, buf);
+    copy_header(header, fields, buf);
+    fill_joined(buf, slots, bytes);
 }
