@@ -175,14 +175,13 @@ pub fn total_len(slots: &[Slot]) -> usize
     total
 }
 
-// Puts longer data at the offset. It stays out of line, so that the loop over the places keeps its
-// registers.
+// Copies longer data. It stays out of line, so that the loop over the places keeps its registers.
 #[inline(never)]
-fn put_long(buf: &mut [u8], at: usize, piece: &[u8])
-    requires { at + length piece.now ≤ length buf.old }
-    ensures { buf.new ≡ overwritten buf.old at piece.now }
+fn copy_long(buf: &mut [u8], piece: &[u8])
+    requires { length buf.old ≡ length piece.now }
+    ensures { buf.new ≡ piece.now }
 {
-    put(buf, at, piece);
+    buf.copy_from_slice(piece);
 }
 
 // Puts data at the offset. Up to three bytes, as most elements have, are put one by one, or two
@@ -203,7 +202,7 @@ fn put_piece(buf: &mut [u8], at: usize, piece: &[u8])
             put(buf, at, &[*first, *second]);
             put(buf, at + 2, &[*third]);
         }
-        _ => put_long(buf, at, piece),
+        _ => copy_long(&mut buf[at..at + piece.len()], piece),
     }
 }
 

@@ -1,6 +1,6 @@
-use Rattle.std.proofs.Common.{◌≡◌, ◌+◌, ℕ, List, [], ◌∷◌, length, get_or, refl, sym, ap, ◌∙◌, arith}
+use Rattle.std.proofs.Common.{◌≡◌, ◌+◌, ◌-◌, ℕ, List, [], ◌∷◌, ◌++◌, take, drop, length, get_or, refl, sym, ap, ◌∙◌, arith}
 use Rattle.rtp_base.specs.Overwriting.{overwritten}
-use Rattle.rtp_base.proofs.OverwritingLemmas.{overwritten-overwritten}
+use Rattle.rtp_base.proofs.OverwritingLemmas.{overwritten-overwritten, overwritten-copied}
 use Rattle.rtp_route.proofs.slots.put_piece.Goals as goal
 
 one : (bytes : List ℕ) → length bytes ≡ 1 → get_or bytes 0 0 ∷ [] ≡ bytes
@@ -32,3 +32,10 @@ returns-in-len3 c =
     ∙ ap (λ (b : List ℕ). overwritten b (c.args.at + 2) (get_or bytes 2 0 ∷ [])) c.put-in-len3.ensures.written
     ∙ overwritten-overwritten c.args.buf.now (first ∷ second ∷ []) (get_or bytes 2 0 ∷ []) c.args.at (c.args.at + 2) (omega arith) (omega (arith, c.requires, long))
     ∙ ap (overwritten c.args.buf.now c.args.at) (three bytes long)
+
+pub returns-in_default : goal.returns-in_default
+returns-in_default c =
+    let own_len : length c.args.piece.now ≡ length c.copy_long.new.buf = sym (ap length c.copy_long.ensures) in
+    ap (λ (n : ℕ). take c.args.at c.args.buf.now ++ (c.copy_long.new.buf ++ drop (c.args.at + n - c.args.at) (drop c.args.at c.args.buf.now))) own_len
+    ∙ overwritten-copied c.args.buf.now c.copy_long.new.buf c.args.at
+    ∙ ap (overwritten c.args.buf.now c.args.at) c.copy_long.ensures
