@@ -184,8 +184,8 @@ fn copy_long(buf: &mut [u8], piece: &[u8])
     buf.copy_from_slice(piece);
 }
 
-// Puts data at the offset. Up to three bytes, as most elements have, are put one by one, or two
-// together, since a copy of so few takes longer.
+// Puts data at the offset. Up to four bytes, as most elements have, are put by themselves, since a
+// copy of so few takes longer.
 #[inline(always)]
 fn put_piece(buf: &mut [u8], at: usize, piece: &[u8])
     requires { at + length piece.now ≤ length buf.old }
@@ -201,6 +201,9 @@ fn put_piece(buf: &mut [u8], at: usize, piece: &[u8])
         [first, second, third] => {
             put(buf, at, &[*first, *second]);
             put(buf, at + 2, &[*third]);
+        }
+        [first, second, third, fourth] => {
+            put(buf, at, &[*first, *second, *third, *fourth]);
         }
         _ => copy_long(&mut buf[at..at + piece.len()], piece),
     }

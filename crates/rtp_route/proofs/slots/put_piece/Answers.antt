@@ -16,6 +16,10 @@ three : (bytes : List ℕ) → length bytes ≡ 3 → get_or bytes 0 0 ∷ get_o
 three [] long = absurd (omega (arith, long))
 three (x ∷ bytes) long = ap (λ (b : List ℕ). x ∷ b) (two bytes (omega (arith, long)))
 
+four : (bytes : List ℕ) → length bytes ≡ 4 → get_or bytes 0 0 ∷ get_or bytes 1 0 ∷ get_or bytes 2 0 ∷ get_or bytes 3 0 ∷ [] ≡ bytes
+four [] long = absurd (omega (arith, long))
+four (x ∷ bytes) long = ap (λ (b : List ℕ). x ∷ b) (three bytes (omega (arith, long)))
+
 pub returns-in-len1 : goal.returns-in-len1
 returns-in-len1 c = c.put.ensures.written ∙ ap (overwritten c.args.buf.now c.args.at) (one c.args.piece.now (omega (arith, c.in-len1.len_at_least, c.in-len1.len_below)))
 
@@ -32,6 +36,9 @@ returns-in-len3 c =
     ∙ ap (λ (b : List ℕ). overwritten b (c.args.at + 2) (get_or bytes 2 0 ∷ [])) c.put-in-len3.ensures.written
     ∙ overwritten-overwritten c.args.buf.now (first ∷ second ∷ []) (get_or bytes 2 0 ∷ []) c.args.at (c.args.at + 2) (omega arith) (omega (arith, c.requires, long))
     ∙ ap (overwritten c.args.buf.now c.args.at) (three bytes long)
+
+pub returns-in-len4 : goal.returns-in-len4
+returns-in-len4 c = c.put-in-len4.ensures.written ∙ ap (overwritten c.args.buf.now c.args.at) (four c.args.piece.now (omega (arith, c.in-len4.len_at_least, c.in-len4.len_below)))
 
 pub returns-in_default : goal.returns-in_default
 returns-in_default c =
