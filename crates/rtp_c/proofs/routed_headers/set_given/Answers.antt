@@ -1,5 +1,5 @@
 use Rattle.std.proofs.Common.{rules, not, nat_eq}
-use Rattle.rtp_c.proofs.Common.{◌≡◌, ℕ, Bool, Option, None, refl, ap, subst, sym, ◌∙◌, arith, Fields, with_header_fields}
+use Rattle.rtp_c.proofs.Common.{◌≡◌, ℕ, Bool, Option, refl, ap, subst, sym, ◌∙◌, arith, Fields, with_header_fields}
 use Rattle.rtp_wire.specs.Packet.{PacketParts}
 use Rattle.rtp_wire.proofs.BytesBetween.{ChangesOnly-then, in_fixed_part}
 use Rattle.rtp_route.proofs.ByCallsLemmas.{fields-in, only-in}
