@@ -1,5 +1,5 @@
 -- A header that is written for a receiver, and the template that it is written from.
-use Rattle.rtp_c.proofs.Common.{◌≡◌, ℕ, Bool, true, false, if◌then◌else◌, ◌<◌, ◌+◌, ◌-◌, ◌≤◌, List, [], ◌∷◌, length, take, drop, refl, sym, ap, subst, ◌∙◌, arith, length-take, length-drop, All}
+use Rattle.rtp_c.proofs.Common.{◌≡◌, ℕ, Bool, true, false, if◌then◌else◌, ◌<◌, ◌+◌, ◌-◌, ◌≤◌, List, [], ◌∷◌, length, take, drop, refl, ap, subst, ◌∙◌, arith, length-take, length-drop}
 use Rattle.std.proofs.lemmas.Bool.{lt-ltb}
 use Rattle.rtp_wire.specs.declared.packet.fields.Fields.{Fields}
 use Rattle.rtp_wire.specs.Packet.{PacketParts, IsPacket, header_len_of}
@@ -11,22 +11,10 @@ use Rattle.rtp_route.specs.Template.{slot_lengths, total_of, pieces}
 use Rattle.rtp_route.proofs.LengthLemmas.{pieces-lengths}
 use Rattle.rtp_route.proofs.RetransmittedLemmas.{routed-again}
 use Rattle.rtp_route.proofs.TemplateLemmas.{routed-filled}
-use Rattle.rtp_c.specs.declared.template.StoredTemplate.{StoredTemplate}
 use Rattle.rtp_c.specs.PacketView.{slice_at}
 use Rattle.rtp_c.specs.Given.{is_nonzero}
 use Rattle.rtp_c.specs.declared.routed_headers.RoutedHeader.{RoutedHeader}
 use Rattle.rtp_c.specs.RoutedHeaders.{IsReceivers, IsReceiversAgain, len_for}
-use Rattle.rtp_c.specs.StoredTemplate.{slots_of, IsInRange}
-
--- what is stored, where the places are found to be in range
-pub in-range : (made : StoredTemplate) (slots : List Slot) (size total : ℕ) → slots ≡ slots_of made → made.count ≤ 16 → made.header_len ≤ size → All (λ (s : Slot). s.start + s.len ≤ made.header_len) slots
-    → total ≡ total_of slots → total ≡ made.data_total → IsInRange made size
-in-range made slots size total slots-are few there within total_is same = record {
-  few = few;
-  there = there;
-  within = subst (λ (ss : List Slot). All (λ (s : Slot). s.start + s.len ≤ made.header_len) ss) slots-are within;
-  total_is = sym same ∙ total_is ∙ ap total_of slots-are;
-}
 
 pub no-bytes : (xs : List ℕ) → length xs ≡ 0 → xs ≡ []
 no-bytes [] none = refl
@@ -36,7 +24,7 @@ no-bytes (x ∷ xs) none = absurd (omega (arith, none))
 pub all-header : (bytes : List ℕ) (len : ℕ) (parts : PacketParts) → len ≤ length bytes → IsPacket (take len bytes) parts → header_len_of parts + length parts.payload ≡ len
 all-header bytes len parts there is = omega (arith, length-packet (take len bytes) parts is, length-take len bytes, there)
 
-length-slice : (bytes : List ℕ) (at len : ℕ) → at + len ≤ length bytes → length (slice_at bytes at len) ≡ len
+pub length-slice : (bytes : List ℕ) (at len : ℕ) → at + len ≤ length bytes → length (slice_at bytes at len) ≡ len
 length-slice bytes at len within = omega (arith, within, length-take (at + len - at) (drop at bytes), length-drop at bytes)
 
 -- the header with the receiver's fields and data

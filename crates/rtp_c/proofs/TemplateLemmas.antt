@@ -1,7 +1,8 @@
 -- The places of a template as C keeps them.
 use Rattle.rtp_c.proofs.Common.{ℤ, w32, to_z, of_z, length-map}
-use Rattle.std.proofs.Common.{Option, ◌≡◌, ℕ, zero, suc, ◌+◌, ◌<◌, List, [], ◌∷◌, ◌++◌, length, take, get_or, set, refl, sym, ap, subst, ◌∙◌, arith}
-use Rattle.std.proofs.lemmas.List.{take_more, take_more_set}
+use Rattle.std.proofs.Common.{Option, Some, ◌≡◌, ℕ, zero, suc, ◌+◌, ◌<◌, ◌≤◌, slice_get, length-take, List, [], ◌∷◌, ◌++◌, length, take, get_or, set, refl, sym, ap, subst, ◌∙◌, arith}
+use Rattle.std.proofs.lemmas.List.{take_more, take_more_set, get_or-take}
+use Rattle.std.proofs.lemmas.Option.{slice_get-get_or}
 use Rattle.rtp_route.specs.declared.slots.Slot.{Slot}
 use Rattle.rtp_ext.specs.declared.form.ExtensionsForm.{ExtensionsForm}
 use Rattle.rtp_ext.specs.Elements.{Element}
@@ -43,6 +44,17 @@ slots_at-get (s ∷ starts) [] index d same within = absurd (omega (arith, same)
 slots_at-get (s ∷ starts) (l ∷ lens) zero d same within = refl
 slots_at-get (s ∷ starts) (l ∷ lens) (suc index) d same within = slots_at-get starts lens index d (omega (arith, same)) (omega (arith, within))
 
+-- as many places as are stored, and each where it is
+pub count-of : (starts lens : List ℕ) (count : ℕ) → length starts ≡ length lens → count ≤ length starts → length (take count (slots_at starts lens)) ≡ count
+count-of starts lens count same few = omega (arith, length-take count (slots_at starts lens), slots_at-length starts lens same, few)
+
+pub place-at : (starts lens : List ℕ) (count index : ℕ) → length starts ≡ length lens → count ≤ length starts → index < count
+    → slice_get (take count (slots_at starts lens)) index ≡ Some (record { start = get_or starts index 0; len = get_or lens index 0 })
+place-at starts lens count index same few there =
+    let d : Slot = record { start = 0; len = 0 } in
+    slice_get-get_or (take count (slots_at starts lens)) index d (omega (arith, count-of starts lens count same few, there))
+    ∙ ap Some (get_or-take count (slots_at starts lens) index d there ∙ slots_at-get starts lens index d same (omega (arith, few, there)))
+
 -- one place more is stored
 pub stored-more : (slots : List Slot) (starts lens : List ℕ) (index : ℕ) (d : Slot) → length starts ≡ length lens → index < length starts → index < length slots
     → take index (slots_at starts lens) ≡ take index slots
@@ -52,17 +64,6 @@ stored-more slots starts lens index d same within there so_far =
     ∙ take_more_set (slots_at starts lens) index (get_or slots index d) (omega (arith, within, slots_at-length starts lens same))
     ∙ ap (λ (ss : List Slot). ss ++ get_or slots index d ∷ []) so_far
     ∙ sym (take_more slots index d there)
-
--- one place more of those that are stored
-pub parts-more : (slots : List Slot) (starts lens : List ℕ) (index : ℕ) → length starts ≡ length lens → index < length starts → index < length slots
-    → take index slots ≡ take index (slots_at starts lens)
-    → take (index + 1) (set slots index (record { start = get_or starts index 0; len = get_or lens index 0 })) ≡ take (index + 1) (slots_at starts lens)
-parts-more slots starts lens index same within there so_far =
-    let d : Slot = record { start = 0; len = 0 } in
-    take_more_set slots index _ there
-    ∙ ap (λ (ss : List Slot). ss ++ record { start = get_or starts index 0; len = get_or lens index 0 } ∷ []) so_far
-    ∙ ap (λ (s : Slot). take index (slots_at starts lens) ++ s ∷ []) (sym (slots_at-get starts lens index d same within))
-    ∙ sym (take_more (slots_at starts lens) index d (omega (arith, within, slots_at-length starts lens same)))
 
 -- ---- what is made for a group
 

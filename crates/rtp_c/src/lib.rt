@@ -37,6 +37,7 @@ mod set_values;
 mod standard;
 mod standing;
 mod status;
+mod stored_slots;
 mod template;
 mod values;
 mod wide_receiver;

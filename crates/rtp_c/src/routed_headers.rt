@@ -2,21 +2,28 @@
 
 ghost use Rattle.std.specs.Prelude.{◌≡◌, ◌≢◌, ◌↔◌, ◌+◌, ◌<◌, ◌≤◌, ℕ, List, length, All, IsOk, IfOk, IfErr};
 ghost use Rattle.rtp_base.specs.Overwriting.{overwritten};
-ghost use Rattle.rtp_wire.specs.Packet.{header_len_of};
+ghost use Rattle.rtp_wire.specs.ChangedPacket.{ChangesOnly};
+ghost use Rattle.rtp_wire.specs.GivenFields.{with_header_fields};
+ghost use Rattle.rtp_wire.specs.Packet.{PacketParts, IsPacket, header_len_of};
+ghost use Rattle.rtp_wire.specs.PartsAt.{HasLayout};
 ghost use Rattle.rtp_wire.specs.PartsOf.{parts_of};
 ghost use Rattle.rtp_route.specs.Calls as calls;
 ghost use Rattle.rtp_route.specs.Template.{slot_lengths, total_of, pieces, LiesInHeader};
 ghost use Rattle.rtp_c.specs.RoutedHeaders.{header_in, IsWholeTemplate, IsTemplateStatus, IsReceiversAgain, IsHeaderWritten, AreHeadersWritten};
 ghost use Rattle.rtp_c.specs.SetFields.{fields_given, CanBeSet};
 ghost use Rattle.rtp_c.specs.Status.{ok, short_buffer};
-ghost use Rattle.rtp_c.specs.StoredTemplate.{slots_of};
+ghost use Rattle.rtp_c.specs.StoredTemplate.{slots_of, IsInRange};
 
 use super::changing::{FieldsView, given_fields};
 use super::datagrams::slice_in;
+use super::given::given;
 use super::status::{BAD_FIELD, OK, SHORT_BUFFER, status_of};
+use super::stored_slots::StoredSlots;
 use super::template::StoredTemplate;
-use rtp_route::{MAX_ELEMENTS, Slot, lie_within, total_len, write_joined, write_retransmission};
-use rtp_wire::RtpPacket;
+use rtp_base::{Pt, Ssrc};
+use rtp_ext::ExtensionsForm;
+use rtp_route::{fill_joined, write_retransmission};
+use rtp_wire::{Fields, RtpPacket, RtpPacketMut};
 
 /// One of the receivers of a group, and the header that it gets: `rtpw_routed_header` in C, 48
 /// bytes.
@@ -42,27 +49,15 @@ pub struct RoutedHeader {
 }
 
 // The header of the template at the front of these bytes, or the status of why it is none.
-fn header_of<'a>(
-    made: &StoredTemplate,
-    slots: &[Slot],
-    bytes: &'a [u8],
-) -> Result<RtpPacket<'a>, i32>
-    requires few { made.now.count ≤ 16 }
-    requires slots { slots.now ≡ slots_of made.now }
+fn header_of<'a>(made: &StoredTemplate, bytes: &'a [u8]) -> Result<RtpPacket<'a>, i32>
+    requires { IsInRange made.now (length bytes.now) }
     ensures header { IfOk result (λ header. calls.header_in header ≡ header_in made.now bytes.now) }
     ensures within { IfOk result (λ header.
         All (LiesInHeader (parts_of header)) (slots_of made.now)) }
-    ensures total { IsOk result → made.now.data_total ≡ total_of (slots_of made.now) }
     ensures whole { IsOk result ↔ IsWholeTemplate made.now bytes.now }
     ensures status { IfErr result (IsTemplateStatus made.now bytes.now) }
 {
     let len = made.header_len as usize;
-    if len > bytes.len()
-        || !lie_within(slots, len)
-        || total_len(slots) != made.data_total as usize
-    {
-        return Err(BAD_FIELD);
-    }
     let header = match RtpPacket::parse(&bytes[..len]) {
         Ok(header) => header,
         Err(cause) => return Err(status_of(cause)),
@@ -79,19 +74,20 @@ fn header_of<'a>(
 #[inline(never)]
 fn write_again(
     header: RtpPacket<'_>,
-    slots: &[Slot],
+    slots: StoredSlots<'_>,
     own: &[u8],
     receiver: &RoutedHeader,
     buf: &mut [u8],
 ) -> i32
     requires payload_type { CanBeSet receiver.now.fields }
-    requires lengths { length own.now ≡ total_of slots.now }
-    requires within { All (LiesInHeader (parts_of header)) slots.now }
+    requires lengths { length own.now ≡ total_of (slots_of slots.made.now) }
+    requires within { All (LiesInHeader (parts_of header)) (slots_of slots.made.now) }
     requires room { receiver.now.at + header_len_of (parts_of header) ≤ length buf.old }
     ensures written { receiver.now.at + header_len_of (parts_of header.entry) + 2 ≤ length buf.old →
         (result ≡ ok) × ((bytes : List ℕ) × IsReceiversAgain (calls.header_in header.entry)
-        slots.now (fields_given receiver.now.fields) receiver.now.original_number
-        (pieces (slot_lengths slots.now) own.now) bytes
+        (slots_of slots.entry.made.now) (fields_given receiver.now.fields)
+        receiver.now.original_number (pieces (slot_lengths (slots_of slots.entry.made.now)) own.now)
+        bytes
         × (buf.new ≡ overwritten buf.old receiver.now.at bytes)) }
     ensures short { length buf.old < receiver.now.at + header_len_of (parts_of header.entry) + 2 →
         result ≡ short_buffer }
@@ -107,19 +103,63 @@ fn write_again(
     OK
 }
 
+// Copies a header. It stays out of line, so that the loop over the receivers keeps its registers.
+#[inline(never)]
+fn copy_header(buf: &mut [u8], header: &[u8])
+    requires { length buf.old ≡ length header.now }
+    ensures { buf.new ≡ header.now }
+{
+    buf.copy_from_slice(header);
+}
+
+// Sets the fields that are given in a header alone, one by one: each is read when it is set, so that
+// few are held at once.
+#[inline(always)]
+fn set_given(buf: &mut [u8], form: Option<ExtensionsForm>, view: &FieldsView)
+    requires held { HasLayout buf.old (length buf.old) form }
+    requires payload_type { CanBeSet view.now }
+    ensures set { (parts : PacketParts) → IsPacket buf.old parts →
+        IsPacket buf.new (with_header_fields (fields_given view.now) parts) }
+    ensures fixed { ChangesOnly 1 12 buf.old buf.new }
+{
+    let none = Fields::default();
+    let len = buf.len();
+    let mut packet = RtpPacketMut::new(buf, len, form);
+    packet.set_fields(&Fields {
+        marker: given(view.has_marker, view.marker != 0),
+        ..none
+    });
+    packet.set_fields(&Fields {
+        payload_type: given(view.has_payload_type, Pt::from(view.payload_type)),
+        ..none
+    });
+    packet.set_fields(&Fields {
+        sequence_number: given(view.has_sequence_number, view.sequence_number),
+        ..none
+    });
+    packet.set_fields(&Fields {
+        timestamp: given(view.has_timestamp, view.timestamp),
+        ..none
+    });
+    packet.set_fields(&Fields {
+        ssrc: given(view.has_ssrc, Ssrc::from(view.ssrc)),
+        ..none
+    });
+}
+
 // Writes what a receiver gets at its place, where it can be served and there is room.
 fn write_one(
     header: &RtpPacket<'_>,
-    slots: &[Slot],
+    slots: StoredSlots<'_>,
     data_len: usize,
     bytes: &[u8],
     receiver: &mut RoutedHeader,
     buf: &mut [u8],
 )
-    requires total { data_len ≡ total_of slots.now }
-    requires within { All (LiesInHeader (parts_of header.now)) slots.now }
-    ensures { IsHeaderWritten (calls.header_in header.now) slots.now bytes.now receiver.old
-        receiver.new buf.old buf.new }
+    requires total { data_len ≡ total_of (slots_of slots.made.now) }
+    requires within { All (LiesInHeader (parts_of header.now)) (slots_of slots.made.now) }
+    ensures { IsHeaderWritten (calls.header_in header.now) (slots_of slots.entry.made.now) bytes.now
+        receiver.old receiver.new buf.old buf.new }
 {
     if receiver.fields.has_payload_type != 0 && receiver.fields.payload_type > 127 {
         receiver.status = BAD_FIELD;
@@ -138,8 +178,10 @@ fn write_one(
         receiver.status = write_again(*header, slots, own, receiver, buf);
         return;
     }
-    let fields = given_fields(&receiver.fields);
-    write_joined(header, slots, &fields, own, &mut buf[at..at + len]);
+    let copy = &mut buf[at..at + len];
+    copy_header(copy, header.header_bytes());
+    set_given(copy, header.form(), &receiver.fields);
+    fill_joined(copy, slots, own);
     receiver.status = OK;
 }
 
@@ -168,14 +210,10 @@ pub extern "C" fn rtpw_write_headers(
     ensures status { result ≢ ok → IsTemplateStatus made.now header.now result }
     ensures unchanged { result ≢ ok → (receivers.new ≡ receivers.old) × (buf.new ≡ buf.old) }
 {
-    let count = made.count as usize;
-    if count > MAX_ELEMENTS {
+    let Some(slots) = StoredSlots::new(made, header.len()) else {
         return BAD_FIELD;
-    }
-    let mut slots = [Slot { start: 0, len: 0 }; MAX_ELEMENTS];
-    made.copy_slots(&mut slots);
-    let slots = &slots[..count];
-    let template = match header_of(made, slots, header) {
+    };
+    let template = match header_of(made, header) {
         Ok(template) => template,
         Err(status) => return status,
     };

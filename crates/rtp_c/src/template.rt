@@ -42,19 +42,6 @@ pub struct StoredTemplate {
 }
 
 impl StoredTemplate {
-    // Copies the places that are stored to the front of these.
-    pub(super) fn copy_slots(&self, slots: &mut [Slot; MAX_ELEMENTS])
-        requires { self.now.count ≤ 16 }
-        ensures { take self.now.count slots.new ≡ slots_of self.now }
-    {
-        for index in 0..self.count as usize {
-            slots[index] = Slot {
-                start: self.data_at[index],
-                len: self.data_len[index],
-            };
-        }
-    }
-
     // Keeps the length of a header and its places, and zeros after the last place.
     fn store(&mut self, header_len: u32, slots: &[Slot])
         requires { length slots.now ≤ 16 }

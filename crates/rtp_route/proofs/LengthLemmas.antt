@@ -1,8 +1,9 @@
 -- How long headers are, and where data lie in them.
-use Rattle.std.proofs.Common.{◌≡◌, ℕ, ◌+◌, ◌-◌, ◌*◌, ◌<◌, ◌≤◌, Bool, true, false, List, [], ◌∷◌, length, take, drop, map, get_or, refl, ap, subst, ◌∙◌, arith, add-zero, length-drop, length-take}
+use Rattle.std.proofs.Common.{◌≡◌, ℕ, ◌+◌, ◌-◌, ◌*◌, ◌<◌, ◌≤◌, Bool, true, false, List, [], ◌∷◌, length, take, drop, map, get_or, refl, ap, subst, ◌∙◌, arith, add-zero, length-drop, length-take, Some, All, slice_get}
 use Rattle.std.specs.Prelude.{slice_index, if◌then◌else◌}
 use Rattle.std.proofs.lemmas.List.{get_or-take, get_or-drop, drop_more}
 use Rattle.std.proofs.lemmas.List.Sums.{sum_by-cons}
+use Rattle.std.proofs.lemmas.Option.{slice_get_within, get_or_from_slice_get}
 use Rattle.rtp_base.specs.Overwriting.{overwritten}
 use Rattle.rtp_ext.specs.declared.form.ExtensionsForm.{ExtensionsForm}
 use Rattle.rtp_ext.specs.declared.form.ExtensionsForm.TheVariants.{OneByte, TwoByte}
@@ -62,6 +63,24 @@ pub joined-next : (slots : List Slot) (index : ℕ) (d : Slot) (left buf whole :
     (overwritten buf (get_or slots index d).start (take (get_or slots index d).len left)) ≡ whole
 joined-next slots index d left buf whole within so_far =
     subst (λ (ss : List Slot). filled_in ss (pieces (slot_lengths ss) left) buf ≡ whole) (drop_more slots index d within) so_far
+
+-- the same of a place that is found there
+pub joined-at : (slots : List Slot) (index : ℕ) (slot : Slot) (left : List ℕ) → slice_get slots index ≡ Some slot → length left ≡ total_of (drop index slots)
+    → (slot.len ≤ length left) × (length (drop slot.len left) ≡ total_of (drop (index + 1) slots))
+joined-at slots index slot left is long =
+    subst (λ (s : Slot). (s.len ≤ length left) × (length (drop s.len left) ≡ total_of (drop (index + 1) slots))) (get_or_from_slice_get slots index slot slot is)
+    (joined-total slots index slot left (slice_get_within slots index slot is) long)
+
+pub joined-on : (slots : List Slot) (index : ℕ) (slot : Slot) (left buf whole : List ℕ) → slice_get slots index ≡ Some slot
+    → filled_in (drop index slots) (pieces (slot_lengths (drop index slots)) left) buf ≡ whole
+    → filled_in (drop (index + 1) slots) (pieces (slot_lengths (drop (index + 1) slots)) (drop slot.len left)) (overwritten buf slot.start (take slot.len left)) ≡ whole
+joined-on slots index slot left buf whole is so_far =
+    subst (λ (s : Slot). filled_in (drop (index + 1) slots) (pieces (slot_lengths (drop (index + 1) slots)) (drop s.len left)) (overwritten buf s.start (take s.len left)) ≡ whole)
+    (get_or_from_slice_get slots index slot slot is) (joined-next slots index slot left buf whole (slice_get_within slots index slot is) so_far)
+
+-- the place that is found is one of them
+pub one-of : (P : Slot → Type 0) (slots : List Slot) (index : ℕ) (slot : Slot) → slice_get slots index ≡ Some slot → All P slots → P slot
+one-of P slots index slot is all = subst P (get_or_from_slice_get slots index slot slot is) (all index slot (slice_get_within slots index slot is))
 
 -- the pieces are as long as the places
 pub pieces-lengths : (slots : List Slot) (bytes : List ℕ) → length bytes ≡ total_of slots → map length (pieces (slot_lengths slots) bytes) ≡ slot_lengths slots

@@ -34,5 +34,5 @@ pub use making::make_template;
 pub use not_routed::NotRouted;
 pub use not_written::NotWritten;
 pub use retransmission::{repeats_the_packet, write_retransmission};
-pub use slots::{MAX_ELEMENTS, Slot, lie_within, total_len};
+pub use slots::{MAX_ELEMENTS, Slot, SlotList, fill_joined, lie_within, total_len};
 pub use template::{HeaderTemplate, write_joined};

@@ -13,7 +13,7 @@ ghost use Rattle.rtp_route.specs.Retransmitted.{IsRoutedAgain, IsFilledInAgain, 
 ghost use Rattle.rtp_route.specs.Template.{with_data, data_lengths, slot_lengths, total_of, pieces, LiesInHeader};
 
 use super::in_place::send_again;
-use super::slots::Slot;
+use super::slots::SlotList;
 use super::template::write_joined;
 use rtp_wire::{Fields, RtpPacket};
 
@@ -23,25 +23,25 @@ use rtp_wire::{Fields, RtpPacket};
 /// which the receiver got the packet, in two bytes, the high one first. The payload without its
 /// padding, put behind that, makes it the retransmission. Requires a buffer of two bytes more than
 /// the header, and else the same.
-pub fn write_retransmission(
+pub fn write_retransmission<S: SlotList>(
     header: &RtpPacket<'_>,
-    slots: &[Slot],
+    slots: S,
     fields: &Fields,
     original_number: u16,
     bytes: &[u8],
     buf: &mut [u8],
 )
     requires payload_type { IfSome fields.now.payload_type (λ pt. pt ≤ 127) }
-    requires lengths { length bytes.now ≡ total_of slots.now }
-    requires within { All (LiesInHeader (parts_of header.now)) slots.now }
+    requires lengths { length bytes.now ≡ total_of (S.slots slots) }
+    requires within { All (LiesInHeader (parts_of header.now)) (S.slots slots) }
     requires room { length buf.old ≡ header_len_of (parts_of header.now) + 2 }
     ensures routed { (old : List ℕ) (ids : ℕ → Option ℕ) (news : List Element)
         (allowed : Option ExtensionsForm) →
-        IsGroupHeader old ids news allowed (header_in header.now) slots.now →
+        IsGroupHeader old ids news allowed (header_in header.now) (S.slots slots) →
         IsRoutedAgain old fields.now original_number ids
         (with_data news (pieces (data_lengths news) bytes.now)) allowed buf.new }
-    ensures filled { IsFilledInAgain (header_in header.now) slots.now fields.now original_number
-        (pieces (slot_lengths slots.now) bytes.now) buf.new }
+    ensures filled { IsFilledInAgain (header_in header.now) (S.slots slots) fields.now original_number
+        (pieces (slot_lengths (S.slots slots)) bytes.now) buf.new }
 {
     let header_len = header.header_len();
     write_joined(header, slots, fields, bytes, &mut buf[..header_len]);

@@ -1,8 +1,9 @@
 //! Where the data of elements lie in a header.
 
-ghost use Rattle.std.specs.Prelude.{◌≡◌, ◌↔◌, ◌+◌, ◌<◌, ◌≤◌, ◌∷◌, ℕ, List, [], Some, length, map, take, drop, All, IsTrue, IsSome, IfSome, IfNone};
+ghost use Rattle.std.specs.Prelude.{◌≡◌, ◌↔◌, ◌+◌, ◌<◌, ◌≤◌, ◌∷◌, ℕ, List, [], Some, length, map, take, drop, slice_get, All, IsTrue, IsSome, IfSome, IfNone};
 ghost use Rattle.std.specs.Bool.{OnTrue, OnFalse};
 ghost use Rattle.std.specs.List.{AllByRecursion};
+ghost use Rattle.rtp_base.specs.Overwriting.{overwritten};
 ghost use Rattle.rtp_ext.specs.declared.form.ExtensionsForm.{ExtensionsForm};
 ghost use Rattle.rtp_ext.specs.Elements.{Element};
 ghost use Rattle.rtp_ext.specs.ElementsInARow.{elements_of};
@@ -11,6 +12,7 @@ ghost use Rattle.rtp_wire.specs.PartsOf.{parts_of};
 ghost use Rattle.rtp_route.specs.declared.slots.Slot.{Slot};
 ghost use Rattle.rtp_route.specs.Template.{HaveOwnIds, HasOnly, HasRow, IsSlot, AreSlots, LiesInHeader, body_start_of, slot_lengths, total_of, pieces, filled_in};
 
+use rtp_base::put;
 use rtp_ext::{last_place, put_data};
 use rtp_wire::RtpPacket;
 
@@ -24,6 +26,35 @@ pub struct Slot {
     pub start: u32,
     /// How many they are.
     pub len: u8,
+}
+
+/// Places in a header, in order. A slice of places is such a list.
+pub trait SlotList: Copy {
+    ghost use Rattle.rtp_route.specs.declared.slots.Slot.{Slot};
+
+    // The places of it, in order.
+    ghost slots: { Self → List Slot };
+
+    /// How many there are.
+    fn count(&self) -> usize
+        ensures { result ≡ length (slots self.now) };
+
+    /// The place at the index, which is below the count.
+    fn at(&self, index: usize) -> Slot
+        requires { index < length (slots self.now) }
+        ensures { slice_get (slots self.now) index ≡ Some result };
+}
+
+impl SlotList for &[Slot] {
+    ghost slots = { λ slots. slots.now };
+
+    fn count(&self) -> usize {
+        (*self).len()
+    }
+
+    fn at(&self, index: usize) -> Slot {
+        self[index]
+    }
 }
 
 // Which of the elements has the id.
@@ -144,17 +175,54 @@ pub fn total_len(slots: &[Slot]) -> usize
     total
 }
 
-// Puts the data, which lie one after another, at their places.
+// Copies longer data. It stays out of line, so that the loop over the places keeps its registers.
+#[inline(never)]
+fn copy_long(buf: &mut [u8], piece: &[u8])
+    requires { length buf.old ≡ length piece.now }
+    ensures { buf.new ≡ piece.now }
+{
+    buf.copy_from_slice(piece);
+}
+
+// Puts data at the offset. Up to four bytes, as most elements have, are put by themselves, since a
+// copy of so few takes longer.
 #[inline(always)]
-pub(super) fn fill_joined(buf: &mut [u8], slots: &[Slot], bytes: &[u8])
-    requires lengths { length bytes.now ≡ total_of slots.now }
-    requires within { All (λ slot. slot.start + slot.len ≤ length buf.old) slots.now }
-    ensures { buf.new ≡ filled_in slots.now (pieces (slot_lengths slots.now) bytes.now) buf.old }
+fn put_piece(buf: &mut [u8], at: usize, piece: &[u8])
+    requires { at + length piece.now ≤ length buf.old }
+    ensures { buf.new ≡ overwritten buf.old at piece.now }
+{
+    match piece {
+        [first] => {
+            put(buf, at, &[*first]);
+        }
+        [first, second] => {
+            put(buf, at, &[*first, *second]);
+        }
+        [first, second, third] => {
+            put(buf, at, &[*first, *second]);
+            put(buf, at + 2, &[*third]);
+        }
+        [first, second, third, fourth] => {
+            put(buf, at, &[*first, *second, *third, *fourth]);
+        }
+        _ => copy_long(&mut buf[at..at + piece.len()], piece),
+    }
+}
+
+/// Puts the data of the group's elements, one after another in their order, at their places.
+/// Requires as many as the places have, and places that lie in the buffer.
+#[inline(always)]
+pub fn fill_joined<S: SlotList>(buf: &mut [u8], slots: S, bytes: &[u8])
+    requires lengths { length bytes.now ≡ total_of (S.slots slots) }
+    requires within { All (λ slot. slot.start + slot.len ≤ length buf.old) (S.slots slots) }
+    ensures { buf.new
+        ≡ filled_in (S.slots slots) (pieces (slot_lengths (S.slots slots)) bytes.now) buf.old }
 {
     let mut left = bytes;
-    for index in 0..slots.len() {
-        let (first, after) = left.split_at(slots[index].len as usize);
-        put_data(buf, slots[index].start as usize, first);
+    for index in 0..slots.count() {
+        let slot = slots.at(index);
+        let (first, after) = left.split_at(slot.len as usize);
+        put_piece(buf, slot.start as usize, first);
         left = after;
     }
 }

@@ -17,7 +17,7 @@ ghost use Rattle.rtp_route.specs.Routing.{IsRouted};
 ghost use Rattle.rtp_route.specs.Template.{with_data, data_lengths, slot_lengths, total_of, pieces, LiesInHeader};
 
 use super::in_place::{copy_header, send_again};
-use super::slots::{MAX_ELEMENTS, Slot, fill, fill_joined, have_lengths};
+use super::slots::{MAX_ELEMENTS, Slot, SlotList, fill, fill_joined, have_lengths};
 use super::{Group, NotRouted, NotWritten, make_template};
 use rtp_wire::{Fields, RtpPacket};
 
@@ -195,24 +195,24 @@ impl<'a> HeaderTemplate<'a> {
 /// their order, at the places, into a buffer of the header's length. Requires as many data as the
 /// places have, places that lie in the header, and a payload type of at most 127.
 #[inline(always)]
-pub fn write_joined(
+pub fn write_joined<S: SlotList>(
     header: &RtpPacket<'_>,
-    slots: &[Slot],
+    slots: S,
     fields: &Fields,
     bytes: &[u8],
     buf: &mut [u8],
 )
     requires payload_type { IfSome fields.now.payload_type (λ pt. pt ≤ 127) }
-    requires lengths { length bytes.now ≡ total_of slots.now }
-    requires within { All (LiesInHeader (parts_of header.now)) slots.now }
+    requires lengths { length bytes.now ≡ total_of (S.slots slots) }
+    requires within { All (LiesInHeader (parts_of header.now)) (S.slots slots) }
     requires room { length buf.old ≡ header_len_of (parts_of header.now) }
     ensures routed { (old : List ℕ) (ids : ℕ → Option ℕ) (news : List Element)
         (allowed : Option ExtensionsForm) →
-        IsGroupHeader old ids news allowed (header_in header.now) slots.now →
+        IsGroupHeader old ids news allowed (header_in header.now) (S.slots slots) →
         IsRouted old fields.now ids (with_data news (pieces (data_lengths news) bytes.now)) allowed
         buf.new }
-    ensures filled { IsFilledIn (header_in header.now) slots.now fields.now
-        (pieces (slot_lengths slots.now) bytes.now) buf.new }
+    ensures filled { IsFilledIn (header_in header.now) (S.slots slots) fields.now
+        (pieces (slot_lengths (S.slots slots)) bytes.now) buf.new }
 {
     copy_header(header, fields, buf);
     fill_joined(buf, slots, bytes);

@@ -2,8 +2,7 @@ use Rattle.rtp_c.proofs.Common.{◌≡◌, [], length, refl, ap, ◌∙◌, arit
 use Rattle.rtp_wire.specs.Packet.{PacketParts}
 use Rattle.rtp_wire.specs.PartsOf.{parts_of}
 use Rattle.rtp_c.specs.RoutedHeaders.{payload}
-use Rattle.rtp_c.specs.StoredTemplate.{IsInRange}
-use Rattle.rtp_c.proofs.RoutedLemmas.{in-range, no-bytes, all-header}
+use Rattle.rtp_c.proofs.RoutedLemmas.{no-bytes, all-header}
 use Rattle.rtp_c.proofs.routed_headers.header_of.Goals as goal
 
 pub returns-in-Err-clause-whole : goal.returns-in-Err-clause-whole
@@ -15,7 +14,7 @@ returns-in-Err-clause-whole c = (
 pub returns-then-header_len-len-clause-whole : goal.returns-then-header_len-len-clause-whole
 returns-then-header_len-len-clause-whole c =
     let header = c.in-Ok.header in
-    let all = all-header c.args.bytes.now c.args.made.now.header_len (parts_of header) c.if-len-bytes.false c.in-Ok.ensures.found in (
+    let all = all-header c.args.bytes.now c.args.made.now.header_len (parts_of header) c.requires.there c.in-Ok.ensures.found in (
       λ wrong. absurd (false≢true wrong),
       λ whole.
           let same : parts_of header ≡ whole.is_header.parts = c.in-Ok.ensures.only whole.is_header.parts whole.is_header.is_packet in
@@ -26,21 +25,17 @@ returns-then-header_len-len-clause-whole c =
 pub returns-then-header_len-len-clause-status : goal.returns-then-header_len-len-clause-status
 returns-then-header_len-len-clause-status c =
     let header = c.in-Ok.header in
-    let found = c.if-not-lie_within.ensures.0 refl in
-    let all = all-header c.args.bytes.now c.args.made.now.header_len (parts_of header) c.if-len-bytes.false c.in-Ok.ensures.found in
-    let range : IsInRange c.args.made.now (length c.args.bytes.now) =
-    in-range c.args.made.now c.args.slots.now (length c.args.bytes.now) c.total_len.result c.requires.slots c.requires.few c.if-len-bytes.false found c.total_len.ensures c.if-total_len-made.false in
-    payload (parts_of header) range c.in-Ok.ensures.found
+    let all = all-header c.args.bytes.now c.args.made.now.header_len (parts_of header) c.requires.there c.in-Ok.ensures.found in
+    payload (parts_of header) c.requires c.in-Ok.ensures.found
     (λ (none : (parts_of header).payload ≡ []). c.if-header_len-len.true (omega (arith, all, ap length none, c.header_len.ensures)))
     refl
 
 pub returns-clause-whole : goal.returns-clause-whole
 returns-clause-whole c =
     let header = c.in-Ok.header in
-    let found = c.if-not-lie_within.ensures.0 refl in
-    let all = all-header c.args.bytes.now c.args.made.now.header_len (parts_of header) c.if-len-bytes.false c.in-Ok.ensures.found in (
+    let all = all-header c.args.bytes.now c.args.made.now.header_len (parts_of header) c.requires.there c.in-Ok.ensures.found in (
       λ _. record {
-        in_range = in-range c.args.made.now c.args.slots.now (length c.args.bytes.now) c.total_len.result c.requires.slots c.requires.few c.if-len-bytes.false found c.total_len.ensures c.if-total_len-made.false;
+        in_range = c.requires;
         is_header = record {
           parts = parts_of header;
           is_packet = c.in-Ok.ensures.found;

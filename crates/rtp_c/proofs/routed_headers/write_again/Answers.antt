@@ -2,6 +2,7 @@ use Rattle.rtp_c.proofs.Common.{◌≡◌, ℕ, ◌+◌, ◌-◌, ◌++◌, leng
 use Rattle.rtp_base.proofs.OverwritingLemmas.{overwritten-copied}
 use Rattle.rtp_route.specs.Calls as calls
 use Rattle.rtp_c.specs.SetFields.{fields_given}
+use Rattle.rtp_c.specs.StoredTemplate.{slots_of}
 use Rattle.rtp_c.proofs.RoutedLemmas.{receivers-again}
 use Rattle.rtp_c.proofs.routed_headers.write_again.Goals as goal
 
@@ -16,7 +17,7 @@ returns-clause-written c room =
       refl,
       (
         own,
-        receivers-again (calls.header_in c.args.header) c.args.slots.now (fields_given receiver.fields) c.given_fields-fields.result receiver.original_number c.args.own.now own c.given_fields-fields.ensures c.requires.lengths
+        receivers-again (calls.header_in c.args.header) (slots_of c.args.slots.made.now) (fields_given receiver.fields) c.given_fields-fields.result receiver.original_number c.args.own.now own c.given_fields-fields.ensures c.requires.lengths
             c.write_retransmission.ensures.filled,
         ap (λ (n : ℕ). take at buf ++ (own ++ drop (at + n - at) (drop at buf))) own_len ∙ overwritten-copied buf own at,
       ),
