@@ -19,17 +19,16 @@ struct CountBits {
     bits: u32,
     // What the next count weighs.
     weight: u32,
+    ghost room: { bits + 4 * weight ≤ 4294967296 },
 }
 
 impl CountBits {
     // Adds a count.
     #[inline(always)]
     fn add(&mut self, count: u32)
-        requires few { count ≤ 3 }
-        requires room { self.old.bits + 4 * self.old.weight ≤ 4294967296 }
+        requires { count ≤ 3 }
         ensures bits { self.new.bits ≡ self.old.bits + count * self.old.weight }
         ensures weight { self.new.weight ≡ self.old.weight / 4 }
-        ensures room { self.new.bits + 4 * self.new.weight ≤ 4294967296 }
     {
         self.bits += count * self.weight;
         self.weight /= 4;
@@ -62,7 +61,6 @@ fn put_stream_rates<L: Lendable>(
     requires small { AllByRecursion putting.HasSmallRates (filter is_active layers) }
     requires room { at + length (flat_map written.rate_bytes (filter is_active layers))
         ≤ length buf.old }
-    requires within { counts.old.bits + 4 * counts.old.weight ≤ 4294967296 }
     ensures written { buf.new ≡ overwritten buf.old at
         (flat_map written.rate_bytes (filter is_active layers.entry)) }
     ensures end { result ≡ at + length
@@ -71,7 +69,6 @@ fn put_stream_rates<L: Lendable>(
         + putting.count_bits counts.old.weight (filter is_active layers.entry) }
     ensures weight { counts.new.weight
         ≡ putting.weight_after counts.old.weight (filter is_active layers.entry) }
-    ensures within { counts.new.bits + 4 * counts.new.weight ≤ 4294967296 }
 {
     let mut end = at;
     while let Some(layer) = layers.next_active() {
@@ -88,7 +85,6 @@ fn put_rates<S: Layered>(buf: &mut [u8], at: usize, streams: &[S], counts: &mut 
         (active_layers (map S.stream streams.now)) }
     requires room { at + length (flat_map written.rate_bytes
         (active_layers (map S.stream streams.now))) ≤ length buf.old }
-    requires within { counts.old.bits + 4 * counts.old.weight ≤ 4294967296 }
     ensures written { buf.new ≡ overwritten buf.old at
         (flat_map written.rate_bytes (active_layers (map S.stream streams.now))) }
     ensures end { result ≡ at + length

@@ -3,9 +3,9 @@
 ghost use Rattle.std.specs.Prelude.{◌≡◌, ◌↔◌, true, false, ◌+◌, ◌*◌, ◌/◌, ◌%◌, ◌<◌, ◌≤◌, ◌∷◌, [], ◌++◌, List, length, take, drop, map, is_some, IsTrue, IfSome, IfNone};
 ghost use Rattle.std.specs.List.{AllByRecursion, flat_map};
 ghost use Rattle.rtp_base.specs.Overwriting.{overwritten};
-ghost use Rattle.rtp_vla.specs.Allocation.{Means, active_layers, mask_of};
+ghost use Rattle.rtp_vla.specs.Allocation.{Means};
 ghost use Rattle.rtp_vla.specs.AllocationWritten as written;
-ghost use Rattle.rtp_vla.specs.Measuring.{IsMeasureOf};
+ghost use Rattle.rtp_vla.specs.Measuring.{AreMasksOf, IsMeasureOf};
 
 use super::allocation::VideoLayersAllocation;
 use super::lent::Layered;
@@ -59,11 +59,8 @@ fn put_streams<S: Layered>(
 ) -> usize
     requires some { 1 ≤ length (map S.stream streams.now) }
     requires fit { written.streams_fit index (map S.stream streams.now) ≡ true }
-    requires masks { take (length streams.now) measured.now.masks
-        ≡ map mask_of (map S.stream streams.now) }
-    requires shared { measured.now.shared
-        ≡ written.shared_of (map mask_of (map S.stream streams.now)) }
-    requires active { measured.now.active ≡ length (active_layers (map S.stream streams.now)) }
+    requires masks { AreMasksOf (map S.stream streams.now)
+        measured.now.masks measured.now.shared measured.now.active }
     requires len { measured.now.len
         ≡ length (written.packed_bytes index (map S.stream streams.now)) }
     requires room { length (written.packed_bytes index (map S.stream streams.now))

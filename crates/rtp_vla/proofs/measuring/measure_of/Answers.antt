@@ -21,9 +21,11 @@ returns-clause-fits g c =
     subst (λ (a : Allocation). (can_be_written a ≡ true) × IsMeasureOf a (c.measure_streams.new.masks ++ rest) c.shared_of-shared.result layers.active (1 + c.masks_len.result + (layers.active + 3) / 4 + layers.len)) c.v.view_is (
       whole.0,
       record {
-        masks_are = ap (λ (n : ℕ). take n (c.measure_streams.new.masks ++ rest)) count ∙ own;
-        shared_is = c.shared_of-shared.ensures ∙ ap (λ (ms : List ℕ). shared_of ms) own;
-        active_is = told.1.active_is;
+        are_masks = record {
+          masks_are = ap (λ (n : ℕ). take n (c.measure_streams.new.masks ++ rest)) count ∙ own;
+          shared_is = c.shared_of-shared.ensures ∙ ap (λ (ms : List ℕ). shared_of ms) own;
+          active_is = told.1.active_is;
+        };
         len_is = omega (arith, whole.1);
       },
     )

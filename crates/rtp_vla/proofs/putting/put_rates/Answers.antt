@@ -52,7 +52,6 @@ loop-stream-preserved g c =
         ap (count_bits weight) (active_from streams i c.layers.result here),
         count_bits-append weight first rest,
       );
-      within = c.put_stream_rates-end.ensures.within;
     }
 
 pub returns-clause-written : goal.returns-clause-written

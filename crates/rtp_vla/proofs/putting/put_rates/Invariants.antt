@@ -1,4 +1,4 @@
-use Rattle.rtp_vla.proofs.Common.{◌≡◌, ◌≤◌, ◌+◌, ◌*◌, drop, map, AllByRecursion, flat_map, active_layers, IsCounted, HasSmallRates, count_bits, rate_bytes, Leaves}
+use Rattle.rtp_vla.proofs.Common.{◌≡◌, ◌+◌, drop, map, AllByRecursion, flat_map, active_layers, IsCounted, HasSmallRates, count_bits, rate_bytes, Leaves}
 use Rattle.rtp_vla.proofs.putting.put_rates.Given as goal
 
 -- what is left is put after the bytes so far, and its counts are added to those so far
@@ -9,5 +9,4 @@ invariant-loop-stream g l = record {
   small : AllByRecursion HasSmallRates (active_layers (drop l.stream-index (map g.S.Layered.stream l.streams)));
   bits : l.counts.bits + count_bits l.counts.weight (active_layers (drop l.stream-index (map g.S.Layered.stream l.streams)))
       ≡ l.initial.counts.bits + count_bits l.initial.counts.weight (active_layers (map g.S.Layered.stream l.streams));
-  within : l.counts.bits + 4 * l.counts.weight ≤ 4294967296;
 }

@@ -21,7 +21,6 @@ loop-layer-preserved g c =
       small = AllByRecursion-tail _ _ _ is so_far.small;
       bits = omega (arith, c.add.ensures.bits, ap (λ (n : ℕ). n * weight) count, ap (λ (n : ℕ). count_bits n rest) c.add.ensures.weight, ap (count_bits weight) is, so_far.bits);
       weight = ap (λ (n : ℕ). weight_after n rest) c.add.ensures.weight ∙ sym (ap (weight_after weight) is) ∙ so_far.weight;
-      within = c.add.ensures.room;
     }
 
 pub returns-clause-written : goal.returns-clause-written

@@ -1,4 +1,4 @@
-use Rattle.rtp_vla.proofs.Common.{◌≡◌, ◌≤◌, ◌+◌, ◌*◌, length, filter, AllByRecursion, flat_map, is_active, IsCounted, HasSmallRates, count_bits, weight_after, rate_bytes, Leaves}
+use Rattle.rtp_vla.proofs.Common.{◌≡◌, ◌+◌, length, filter, AllByRecursion, flat_map, is_active, IsCounted, HasSmallRates, count_bits, weight_after, rate_bytes, Leaves}
 use Rattle.rtp_vla.proofs.putting.put_stream_rates.Given as goal
 
 -- what is left is put after the bytes so far, and its counts are added to those so far
@@ -10,7 +10,6 @@ invariant-loop-layer g l = record {
   bits : l.counts.bits + count_bits l.counts.weight (filter is_active l.layers)
       ≡ l.initial.counts.bits + count_bits l.initial.counts.weight (filter is_active l.initial.layers);
   weight : weight_after l.counts.weight (filter is_active l.layers) ≡ weight_after l.initial.counts.weight (filter is_active l.initial.layers);
-  within : l.counts.bits + 4 * l.counts.weight ≤ 4294967296;
 }
 
 abbrev pub decreases-loop-layer : goal.decreases-loop-layer

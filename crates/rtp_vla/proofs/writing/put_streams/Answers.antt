@@ -1,22 +1,28 @@
-use Rattle.rtp_vla.proofs.Common.{rules, ◌≡◌, ◌≤◌, ◌+◌, ◌-◌, ◌*◌, ◌∷◌, ◌++◌, [], ◌∙◌, ap, sym, subst, arith, length, length-append, append_assoc, take, map, List, ℕ, AllByRecursion, flat_map, active_layers, mask_of, count_of, shared_of, mask_bytes, quarters_of, rate_bytes, resolution_bytes, packed_bytes, overwritten, overwritten-nil, nil_from_length, length-map}
+use Rattle.rtp_vla.proofs.Common.{rules, ◌≡◌, ◌≤◌, ◌+◌, ◌-◌, ◌*◌, ◌∷◌, ◌++◌, [], ◌∙◌, ap, sym, subst, arith, length, length-append, append_assoc, take, map, List, ℕ, AllByRecursion, flat_map, Stream, active_layers, mask_of, count_of, shared_of, mask_bytes, quarters_of, rate_bytes, resolution_bytes, packed_bytes, overwritten, overwritten-nil, nil_from_length, length-map}
+use Rattle.rtp_vla.specs.Measuring.{AreMasksOf}
 use Rattle.rtp_vla.proofs.AllocationWriting.{can_put}
 use Rattle.rtp_vla.proofs.AllocationWritingLemmas.{length-active, length-packed_bytes, length-quarters_of}
 use Rattle.rtp_vla.proofs.LeavingLemmas.{overwritten-four}
 use Rattle.rtp_vla.proofs.writing.put_streams.Goals as goal
 use Rattle.rtp_vla.proofs.writing.put_streams.Goals.{After-put_counts_and_rates-end}
 
+-- the masks of as many streams as are lent
+masks_in : (count : ℕ) (streams : List Stream) (masks : List ℕ) (shared active : ℕ) → length streams ≡ count → AreMasksOf streams masks shared active → take count masks ≡ map mask_of streams
+masks_in count streams masks shared active many are = ap (λ (n : ℕ). take n masks) (sym many) ∙ are.masks_are
+
 pub put_masks-end-requires-clause-shared : goal.put_masks-end-requires-clause-shared
-put_masks-end-requires-clause-shared g c = c.requires.shared ∙ sym (ap (λ (ms : List ℕ). shared_of ms) c.requires.masks)
+put_masks-end-requires-clause-shared g c =
+    c.requires.masks.shared_is ∙ sym (ap (λ (ms : List ℕ). shared_of ms) (masks_in _ _ _ _ _ (length-map c.args.streams.now g.S.Layered.stream) c.requires.masks))
 
 pub put_masks-end-requires-clause-fit : goal.put_masks-end-requires-clause-fit
 put_masks-end-requires-clause-fit g c =
-    subst (AllByRecursion (λ mask. mask ≤ 15)) (sym c.requires.masks) (can_put c.args.index (map g.S.Layered.stream c.args.streams.now) c.requires.some c.requires.fit).masks
+    subst (AllByRecursion (λ mask. mask ≤ 15)) (sym (masks_in _ _ _ _ _ (length-map c.args.streams.now g.S.Layered.stream) c.requires.masks)) (can_put c.args.index (map g.S.Layered.stream c.args.streams.now) c.requires.some c.requires.fit).masks
 
 pub put_counts_and_rates-end-requires-clause-few : goal.put_counts_and_rates-end-requires-clause-few
 put_counts_and_rates-end-requires-clause-few g c =
     let streams = map g.S.Layered.stream c.args.streams.now in
     let can = can_put c.args.index streams c.requires.some c.requires.fit in
-    omega (arith, c.requires.active, length-active streams can.fits, can.few)
+    omega (arith, c.requires.masks.active_is, length-active streams can.fits, can.few)
 
 pub put_counts_and_rates-end-requires-clause-fit : goal.put_counts_and_rates-end-requires-clause-fit
 put_counts_and_rates-end-requires-clause-fit g c = (can_put c.args.index (map g.S.Layered.stream c.args.streams.now) c.requires.some c.requires.fit).counted
@@ -33,7 +39,7 @@ put_counts_and_rates-end-requires-clause-room g c =
       length-packed_bytes c.args.index (map g.S.Layered.stream c.args.streams.now),
       c.put-end.ensures.end,
       c.put_masks-end.ensures.end,
-      ap (λ (ms : List ℕ). length (mask_bytes ms)) c.requires.masks,
+      ap (λ (ms : List ℕ). length (mask_bytes ms)) (masks_in _ _ _ _ _ (length-map c.args.streams.now g.S.Layered.stream) c.requires.masks),
       length-append (quarters_of (map count_of layers)) (flat_map rate_bytes layers),
       length-quarters_of (map count_of layers),
       length-map layers count_of,
@@ -49,7 +55,7 @@ ends g c =
       length-packed_bytes c.args.index (map g.S.Layered.stream c.args.streams.now),
       c.put-end.ensures.end,
       c.put_masks-end.ensures.end,
-      ap (λ (ms : List ℕ). length (mask_bytes ms)) c.requires.masks,
+      ap (λ (ms : List ℕ). length (mask_bytes ms)) (masks_in _ _ _ _ _ (length-map c.args.streams.now g.S.Layered.stream) c.requires.masks),
       c.put_counts_and_rates-end.ensures.end,
       length-append (quarters_of (map count_of layers)) (flat_map rate_bytes layers),
       length-quarters_of (map count_of layers),
@@ -76,14 +82,14 @@ all_put g c buf end buf-is end-is =
     let counts = quarters_of (map count_of layers) in
     let rates = flat_map rate_bytes layers in
     let resolutions = flat_map resolution_bytes layers in
-    let mask_part : mask_bytes (take (length c.args.streams.now) c.args.measured.now.masks) ≡ masks = ap (λ (ms : List ℕ). mask_bytes ms) c.requires.masks in
+    let mask_part : mask_bytes (take (length c.args.streams.now) c.args.measured.now.masks) ≡ masks = ap (λ (ms : List ℕ). mask_bytes ms) (masks_in _ _ _ _ _ (length-map c.args.streams.now g.S.Layered.stream) c.requires.masks) in
     let whole : head ∷ (masks ++ ((counts ++ rates) ++ resolutions)) ≡ head ∷ (masks ++ (counts ++ (rates ++ resolutions))) = ap (λ (bs : List ℕ). head ∷ (masks ++ bs)) (append_assoc counts rates resolutions) in
     subst (λ (bs : List ℕ). (buf ≡ overwritten c.args.buf.now 0 bs) × (end ≡ length bs)) whole
     (overwritten-four c.args.buf.now c.put-end.new.buf c.put_masks-end.new.buf c.put_counts_and_rates-end.new.buf buf
     (head ∷ []) masks (counts ++ rates) resolutions
     c.put-end.result c.put_masks-end.result c.put_counts_and_rates-end.result end
     (omega (arith, c.requires.room, ap length whole))
-    (c.put-end.ensures.written ∙ (λ j. overwritten c.args.buf.now 0 ((64 * c.args.index + 16 * (sym (length-map c.args.streams.now g.S.Layered.stream) j - 1) + c.requires.shared j) ∷ [])))
+    (c.put-end.ensures.written ∙ (λ j. overwritten c.args.buf.now 0 ((64 * c.args.index + 16 * (sym (length-map c.args.streams.now g.S.Layered.stream) j - 1) + c.requires.masks.shared_is j) ∷ [])))
     c.put-end.ensures.end
     (c.put_masks-end.ensures.written ∙ ap (overwritten c.put-end.new.buf c.put-end.result) mask_part)
     (c.put_masks-end.ensures.end ∙ ap (λ (bs : List ℕ). c.put-end.result + length bs) mask_part)
