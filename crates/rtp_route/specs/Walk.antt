@@ -17,7 +17,13 @@ use Rattle.rtp_route.specs.declared.slots.Slot.{Slot}
 use Rattle.rtp_route.specs.Calls.{header_in}
 use Rattle.rtp_route.specs.NotRouted.{KeepsFromRouting}
 use Rattle.rtp_route.specs.Routing.{IsRouted, IsFormForIds, put_all, routed_elements}
-use Rattle.rtp_route.specs.Template.{IsSlot, AreSlots, data_lengths, slot_lengths, body_start_of}
+use Rattle.rtp_route.specs.Template.{HaveOwnIds, IsSlot, AreSlots, data_lengths, slot_lengths, body_start_of}
+
+-- the group's elements can be put into a block of the form: at most sixteen, each with an id of its own, which the form can carry
+pub record CanBePut (form : ExtensionsForm) (news : List Element) : Type 0 where
+  pub few : length news ≤ 16
+  pub own : HaveOwnIds news
+  pub writable : All (IsWritable form) news
 
 -- the place of an element among these in a row, or 0 where none has its id
 abbrev pub IsPlaced : ExtensionsForm → ℕ → List Element → Element → Slot → Type 0

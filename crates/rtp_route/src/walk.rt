@@ -11,8 +11,8 @@ ghost use Rattle.rtp_ext.specs.ElementsInPlace.{HasNone};
 ghost use Rattle.rtp_ext.specs.NewIds.{new_id};
 ghost use Rattle.rtp_ext.specs.WrittenBlock.{filled};
 ghost use Rattle.rtp_route.specs.Routing.{put_all};
-ghost use Rattle.rtp_route.specs.Template.{HaveOwnIds, AreSlots};
-ghost use Rattle.rtp_route.specs.Walk.{ArePlaced, AreWritten, AreKept, IsBodyFor};
+ghost use Rattle.rtp_route.specs.Template.{AreSlots};
+ghost use Rattle.rtp_route.specs.Walk.{CanBePut, ArePlaced, AreWritten, AreKept, IsBodyFor};
 
 use super::Group;
 use super::slots::{MAX_ELEMENTS, Slot, index_of};
@@ -70,11 +70,9 @@ fn write_own(
     slots: &mut [Slot; MAX_ELEMENTS],
 ) -> Option<usize>
     requires index { index < length elements.now }
-    requires writable { All (IsWritable form) (elements_of elements.now) }
-    requires few { length elements.now ≤ 16 }
+    requires elements { CanBePut form (elements_of elements.now) }
     requires room { at ≤ length buf.old }
     requires short { length buf.old ≤ 262140 }
-    requires own { HaveOwnIds (elements_of elements.now) }
     ensures written { IfSome result (λ end. (start : ℕ) (old : List ℕ) (written : List Element)
         (element : Element) →
         drop index (elements_of elements.now)
@@ -106,12 +104,10 @@ fn write_next(
     id: u8,
     bytes: &[u8],
 ) -> Option<usize>
-    requires few { length elements.now ≤ 16 }
+    requires elements { CanBePut form (elements_of elements.now) }
     requires room { at ≤ length buf.old }
     requires short { length buf.old ≤ 262140 }
-    requires own { HaveOwnIds (elements_of elements.now) }
     requires writable { IsWritable form (id, bytes.now) }
-    requires all { All (IsWritable form) (elements_of elements.now) }
     ensures written { IfSome result (λ end. (start : ℕ) (old : List ℕ) (written : List Element) →
         1 ≤ start →
         AreWritten form start (elements_of elements.now) old written slots.old buf.old at →
@@ -169,11 +165,9 @@ fn write_kept(
     slots: &mut [Slot; MAX_ELEMENTS],
 ) -> Option<usize>
     requires some { 1 ≤ at }
-    requires few { length group.now.elements.now ≤ 16 }
+    requires elements { CanBePut form (elements_of group.now.elements.now) }
     requires room { at ≤ length buf.old }
     requires short { length buf.old ≤ 262140 }
-    requires own { HaveOwnIds (elements_of group.now.elements.now) }
-    requires all { All (IsWritable form) (elements_of group.now.elements.now) }
     requires carries { (element : Element) → IsWritable was element → IsWritable form element }
     requires fresh { ArePlaced form at [] (elements_of group.now.elements.now) slots.old }
     ensures kept { IfSome result (λ end. (elements : List Element) →
@@ -203,11 +197,9 @@ fn write_lacking(
     elements: &[(u8, &[u8])],
     slots: &mut [Slot; MAX_ELEMENTS],
 ) -> Option<usize>
-    requires few { length elements.now ≤ 16 }
+    requires elements { CanBePut form (elements_of elements.now) }
     requires room { at ≤ length buf.old }
     requires short { length buf.old ≤ 262140 }
-    requires own { HaveOwnIds (elements_of elements.now) }
-    requires all { All (IsWritable form) (elements_of elements.now) }
     ensures written { IfSome result (λ end. (start : ℕ) (old : List ℕ) (written : List Element) →
         1 ≤ start →
         AreWritten form start (elements_of elements.now) old written slots.old buf.old at →
@@ -262,11 +254,9 @@ pub(super) fn write_body(
 ) -> Option<usize>
     requires some { 1 ≤ at }
     requires whole { at % 4 ≡ 0 }
-    requires few { length group.now.elements.now ≤ 16 }
+    requires elements { CanBePut form (elements_of group.now.elements.now) }
     requires room { at ≤ length buf.old }
     requires short { length buf.old ≤ 262140 }
-    requires own { HaveOwnIds (elements_of group.now.elements.now) }
-    requires all { All (IsWritable form) (elements_of group.now.elements.now) }
     requires carries { (element : Element) → IsWritable was element → IsWritable form element }
     ensures written { IfSome result (λ end. (elements : List Element) →
         AreElements was body.now elements →

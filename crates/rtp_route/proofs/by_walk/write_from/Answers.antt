@@ -1,4 +1,5 @@
 use Rattle.std.proofs.Common.{◌≡◌, ◌≤◌, ◌+◌, ◌*◌, ℕ, List, length, take, drop, All, refl, ap, sym, subst, arith, take_at, length-take, length-take-le, length-append, length-drop}
+use Rattle.std.proofs.lemmas.List.{length-map}
 use Rattle.rtp_ext.specs.Elements.{Element, AreElements}
 use Rattle.rtp_ext.specs.ElementReading.{elements_left}
 use Rattle.rtp_ext.specs.declared.form.ExtensionsForm.TheVariants.{TwoByte}
@@ -13,6 +14,7 @@ use Rattle.rtp_route.proofs.ByCallsLemmas.{alone_parts, header-is, header-alone}
 use Rattle.rtp_route.proofs.ByWalkLemmas.{long-front_of, short-body, laid-of, layout-laid, made-by_walk}
 use Rattle.rtp_route.proofs.FormsLemmas.{carries-news, carries-from, fits-from}
 use Rattle.rtp_route.proofs.LengthLemmas.{short-header}
+use Rattle.rtp_route.proofs.LentLemmas.{element_of}
 use Rattle.rtp_route.proofs.NoneKeptLemmas.{none-kept}
 use Rattle.rtp_route.proofs.WalkedLemmas.{written-no_zero}
 use Rattle.rtp_route.proofs.WideLemmas.{wide}
@@ -41,9 +43,12 @@ pub put_front-requires-clause-some : goal.put_front-requires-clause-some
 put_front-requires-clause-some c =
     omega (arith, long-front_of c.args.packet.now c.in_ok-was.was' c.header_bytes-header.result.now c.in_ok-was.body.now c.header_bytes-header.ensures.alone c.in_ok-was.ensures.parts)
 
-pub write_body-requires-clause-all : goal.write_body-requires-clause-all
-write_body-requires-clause-all c =
-    carries-news c.args.group.now.allowed c.args.start c.in_ok-form.form (elements_of c.args.group.now.elements.now) c.in_ok-form.ensures.form c.in_ok-form.ensures.carried
+pub write_body-requires-clause-elements : goal.write_body-requires-clause-elements
+write_body-requires-clause-elements c = record {
+  few = omega (arith, length-map c.args.group.now.elements.now element_of, c.requires.few);
+  own = c.requires.own;
+  writable = carries-news c.args.group.now.allowed c.args.start c.in_ok-form.form (elements_of c.args.group.now.elements.now) c.in_ok-form.ensures.form c.in_ok-form.ensures.carried;
+}
 
 pub write_body-requires-clause-carries : goal.write_body-requires-clause-carries
 write_body-requires-clause-carries c =

@@ -1,6 +1,5 @@
 use Rattle.std.proofs.Common.{◌≡◌, ◌∙◌, ◌-◌, List, length, take, drop, refl, ap, subst, arith}
 use Rattle.std.specs.List.{filter_map}
-use Rattle.std.proofs.lemmas.List.{length-map}
 use Rattle.rtp_ext.specs.Elements.{Element, elements_bytes, AreElements}
 use Rattle.rtp_ext.specs.ElementsInARow.{elements_of}
 use Rattle.rtp_ext.specs.ElementsInPlace.{renumbered}
@@ -8,14 +7,13 @@ use Rattle.rtp_ext.specs.NewIds.{new_id}
 use Rattle.rtp_ext.specs.WrittenBlock.{filled}
 use Rattle.rtp_route.specs.Routing.{put_all}
 use Rattle.rtp_route.specs.Template.{AreSlots}
-use Rattle.rtp_route.proofs.LentLemmas.{element_of}
 use Rattle.rtp_route.proofs.WalkLemmas.{placed-none, body-filled, row-read}
 use Rattle.rtp_route.proofs.WalkedLemmas.{like-none, written-no_zero, put_all-like}
 use Rattle.rtp_route.proofs.walk.write_body.Goals as goal
 
 pub write_kept-requires-clause-fresh : goal.write_kept-requires-clause-fresh
 write_kept-requires-clause-fresh c =
-    placed-none c.args.form c.args.at (elements_of c.args.group.now.elements.now) _ 16 refl (omega (arith, length-map c.args.group.now.elements.now element_of, c.requires.few))
+    placed-none c.args.form c.args.at (elements_of c.args.group.now.elements.now) _ 16 refl c.requires.elements.few
 
 pub returns-clause-written : goal.returns-clause-written
 returns-clause-written c elements are =

@@ -59,5 +59,5 @@ returns-clause-written c start old written some is =
     subst (λ (es : List Element). AreWritten form start news old es c.loop-index.slots c.loop-index.buf c.loop-index.end) row_is done.are_written in (
       all,
       subst (λ (n : ℕ). AreSlots form start (put_all news written) news (take n c.loop-index.slots)) count
-          (placed-all form start (put_all news written) news c.loop-index.slots all.placed (only-put_all news written c.requires.own)),
+          (placed-all form start (put_all news written) news c.loop-index.slots all.placed (only-put_all news written c.requires.elements.own)),
     )
