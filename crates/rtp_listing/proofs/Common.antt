@@ -21,7 +21,7 @@ pub use Rattle.rtp_ext.specs.declared.map.ExtensionMap.{ExtensionMap}
 pub use Rattle.rtp_wire.specs.PacketIds.{packet_id_of}
 pub use Rattle.rtp_wire.specs.declared.header.rtp_header.RtpHeader.{RtpHeader}
 pub use Rattle.rtp_listing.specs.Digits.{two_digits, four_digits}
-pub use Rattle.rtp_listing.specs.Front.{IsFront, IsHexText, IsFirstNotHex, MapsNoneFirst}
+pub use Rattle.rtp_listing.specs.Front.{IsPastDigits, IsFront, IsHexText, IsFirstNotHex, MapsNoneFirst}
 pub use Rattle.rtp_listing.specs.Input.{Item, AreMapLines, IsEntryOf, AreMapped, last_for, AreHex, AreLines, IsStandardMap, IsMapOf, Spells, IsFirstBadLine, IsInput, HasBadLine}
 pub use Rattle.rtp_listing.specs.MapLine.{IsMapLine, IsIdText}
 pub use Rattle.rtp_listing.specs.Output.{IsHeader, packet_lines, IsListing, IsOutputOf, IsBadLineOf, IsFrontOf, nothing, some, IsWantOf, IsBeginningOf, of_lines, of_want, Prints, of_bad_line}

@@ -1,5 +1,5 @@
 -- Line feeds that are looked for in 32 bytes at once.
-use Rattle.rtp_listing.proofs.Common.{◌≡◌, ◌≢◌, ℕ, suc, ◌*◌, [], ◌∷◌, ◌+◌, ◌<◌, ◌≤◌, ◌^◌, ◌%◌, inl, inr, List, length, take, drop, take_rest, length-drop, get_or, get_or-drop, ◌-◌, map, Bool, false, refl, sym, ap, ◌∙◌, arith, eqb, eqb-true, eqb-false, cases_lt}
+use Rattle.rtp_listing.proofs.Common.{◌≡◌, ◌≢◌, ℕ, suc, ◌*◌, [], ◌∷◌, ◌+◌, ◌<◌, ◌≤◌, ◌^◌, ◌%◌, inl, inr, List, length, take, drop, take_rest, length-drop, get_or, get_or-drop, ◌-◌, map, Bool, false, refl, sym, ap, ◌∙◌, arith, eqb, eqb-true, eqb-false, ne_eqb, cases_lt}
 use Rattle.std.proofs.Common.{not, cond, replicate, w8}
 use Rattle.std.proofs.lemmas.Simd.{bitmask_splat, none_from_empty_mask, trailing_mask_l, length-chunk, get_or-chunk, run_in_chunk_fails, run_in_chunk_stops}
 use Rattle.std.specs.List.{prefix_len}
@@ -27,6 +27,13 @@ module _ (text : List ℕ) (front : ℕ) (room : front + 32 ≤ length text) whe
     | inl here ↦ none k here
     | inr there ↦ eqb-false _ 10 (none_from_empty_mask (λ byte. eqb byte 10) text front 32 0 room (sym bits ∙ zero) k (omega arith) below)
   ]
+
+  -- and no bit is set where none is one
+  pub no_bits : ((k : ℕ) → k < front + 32 → get_or text k 0 ≢ 10) → bits_of (chunk front 32 text) ≡ 0
+  no_bits none =
+      bits ∙ empty_mask (λ byte. eqb byte 10) (chunk front 32 text) (λ k below.
+      let here : k < 32 = omega (arith, below, length-chunk front 32 text room) in
+      ap (λ (byte : ℕ). eqb byte 10) (get_or-chunk front 32 text k 0 here) ∙ ne_eqb (get_or text (front + k) 0) 10 (none (front + k) (omega (arith, here))))
 
   module _ (before : ℕ) (before_is : before ≡ count_trailing_zeros 64 (bits_of (chunk front 32 text))) (some : bits_of (chunk front 32 text) ≢ 0) where
     counted : before ≡ prefix_len (λ byte. not (eqb byte 10)) (chunk front 32 text)

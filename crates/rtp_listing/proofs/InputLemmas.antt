@@ -1,5 +1,5 @@
 -- Lines of hexadecimal that are tested one after the other.
-use Rattle.rtp_listing.proofs.Common.{◌≡◌, ◌≢◌, ℕ, ◌+◌, ◌-◌, ◌<◌, ◌≤◌, ◌%◌, ◌==◌, List, [], ◌∷◌, ◌++◌, length, map, take, drop, Result, Ok, Err, refl, sym, ap, ◌∙◌, arith, append_assoc, append-nil, length-append, lines, lines_of_parts, strip_carriage_return, slice_split, map_push, length_push, ne_eqb, take-append-drop, decode_of, FromHexError, AreHex, IsHexText, IsFirstNotHex, All, IsAsciiHexdigit, IsOk, IsErr, common_steps, Bool, true, false, suc, if◌then◌else◌, get_or, length-take-le, length-drop}
+use Rattle.rtp_listing.proofs.Common.{◌≡◌, ◌≢◌, ℕ, ◌+◌, ◌-◌, ◌<◌, ◌≤◌, ◌%◌, ◌==◌, List, [], ◌∷◌, ◌++◌, length, map, take, drop, Result, Ok, Err, refl, sym, ap, ◌∙◌, arith, append_assoc, append-nil, length-append, lines, lines_of_parts, strip_carriage_return, slice_split, map_push, length_push, ne_eqb, take-append-drop, decode_of, FromHexError, AreHex, IsHexText, IsFirstNotHex, IsPastDigits, All, IsAsciiHexdigit, IsOk, IsErr, common_steps, Bool, true, false, suc, if◌then◌else◌, get_or, length-take-le}
 use Rattle.rtp_listing.proofs.HexLineLemmas.{value, IsOk-digits, digits_from_ok}
 use Rattle.std.specs.List.{onto_first}
 use Rattle.std.proofs.lemmas.List.Splits.{slice_split-cons_no}
@@ -81,21 +81,45 @@ SoFar-none text start = record {
   fits = omega arith;
 }
 
+-- no digits are passed
+pub past-none : (text : List ℕ) → IsPastDigits text text
+past-none text = record {
+  digits = [];
+  text_is = refl;
+  even = refl;
+  are_digits = λ k d below. absurd (omega arith);
+}
+
+-- and so many more
+pub past-more : (text rest : List ℕ) (n : ℕ) → n ≤ length rest → n % 2 ≡ 0 → All IsAsciiHexdigit (take n rest) → IsPastDigits text rest → IsPastDigits text (drop n rest)
+past-more text rest n within even digits past = record {
+  digits = past.digits ++ take n rest;
+  text_is =
+      past.text_is ∙ ap (λ (xs : List ℕ). past.digits ++ xs) (sym (take-append-drop n rest))
+      ∙ sym (append_assoc past.digits (take n rest) (drop n rest));
+  even = omega (arith, past.even, even, length-append past.digits (take n rest), length-take-le n rest within);
+  are_digits = All-append IsAsciiHexdigit past.digits (take n rest) past.are_digits digits;
+}
+
+-- fewer bytes are left
+pub past-few : (text rest : List ℕ) → IsPastDigits text rest → length rest ≤ length text
+past-few text rest past = omega (arith, ap length past.text_is, length-append past.digits rest)
+
 -- more digits of the line
-pub SoFar-passed : (text rest : List ℕ) (n start number : ℕ) → n ≤ length rest → n % 2 ≡ 0 → All IsAsciiHexdigit (take n rest) → SoFar text rest start number → SoFar text (drop n rest) start number
-SoFar-passed text rest n start number within even digits so_far = record {
+pub SoFar-passed : (text rest after : List ℕ) (start number : ℕ) → IsPastDigits rest after → SoFar text rest start number → SoFar text after start number
+SoFar-passed text rest after start number past so_far = record {
   done = so_far.done;
-  front = so_far.front ++ take n rest;
+  front = so_far.front ++ past.digits;
   in_order =
       so_far.in_order
       ∙ ap (λ (xs : List ℕ). so_far.done ++ lines xs)
-      (ap (λ (xs : List ℕ). so_far.front ++ xs) (sym (take-append-drop n rest)) ∙ sym (append_assoc so_far.front (take n rest) (drop n rest)));
+      (ap (λ (xs : List ℕ). so_far.front ++ xs) past.text_is ∙ sym (append_assoc so_far.front past.digits after));
   datagrams = so_far.datagrams;
   spelled = so_far.spelled;
-  digits = All-append IsAsciiHexdigit so_far.front (take n rest) so_far.digits digits;
-  even = omega (arith, so_far.even, even, length-append so_far.front (take n rest), length-take-le n rest within);
+  digits = All-append IsAsciiHexdigit so_far.front past.digits so_far.digits past.are_digits;
+  even = omega (arith, so_far.even, past.even, length-append so_far.front past.digits);
   number_is = so_far.number_is;
-  fits = omega (arith, so_far.fits, length-drop n rest);
+  fits = omega (arith, so_far.fits, past-few rest after past);
 }
 
 module _ (text rest after line : List ℕ) (start number : ℕ) (first : lines rest ≡ line ∷ lines after) (so_far : SoFar text rest start number) where

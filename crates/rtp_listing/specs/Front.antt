@@ -1,5 +1,6 @@
 -- The text read in two steps: the map lines at its front, and the rest.
-use Rattle.std.specs.Prelude.{◌≡◌, ℕ, ◌+◌, ◌≤◌, List, ◌∷◌, ◌++◌, length, IsErr}
+use Rattle.std.specs.Prelude.{◌≡◌, ℕ, ◌+◌, ◌%◌, ◌≤◌, List, ◌∷◌, ◌++◌, length, All, IsErr}
+use Rattle.std.specs.Char.{IsAsciiHexdigit}
 use Rattle.std.specs.Str.Lines.{lines}
 use Rattle.hex.specs.Hex.{decode_of}
 use Rattle.rtp_ext.specs.ExtensionMap.{Slots}
@@ -19,6 +20,13 @@ pub record IsFront (text : List ℕ) (exts : Slots) (count : ℕ) (rest : List �
   pub exts_are : AreMapped items exts
   pub count_is : count ≡ length maps
   pub fits : count + length rest ≤ length text
+
+-- the text is an even number of digits and then the rest
+pub record IsPastDigits (text rest : List ℕ) : Type 0 where
+  pub digits : List ℕ
+  pub text_is : text ≡ digits ++ rest
+  pub even : length digits % 2 ≡ 0
+  pub are_digits : All IsAsciiHexdigit digits
 
 -- the lines of the text are hexadecimal of some datagrams
 abbrev pub IsHexText : List ℕ → Type 0

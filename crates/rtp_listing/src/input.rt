@@ -4,10 +4,10 @@ ghost use Rattle.std.specs.Prelude.{◌≡◌, ◌+◌, ◌<◌, ◌^◌, ℕ, L
 ghost use Rattle.std.specs.Str.Lines.{lines};
 ghost use Rattle.rtp_listing.specs.declared.input.InputError.TheVariants.{NoMemory};
 ghost use Rattle.rtp_listing.specs.Input.{AreHex, Spells, IsFirstBadLine};
-ghost use Rattle.rtp_listing.specs.Front.{MapsNoneFirst, IsFront, IsFirstNotHex, IsHexText};
+ghost use Rattle.rtp_listing.specs.Front.{MapsNoneFirst, IsFront, IsPastDigits, IsFirstNotHex, IsHexText};
 
 use super::hex_line::{are_digits, is_hex};
-use super::line::first_line;
+use super::line::{ends_soon, first_line};
 use super::map_line::map_line;
 use rtp_wire::{Extension, ExtensionMap};
 use std::alloc::{AllocError, Global};
@@ -59,26 +59,37 @@ fn map_lines(alloc: Global, text: &[u8]) -> Result<(ExtensionMap, u64, &[u8]), A
     Ok((exts, count, rest))
 }
 
+// The text behind an even number of digits at its front: where a line is long, those that are
+// passed by 64 before its end is looked for.
+#[inline(always)]
+fn past_digits(text: &[u8]) -> &[u8]
+    ensures { IsPastDigits text.now result.now }
+{
+    let mut rest = text;
+    if rest.len() < 64 || ends_soon(rest) {
+        return rest;
+    }
+    while rest.len() >= 64 && are_digits(&rest[..64]) {
+        rest = &rest[64..];
+    }
+    rest
+}
+
 // The number of the first line that is not hexadecimal, where so many lines are before the text.
 fn first_not_hex(text: &[u8], lines_before: u64) -> Option<u64>
     requires { lines_before + length text.now < 2 ^ 64 }
     ensures found { IfSome result (IsFirstNotHex (lines text.now) lines_before) }
     ensures none { IfNone result (IsHexText text.now) }
 {
-    let mut rest = text;
+    let mut rest = past_digits(text);
     let mut number = lines_before;
     while !rest.is_empty() {
-        // The digits of a long line are passed before its end is looked for.
-        if rest.len() >= 64 && are_digits(&rest[..64]) {
-            rest = &rest[64..];
-            continue;
-        }
         let (line, after) = first_line(rest);
         number += 1;
         if !is_hex(line) {
             return Some(number);
         }
-        rest = after;
+        rest = past_digits(after);
     }
     None
 }

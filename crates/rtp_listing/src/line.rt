@@ -1,6 +1,6 @@
 //! The lines of a text.
 
-ghost use Rattle.std.specs.Prelude.{◌≡◌, ◌<◌, ◌≤◌, ◌∷◌, ◌≢◌, ℕ, length, slice_index, IfSome, IfNone};
+ghost use Rattle.std.specs.Prelude.{◌≡◌, ◌↔◌, ◌<◌, ◌≤◌, ◌∷◌, ◌≢◌, ℕ, length, slice_index, false, IfSome, IfNone};
 ghost use Rattle.std.specs.Str.Lines.{lines, strip_carriage_return};
 
 use std::simd::prelude::*;
@@ -12,6 +12,16 @@ pub(super) fn position_of(text: &[u8], byte: u8) -> Option<usize>
     ensures none { IfNone result ((k : ℕ) → k < length text.now → slice_index text.now k ≢ byte) }
 {
     text.iter().position(|other| *other == byte)
+}
+
+/// Whether one of the first 32 bytes is a line feed. Requires so many.
+#[inline(always)]
+pub(super) fn ends_soon(text: &[u8]) -> bool
+    requires { 32 ≤ length text.now }
+    ensures { (result ≡ false) ↔ ((k : ℕ) → k < 32 → slice_index text.now k ≢ 10) }
+{
+    let bytes = u8x32::from_slice(text);
+    bytes.simd_eq(u8x32::splat(b'\n')).to_bitmask() != 0
 }
 
 // The length of the first line, whose line feed is looked for in 32 bytes at once.

@@ -1,17 +1,17 @@
-use Rattle.rtp_listing.proofs.Common.{refl, sym, ◌∙◌, nil_from_length, eqb-true, take_rest}
-use Rattle.rtp_listing.proofs.InputLemmas.{SoFar-none, SoFar-passed, SoFar-more, IsFirstNotHex-here, IsHexText-all}
+use Rattle.rtp_listing.proofs.Common.{sym, ◌∙◌, nil_from_length, eqb-true, arith}
+use Rattle.rtp_listing.proofs.InputLemmas.{SoFar-none, SoFar-passed, SoFar-more, IsFirstNotHex-here, IsHexText-all, past-few}
 use Rattle.rtp_listing.proofs.input.first_not_hex.Goals as goal
 
 pub loop-rest-init : goal.loop-rest-init
-loop-rest-init c = SoFar-none c.args.text.now c.args.lines_before
-
-pub loop-rest-preserved-then-are_digits : goal.loop-rest-preserved-then-are_digits
-loop-rest-preserved-then-are_digits c =
-    rw (take_rest c.loop-rest.rest.now 64) (SoFar-passed c.args.text.now c.loop-rest.rest.now 64 _ _ c.if-rest-ge64.true refl (c.are_digits.ensures.0 c.if-are_digits.true) c.loop-rest.invariant)
+loop-rest-init c = SoFar-passed c.args.text.now _ _ c.args.lines_before _ c.past_digits-rest.ensures (SoFar-none c.args.text.now c.args.lines_before)
 
 pub loop-rest-preserved : goal.loop-rest-preserved
 loop-rest-preserved c =
-    SoFar-more c.args.text.now c.loop-rest.rest.now c.first_line.result.1.now _ _ _ c.first_line.ensures.first c.loop-rest.invariant c.first_line.ensures.shorter (c.is_hex.ensures.0 c.if-not-is_hex.false)
+    SoFar-passed c.args.text.now c.first_line.result.1.now _ _ _ c.past_digits-rest-in-loop-rest.ensures
+    (SoFar-more c.args.text.now c.loop-rest.rest.now c.first_line.result.1.now _ _ _ c.first_line.ensures.first c.loop-rest.invariant c.first_line.ensures.shorter (c.is_hex.ensures.0 c.if-not-is_hex.false))
+
+pub loop-rest-smaller : goal.loop-rest-smaller
+loop-rest-smaller c = omega (arith, c.first_line.ensures.shorter, past-few c.first_line.result.1.now _ c.past_digits-rest-in-loop-rest.ensures)
 
 pub returns-then-not-is_hex-clause-found : goal.returns-then-not-is_hex-clause-found
 returns-then-not-is_hex-clause-found c =
