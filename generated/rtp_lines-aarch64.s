@@ -2,8 +2,8 @@
  * rtp_lines for Linux on aarch64: the assembly text that Rattle's compiler makes of the program, each function of which is proved.
  * Made anew by: generated/make
  * kit: rattle-kit-13f logic dac8208d650f15bf
- * sources: 543a2bec94307a90d97b72eb8ebd7989ad69b3722e0a026707628d98211bd90b
- * text: 35cc6e789c5ddd7f056e8247443be77033c43af00a36130d9bea568960fe0df8
+ * sources: 5d856ad6595183ad005d1e6aae0a3ded560495241fe2c0d931486f6d8fe6b4d9
+ * text: 8d7d381e8429e844c0fa40fd4a8c068063c7bfb120812c0f8cb26af0477e283e
  * SPDX-License-Identifier: MIT OR Apache-2.0
  * Copyright (c) 2026 The rtp-wire developers (NOTICE)
  */

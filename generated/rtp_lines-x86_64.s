@@ -2,8 +2,8 @@
  * rtp_lines for Linux on x86_64: the assembly text that Rattle's compiler makes of the program, each function of which is proved.
  * Made anew by: generated/make
  * kit: rattle-kit-13f logic dac8208d650f15bf
- * sources: 543a2bec94307a90d97b72eb8ebd7989ad69b3722e0a026707628d98211bd90b
- * text: d387826487a44c54d3848d0656539f961cb37f43d00d60cb76db1b227c024a81
+ * sources: 5d856ad6595183ad005d1e6aae0a3ded560495241fe2c0d931486f6d8fe6b4d9
+ * text: 611ee3aa49d0f7caa1db7cb8723900b81f78a374c35f1f973475b87d852a5c06
  * SPDX-License-Identifier: MIT OR Apache-2.0
  * Copyright (c) 2026 The rtp-wire developers (NOTICE)
  */

@@ -227,6 +227,7 @@ int main(int argc, char **argv) {
         return 2;
     }
     rtpw_map_standard(&map);
+    rtpw_new_ids_between(&map, &map, &ids);
     memcpy(kept, packet, sizeof packet);
     memcpy(added, packet, sizeof packet);
     memcpy(removed, packet, sizeof packet);

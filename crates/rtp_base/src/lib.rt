@@ -11,7 +11,7 @@ mod ring;
 mod seq_no_window;
 mod wide_window;
 
-pub use buffer::{put, put_zeros};
+pub use buffer::{fill_word, put, put_few, put_zeros};
 pub use dir::Direction;
 pub use error::RtpError;
 pub use id::{Mid, MidRid, Pt, Rid, SeqNo, SessionId, Ssrc, TwccClusterId, TwccSeq};

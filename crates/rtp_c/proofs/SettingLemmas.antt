@@ -66,33 +66,31 @@ shows_stream allocation view unused room is =
       current_is = is.current_is;
     }
 
--- a stream with the view of a layer more
-abbrev pub more_of : Stream → Layer → Stream
-more_of view layer_view = record view { layers = set view.layers view.count layer_view; count = view.count + 1 }
+-- a layer is put after the others of the stream, where nothing was told
+pub stream_more : (stream : vla.Stream) (layer : vla.Layer) (view : Stream) (layer_view unused : Layer) → view.count < length view.layers
+    → (IsViewOfLayer bare_layer (get_or view.layers view.count unused) → IsViewOfLayer layer layer_view) → IsViewOfStream stream view
+    → IsViewOfStream (stream ++ layer ∷ []) (record view { layers = set view.layers view.count layer_view; count = view.count + 1 })
+stream_more stream layer view layer_view unused room told is =
+    let within : length stream < length view.layers = omega (arith, room, is.count_is) in
+    let nothing = AreInPlaces-after IsViewOfLayer bare_layer stream view.layers unused within is.layers_are in
+    record {
+      layers_are = subst (λ (n : ℕ). AreInPlaces IsViewOfLayer bare_layer (stream ++ layer ∷ []) (set view.layers n layer_view)) (sym is.count_is)
+          (AreInPlaces-more IsViewOfLayer bare_layer stream view.layers layer layer_view within
+          (told (subst (λ (n : ℕ). IsViewOfLayer bare_layer (get_or view.layers n unused)) (sym is.count_is) nothing)) is.layers_are);
+      count_is = omega (arith, is.count_is, length-append stream (layer ∷ []));
+    }
 
--- a layer is put after the others of the stream
-layer_more : (stream : vla.Stream) (layer : vla.Layer) (view : Stream) (layer_view : Layer) → view.count < length view.layers → IsViewOfLayer layer layer_view → IsViewOfStream stream view
-    → IsViewOfStream (stream ++ layer ∷ []) (more_of view layer_view)
-layer_more stream layer view layer_view room told is = record {
-  layers_are = subst (λ (n : ℕ). AreInPlaces IsViewOfLayer bare_layer (stream ++ layer ∷ []) (set view.layers n layer_view)) (sym is.count_is)
-      (AreInPlaces-more IsViewOfLayer bare_layer stream view.layers layer layer_view (omega (arith, room, is.count_is)) told is.layers_are);
-  count_is = omega (arith, is.count_is, length-append stream (layer ∷ []));
-}
-
-pub shows_layer : (allocation : vla.Allocation) (stream : vla.Stream) (layer : vla.Layer) (view : Layers) (layer_view : Layer) (unused new : Stream) → new ≡ more_of (get_or view.streams (view.count - 1) unused) layer_view
-    → (get_or view.streams (view.count - 1) unused).count < length (get_or view.streams (view.count - 1) unused).layers → IsViewOfLayer layer layer_view
-    → IsViewOfLayers (and_stream allocation stream) view
+pub shows_layer : (allocation : vla.Allocation) (stream : vla.Stream) (layer : vla.Layer) (view : Layers) (unused new : Stream)
+    → (IsViewOfStream stream (get_or view.streams (view.count - 1) unused) → IsViewOfStream (stream ++ layer ∷ []) new) → IsViewOfLayers (and_stream allocation stream) view
     → IsViewOfLayers (and_stream allocation (stream ++ layer ∷ [])) (record view { streams = set view.streams (view.count - 1) new })
-shows_layer allocation stream layer view layer_view unused new more room told is =
+shows_layer allocation stream layer view unused new told is =
     let before = allocation.simulcast_streams in
-    let last_view = get_or view.streams (view.count - 1) unused in
     let at : view.count - 1 ≡ length before = omega (arith, is.count_is, length-append before (stream ∷ [])) in
     let last : IsViewOfStream stream (get_or view.streams (view.count - 1) unused) =
     subst (λ (n : ℕ). IsViewOfStream stream (get_or view.streams n unused)) (sym at) (AreInPlaces-last IsViewOfStream [] before stream view.streams unused is.streams_are) in
     record {
       streams_are = subst (λ (n : ℕ). AreInPlaces IsViewOfStream [] (before ++ (stream ++ layer ∷ []) ∷ []) (set view.streams n new)) (sym at)
-          (AreInPlaces-changed IsViewOfStream [] before stream (stream ++ layer ∷ []) view.streams new
-          (subst (λ (s : Stream). IsViewOfStream (stream ++ layer ∷ []) s) (sym more) (layer_more stream layer last_view layer_view room told last)) is.streams_are);
+          (AreInPlaces-changed IsViewOfStream [] before stream (stream ++ layer ∷ []) view.streams new (told last) is.streams_are);
       count_is = omega (arith, is.count_is, length-append before (stream ∷ []), length-append before ((stream ++ layer ∷ []) ∷ []));
       current_is = is.current_is;
     }

@@ -1,5 +1,5 @@
 -- The places of a template as C keeps them.
-use Rattle.rtp_c.proofs.Common.{ℤ, w32, to_z, of_z, length-map}
+use Rattle.rtp_c.proofs.Common.{ℤ, w32, to_z, of_z}
 use Rattle.std.proofs.Common.{Option, Some, ◌≡◌, ℕ, zero, suc, ◌+◌, ◌<◌, ◌≤◌, slice_get, length-take, List, [], ◌∷◌, ◌++◌, length, take, get_or, set, refl, sym, ap, subst, ◌∙◌, arith}
 use Rattle.std.proofs.lemmas.List.{take_more, take_more_set, get_or-take}
 use Rattle.std.proofs.lemmas.Option.{slice_get-get_or}
@@ -15,12 +15,9 @@ use Rattle.rtp_route.specs.NotRouted.{KeepsFromTemplate}
 use Rattle.rtp_wire.specs.declared.packet.rtp_packet.RtpPacket.{RtpPacket}
 use Rattle.rtp_wire.specs.Packet.{PacketParts, header_len_of}
 use Rattle.rtp_wire.specs.PartsOf.{parts_of, datagram_of}
-use Rattle.rtp_c.specs.declared.packet.ElementView.{ElementView}
-use Rattle.rtp_c.specs.ElementView.{element_in}
 use Rattle.rtp_c.specs.RoutedStatus.{not_routed_status}
 use Rattle.rtp_c.specs.Status.{ok, bad_field, long_id}
 use Rattle.rtp_c.specs.StoredTemplate.{slots_at}
-use Rattle.rtp_c.specs.WrittenElements.{elements_in}
 use Rattle.rtp_c.proofs.PutLemmas.{status_is, status≢ok}
 
 pub slots_at-length : (starts lens : List ℕ) → length starts ≡ length lens → length (slots_at starts lens) ≡ length starts
@@ -66,10 +63,6 @@ stored-more slots starts lens index d same within there so_far =
     ∙ sym (take_more slots index d there)
 
 -- ---- what is made for a group
-
--- as many elements are named as there are views
-pub named-length : (bytes others : List ℕ) (views all : List ElementView) → elements_in others views ≡ elements_in bytes all → length views ≡ length all
-named-length bytes others views all same = sym (length-map views (element_in others)) ∙ ap length same ∙ length-map all (element_in bytes)
 
 pub group-of : (old was : List ℕ) (ids were : List (Option ℕ)) (news given : List Element) (form allowed : Option ExtensionsForm) (len n : ℕ) (buf : List ℕ) (slots places : List Slot)
     → was ≡ old → were ≡ ids → given ≡ news → allowed ≡ form → n ≡ len → places ≡ slots

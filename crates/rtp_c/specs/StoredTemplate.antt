@@ -1,9 +1,13 @@
 -- A group's header as C keeps it: its length, and where in it the data of the group's elements lie (RFC 8285, 4.2 and 4.3).
-use Rattle.std.specs.Prelude.{◌≡◌, ℕ, ◌+◌, ◌≤◌, List, [], ◌∷◌, take}
+use Rattle.std.specs.Prelude.{◌≡◌, ℕ, ◌+◌, ◌≤◌, List, [], ◌∷◌, length, take, Option}
 use Rattle.std.specs.List.{All}
 use Rattle.rtp_route.specs.declared.slots.Slot.{Slot}
 use Rattle.rtp_route.specs.Template.{total_of}
+use Rattle.rtp_ext.specs.declared.form.ExtensionsForm.{ExtensionsForm}
+use Rattle.rtp_c.specs.declared.packet.ElementView.{ElementView}
 use Rattle.rtp_c.specs.declared.template.StoredTemplate.{StoredTemplate}
+use Rattle.rtp_c.specs.PacketView.{form_number}
+use Rattle.rtp_c.specs.WrittenElements.{LieIn}
 
 -- the places where data begin so far in, and are so many
 abbrev pub slots_at : List ℕ → List ℕ → List Slot
@@ -21,3 +25,9 @@ pub record IsInRange (made : StoredTemplate) (size : ℕ) : Type 0 where
   pub there : made.header_len ≤ size
   pub within : All (λ slot. slot.start + slot.len ≤ made.header_len) (slots_of made)
   pub total_is : made.data_total ≡ total_of (slots_of made)
+
+-- these say which elements a group has: at most sixteen, whose data lie within the bytes, and by its number the form that is allowed
+pub record NamesGroup (bytes : List ℕ) (views : List ElementView) (number : ℕ) (form : Option ExtensionsForm) : Type 0 where
+  pub form_is : form_number form ≡ number
+  pub within : LieIn bytes views
+  pub few : length views ≤ 16

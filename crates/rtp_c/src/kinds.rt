@@ -6,7 +6,7 @@ ghost use Rattle.rtp_c.specs.KindNumbers.{kind_numbered};
 ghost use Rattle.rtp_c.specs.StoredMap.{IsNumberAt, IsIdOf};
 
 use super::numbers::{
-    LAYERS, are_zeros, has_kind, has_number, index_of, is_named, kind_numbered, last_of_few,
+    LAYERS, are_zeros, has_kind, has_number, index_of, is_named, kind_numbered, last_of_16,
     number_of, renamed,
 };
 use rtp_ext::Kinds;
@@ -117,21 +117,12 @@ impl Kinds for StoredMap {
         kind_numbered(self.kind[usize::from(id)])
     }
 
-    // The end is that of the slots that are looked at one by one: where only low ids are mapped all
-    // up to the last of these, and else the first 15, behind which those without a kind are passed
-    // over.
+    // The end is that of the slots that are looked at one by one: where only low ids are mapped that
+    // of the last of these, and else the first 15, behind which those without a kind are passed over.
     #[inline(always)]
     fn walk_end(&self) -> usize {
-        let is_low = self.has_low_ids_alone();
-        let is_few = are_zeros(&self.kind[8..16]);
-        if is_low {
-            if is_few {
-                last_of_few(self.kind.first_chunk::<8>().unwrap())
-            } else if self.kind[15] == 0 {
-                LOW_SLOTS
-            } else {
-                LOW_SLOTS + 1
-            }
+        if self.has_low_ids_alone() {
+            last_of_16(&self.kind[..16])
         } else {
             LOW_SLOTS + 1
         }

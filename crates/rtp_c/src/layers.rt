@@ -1,8 +1,9 @@
 //! The layer allocation of a sender of video.
 
-ghost use Rattle.std.specs.Prelude.{◌≡◌, ◌<◌, ◌+◌, length, slice_index_or, slice_set};
-ghost use Rattle.rtp_vla.specs.Allocation.{nothing_sent};
+ghost use Rattle.std.specs.Prelude.{◌≡◌, ◌<◌, ◌+◌, ◌∷◌, ◌++◌, [], length, slice_index_or, slice_set};
+ghost use Rattle.rtp_vla.specs.Allocation as vla;
 ghost use Rattle.rtp_c.specs.LayersView as spec;
+ghost use Rattle.rtp_c.specs.declared.layers.Layer.{Layer};
 ghost use Rattle.rtp_c.specs.declared.layers.Stream.{Stream};
 
 use rtp_vla::vla::{SetLayers, TemporalLayerAllocation, VideoLayer};
@@ -60,15 +61,13 @@ impl Stream {
 
     // Puts a layer after the others.
     #[inline(always)]
-    fn push(&mut self, layer: Layer)
+    fn push(&mut self, layer: &VideoLayer)
         requires { self.old.count < 4 }
-        ensures places { length self.old.layers ≡ 4 }
-        ensures put { self.new ≡ record self.old {
-          layers = slice_set self.old.layers self.old.count layer;
-          count = self.old.count + 1;
-        } }
+        ensures put { (stream : vla.Stream) → spec.IsViewOfStream stream self.old →
+            spec.IsViewOfStream (stream ++ layer.now ∷ []) self.new }
+        ensures count { self.new.count ≡ self.old.count + 1 }
     {
-        set_layer(&mut self.layers, usize::from(self.count), layer);
+        put_layer_at(&mut self.layers, usize::from(self.count), layer);
         self.count += 1;
     }
 }
@@ -95,35 +94,35 @@ impl Layers {
     };
 }
 
-// What C is told of a layer.
-fn view_of_layer(layer: &VideoLayer) -> Layer
-    ensures { spec.IsViewOfLayer layer.now result }
-{
-    let mut view = Layer {
-        kbps: layer.places(),
-        width: 0,
-        height: 0,
-        framerate: 0,
-        has_resolution: 0,
-        rates: layer.temporal_layers().len() as u8,
-    };
-    if let Some(known) = layer.resolution_and_framerate() {
-        view.width = known.width;
-        view.height = known.height;
-        view.framerate = known.framerate;
-        view.has_resolution = 1;
+impl Layer {
+    // Tells of a layer where nothing is told: zeros, which stay where it has no resolution.
+    #[inline(always)]
+    fn tell(&mut self, layer: &VideoLayer)
+        ensures { spec.IsViewOfLayer spec.bare_layer self.old →
+            spec.IsViewOfLayer layer.now self.new }
+    {
+        self.kbps = layer.places();
+        self.rates = layer.temporal_layers().len() as u8;
+        if let Some(known) = layer.resolution_and_framerate() {
+            self.width = known.width;
+            self.height = known.height;
+            self.framerate = known.framerate;
+            self.has_resolution = 1;
+        }
     }
-    view
 }
 
-// Puts a layer at this place of a stream.
+// Puts a layer at a place of a stream of which nothing is told.
 #[inline(always)]
-fn set_layer(layers: &mut [Layer; 4], index: usize, layer: Layer)
+fn put_layer_at(layers: &mut [Layer; 4], index: usize, layer: &VideoLayer)
     requires { index < 4 }
     ensures places { length layers.old ≡ 4 }
-    ensures set { layers.new ≡ slice_set layers.old index layer }
+    ensures put { (unused : Layer) → (view : Layer)
+        × (layers.new ≡ slice_set layers.old index view)
+        × (spec.IsViewOfLayer spec.bare_layer (slice_index_or layers.old index unused) →
+        spec.IsViewOfLayer layer.now view) }
 {
-    layers[index] = layer;
+    layers[index].tell(layer);
 }
 
 // Takes the layers out of the stream at this place.
@@ -139,18 +138,15 @@ fn clear_stream(streams: &mut [Stream; 4], index: usize)
 
 // Puts a layer after the others of the stream at this place.
 #[inline(always)]
-fn push_layer(streams: &mut [Stream; 4], index: usize, layer: Layer)
+fn push_layer(streams: &mut [Stream; 4], index: usize, layer: &VideoLayer)
     requires within { index < length streams.old }
     requires room { (unused : Stream) → (slice_index_or streams.old index unused).count < 4 }
-    ensures places { length streams.old ≡ 4 }
-    ensures layers { (unused : Stream) →
-        length (slice_index_or streams.old index unused).layers ≡ 4 }
-    ensures put { (unused : Stream) → streams.new ≡ slice_set streams.old index
-        (record (slice_index_or streams.old index unused) {
-          layers = slice_set (slice_index_or streams.old index unused).layers
-              (slice_index_or streams.old index unused).count layer;
-          count = (slice_index_or streams.old index unused).count + 1;
-        }) }
+    ensures put { (unused : Stream) → (view : Stream)
+        × (streams.new ≡ slice_set streams.old index view)
+        × (view.count ≡ (slice_index_or streams.old index unused).count + 1)
+        × ((stream : vla.Stream) →
+        spec.IsViewOfStream stream (slice_index_or streams.old index unused) →
+        spec.IsViewOfStream (stream ++ layer.now ∷ []) view) }
 {
     streams[index].push(layer);
 }
@@ -180,13 +176,13 @@ impl SetLayers for Layers {
     #[inline(always)]
     fn put_layer(&mut self, layer: &VideoLayer) {
         let stream = usize::from(self.count) - 1;
-        push_layer(&mut self.streams, stream, view_of_layer(layer));
+        push_layer(&mut self.streams, stream, layer);
     }
 }
 
 // Puts what C is told where nothing is sent.
 pub fn put_no_layers(view: &mut Layers)
-    ensures { spec.IsViewOfLayers nothing_sent view.new }
+    ensures { spec.IsViewOfLayers vla.nothing_sent view.new }
 {
     *view = Layers::NONE;
 }

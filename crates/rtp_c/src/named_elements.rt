@@ -1,12 +1,10 @@
 //! The elements that C names, read where their data lie.
 
 ghost use Rattle.std.specs.Prelude.{◌≡◌, ◌↔◌, ◌≤◌, length, take, IsTrue, IfSome, IfNone};
-ghost use Rattle.rtp_ext.specs.ElementsInARow.{elements_of};
 ghost use Rattle.rtp_c.specs.WrittenElements.{LiesIn, LieIn, elements_in};
 
 use super::packet::ElementView;
 use rtp_ext::ElementList;
-use rtp_route::MAX_ELEMENTS;
 
 /// Elements whose data lie within the bytes.
 #[derive(Clone, Copy)]
@@ -35,21 +33,6 @@ impl<'a> NamedElements<'a> {
             return None;
         }
         Some(NamedElements { bytes, views })
-    }
-
-    /// Puts the elements at the front of a list of fixed size. Requires at most 16.
-    pub fn lend(&self, lent: &mut [(u8, &'a [u8]); MAX_ELEMENTS])
-        requires { length self.now.views.now ≤ 16 }
-        ensures { elements_of (take (length self.now.views.now) lent.new)
-            ≡ elements_in self.now.bytes.now self.now.views.now }
-    {
-        for index in 0..self.views.len() {
-            let view = &self.views[index];
-            lent[index] = (
-                view.id,
-                &self.bytes[view.data_at..view.data_at + view.data_len],
-            );
-        }
     }
 }
 

@@ -100,15 +100,17 @@ pub(super) fn are_zeros(numbers: &[u8]) -> bool
     any == 0
 }
 
-// An index after which each of the first eight numbers is 0: that of the last other one, where this
-// is below 128 as the number of a kind is.
+// The index of the last of sixteen numbers that isn't 0, and 0 where there is none. They are looked at
+// at once.
 #[inline(always)]
-pub(super) fn last_of_few(numbers: &[u8; 8]) -> usize
-    ensures zeros { (i : ℕ) → result < i → i < 8 → slice_index numbers.now i ≡ 0 }
-    ensures few { result ≤ 8 }
+pub(super) fn last_of_16(numbers: &[u8]) -> usize
+    requires { length numbers.now ≡ 16 }
+    ensures zeros { (i : ℕ) → result < i → i < length numbers.now → slice_index numbers.now i ≡ 0 }
+    ensures few { result < 64 }
 {
-    let len = u64::BITS - u64::from_le_bytes(*numbers).leading_zeros();
-    len as usize / 8
+    let others = u8x16::from_slice(numbers).simd_ne(u8x16::splat(0));
+    // The number at index 0 counts as one that isn't 0.
+    63 - (others.to_bitmask() | 1).leading_zeros() as usize
 }
 
 // The new byte of an id of this number in a table: `lowest` where it is the first of two, 0 where

@@ -1,6 +1,6 @@
 //! A packet's header, made once for a group of receivers.
 
-ghost use Rattle.std.specs.Prelude.{◌≡◌, ◌≢◌, ◌↔◌, ◌<◌, ◌≤◌, length, take, Option};
+ghost use Rattle.std.specs.Prelude.{◌≡◌, ◌≢◌, ◌↔◌, ◌≤◌, length, take, Option};
 ghost use Rattle.rtp_ext.specs.declared.form.ExtensionsForm.{ExtensionsForm};
 ghost use Rattle.rtp_ext.specs.NewIds.{new_id, ids_in_bytes};
 ghost use Rattle.rtp_wire.specs.NotAHeader.{IsNoPacket};
@@ -12,16 +12,16 @@ ghost use Rattle.rtp_route.specs.Template.{total_of};
 ghost use Rattle.rtp_c.specs.PacketView.{form_number};
 ghost use Rattle.rtp_c.specs.Status.{ok, bad_field, IsCauseStatus};
 ghost use Rattle.rtp_c.specs.RoutedStatus.{not_routed_status, IsNotRoutedStatus};
-ghost use Rattle.rtp_c.specs.StoredTemplate.{slots_of, IsInRange};
-ghost use Rattle.rtp_c.specs.WrittenElements.{LieIn, elements_in};
+ghost use Rattle.rtp_c.specs.StoredTemplate.{slots_of, IsInRange, NamesGroup};
+ghost use Rattle.rtp_c.specs.WrittenElements.{elements_in};
 
 use super::growing::put_status_of;
 use super::map::StoredNewIds;
 use super::named_elements::NamedElements;
 use super::packet::{ElementView, allowed_of};
 use super::status::{BAD_FIELD, LONG_ID, OK, status_of};
-use rtp_ext::NewIds;
-use rtp_route::{Group, MAX_ELEMENTS, NotRouted, Slot, make_template};
+use rtp_ext::{ElementList, NewIds};
+use rtp_route::{GroupOf, MAX_ELEMENTS, NotRouted, Slot, make_template};
 use rtp_wire::RtpPacket;
 
 /// How long a group's header is, and where in it the data of the group's elements lie:
@@ -107,21 +107,19 @@ pub extern "C" fn rtpw_make_template(
         (elements_in bytes.now elements.now) form (take made.new.header_len buf.new)
         (slots_of made.new) }
     ensures in_range { result ≡ ok → IsInRange made.new (length buf.new) }
-    ensures bad_form { ((form : Option ExtensionsForm) → form_number form ≢ allowed) →
-        result ≡ bad_field }
-    ensures outside { (LieIn bytes.now elements.now → ⊥) → result ≡ bad_field }
-    ensures many { 16 < length elements.now → result ≡ bad_field }
-    ensures cause { (form : Option ExtensionsForm) → form_number form ≡ allowed →
-        LieIn bytes.now elements.now → length elements.now ≤ 16 → IsNoPacket datagram.now →
+    ensures bad_group { ((form : Option ExtensionsForm) →
+        NamesGroup bytes.now elements.now allowed form → ⊥) → result ≡ bad_field }
+    ensures cause { (form : Option ExtensionsForm) →
+        NamesGroup bytes.now elements.now allowed form → IsNoPacket datagram.now →
         IsCauseStatus datagram.now result }
-    ensures refusal { (form : Option ExtensionsForm) → form_number form ≡ allowed →
-        LieIn bytes.now elements.now → length elements.now ≤ 16 → result ≢ ok →
+    ensures refusal { (form : Option ExtensionsForm) →
+        NamesGroup bytes.now elements.now allowed form → result ≢ ok →
         (parts : PacketParts) → IsPacket datagram.now parts →
         IsNotRoutedStatus (KeepsFromTemplate (take (header_len_of parts) datagram.now)
         (new_id (ids_in_bytes ids.now.id)) (elements_in bytes.now elements.now) form
         (length buf.old)) result }
-    ensures refused { (form : Option ExtensionsForm) → form_number form ≡ allowed →
-        LieIn bytes.now elements.now → length elements.now ≤ 16 →
+    ensures refused { (form : Option ExtensionsForm) →
+        NamesGroup bytes.now elements.now allowed form →
         (parts : PacketParts) → IsPacket datagram.now parts → result ≢ ok
         ↔ ((cause : NotRouted) × KeepsFromTemplate (take (header_len_of parts) datagram.now)
         (new_id (ids_in_bytes ids.now.id)) (elements_in bytes.now elements.now) form
@@ -134,25 +132,23 @@ pub extern "C" fn rtpw_make_template(
     if elements.len() > MAX_ELEMENTS {
         return BAD_FIELD;
     }
-    let Some(named) = NamedElements::new(bytes, elements) else {
+    let Some(elements) = NamedElements::new(bytes, elements) else {
         return BAD_FIELD;
     };
     let packet = match RtpPacket::parse(datagram) {
         Ok(packet) => packet,
         Err(cause) => return status_of(cause),
     };
-    let mut lent: [(u8, &[u8]); MAX_ELEMENTS] = [(0, &[]); MAX_ELEMENTS];
-    named.lend(&mut lent);
     let ids = NewIds::from_ids(&ids.id);
-    let group = Group {
+    let group = GroupOf {
         ids: &ids,
-        elements: &lent[..elements.len()],
+        elements,
         allowed,
     };
     let mut slots = [Slot { start: 0, len: 0 }; MAX_ELEMENTS];
     match make_template(&packet, &group, buf, &mut slots) {
         Ok(len) => {
-            made.store(len as u32, &slots[..group.elements.len()]);
+            made.store(len as u32, &slots[..elements.count()]);
             OK
         }
         Err(cause) => not_routed_status(cause),

@@ -36,7 +36,7 @@ pub use Rattle.rtp_values.specs.declared.known_kind.KnownKind.{KnownKind}
 pub use Rattle.rtp_values.specs.declared.value.values.ExtensionValues.{ExtensionValues}
 pub use Rattle.rtp_vla.specs.Allocation.{Allocation, Means}
 pub use Rattle.rtp_ext.specs.BlockValues.{Carries, AreFields, last, none, AreValues, ReadElements, SaysValues}
-pub use Rattle.rtp_ext.specs.BodySurvey.{goes, others, HasRows, HasNarrowRows, IsSurvey, IsGathered, IsGatheredTo, IsWidthTo, IsSurveyedTo, IsWideRow, IsWidened, IsWidenedTo}
+pub use Rattle.rtp_ext.specs.BodySurvey.{goes, others, HasRows, HasNarrowRows, IsSurvey, IsGathered, IsGatheredTo, IsSurveyedTo, IsRowFor, ChangesRow, ChangesRowTo}
 pub use Rattle.rtp_ext.specs.ElementPlaces.{LiesLast, AreWhole, IsNextPlace, LiesAt, IsLastPlace, IsLastOrNone, IsPassed, IsLeft}
 pub use Rattle.rtp_ext.specs.ElementReading.{BeginsWithNoElement, BeginsWithElement, elements_left, without_padding}
 pub use Rattle.rtp_ext.specs.ElementWriting.{CanCarry, items_bytes, element_header, element_or_nothing, IsCarried}

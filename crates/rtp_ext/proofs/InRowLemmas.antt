@@ -12,12 +12,11 @@ use Rattle.rtp_ext.specs.Elements.{Element, IsElement, element_bytes, elements_b
 use Rattle.rtp_ext.specs.ElementWriting.{element_header}
 use Rattle.rtp_base.specs.Overwriting.{overwritten}
 use Rattle.rtp_ext.specs.ElementsInARow.{IsWritable, elements_added}
-use Rattle.rtp_ext.specs.BodySurvey.{IsGathered, IsWideRow, IsWidened, IsNarrowRow, IsNarrowed}
+use Rattle.rtp_ext.specs.BodySurvey.{IsGathered, IsRowFor, ChangesRow}
 use Rattle.rtp_ext.specs.PutElement.{has_id, without, row_to}
 use Rattle.rtp_ext.proofs.AnewLemmas.{AreElements-each}
 use Rattle.rtp_ext.proofs.LastPlaceLemmas.{AreElements-same}
-use Rattle.rtp_ext.proofs.WidenLemmas.{each_element, row-same}
-use Rattle.rtp_ext.proofs.NarrowLemmas.{wide_each}
+use Rattle.rtp_ext.proofs.RowFormLemmas.{each_element, row-same}
 use Rattle.rtp_ext.proofs.GatheredLemmas.{elements_bytes-append, others-0}
 use Rattle.rtp_ext.proofs.PieceLemmas.{AllByRecursion-append}
 use Rattle.rtp_ext.proofs.PlaceLemmas.{length-element}
@@ -68,70 +67,75 @@ module _ (form : ExtensionsForm) (body gathered : List ℕ) (body_len len : ℕ)
       ap (elements_bytes form) (same elements are) ∙ ap (λ (f : ExtensionsForm). elements_bytes f (without 0 elements)) (sym kept) in
       (front ∙ bytes, g.len_is ∙ ap length (ap (elements_bytes form) (others-0 g.elements) ∙ bytes))
 
-  -- where it becomes the two-byte form
-  module _ (copied : List ℕ) (at : ℕ) (one : form ≡ OneByte) (at-is : at ≡ length whole - len) (copied-is : copied ≡ paste whole at (drop 0 whole) (len - 0)) where
-    last : drop at copied ≡ take len whole
-    last =
+  -- where it becomes another one
+  changed : (new_form : ExtensionsForm) (old new : List ℕ) (end : ℕ) → drop (length old - len) old ≡ elements_bytes form row → ChangesRow form new_form old new len end
+      → (elements : List Element) → AreElements form (take body_len body) elements
+      → (take end new ≡ elements_bytes new_form (without 0 elements)) × (end ≡ length (elements_bytes new_form (without 0 elements)))
+  changed new_form old new end row-is w elements are =
+      let equal : w.elements ≡ without 0 elements =
+      row-same form w.elements row (each_element form w.elements w.are_writable) (each_element form row are-writable) (sym w.row_was ∙ row-is) ∙ same elements are in
+      (w.row_is ∙ ap (elements_bytes new_form) equal, w.end_is ∙ ap (λ (es : List Element). length (elements_bytes new_form es)) equal)
+
+  -- at the end of the room
+  module _ (copied : List ℕ) (at : ℕ) (at-is : at ≡ length whole - len) (copied-is : copied ≡ paste whole at (drop 0 whole) (len - 0)) where
+    parts : copied ≡ take at whole ++ take len whole
+    parts =
         let size : length whole ≡ length body = length-whole in
         let small : len ≤ body_len = len-within in
         let k : len - 0 ≡ len = omega arith in
         let none : drop (at + (len - 0)) whole ≡ [] = drop_all (at + (len - 0)) whole (omega arith) in
-        ap (drop at) (copied-is ∙ ap (λ (xs : List ℕ). take at whole ++ take (len - 0) whole ++ xs) none ∙ append-nil (take at whole ++ take (len - 0) whole)
-        ∙ ap (λ (n : ℕ). take at whole ++ take n whole) k)
-        ∙ drop_at (take at whole) (take len whole) at (length-take-le at whole (omega arith))
+        copied-is ∙ ap (λ (xs : List ℕ). take at whole ++ take (len - 0) whole ++ xs) none ∙ append-nil (take at whole ++ take (len - 0) whole)
+        ∙ ap (λ (n : ℕ). take at whole ++ take n whole) k
 
     length-copied : length copied ≡ length whole
     length-copied =
         let size : length whole ≡ length body = length-whole in
         let small : len ≤ body_len = len-within in
-        let k : len - 0 ≡ len = omega arith in
-        let none : drop (at + (len - 0)) whole ≡ [] = drop_all (at + (len - 0)) whole (omega arith) in
-        ap length (copied-is ∙ ap (λ (xs : List ℕ). take at whole ++ take (len - 0) whole ++ xs) none ∙ append-nil (take at whole ++ take (len - 0) whole)
-        ∙ ap (λ (n : ℕ). take at whole ++ take n whole) k)
-        ∙ omega (arith, length-append (take at whole) (take len whole), length-take-le at whole (omega arith), length-take-le len whole (omega arith))
+        ap length parts ∙ omega (arith, length-append (take at whole) (take len whole), length-take-le at whole (omega arith), length-take-le len whole (omega arith))
 
-    row-last : drop (length copied - len) copied ≡ elements_bytes OneByte row
+    row-last : drop (length copied - len) copied ≡ elements_bytes form row
     row-last =
         let k : length copied - len ≡ at = omega (arith, length-copied) in
-        ap (λ (n : ℕ). drop n copied) k ∙ last ∙ front ∙ ap (λ (f : ExtensionsForm). elements_bytes f row) one
+        ap (λ (n : ℕ). drop n copied) k ∙ ap (drop at) parts ∙ drop_at (take at whole) (take len whole) at (length-take-le at whole (omega arith)) ∙ front
 
-    one-writable : AllByRecursion (IsWritable OneByte) row
-    one-writable = subst (λ (f : ExtensionsForm). AllByRecursion (IsWritable f) row) one are-writable
-
-    pub IsWideRow-copied : length (elements_bytes TwoByte row) ≤ length body → IsWideRow copied len
-    IsWideRow-copied room = record {
+    pub IsRowFor-copied : (new_form : ExtensionsForm) → AllByRecursion (IsWritable new_form) row → length (elements_bytes new_form row) ≤ length body → IsRowFor form new_form copied len
+    IsRowFor-copied new_form can room = record {
       elements = row;
-      are_writable = one-writable;
+      are_writable = are-writable;
+      are_carried = can;
       row_is = row-last;
       within = omega (arith, length-copied, length-whole, len-within);
       fits = omega (arith, length-copied, length-whole);
     }
 
-    pub widened : (new : List ℕ) (end : ℕ) → IsWidened copied new len end → (elements : List Element) → AreElements form (take body_len body) elements
-        → (take end new ≡ elements_bytes TwoByte (without 0 elements)) × (end ≡ length (elements_bytes TwoByte (without 0 elements)))
-    widened new end w elements are =
-        let equal : w.elements ≡ without 0 elements =
-        row-same OneByte w.elements row (each_element OneByte w.elements w.are_writable) (each_element OneByte row one-writable) (sym w.row_was ∙ row-last) ∙ same elements are in
-        (w.row_is ∙ ap (elements_bytes TwoByte) equal, w.end_is ∙ ap (λ (es : List Element). length (elements_bytes TwoByte es)) equal)
+    pub changed-last : (new_form : ExtensionsForm) (new : List ℕ) (end : ℕ) → ChangesRow form new_form copied new len end → (elements : List Element) → AreElements form (take body_len body) elements
+        → (take end new ≡ elements_bytes new_form (without 0 elements)) × (end ≡ length (elements_bytes new_form (without 0 elements)))
+    changed-last new_form new end = changed new_form copied new end row-last
 
-  -- where it becomes the one-byte form
-  module _ (two : form ≡ TwoByte) (can : AllByRecursion (IsWritable OneByte) row) where
-    row-front : take len whole ≡ elements_bytes TwoByte row
-    row-front = front ∙ ap (λ (f : ExtensionsForm). elements_bytes f row) two
+  -- at the front, in a room as long as they are
+  front-long : length (take len whole) ≡ len
+  front-long = length-take-le len whole (omega (arith, length-whole, len-within))
 
-    pub IsNarrowRow-front : IsNarrowRow (take len whole)
-    IsNarrowRow-front = record { elements = row; are_writable = can; row_is = row-front }
+  row-front : drop (length (take len whole) - len) (take len whole) ≡ elements_bytes form row
+  row-front = let k : length (take len whole) - len ≡ 0 = omega (arith, front-long) in ap (λ (n : ℕ). drop n (take len whole)) k ∙ front
 
-    pub narrowed : (new rest : List ℕ) (end : ℕ) → IsNarrowed (take len whole) new end → (elements : List Element) → AreElements form (take body_len body) elements
-        → (take end (new ++ rest) ≡ elements_bytes OneByte (without 0 elements)) × (end ≡ length (elements_bytes OneByte (without 0 elements)))
-    narrowed new rest end w elements are =
-        let equal : w.elements ≡ without 0 elements =
-        row-same TwoByte w.elements row (each_element TwoByte w.elements (wide_each w.elements w.are_writable)) (each_element TwoByte row (wide_each row can))
-        (sym w.row_was ∙ row-front)
-        ∙ same elements are in (
-          take-append-le end new rest w.within ∙ w.row_is ∙ ap (elements_bytes OneByte) equal,
-          w.end_is ∙ ap (λ (es : List Element). length (elements_bytes OneByte es)) equal,
-        )
+  pub IsRowFor-front : (new_form : ExtensionsForm) → AllByRecursion (IsWritable new_form) row → length (elements_bytes new_form row) ≤ length (elements_bytes form row)
+      → IsRowFor form new_form (take len whole) len
+  IsRowFor-front new_form can shorter = record {
+    elements = row;
+    are_writable = are-writable;
+    are_carried = can;
+    row_is = row-front;
+    within = omega (arith, front-long);
+    fits = omega (arith, shorter, front-long, ap length front);
+  }
+
+  pub changed-front : (new_form : ExtensionsForm) (new rest : List ℕ) (end : ℕ) → ChangesRow form new_form (take len whole) new len end
+      → (elements : List Element) → AreElements form (take body_len body) elements
+      → (take end (new ++ rest) ≡ elements_bytes new_form (without 0 elements)) × (end ≡ length (elements_bytes new_form (without 0 elements)))
+  changed-front new_form new rest end w elements are =
+      let is = changed new_form (take len whole) new end row-front w elements are in
+      (take-append-le end new rest w.within ∙ is.0, is.1)
 
 -- ---- the element behind them
 

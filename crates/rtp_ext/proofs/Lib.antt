@@ -56,7 +56,7 @@ mod RowLemmas
 mod AroundLemmas
 mod BetweenLemmas
 mod MovedElementLemmas
-mod WidenLemmas
+mod RowFormLemmas
 pub mod NarrowLemmas
 mod RowLengthLemmas
 pub mod InRowLemmas

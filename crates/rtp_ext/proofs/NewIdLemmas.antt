@@ -142,19 +142,6 @@ pub IsId-bytes : (bytes : List ℕ) (id new : ℕ) → ((i : ℕ) → get_or byt
 IsId-bytes bytes id new below is = IsId-byte (get_or bytes id 0) new (below id) (sym (new_id-byte bytes id) ∙ is)
 
 -- the first byte is passed over
-pub ids_in_bytes-after : (bytes after : List ℕ) → length bytes ≡ 256 → after ≡ drop 1 bytes → None ∷ map id_in_byte after ≡ ids_in_bytes bytes
-ids_in_bytes-after [] after long is = absurd (omega (arith, long))
-ids_in_bytes-after (first ∷ bytes) after long is = ap (λ (left : List ℕ). None ∷ map id_in_byte left) is
-
-pub table_after : (bytes after : List ℕ) → length bytes ≡ 256 → after ≡ drop 1 bytes → ((i : ℕ) → get_or bytes i 0 < 256)
-    → (length (0 ∷ after) ≡ 256) × (get_or (0 ∷ after) 0 0 ≡ 0) × ((id : ℕ) → get_or (0 ∷ after) id 0 < 256)
-table_after [] after long is below = absurd (omega (arith, long))
-table_after (first ∷ bytes) after long is below = (ap (λ (left : List ℕ). suc (length left)) is ∙ long, refl, each)
-  where
-    each : (id : ℕ) → get_or (0 ∷ after) id 0 < 256
-    each zero = omega arith
-    each (suc k) = subst (λ (left : List ℕ). get_or left k 0 < 256) (sym is) (below (suc k))
-
 pub ids_in_bytes-zero : (bytes : List ℕ) → get_or bytes 0 0 ≡ 0 → ids_in_bytes bytes ≡ map id_in_byte bytes
 ids_in_bytes-zero [] is = refl
 ids_in_bytes-zero (first ∷ bytes) is = ap (λ (id : Option ℕ). id ∷ map id_in_byte bytes) (sym (ap id_in_byte is))

@@ -1,10 +1,7 @@
 -- How long a body's elements are with one put among them, and that they are read.
-use Rattle.rtp_ext.proofs.Common.{◌≡◌, ◌≢◌, ℕ, ◌+◌, ◌-◌, ◌*◌, ◌≤◌, Bool, true, false, not, cond, List, [], ◌∷◌, ◌++◌, length, drop, replicate, length-append, arith, refl, sym, ap, ◌∙◌, subst, inl, inr, ◌⊎◌, AllByRecursion, list_any, eq-eqb, append-nil, drop_at, filter-append, ExtensionsForm, OneByte, TwoByte, Place, Element, IsElement, element_bytes, elements_bytes, AreElements, BeginsWithNoElement, IsWritable, HasNone, IsNextPlace, IsWidthTo, has_id, without, put_element, row_to}
-use Rattle.rtp_ext.proofs.PlaceLemmas.{passed_next, end_next}
-use Rattle.rtp_ext.proofs.PieceLemmas.{AreWhole-nil, AreWhole-append, AreWhole-next, AreElements-after, AreElements-none}
-use Rattle.rtp_ext.proofs.LastPlaceLemmas.{AreElements-same}
+use Rattle.rtp_ext.proofs.Common.{◌≡◌, ℕ, ◌+◌, ◌-◌, ◌≤◌, Bool, true, false, not, cond, List, [], ◌∷◌, ◌++◌, length, length-append, arith, refl, sym, ap, ◌∙◌, inl, inr, ◌⊎◌, AllByRecursion, list_any, eq-eqb, append-nil, filter-append, ExtensionsForm, OneByte, TwoByte, Element, IsElement, element_bytes, elements_bytes, AreElements, IsWritable, HasNone, has_id, without, put_element, row_to}
 use Rattle.rtp_ext.proofs.PutLemmas.{without-none}
-use Rattle.rtp_ext.proofs.GatheredLemmas.{elements_bytes-append, without-this, without-other, without-weaker}
+use Rattle.rtp_ext.proofs.GatheredLemmas.{elements_bytes-append, without-weaker}
 use Rattle.rtp_ext.proofs.WrittenElementsLemmas.{AreElements-in_a_row}
 use Rattle.rtp_ext.proofs.WidenAroundLemmas.{length-around}
 use Rattle.rtp_ext.proofs.AroundLemmas.{IsSplit}
@@ -70,62 +67,3 @@ pub row_to-read : (form new_form : ExtensionsForm) (body : List ℕ) (elements :
 row_to-read form new_form body elements new n may are writable =
     AreElements-in_a_row new_form (put_element new (without 0 elements)) (n - length (elements_bytes new_form (put_element new (without 0 elements))))
     (put_element-each (IsElement new_form) new (without 0 elements) (carried-each form new_form elements may (AreElements-each form body elements are)) writable.1)
-
--- ---- the length in the two-byte form, element by element
-
-pub IsWidthTo-start : (body : List ℕ) (id : ℕ) → IsWidthTo body 0 id 0
-IsWidthTo-start body id = record { passed = []; left = body; elements = []; are_whole = AreWhole-nil OneByte; body_is = refl; at_is = refl; len_is = refl; small = omega arith }
-
-module _ (body : List ℕ) (at id len : ℕ) (place : Place) (was : IsWidthTo body at id len) (next : IsNextPlace OneByte body at place) where
-  here : List ℕ
-  here = replicate next.padding 0 ++ element_bytes OneByte (place.id, next.bytes)
-
-  step : (new_len : ℕ) → new_len ≡ length (elements_bytes TwoByte (without 0 (without id (was.elements ++ (place.id, next.bytes) ∷ [])))) → new_len ≤ 2 * place.end → IsWidthTo body place.end id new_len
-  unfolding here
-  step new_len len_is small = record {
-    passed = was.passed ++ (replicate next.padding 0 ++ element_bytes OneByte (place.id, next.bytes));
-    left = next.after;
-    elements = was.elements ++ (place.id, next.bytes) ∷ [];
-    are_whole = AreWhole-append OneByte was.passed (replicate next.padding 0 ++ element_bytes OneByte (place.id, next.bytes)) was.elements ((place.id, next.bytes) ∷ [])
-        was.are_whole (AreWhole-next OneByte next.padding (place.id, next.bytes) next.is_element);
-    body_is = passed_next OneByte body was.passed was.left at place was.body_is was.at_is next;
-    at_is = end_next OneByte body was.passed at place was.at_is next;
-    len_is = len_is;
-    small = small;
-  }
-
-  pub IsWidthTo-this : place.id ≡ id → IsWidthTo body place.end id len
-  IsWidthTo-this this =
-      step len (was.len_is ∙ ap (λ es. length (elements_bytes TwoByte (without 0 es))) (sym (without-this id was.elements (place.id, next.bytes) this)))
-      (let s = was.small in omega (arith, next.start_is, next.data_is, next.end_is))
-
-  pub IsWidthTo-zero : place.id ≢ id → place.id ≡ 0 → IsWidthTo body place.end id len
-  IsWidthTo-zero other zero_id =
-      step len (was.len_is ∙ ap (λ es. length (elements_bytes TwoByte es)) (sym (ap (without 0) (without-other id was.elements (place.id, next.bytes) other)
-      ∙ without-this 0 (without id was.elements) (place.id, next.bytes) zero_id)))
-      (let s = was.small in omega (arith, next.start_is, next.data_is, next.end_is))
-
-  pub IsWidthTo-other : place.id ≢ id → place.id ≢ 0 → IsWidthTo body place.end id (len + (2 + (place.end - place.data_start)))
-  IsWidthTo-other other above =
-      let all : without 0 (without id (was.elements ++ (place.id, next.bytes) ∷ [])) ≡ without 0 (without id was.elements) ++ (place.id, next.bytes) ∷ [] =
-      ap (without 0) (without-other id was.elements (place.id, next.bytes) other) ∙ without-other 0 (without id was.elements) (place.id, next.bytes) above in
-      step (len + (2 + (place.end - place.data_start)))
-      (omega (
-        arith,
-        was.len_is,
-        next.end_is,
-        ap (λ es. length (elements_bytes TwoByte es)) all,
-        length-split TwoByte (without 0 (without id was.elements)) ((place.id, next.bytes) ∷ []),
-        ap length (append-nil (element_bytes TwoByte (place.id, next.bytes))),
-      ))
-      (let s = was.small in let e = next.is_element in omega (arith, next.start_is, next.data_is, next.end_is))
-
-pub IsWidthTo-end : (body : List ℕ) (at id len : ℕ) → IsWidthTo body at id len → BeginsWithNoElement OneByte (drop at body)
-    → (elements : List Element) → AreElements OneByte body elements → len ≡ length (elements_bytes TwoByte (without 0 (without id elements)))
-IsWidthTo-end body at id len was none elements are =
-    let all : AreElements OneByte body was.elements =
-    subst (λ b. AreElements OneByte b was.elements) (sym was.body_is)
-    (subst (AreElements OneByte (was.passed ++ was.left)) (append-nil was.elements)
-    (AreElements-after OneByte was.passed was.left was.elements [] was.are_whole
-    (subst (λ b. AreElements OneByte b []) (ap (drop at) was.body_is ∙ drop_at was.passed was.left at (sym was.at_is)) (AreElements-none OneByte (drop at body) none)))) in
-    was.len_is ∙ ap (λ es. length (elements_bytes TwoByte (without 0 (without id es)))) (AreElements-same OneByte body was.elements elements all are)

@@ -16,7 +16,8 @@ use Rattle.rtp_ext.specs.PutElement.{has_id, without}
 use Rattle.rtp_ext.proofs.ElementLemmasOfBodies.{AreElements-only}
 use Rattle.rtp_ext.proofs.PieceLemmas.{AllByRecursion-append, AreElements-none}
 use Rattle.rtp_ext.proofs.PlaceLemmas.{length-element, element_bytes-split}
-use Rattle.rtp_ext.proofs.GatheredLemmas.{without-this, without-other, elements_bytes-append}
+use Rattle.rtp_ext.specs.BodySurvey.{goes, others}
+use Rattle.rtp_ext.proofs.GatheredLemmas.{others-gone, others-other, row-other}
 use Rattle.rtp_ext.proofs.RenumberingLemmas.{elements_left-next}
 
 -- one of those that are kept is kept
@@ -30,8 +31,8 @@ kept_of P element (x ∷ xs) ys above all = by_test (has_id 0 x) (kept_of P elem
     by_test true kept rest = kept rest
     by_test false kept rest = kept rest.1
 
-pub IsRowLengthTo-start : (form new_form : ExtensionsForm) (body : List ℕ) → IsRowLengthTo form new_form body 0 0
-IsRowLengthTo-start form new_form body = record { passed = []; elements_are = refl; len_is = refl; are_carried = tt; small = omega arith; within = omega arith }
+pub IsRowLengthTo-start : (form new_form : ExtensionsForm) (id : ℕ) (body : List ℕ) → IsRowLengthTo form new_form id body 0 0
+IsRowLengthTo-start form new_form id body = record { passed = []; elements_are = refl; len_is = refl; are_carried = tt; small = omega arith; within = omega arith }
 
 header-some : (form : ExtensionsForm) (id len : ℕ) → 1 ≤ length (element_header form id len)
 header-some OneByte id len = omega arith
@@ -43,7 +44,7 @@ header-most OneByte TwoByte id len other_len = omega arith
 header-most TwoByte OneByte id len other_len = omega arith
 header-most TwoByte TwoByte id len other_len = omega arith
 
-module _ (form new_form : ExtensionsForm) (body : List ℕ) (at len : ℕ) (place : Place) (was : IsRowLengthTo form new_form body at len) (next : IsNextPlace form body at place) where
+module _ (form new_form : ExtensionsForm) (id : ℕ) (body : List ℕ) (at len : ℕ) (place : Place) (was : IsRowLengthTo form new_form id body at len) (next : IsNextPlace form body at place) where
   element : Element
   element = (place.id, next.bytes)
 
@@ -80,21 +81,43 @@ module _ (form new_form : ExtensionsForm) (body : List ℕ) (at len : ℕ) (plac
   further : at + 1 ≤ place.end
   further = omega (arith, next.start_is, next.data_is, next.end_is, header-some form place.id (length next.bytes))
 
-  pub IsRowLengthTo-zero : place.id ≡ 0 → IsRowLengthTo form new_form body place.end len
+  pub IsRowLengthTo-gone : goes id (place.id, next.bytes) ≡ true → IsRowLengthTo form new_form id body place.end len
   unfolding element
-  IsRowLengthTo-zero zero_id = record {
+  IsRowLengthTo-gone gone = record {
     passed = was.passed ++ (place.id, next.bytes) ∷ [];
     elements_are = all_next;
-    len_is = was.len_is ∙ ap (λ es. length (elements_bytes new_form es)) (sym (without-this 0 was.passed (place.id, next.bytes) zero_id));
-    are_carried = subst (AllByRecursion (IsWritable new_form)) (sym (without-this 0 was.passed (place.id, next.bytes) zero_id)) was.are_carried;
+    len_is = was.len_is ∙ ap (λ es. length (elements_bytes new_form es)) (sym (others-gone id was.passed (place.id, next.bytes) gone));
+    are_carried = subst (AllByRecursion (IsWritable new_form)) (sym (others-gone id was.passed (place.id, next.bytes) gone)) was.are_carried;
     small = let s = was.small in omega (arith, further);
+    within = omega (arith, next.within);
+  }
+
+  pub IsRowLengthTo-other : (header n : ℕ) → place.id ≢ id → place.id ≢ 0 → IsWritable new_form (place.id, next.bytes) → header ≡ length (element_header new_form place.id n) → n ≡ length next.bytes
+      → IsRowLengthTo form new_form id body place.end (len + (header + n))
+  unfolding element
+  IsRowLengthTo-other header n other above writable header-is n-is = record {
+    passed = was.passed ++ (place.id, next.bytes) ∷ [];
+    elements_are = all_next;
+    len_is = omega (
+      arith,
+      header-is,
+      n-is,
+      ap (λ (k : ℕ). length (element_header new_form place.id k)) n-is,
+      length-element new_form place.id next.bytes,
+      was.len_is,
+      ap length (row-other new_form id was.passed (place.id, next.bytes) other above),
+      length-append (elements_bytes new_form (others id was.passed)) (element_bytes new_form (place.id, next.bytes)),
+    );
+    are_carried = subst (AllByRecursion (IsWritable new_form)) (sym (others-other id was.passed (place.id, next.bytes) other above))
+        (AllByRecursion-append (IsWritable new_form) (others id was.passed) ((place.id, next.bytes) ∷ []) was.are_carried (writable, tt));
+    small = let s = was.small in omega (arith, next.start_is, next.data_is, next.end_is, header-is, n-is, header-most new_form form place.id n (length next.bytes));
     within = omega (arith, next.within);
   }
 
   abbrev content : List ℕ
   content = take (place.end - place.data_start) (drop place.data_start body)
 
-  content-is : content ≡ next.bytes
+  pub content-is : content ≡ next.bytes
   content-is =
       let header : List ℕ = element_header form place.id (length next.bytes) in
       let front : List ℕ = replicate next.padding 0 ++ header in
@@ -110,30 +133,6 @@ module _ (form new_form : ExtensionsForm) (body : List ℕ) (at len : ℕ) (plac
       ∙ ap (take (place.end - place.data_start)) (sym (drop-drop (place.data_start - at) at body) ∙ ap (drop (place.data_start - at)) split ∙ drop_at front (next.bytes ++ next.after) (place.data_start - at) long)
       ∙ take_at next.bytes next.after (place.end - place.data_start) (sym count)
 
-  pub IsRowLengthTo-other : (header : ℕ) → place.id ≢ 0 → IsWritable new_form (place.id, content) → header ≡ length (element_header new_form place.id (length content))
-      → IsRowLengthTo form new_form body place.end (len + (header + length content))
-  unfolding element
-  IsRowLengthTo-other header above writable header-is = record {
-    passed = was.passed ++ (place.id, next.bytes) ∷ [];
-    elements_are = all_next;
-    len_is = omega (
-      arith,
-      header-is,
-      length-element new_form place.id content,
-      was.len_is,
-      ap (λ (xs : List ℕ). length (element_bytes new_form (place.id, xs))) content-is,
-      ap length (ap (elements_bytes new_form) (without-other 0 was.passed (place.id, next.bytes) above)
-          ∙ elements_bytes-append new_form (without 0 was.passed) ((place.id, next.bytes) ∷ [])),
-      ap length (append-nil (element_bytes new_form (place.id, next.bytes))),
-      length-append (elements_bytes new_form (without 0 was.passed)) (elements_bytes new_form ((place.id, next.bytes) ∷ [])),
-    );
-    are_carried = subst (AllByRecursion (IsWritable new_form)) (sym (without-other 0 was.passed (place.id, next.bytes) above))
-        (AllByRecursion-append (IsWritable new_form) (without 0 was.passed) ((place.id, next.bytes) ∷ []) was.are_carried
-        (subst (λ (xs : List ℕ). IsWritable new_form (place.id, xs)) content-is writable, tt));
-    small = let s = was.small in omega (arith, next.start_is, next.data_is, next.end_is, header-is, ap length content-is, header-most new_form form place.id (length content) (length next.bytes));
-    within = omega (arith, next.within);
-  }
-
   pub not-carried : (elements : List Element) → place.id ≢ 0 → (IsWritable new_form (place.id, content) → ⊥) → AreElements form body elements
       → AllByRecursion (IsWritable new_form) (without 0 elements) → ⊥
   unfolding element
@@ -143,7 +142,7 @@ module _ (form new_form : ExtensionsForm) (body : List ℕ) (at len : ℕ) (plac
       (subst (λ (es : List Element). AllByRecursion (IsWritable new_form) (without 0 es)) (AreElements-only form body elements are ∙ elements_next) all)))
 
 -- where reading ends
-module _ (form new_form : ExtensionsForm) (body : List ℕ) (at len : ℕ) (was : IsRowLengthTo form new_form body at len) (none : BeginsWithNoElement form (drop at body))
+module _ (form new_form : ExtensionsForm) (id : ℕ) (body : List ℕ) (at len : ℕ) (was : IsRowLengthTo form new_form id body at len) (none : BeginsWithNoElement form (drop at body))
     (elements : List Element) (are : AreElements form body elements) where
   all_passed : elements ≡ was.passed
   all_passed =
@@ -151,8 +150,8 @@ module _ (form new_form : ExtensionsForm) (body : List ℕ) (at len : ℕ) (was 
       ∙ ap (λ (es : List Element). was.passed ++ es) (sym (AreElements-only form (drop at body) [] (AreElements-none form (drop at body) none)))
       ∙ append-nil was.passed
 
-  pub row-length : len ≡ length (elements_bytes new_form (without 0 elements))
-  row-length = was.len_is ∙ ap (λ (es : List Element). length (elements_bytes new_form (without 0 es))) (sym all_passed)
+  pub row-length : len ≡ length (elements_bytes new_form (others id elements))
+  row-length = was.len_is ∙ ap (λ (es : List Element). length (elements_bytes new_form (others id es))) (sym all_passed)
 
-  pub row-carried : AllByRecursion (IsWritable new_form) (without 0 elements)
-  row-carried = subst (λ (es : List Element). AllByRecursion (IsWritable new_form) (without 0 es)) (sym all_passed) was.are_carried
+  pub row-carried : AllByRecursion (IsWritable new_form) (others id elements)
+  row-carried = subst (λ (es : List Element). AllByRecursion (IsWritable new_form) (others id es)) (sym all_passed) was.are_carried

@@ -1,9 +1,10 @@
 -- Two rows of elements, put in the two-byte form around an element.
-use Rattle.rtp_ext.proofs.Common.{◌≡◌, ℕ, ◌+◌, ◌-◌, ◌≤◌, List, [], ◌∷◌, ◌++◌, length, take, drop, append_assoc, length-append, length-drop, length-take-le, arith, refl, sym, ap, ◌∙◌, slice_range, AllByRecursion, append-nil, take_at, drop_at, take-append-le, take-take, drop-append-le, drop_all, take_rest, take-append-drop, paste, put_mid, ExtensionsForm, OneByte, TwoByte, Element, IsElement, element_bytes, elements_bytes, IsWritable, HasNarrowRows, IsWideRow, IsWidened, without}
+use Rattle.rtp_ext.proofs.Common.{◌≡◌, ℕ, ◌+◌, ◌-◌, ◌≤◌, List, [], ◌∷◌, ◌++◌, length, take, drop, append_assoc, length-append, length-drop, length-take-le, arith, refl, sym, ap, ◌∙◌, slice_range, AllByRecursion, append-nil, take_at, drop_at, take-append-le, take-take, drop-append-le, drop_all, take_rest, take-append-drop, paste, put_mid, ExtensionsForm, OneByte, TwoByte, Element, IsElement, element_bytes, elements_bytes, IsWritable, HasNarrowRows, IsRowFor, ChangesRow, without}
 use Rattle.rtp_base.specs.Overwriting.{overwritten}
 use Rattle.rtp_ext.proofs.ServingFormLemmas.{length-two}
 use Rattle.rtp_ext.proofs.GatheredLemmas.{elements_bytes-append, without-weaker}
-use Rattle.rtp_ext.proofs.WidenLemmas.{row-same, are_elements}
+use Rattle.rtp_ext.proofs.RowFormLemmas.{row-same, each_element}
+use Rattle.rtp_ext.proofs.NarrowLemmas.{wide_each}
 
 -- elements of another id than 0 may be written
 pub without-writable : (elements : List Element) → AllByRecursion (IsElement OneByte) elements → AllByRecursion (IsWritable OneByte) (without 0 elements)
@@ -124,7 +125,7 @@ module _ (body1 body2 body3 : List ℕ) (r0 at r1 id : ℕ) (data_bytes : List �
       ∙ (drop_at (take (length body1 - r1 - r0) body2) (take r0 body1) (length body1 - r1 - r0) skipped_len ∙ x_row))
 
   -- the first room
-  pub first_wide : IsWideRow (take (length body1 - r1) body3) r0
+  pub first_wide : IsRowFor OneByte TwoByte (take (length body1 - r1) body3) r0
   unfolding rest xs
   first_wide =
       let o = order in
@@ -132,16 +133,17 @@ module _ (body1 body2 body3 : List ℕ) (r0 at r1 id : ℕ) (data_bytes : List �
       record {
         elements = rows.before;
         are_writable = rows.are_before;
+        are_carried = wide_each rows.before rows.are_before;
         row_is = first_row;
         within = omega (arith, long);
         fits = omega (arith, long, all_fit, y_len, narrow-le ys);
       }
 
-  module _ (room1 : List ℕ) (f : ℕ) (wide : IsWidened (take (length body1 - r1) body3) room1 r0 f) (same : length room1 ≡ length (take (length body1 - r1) body3)) where
+  module _ (room1 : List ℕ) (f : ℕ) (wide : ChangesRow OneByte TwoByte (take (length body1 - r1) body3) room1 r0 f) (same : length room1 ≡ length (take (length body1 - r1) body3)) where
     wide_is : wide.elements ≡ xs
     unfolding xs
-    wide_is = row-same OneByte wide.elements rows.before (are_elements wide.elements wide.are_writable)
-        (are_elements rows.before rows.are_before) (sym wide.row_was ∙ first_row)
+    wide_is = row-same OneByte wide.elements rows.before (each_element OneByte wide.elements wide.are_writable)
+        (each_element OneByte rows.before rows.are_before) (sym wide.row_was ∙ first_row)
 
     room1_len : length room1 ≡ length body1 - r1
     unfolding rest
@@ -211,7 +213,7 @@ module _ (body1 body2 body3 : List ℕ) (r0 at r1 id : ℕ) (data_bytes : List �
           ∙ (ap (drop (length (drop next room1))) left_is ∙ (drop_at (drop next room1) (drop (length body1 - r1) body3) (length (drop next room1)) refl ∙ (last_is ∙ y_row))))
 
       -- the second room
-      pub second_wide : IsWideRow (take (length body5 - next) (drop next body5)) r1
+      pub second_wide : IsRowFor OneByte TwoByte (take (length body5 - next) (drop next body5)) r1
       unfolding ys
       second_wide =
           let n = next_early in
@@ -220,16 +222,17 @@ module _ (body1 body2 body3 : List ℕ) (r0 at r1 id : ℕ) (data_bytes : List �
           record {
             elements = rows.after;
             are_writable = rows.are_after;
+            are_carried = wide_each rows.after rows.are_after;
             row_is = second_row;
             within = omega (arith, long);
             fits = omega (arith, long, f_is, all_fit);
           }
 
-      module _ (room2 : List ℕ) (e : ℕ) (wide2 : IsWidened (take (length body5 - next) (drop next body5)) room2 r1 e) where
+      module _ (room2 : List ℕ) (e : ℕ) (wide2 : ChangesRow OneByte TwoByte (take (length body5 - next) (drop next body5)) room2 r1 e) where
         wide2_is : wide2.elements ≡ ys
         unfolding ys
-        wide2_is = row-same OneByte wide2.elements rows.after (are_elements wide2.elements wide2.are_writable)
-            (are_elements rows.after rows.are_after) (sym wide2.row_was ∙ second_row)
+        wide2_is = row-same OneByte wide2.elements rows.after (each_element OneByte wide2.elements wide2.are_writable)
+            (each_element OneByte rows.after rows.are_after) (sym wide2.row_was ∙ second_row)
 
         e_is : e ≡ length (elements_bytes TwoByte ys)
         e_is = wide2.end_is ∙ ap (λ es. length (elements_bytes TwoByte es)) wide2_is

@@ -63,56 +63,45 @@ pub record IsGatheredTo (form : ExtensionsForm) (id : ℕ) (old new : List ℕ) 
   pub len_is : len ≡ length (elements_bytes form (others id elements))
   pub gap_is : len + length gap ≡ at
 
--- the last bytes of a room, so many of them, are elements of the one-byte form in a row, none of the id 0, and the room is as long as they are in the two-byte form
-pub record IsWideRow (room : List ℕ) (len : ℕ) : Type 0 where
+-- the last bytes of a room, so many of them, are elements of a form in a row, none of the id 0; another form can carry each, and the room is as long as they are in that
+pub record IsRowFor (form new_form : ExtensionsForm) (room : List ℕ) (len : ℕ) : Type 0 where
   pub elements : List Element
-  pub are_writable : AllByRecursion (IsWritable OneByte) elements
-  pub row_is : drop (length room - len) room ≡ elements_bytes OneByte elements
+  pub are_writable : AllByRecursion (IsWritable form) elements
+  pub are_carried : AllByRecursion (IsWritable new_form) elements
+  pub row_is : drop (length room - len) room ≡ elements_bytes form elements
   pub within : len ≤ length room
-  pub fits : length (elements_bytes TwoByte elements) ≤ length room
+  pub fits : length (elements_bytes new_form elements) ≤ length room
 
--- these elements stand at the front of the room in the two-byte form, in so many bytes
-pub record IsWidened (old new : List ℕ) (len end : ℕ) : Type 0 where
+-- these elements stand at the front of the room in the other form, in so many bytes
+pub record ChangesRow (form new_form : ExtensionsForm) (old new : List ℕ) (len end : ℕ) : Type 0 where
   pub elements : List Element
-  pub are_writable : AllByRecursion (IsWritable OneByte) elements
-  pub row_was : drop (length old - len) old ≡ elements_bytes OneByte elements
-  pub row_is : take end new ≡ elements_bytes TwoByte elements
-  pub end_is : end ≡ length (elements_bytes TwoByte elements)
-
--- the bytes are elements of the two-byte form in a row, each of which the one-byte form can carry
-pub record IsNarrowRow (bytes : List ℕ) : Type 0 where
-  pub elements : List Element
-  pub are_writable : AllByRecursion (IsWritable OneByte) elements
-  pub row_is : bytes ≡ elements_bytes TwoByte elements
-
--- these elements stand at the front in the one-byte form, in so many bytes
-pub record IsNarrowed (old new : List ℕ) (end : ℕ) : Type 0 where
-  pub elements : List Element
-  pub are_writable : AllByRecursion (IsWritable OneByte) elements
-  pub row_was : old ≡ elements_bytes TwoByte elements
-  pub row_is : take end new ≡ elements_bytes OneByte elements
-  pub end_is : end ≡ length (elements_bytes OneByte elements)
+  pub are_writable : AllByRecursion (IsWritable form) elements
+  pub row_was : drop (length old - len) old ≡ elements_bytes form elements
+  pub row_is : take end new ≡ elements_bytes new_form elements
+  pub end_is : end ≡ length (elements_bytes new_form elements)
   pub within : end ≤ length new
 
 -- the same of the elements up to an offset, with those that are left
-pub record IsNarrowedTo (old new : List ℕ) (at end : ℕ) : Type 0 where
+pub record ChangesRowTo (form new_form : ExtensionsForm) (old new : List ℕ) (len at end : ℕ) : Type 0 where
   pub passed : List Element
   pub left : List Element
-  pub are_passed : AllByRecursion (IsWritable OneByte) passed
-  pub are_left : AllByRecursion (IsWritable OneByte) left
-  pub row_was : old ≡ elements_bytes TwoByte (passed ++ left)
-  pub left_is : drop at new ≡ elements_bytes TwoByte left
-  pub row_is : take end new ≡ elements_bytes OneByte passed
-  pub end_is : end ≡ length (elements_bytes OneByte passed)
-  pub at_is : at + length (elements_bytes TwoByte left) ≡ length new
+  pub are_passed : AllByRecursion (IsWritable form) passed
+  pub are_left : AllByRecursion (IsWritable form) left
+  pub are_carried : AllByRecursion (IsWritable new_form) left
+  pub row_was : drop (length old - len) old ≡ elements_bytes form (passed ++ left)
+  pub left_is : drop at new ≡ elements_bytes form left
+  pub row_is : take end new ≡ elements_bytes new_form passed
+  pub end_is : end ≡ length (elements_bytes new_form passed)
+  pub at_is : at + length (elements_bytes form left) ≡ length new
   pub behind : end ≤ at
+  pub fits : end + length (elements_bytes new_form left) ≤ length new
 
--- how long the elements up to an offset are in a row in another form, without those of the id 0; the form can carry each
-pub record IsRowLengthTo (form new_form : ExtensionsForm) (body : List ℕ) (at len : ℕ) : Type 0 where
+-- how long the elements up to an offset are in a row in another form, without those of the id and of the id 0; the form can carry each
+pub record IsRowLengthTo (form new_form : ExtensionsForm) (id : ℕ) (body : List ℕ) (at len : ℕ) : Type 0 where
   pub passed : List Element
   pub elements_are : elements_left form body ≡ passed ++ elements_left form (drop at body)
-  pub len_is : len ≡ length (elements_bytes new_form (without 0 passed))
-  pub are_carried : AllByRecursion (IsWritable new_form) (without 0 passed)
+  pub len_is : len ≡ length (elements_bytes new_form (others id passed))
+  pub are_carried : AllByRecursion (IsWritable new_form) (others id passed)
   pub small : len ≤ 2 * at
   pub within : at ≤ length body
 
@@ -143,30 +132,6 @@ pub record HasNarrowRows (body : List ℕ) (front at count : ℕ) (element : Ele
   pub order : front ≤ at
   pub within : at + count ≤ length body
   pub fits : length (elements_bytes TwoByte (before ++ element ∷ after)) ≤ length body
-
--- the same of the elements up to an offset, with those that are left
-pub record IsWidenedTo (old new : List ℕ) (len at end : ℕ) : Type 0 where
-  pub passed : List Element
-  pub left : List Element
-  pub are_passed : AllByRecursion (IsWritable OneByte) passed
-  pub are_left : AllByRecursion (IsWritable OneByte) left
-  pub row_was : drop (length old - len) old ≡ elements_bytes OneByte (passed ++ left)
-  pub left_is : drop at new ≡ elements_bytes OneByte left
-  pub row_is : take end new ≡ elements_bytes TwoByte passed
-  pub end_is : end ≡ length (elements_bytes TwoByte passed)
-  pub at_is : at + length (elements_bytes OneByte left) ≡ length new
-  pub fits : end + length (elements_bytes TwoByte left) ≤ length new
-
--- how long the elements of other ids up to an offset are in the two-byte form, without those of the id 0
-pub record IsWidthTo (body : List ℕ) (at id len : ℕ) : Type 0 where
-  pub passed : List ℕ
-  pub left : List ℕ
-  pub elements : List Element
-  pub are_whole : AreWhole OneByte passed elements
-  pub body_is : body ≡ passed ++ left
-  pub at_is : at ≡ length passed
-  pub len_is : len ≡ length (elements_bytes TwoByte (without 0 (without id elements)))
-  pub small : len ≤ 2 * at
 
 -- a body is its elements without those of the id 0, in a row of so many bytes, and zeros
 pub record IsCompacted (form : ExtensionsForm) (old new : List ℕ) (len : ℕ) : Type 0 where

@@ -16,8 +16,8 @@ ghost use Rattle.rtp_ext.specs.PutElement.{put_element, IsSole};
 
 use super::ExtensionsForm;
 use super::place::last_place;
-use super::raw_writing::put_data;
 use super::survey::Survey;
+use rtp_base::put_few;
 
 /// The data of the last element of the id in a block's body, and `None` exactly where no element
 /// has it (RFC 8285, 4.2 and 4.3). An element of the two-byte form may be without data, and then
@@ -63,7 +63,7 @@ pub fn set_element(form: ExtensionsForm, body: &mut [u8], id: u8, data: &[u8]) -
     if place.end - place.data_start != data.len() {
         return false;
     }
-    put_data(body, place.data_start, data);
+    put_few(body, place.data_start, data);
     true
 }
 
@@ -89,6 +89,6 @@ pub fn set_sole(body: &mut [u8], survey: &Survey, id: u8, data: &[u8]) -> bool
     if survey.count != 1 || place.end - place.data_start != data.len() {
         return false;
     }
-    put_data(body, place.data_start, data);
+    put_few(body, place.data_start, data);
     true
 }

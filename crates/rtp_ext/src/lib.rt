@@ -43,7 +43,7 @@ pub use map::{ExtensionMap, MAX_ID};
 pub use new_body::{put_anew, put_len};
 pub use new_ids::NewIds;
 pub use place::{Place, can_renumber, last_place, next_place, remove_element, renumber};
-pub use raw_writing::{put_data, put_elements, write_elements};
+pub use raw_writing::{put_elements, write_elements};
 pub use row_in_form::{remade_len, remake_body};
 pub use rtp_values::{
     AbsCaptureTime, CarriedLayers, ElementValues, Extension, ExtensionValues, KindSet, KnownKind,

@@ -118,9 +118,10 @@ impl NewIds {
     pub fn from_ids(ids: &[u8; 256]) -> Self
         ensures { result ≡ ids_in_bytes ids.now }
     {
-        let after_first = &ids[1..];
+        let given = &ids[..];
         let mut ids = [0; IDS];
-        ids[1..].copy_from_slice(after_first);
+        ids.copy_from_slice(given);
+        ids[0] = 0;
         NewIds { ids }
     }
 

@@ -7,7 +7,7 @@ ghost use Rattle.rtp_ext.specs.ElementsInARow.{IsWritable, AreWritableIn};
 
 use super::form::{element_header_len, write_header};
 use super::{ElementList, ExtensionsForm};
-use rtp_base::{put, put_zeros};
+use rtp_base::{put, put_few, put_zeros};
 
 // How many bytes of the room are left after an element; `None` where it can't be written there.
 fn room_after(room: usize, form: ExtensionsForm, id: u8, bytes: &[u8]) -> Option<usize>
@@ -35,31 +35,6 @@ fn fit<L: ElementList>(room: usize, form: ExtensionsForm, elements: L) -> bool
         left = rest;
     }
     true
-}
-
-/// Puts the data of an element at the offset, and leaves all other bytes as they were. Up to three
-/// bytes, as most elements have, are put one by one, since a copy of so few takes longer. Requires
-/// room for them.
-#[inline(always)]
-pub fn put_data(buf: &mut [u8], at: usize, data: &[u8])
-    requires { at + length «data».now ≤ length buf.old }
-    ensures { buf.new ≡ overwritten buf.old at «data».now }
-{
-    match data {
-        [first] => buf[at] = *first,
-        [first, second] => {
-            buf[at] = *first;
-            buf[at + 1] = *second;
-        }
-        [first, second, third] => {
-            buf[at] = *first;
-            buf[at + 1] = *second;
-            buf[at + 2] = *third;
-        }
-        _ => {
-            put(buf, at, data);
-        }
-    }
 }
 
 // Puts zeros at the offset. Up to four, as most elements and the rest of most words take, are put
@@ -116,7 +91,7 @@ pub(super) fn put_element(
 {
     write_header(buf, at, form, id, bytes.len() as u8);
     let data_at = at + element_header_len(form);
-    put_data(buf, data_at, bytes);
+    put_few(buf, data_at, bytes);
     data_at + bytes.len()
 }
 

@@ -4,33 +4,14 @@ ghost use Rattle.std.specs.Prelude.{◌≡◌, ◌+◌, ◌*◌, ◌≤◌, ◌+
 ghost use Rattle.std.specs.List.{AllByRecursion};
 ghost use Rattle.rtp_ext.specs.Elements.{Element, AreElements, elements_bytes};
 ghost use Rattle.rtp_ext.specs.ElementsInARow.{IsWritable, elements_added};
-ghost use Rattle.rtp_ext.specs.BodySurvey.{IsNarrowRow, IsNarrowed};
 ghost use Rattle.rtp_ext.specs.PutElement.{without, row_to};
 
 use super::ExtensionsForm;
-use super::form::{element_header_len, write_header};
+use super::form::element_header_len;
 use super::gathering::gather_all;
 use super::place::next_place;
 use super::raw_writing::{clear_after, put_element};
-use super::two_byte_rows::widen;
-
-// Puts elements of the two-byte form in a row, each of which the one-byte form can carry, into that
-// form. Returns how many bytes they then take.
-fn narrow_row(body: &mut [u8]) -> usize
-    requires { IsNarrowRow body.old }
-    ensures { IsNarrowed body.old body.new result }
-{
-    let mut end = 0;
-    let mut at = 0;
-    while let Some(place) = next_place(ExtensionsForm::TwoByte, body, at) {
-        at = place.end;
-        let data_len = place.end - place.data_start;
-        body.copy_within(place.data_start..place.end, end + 1);
-        write_header(body, end, ExtensionsForm::OneByte, place.id, data_len as u8);
-        end += 1 + data_len;
-    }
-    end
-}
+use super::two_byte_rows::{change_row, widen};
 
 // How many bytes the elements of a body take in a row in a form, without those of the id 0. `None`
 // where the form can't carry one of them.
@@ -89,7 +70,9 @@ fn put_in_row(
             body.copy_within(..len, start);
             widen(body, len)
         }
-        (ExtensionsForm::TwoByte, ExtensionsForm::OneByte) => narrow_row(&mut body[..len]),
+        (ExtensionsForm::TwoByte, ExtensionsForm::OneByte) => {
+            change_row(form, new_form, &mut body[..len], len)
+        }
         _ => len,
     }
 }

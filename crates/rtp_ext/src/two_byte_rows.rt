@@ -1,41 +1,58 @@
-//! Elements of the one-byte form that are put in the two-byte form, where they lie.
+//! Elements in a row that are put in another form, where they lie.
 
 ghost use Rattle.std.specs.Prelude.{◌≡◌, ◌*◌, ◌≤◌, ◌∷◌, ◌++◌, List, length, take};
 ghost use Rattle.rtp_ext.specs.declared.form.ExtensionsForm.TheVariants.{OneByte, TwoByte};
 ghost use Rattle.rtp_ext.specs.Elements.{Element, AreElements, elements_bytes};
 ghost use Rattle.rtp_ext.specs.ElementsInARow.{IsWritable};
-ghost use Rattle.rtp_ext.specs.BodySurvey.{HasNarrowRows, IsWideRow, IsWidened};
+ghost use Rattle.rtp_ext.specs.BodySurvey.{HasNarrowRows, IsRowFor, ChangesRow};
 ghost use Rattle.rtp_ext.specs.PutElement.{without};
 
 use super::ExtensionsForm;
-use super::form::write_header;
+use super::form::{element_header_len, write_header};
 use super::place::next_place;
 use super::raw_writing::put_element;
 
-// Puts elements of the one-byte form, which are the last `len` bytes of the room, to its front in
-// the two-byte form. Returns how many bytes they then take.
-#[inline(never)]
-fn widen_row(room: &mut [u8], len: usize) -> usize
-    requires { IsWideRow room.old len }
-    ensures { IsWidened room.old room.new len result }
+// Puts elements of a form in a row, which are the last `len` bytes of the room, to its front in
+// another form. Returns how many bytes they then take. It is inlined, so that each form has a loop
+// of its own.
+#[inline(always)]
+pub(super) fn change_row(
+    form: ExtensionsForm,
+    new_form: ExtensionsForm,
+    room: &mut [u8],
+    len: usize,
+) -> usize
+    requires { IsRowFor form new_form room.old len }
+    ensures { ChangesRow form new_form room.old room.new len result }
 {
     let mut end = 0;
     let mut at = room.len() - len;
-    while let Some(place) = next_place(ExtensionsForm::OneByte, room, at) {
+    while let Some(place) = next_place(form, room, at) {
         at = place.end;
         let data_len = place.end - place.data_start;
-        room.copy_within(place.data_start..place.end, end + 2);
-        write_header(room, end, ExtensionsForm::TwoByte, place.id, data_len as u8);
-        end += 2 + data_len;
+        let data_at = end + element_header_len(new_form);
+        room.copy_within(place.data_start..place.end, data_at);
+        write_header(room, end, new_form, place.id, data_len as u8);
+        end = data_at + data_len;
     }
     end
+}
+
+// The same from the one-byte form to the two-byte form. It stays out of line, since few blocks
+// change their form.
+#[inline(never)]
+fn widen_row(room: &mut [u8], len: usize) -> usize
+    requires { IsRowFor OneByte TwoByte room.old len }
+    ensures { ChangesRow OneByte TwoByte room.old room.new len result }
+{
+    change_row(ExtensionsForm::OneByte, ExtensionsForm::TwoByte, room, len)
 }
 
 // The same of elements that may be none, as mostly those behind the element that is put.
 #[inline(always)]
 pub(super) fn widen(room: &mut [u8], len: usize) -> usize
-    requires { IsWideRow room.old len }
-    ensures { IsWidened room.old room.new len result }
+    requires { IsRowFor OneByte TwoByte room.old len }
+    ensures { ChangesRow OneByte TwoByte room.old room.new len result }
 {
     if len == 0 { 0 } else { widen_row(room, len) }
 }

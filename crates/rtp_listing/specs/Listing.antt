@@ -30,26 +30,17 @@ abbrev pub value_text : {A : Type 0} → List ℕ → (A → List ℕ) → Optio
 value_text word text None = []
 value_text word text (Some value) = word ++ text value
 
--- the ids of the media section, of the stream, and of the stream that this one repairs
-abbrev pub ids_text : HeaderValues → List ℕ
-ids_text values =
+-- the ids of the media section, of the stream, and of the stream that this one repairs; the audio level, and whether there is voice; the send time, and the number on the transport
+abbrev pub values_text : HeaderValues → List ℕ
+values_text values =
     value_text (codes " mid ") before_padding values.mid ++ value_text (codes " rid ") before_padding values.rid
     ++ value_text (codes " repaired ") before_padding values.rid_repair
-
--- the audio level, and whether there is voice
-abbrev pub audio_text : HeaderValues → List ℕ
-audio_text values =
-    value_text (codes " level ") signed_decimal values.audio_level ++ value_text (codes " voice ") flag_text values.voice_activity
-
--- the send time, and the number on the transport
-abbrev pub sending_text : HeaderValues → List ℕ
-sending_text values =
-    value_text (codes " send ") decimal values.abs_send_time ++ value_text (codes " transport ") decimal values.transport_cc
+    ++ value_text (codes " level ") signed_decimal values.audio_level ++ value_text (codes " voice ") flag_text values.voice_activity
+    ++ value_text (codes " send ") decimal values.abs_send_time ++ value_text (codes " transport ") decimal values.transport_cc
 
 -- what a header says, with the values of its extensions
 abbrev pub header_text : RtpHeader → List ℕ
-header_text header =
-    stream_text header ++ shape_text header ++ ids_text header.ext_vals ++ audio_text header.ext_vals ++ sending_text header.ext_vals
+header_text header = stream_text header ++ shape_text header ++ values_text header.ext_vals
 
 -- the line of a datagram's header, where it begins with one
 abbrev pub header_line : ℕ → Option RtpHeader → List ℕ

@@ -29,10 +29,8 @@ fn header_len(front: &[u8]) -> usize
 
 /// Puts the bytes of the header that the datagram of this line begins with at the front of the
 /// buffer, whatever that held, and returns how many bytes of the datagram are there. Where it
-/// begins with no header they may be any number.
-///
-/// Returns `AllocError` only when memory for a longer buffer is refused. Requires that the line is
-/// hexadecimal.
+/// begins with no header they may be any number. Requires that the line is hexadecimal, and fails
+/// as [`decode_into`] does.
 pub(super) fn decode_header(line: &[u8], bytes: &mut Vec<u8>) -> Result<usize, AllocError>
     requires { IsOk (decode_of line.now) }
     ensures within { IfOk result (λ len. len ≤ vec_len bytes.new) }

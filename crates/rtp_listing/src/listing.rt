@@ -2,7 +2,7 @@
 
 ghost use Rattle.std.specs.Prelude.{◌≡◌, ◌+◌, ◌*◌, ◌≤◌, ◌++◌, length, take};
 ghost use Rattle.std.specs.Option.{option_copied};
-ghost use Rattle.rtp_listing.specs.Listing.{stream_text, shape_text, ids_text, audio_text, sending_text, header_line, verdict_line};
+ghost use Rattle.rtp_listing.specs.Listing.{stream_text, shape_text, values_text, header_line, verdict_line};
 ghost use Rattle.rtp_listing.specs.Output.{packet_lines};
 
 use super::text::{FIELD, put_bytes, put_field, put_value};
@@ -37,8 +37,7 @@ fn put_shape(text: &mut [u8], at: usize, header: &RtpHeader) -> usize
 fn put_values(text: &mut [u8], at: usize, values: &ExtensionValues) -> usize
     requires { at + 7 * FIELD ≤ length text.old }
     ensures end { result ≤ at + 7 * FIELD }
-    ensures written { take result text.new ≡ take at text.old
-        ++ (ids_text values.now ++ audio_text values.now ++ sending_text values.now) }
+    ensures written { take result text.new ≡ take at text.old ++ values_text values.now }
 {
     let end = put_value(text, at, b" mid ", values.mid);
     let end = put_value(text, end, b" rid ", values.rid);

@@ -85,9 +85,6 @@ pub(super) fn write_text<W: Write>(output: &mut W, text: &[u8]) -> Result<(), Ru
 
 /// Prints the two lines of each datagram in order: its RTP header, and the verdict of the receiver
 /// of its SSRC. Requires that the lines of the datagrams are hexadecimal.
-///
-/// Returns `NoMemory` when memory is refused, with the lines of the first datagrams printed, and
-/// `Io` when a write fails, with a beginning of the lines printed.
 pub(super) fn print_all<W: Write>(
     alloc: Global,
     input: &Input<'_>,

@@ -16,12 +16,14 @@ use std::io::{ErrorKind, Read, Write};
 pub enum RunEnd {
     /// Every line was well-formed, and every datagram was listed.
     Done,
-    /// Some line was neither a map line before all datagrams nor hexadecimal. The output names the
-    /// first such line.
+    /// Some line was neither a map line before all datagrams nor hexadecimal. The whole output is one
+    /// line that gives the number of the first such line, from 1.
     BadLine,
-    /// Memory was refused. The last line of the output says so.
+    /// Memory was refused. The last line of the output is `want of memory`; the lines before it are
+    /// the first ones of what would have been printed.
     NoMemory,
-    /// A read or a write failed.
+    /// A read or a write failed. After a failed read nothing is printed; before a failed write the
+    /// output is a beginning of what would have been printed.
     Io,
 }
 
@@ -90,12 +92,6 @@ fn list_input<R: Read, W: Write>(alloc: Global, input: &mut R, output: &mut W) -
 /// datagrams there may be lines `map ID URI`, which map an id of 1 to 255, in one to three digits,
 /// to the extension with this URI; the last line for an id counts. Without such lines the standard
 /// map is used.
-///
-/// - `BadLine`: the whole output is one line that gives the number of the first bad line, from 1.
-/// - `NoMemory`: the last line of the output is `want of memory`; the lines before it are the first
-///   ones of what would have been printed.
-/// - `Io`: after a failed read nothing is printed; before a failed write the output is a beginning
-///   of what would have been printed.
 ///
 /// For example `8021B798000027100000002C` prints
 ///

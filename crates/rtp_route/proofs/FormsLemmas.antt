@@ -1,51 +1,49 @@
 -- The form that a block has before the group's elements are put, and once each is.
-use Rattle.std.proofs.Common.{◌≡◌, ◌≢◌, ℕ, ◌+◌, ◌<◌, ◌≤◌, ◌⊎◌, inl, inr, All, List, [], ◌∷◌, ◌++◌, length, take, drop, get_or, Option, Some, None, IfSome, refl, sym, ap, subst, ◌∙◌, arith, length-append}
+use Rattle.std.proofs.Common.{◌≡◌, ◌≢◌, ℕ, ◌+◌, ◌<◌, ◌≤◌, ◌⊎◌, inl, inr, All, List, [], ◌∷◌, ◌++◌, length, take, drop, slice_get, Option, Some, None, IfSome, refl, sym, ap, subst, ◌∙◌, arith, length-append}
 use Rattle.std.specs.List.{AllByRecursion}
 use Rattle.std.proofs.lemmas.Bool.{cases_lt}
-use Rattle.std.proofs.lemmas.List.{map_more}
 use Rattle.std.proofs.lemmas.Option.{same_Some}
 use Rattle.std.proofs.lemmas.List.Elements.{All-nil, All-cons, All-head, All-tail, All-push}
 use Rattle.rtp_ext.specs.declared.form.ExtensionsForm.{ExtensionsForm}
 use Rattle.rtp_ext.specs.declared.form.ExtensionsForm.TheVariants.{OneByte, TwoByte}
 use Rattle.rtp_ext.specs.Elements.{Element, IsElement, element_bytes, elements_bytes, AreElements}
-use Rattle.rtp_ext.specs.ElementsInARow.{elements_of, IsWritable}
+use Rattle.rtp_ext.specs.ElementsInARow.{IsWritable}
 use Rattle.rtp_ext.specs.ElementsInPlace.{CanRenumber}
 use Rattle.rtp_ext.proofs.AnewLemmas.{AreElements-each}
 use Rattle.rtp_ext.specs.PutElement.{needed_form, allowed_form}
 use Rattle.rtp_ext.proofs.GatheredLemmas.{elements_bytes-append}
+use Rattle.rtp_ext.proofs.RawWritingLemmas.{left-more}
 use Rattle.rtp_route.specs.Routing.{IsFormForIds, own_form, two_byte_form, IsFormAfter}
 use Rattle.rtp_route.specs.Walk.{IsStart}
-use Rattle.rtp_route.proofs.LentLemmas.{Lent, element_of, elements-at}
+use Rattle.rtp_route.proofs.ElementAtLemmas.{taken-more}
 use Rattle.rtp_route.proofs.RoomLemmas.{narrow-needed}
 use Rattle.rtp_route.proofs.WideLemmas.{wide}
 
 -- ---- the form once each is put
 
 -- the form once the elements before the index are put, and what is left of the room
-pub record IsFormTo (allowed : Option ExtensionsForm) (was : ExtensionsForm) (lents : List Lent) (index : ℕ) (form : ExtensionsForm) (left room : ℕ) : Type 0 where
-  pub forms : (after : Option ExtensionsForm) → IsFormAfter allowed (Some form) (elements_of (drop index lents)) after → IsFormAfter allowed (Some was) (elements_of lents) after
-  pub carried : All (IsWritable TwoByte) (elements_of (take index lents))
-  pub room_is : wide (elements_of (take index lents)) + left ≡ room
+pub record IsFormTo (allowed : Option ExtensionsForm) (was : ExtensionsForm) (elements : List Element) (index : ℕ) (form : ExtensionsForm) (left room : ℕ) : Type 0 where
+  pub forms : (after : Option ExtensionsForm) → IsFormAfter allowed (Some form) (drop index elements) after → IsFormAfter allowed (Some was) elements after
+  pub carried : All (IsWritable TwoByte) (take index elements)
+  pub room_is : wide (take index elements) + left ≡ room
 
-pub IsFormTo-more : (allowed : Option ExtensionsForm) (was : ExtensionsForm) (lents : List Lent) (index : ℕ) (form next : ExtensionsForm) (left rest room : ℕ) (lent : Lent)
-    → IsFormTo allowed was lents index form left room → index < length lents → IsWritable TwoByte (element_of (get_or lents index lent))
-    → Some next ≡ allowed_form allowed (needed_form (Some form) (element_of (get_or lents index lent))) → rest + (2 + length (get_or lents index lent).1.now) ≡ left
-    → IsFormTo allowed was lents (index + 1) next rest room
-IsFormTo-more allowed was lents index form next left rest room lent is within can next-is rest-is =
-    let here : Element = element_of (get_or lents index lent) in
-    let before : List Element = elements_of (take index lents) in
-    let more : elements_of (take (index + 1) lents) ≡ before ++ here ∷ [] = map_more element_of lents index lent within in
+pub IsFormTo-more : (allowed : Option ExtensionsForm) (was : ExtensionsForm) (elements : List Element) (index : ℕ) (form next : ExtensionsForm) (left rest room : ℕ) (element : Element)
+    → IsFormTo allowed was elements index form left room → slice_get elements index ≡ Some element → IsWritable TwoByte element → Some next ≡ allowed_form allowed (needed_form (Some form) element)
+    → rest + (2 + length element.1) ≡ left → IsFormTo allowed was elements (index + 1) next rest room
+IsFormTo-more allowed was elements index form next left rest room element is here can next-is rest-is =
+    let before : List Element = take index elements in
+    let more : take (index + 1) elements ≡ before ++ element ∷ [] = taken-more elements index element here in
     record {
-      forms = λ after later. is.forms after (subst (λ (es : List Element). IsFormAfter allowed (Some form) es after) (sym (elements-at lents index lent within)) (next, sym next-is, later));
-      carried = subst (All (IsWritable TwoByte)) (sym more) (All-push (IsWritable TwoByte) before here is.carried can);
+      forms = λ after later. is.forms after (subst (λ (es : List Element). IsFormAfter allowed (Some form) es after) (sym (left-more elements index element here)) (next, sym next-is, later));
+      carried = subst (All (IsWritable TwoByte)) (sym more) (All-push (IsWritable TwoByte) before element is.carried can);
       room_is = omega (
         arith,
         is.room_is,
         rest-is,
         ap wide more,
-        ap length (elements_bytes-append TwoByte before (here ∷ [])),
-        length-append (elements_bytes TwoByte before) (elements_bytes TwoByte (here ∷ [])),
-        length-append (element_bytes TwoByte here) [],
+        ap length (elements_bytes-append TwoByte before (element ∷ [])),
+        length-append (elements_bytes TwoByte before) (elements_bytes TwoByte (element ∷ [])),
+        length-append (element_bytes TwoByte element) [],
       );
     }
 

@@ -1,4 +1,4 @@
-mod LentLemmas
+mod ElementAtLemmas
 mod WordLemmas
 mod NoZeroLemmas
 mod StartLemmas
@@ -7,6 +7,7 @@ mod ChangeFormLemmas
 pub mod ByCallsLemmas
 mod RoutingLemmas
 mod SameElementsLemmas
+mod NumberLemmas
 mod NotPutLemmas
 mod SetDataLemmas
 mod SlotLemmas

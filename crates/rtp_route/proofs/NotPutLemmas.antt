@@ -1,10 +1,9 @@
 -- Elements of which each is put, and the one that isn't.
-use Rattle.std.proofs.Common.{◌≡◌, ℕ, ◌+◌, ◌<◌, ◌≤◌, ◌⊎◌, inl, inr, List, [], ◌∷◌, ◌++◌, length, take, drop, get_or, Option, Result, Ok, Err, IsErr, IfOk, IfErr, ◌↔◌, refl, sym, ap, subst, ◌∙◌, arith}
+use Rattle.std.proofs.Common.{◌≡◌, ℕ, ◌<◌, ◌≤◌, ◌⊎◌, inl, inr, List, [], ◌∷◌, ◌++◌, length, take, Option, Result, Ok, Err, IsErr, IfOk, IfErr, ◌↔◌, refl, sym, ap, subst, ◌∙◌, arith}
 use Rattle.std.proofs.lemmas.Bool.{false≢true}
-use Rattle.std.proofs.lemmas.List.{take-append-drop, map-append}
 use Rattle.rtp_ext.specs.declared.form.ExtensionsForm.{ExtensionsForm}
 use Rattle.rtp_ext.specs.Elements.{Element}
-use Rattle.rtp_ext.specs.ElementsInARow.{elements_of}
+use Rattle.rtp_ext.specs.ElementsInPlace.{HasNone}
 use Rattle.rtp_wire.specs.declared.packet.fields.Fields.{Fields}
 use Rattle.rtp_wire.specs.declared.packet.not_put.NotPut.{NotPut}
 use Rattle.rtp_wire.specs.declared.packet.not_put.NotPut.TheVariants.{CutPacket, ZeroId, LongData, NotAPacket, OtherForm, LongId, OneByteOnly, LongBlock, NoRoom}
@@ -15,7 +14,6 @@ use Rattle.rtp_route.specs.declared.not_routed.NotRouted.TheVariants.{ManyElemen
 use Rattle.rtp_route.specs.Calls.{ArePut, IsSetAndRenumbered, no_fields}
 use Rattle.rtp_route.specs.NotPutAmong.{AppliesInRoom, ArePutInRoom, IsNotPutAmong, HasSameElements}
 use Rattle.rtp_route.specs.NotRouted.{KeepsFromNewIds, KeepsFromRouting, AreForTemplate, KeepsFromTemplate}
-use Rattle.rtp_route.proofs.LentLemmas.{Lent, element_of, elements-at}
 use Rattle.rtp_route.proofs.SameElementsLemmas.{applies-other, put_all-other}
 use Rattle.rtp_route.proofs.StartLemmas.{start-other}
 
@@ -104,12 +102,13 @@ none-refused start now news new allowed buf len room cause same are long none pu
       cause_is = is.cause_is;
     })
 
--- an element among those that are lent
-pub elements-around : (lents : List Lent) (place : ℕ) (lent : Lent) → place < length lents
-    → elements_of lents ≡ elements_of (take place lents) ++ element_of (get_or lents place lent) ∷ elements_of (drop (place + 1) lents)
-elements-around lents place lent within =
-    ap elements_of (sym (take-append-drop place lents)) ∙ map-append element_of (take place lents) (drop place lents)
-    ∙ ap (λ (es : List Element). elements_of (take place lents) ++ es) (elements-at lents place lent within)
+-- these are put in such a buffer, and none of them is refused
+pub record ArePutTo (allowed : Option ExtensionsForm) (elements : List Element) (room : ℕ) (start buf : List ℕ) (len : ℕ) : Type 0 where
+  pub are_put : ArePutInRoom room start elements allowed (take len buf)
+  pub no_zero : HasNone elements 0
+  pub none_refused : (packet : List ℕ) (cause : NotPut) → HasSameElements packet start → IsNotPutAmong packet elements allowed room cause → ⊥
+  pub within : len ≤ length buf
+  pub same_length : length buf ≡ room
 
 -- of no elements none is refused
 pub no_elements : (old : List ℕ) (allowed : Option ExtensionsForm) (room : ℕ) (cause : NotPut) → IsNotPutAmong old [] allowed room cause → ⊥

@@ -1,11 +1,9 @@
 -- The places that are found for elements.
-use Rattle.std.proofs.Common.{◌≡◌, ℕ, suc, zero, ◌+◌, ◌-◌, ◌*◌, ◌<◌, List, [], ◌∷◌, ◌++◌, length, get_or, Some, refl, sym, ap, subst, ◌∙◌, arith}
-use Rattle.std.specs.List.{AllByRecursion}
+use Rattle.std.proofs.Common.{◌≡◌, ℕ, ◌+◌, ◌-◌, ◌*◌, List, [], ◌∷◌, ◌++◌, length, Some, refl, sym, ap, subst, ◌∙◌, arith}
 use Rattle.rtp_ext.specs.declared.form.ExtensionsForm.{ExtensionsForm}
 use Rattle.rtp_ext.specs.declared.place.Place.{Place}
 use Rattle.rtp_ext.specs.Elements.{Element, elements_bytes, AreElements}
 use Rattle.rtp_ext.specs.ElementPlaces.{LiesLast}
-use Rattle.rtp_ext.specs.ElementsInARow.{elements_of}
 use Rattle.rtp_ext.specs.WrittenBlock.{filled}
 use Rattle.rtp_ext.proofs.NewIdLemmas.{All-IsElement}
 use Rattle.rtp_wire.specs.declared.packet.rtp_packet.RtpPacket.{RtpPacket}
@@ -15,7 +13,6 @@ use Rattle.rtp_wire.proofs.PartsLemmas.{IsPacket-found}
 use Rattle.rtp_route.specs.declared.slots.Slot.{Slot}
 use Rattle.rtp_route.specs.Template.{HasOnly, HasRow, IsSlot, AreSlots, body_start_of}
 use Rattle.rtp_route.proofs.BodyLemmas.{announces}
-use Rattle.rtp_route.proofs.LentLemmas.{Lent, element_of}
 use Rattle.rtp_route.proofs.OnlyLemmas.{slot-lies, elements-by_turns}
 
 some_pair : (a b : ExtensionsForm × List ℕ) → Some a ≡ Some b → a ≡ b
@@ -41,11 +38,6 @@ slot-found packet form f body elements new id place slot header_len block row on
     slot-lies form (16 + 4 * length parts.sources) elements new place slot
     (elements-by_turns form elements (All-IsElement form (filled (elements_bytes form elements)) elements row.are_elements)) only (place_id ∙ id_is) there
     (omega (arith, start_is, len_is, no_other, long)) (omega (arith, slot_len, end))
-
-pub all-at : (P : Element → Type 0) (lents : List Lent) (index : ℕ) (lent : Lent) → index < length lents → AllByRecursion P (elements_of lents) → P (element_of (get_or lents index lent))
-all-at P [] index lent within all = absurd (omega (arith, within))
-all-at P (first ∷ lents) zero lent within all = all.0
-all-at P (first ∷ lents) (suc index) lent within all = all-at P lents index lent (omega (arith, within)) all.1
 
 pub slots-push : (form : ExtensionsForm) (start : ℕ) (row news : List Element) (slots : List Slot) (new : Element) (slot : Slot) → AreSlots form start row news slots → IsSlot form start row new slot
     → AreSlots form start row (news ++ new ∷ []) (slots ++ slot ∷ [])

@@ -1,5 +1,6 @@
 -- The elements of a group's block, once some of them are written.
 use Rattle.std.proofs.Common.{◌≡◌, ◌≢◌, ℕ, ◌+◌, ◌≤◌, Bool, true, false, cond, List, [], ◌∷◌, ◌++◌, drop, get_or, Option, Some, None, IfSome, option_map, All, refl, sym, ap, subst, ◌∙◌, arith, append-nil}
+use Rattle.std.specs.Borrow.{Bor}
 use Rattle.std.specs.List.{filter_map, list_any, cons_option}
 use Rattle.std.proofs.lemmas.Bool.{eq-eqb, false≢true}
 use Rattle.std.proofs.lemmas.List.{map-append}
@@ -14,7 +15,6 @@ use Rattle.rtp_route.specs.declared.slots.Slot.{Slot}
 use Rattle.rtp_route.specs.Routing.{put_all}
 use Rattle.rtp_route.specs.Template.{IsSlot}
 use Rattle.rtp_route.specs.Walk.{ArePlaced, AreWritten, AreLike, AreKept}
-use Rattle.rtp_route.proofs.LentLemmas.{Lent, element_of}
 use Rattle.rtp_route.proofs.WalkLemmas.{OfOther, no_place, placed-at, place, written-none}
 
 -- ---- elements that are put among others
@@ -166,6 +166,13 @@ kept-start form ids news start old slots placed = record {
   carried = All-nil (CanRenumber form ids);
   are_written = written-none form start news old slots placed;
 }
+
+-- an element as it is read
+abbrev Lent : Type 0
+Lent = ℕ × Bor (List ℕ)
+
+abbrev element_of : Lent → Element
+element_of lent = (lent.0, lent.1.now)
 
 read-more : (read : List Lent) (item : Lent) → elements_of (read ++ item ∷ []) ≡ elements_of read ++ element_of item ∷ []
 read-more read item = map-append element_of read (item ∷ [])

@@ -1,5 +1,5 @@
 -- A header that is made in one walk over the packet's elements: the elements and their places, and what stands before them.
-use Rattle.std.specs.Prelude.{◌≡◌, ℕ, ◌+◌, ◌-◌, ◌/◌, ◌%◌, ◌≤◌, ◌⊎◌, List, [], ◌∷◌, ◌++◌, length, take, drop, Option, Some, All}
+use Rattle.std.specs.Prelude.{◌≡◌, ℕ, ◌+◌, ◌-◌, ◌/◌, ◌%◌, ◌<◌, ◌≤◌, ◌⊎◌, List, [], ◌∷◌, ◌++◌, length, take, drop, replicate, slice_get, slice_index, Option, Some, All}
 use Rattle.std.specs.Int.{w16, to_be_bytes}
 use Rattle.std.specs.List.{filter_map}
 use Rattle.rtp_base.specs.Overwriting.{overwritten}
@@ -24,6 +24,18 @@ pub record CanBePut (form : ExtensionsForm) (news : List Element) : Type 0 where
   pub few : length news ≤ 16
   pub own : HaveOwnIds news
   pub writable : All (IsWritable form) news
+
+-- the number says which of the elements has the id: it counts from 1 on, and is 0 where none has it
+abbrev pub IsNumberOf : List Element → ℕ → ℕ → Type 0
+IsNumberOf news id number = ((number ≡ 0) × HasNone news id) ⊎ ((index : ℕ) × (was : List ℕ) × (number ≡ index + 1) × (slice_get news index ≡ Some (id, was)))
+
+-- so do these, of each id in turn
+abbrev pub AreNumbersOf : List Element → List ℕ → Type 0
+AreNumbersOf news numbers = (id : ℕ) → id < 256 → IsNumberOf news id (slice_index numbers id)
+
+-- no place is known
+abbrev pub no_slots : List Slot
+no_slots = replicate 16 (record { start = 0; len = 0 })
 
 -- the place of an element among these in a row, or 0 where none has its id
 abbrev pub IsPlaced : ExtensionsForm → ℕ → List Element → Element → Slot → Type 0

@@ -3,7 +3,6 @@
 ghost use Rattle.std.specs.Prelude.{◌≡◌, ◌↔◌, ◌<◌, ◌≤◌, ℕ, List, Option, ◌++◌, length, take, slice_index, IsErr, IfOk, IfErr, IfSome};
 ghost use Rattle.rtp_ext.specs.declared.form.ExtensionsForm.{ExtensionsForm};
 ghost use Rattle.rtp_ext.specs.Elements.{Element};
-ghost use Rattle.rtp_ext.specs.ElementsInARow.{elements_of};
 ghost use Rattle.rtp_ext.specs.ElementsInPlace.{HasNone};
 ghost use Rattle.rtp_ext.specs.NewIds.{new_id};
 ghost use Rattle.rtp_wire.specs.declared.packet.fields.Fields.{Fields};
@@ -21,43 +20,53 @@ ghost use Rattle.rtp_route.specs.Routing.{IsRouted};
 use super::NotRouted;
 use super::by_walk::write_by_walk;
 use super::in_place::{change_form, copy_header, is_one_byte_only, known_ids, renumber};
-use super::slots::{MAX_ELEMENTS, Slot, have_own_ids};
-use rtp_ext::{ExtensionsForm, NewIds};
+use super::numbers::{IDS, number_elements};
+use super::slots::{MAX_ELEMENTS, NO_SLOTS};
+use rtp_ext::{ElementList, ExtensionsForm, NewIds};
 use rtp_wire::{Fields, NotPut, RtpPacket, compact_copy, put_element_copy};
 
-/// What receivers of a packet have in common.
+/// What receivers of a packet have in common, with the elements in any list.
 #[derive(Clone, Copy)]
-pub struct Group<'a> {
+pub struct GroupOf<'a, L: ElementList> {
     /// The ids that the elements get (RFC 8285, 5).
     pub ids: &'a NewIds,
     /// The elements that are then put into the header one after another, each with its id and data.
-    pub elements: &'a [(u8, &'a [u8])],
+    pub elements: L,
     /// The one form that the block may get, where it isn't any (RFC 8285, 4.1.2). One that gets no
     /// element, and no id that its form can't carry, keeps its form.
     pub allowed: Option<ExtensionsForm>,
 }
 
+/// What receivers of a packet have in common, with the elements in a slice.
+pub type Group<'a> = GroupOf<'a, &'a [(u8, &'a [u8])]>;
+
 // Puts the elements into the packet in the first bytes of the buffer one after another, and returns
 // how many bytes it then has.
-fn put_each(buf: &mut [u8], len: usize, group: &Group<'_>) -> Result<usize, NotPut>
+fn put_each<L: ElementList>(
+    buf: &mut [u8],
+    len: usize,
+    group: &GroupOf<'_, L>,
+) -> Result<usize, NotPut>
     requires { len ≤ length buf.old }
     ensures put { IfOk result (λ new_len. ArePut (take len buf.old)
-        (elements_of group.now.elements.now) group.now.allowed (take new_len buf.new)) }
-    ensures ids { IfOk result (λ _. HasNone (elements_of group.now.elements.now) 0) }
+        (L.elements group.now.elements) group.now.allowed (take new_len buf.new)) }
+    ensures ids { IfOk result (λ _. HasNone (L.elements group.now.elements) 0) }
     ensures within { IfOk result (λ new_len. new_len ≤ length buf.old) }
     ensures length { length buf.new ≡ length buf.old }
     ensures cause { IfErr result (IsNotPutAmong (take len buf.old)
-        (elements_of group.now.elements.now) group.now.allowed (length buf.old)) }
+        (L.elements group.now.elements) group.now.allowed (length buf.old)) }
 
     // What keeps an element from another packet that says the same keeps one from this packet.
     ensures none_refused { IfOk result (λ _. (packet : List ℕ) (cause : NotPut) →
         HasSameElements packet (take len buf.old) →
-        IsNotPutAmong packet (elements_of group.now.elements.now) group.now.allowed
+        IsNotPutAmong packet (L.elements group.now.elements) group.now.allowed
         (length buf.old) cause → ⊥) }
 {
     let mut len = len;
-    for (id, data) in group.elements {
-        len = put_element_copy::<1>(buf, len, *id, data, group.allowed)?;
+    let elements = group.elements;
+    for index in 0..elements.count() {
+        let (id, data) = elements.at(index);
+        len = put_element_copy::<1>(buf, len, id, data, group.allowed)?;
     }
     Ok(len)
 }
@@ -69,62 +78,63 @@ fn renumber_in_form(
     buf: &mut [u8],
     len: usize,
     form: Option<ExtensionsForm>,
-    group: &Group<'_>,
+    ids: &NewIds,
+    allowed: Option<ExtensionsForm>,
 ) -> Result<usize, NotRouted>
     requires within { len ≤ length buf.old }
     requires held { HasLayout (take len buf.old) len form }
     ensures renumbered { (parts : PacketParts) (elements : List Element) →
         IsPacket (take len buf.old) parts → AreElementsOf parts.block elements →
-        IfOk result (λ new_len. IsRenumberedInForm group.now.allowed (new_id group.now.ids.now)
+        IfOk result (λ new_len. IsRenumberedInForm allowed (new_id ids.now)
         elements (take len buf.old) parts (take new_len buf.new)) }
     ensures within { IfOk result (λ new_len. new_len ≤ length buf.old) }
-    ensures cause { IfErr result (KeepsFromNewIds (take len buf.old) (new_id group.now.ids.now)
-        group.now.allowed (length buf.old)) }
+    ensures cause { IfErr result (KeepsFromNewIds (take len buf.old) (new_id ids.now)
+        allowed (length buf.old)) }
     ensures none_refused { IfOk result (λ _. (cause : NotRouted) →
-        KeepsFromNewIds (take len buf.old) (new_id group.now.ids.now) group.now.allowed
+        KeepsFromNewIds (take len buf.old) (new_id ids.now) allowed
         (length buf.old) cause → ⊥) }
 {
-    if renumber(&mut buf[..len], form, group.ids) {
+    if renumber(&mut buf[..len], form, ids) {
         return Ok(len);
     }
-    if is_one_byte_only(group.allowed) {
+    if is_one_byte_only(allowed) {
         return Err(NotRouted::LongId);
     }
-    known_ids(group.ids);
+    known_ids(ids);
     let new_len = change_form(buf, len)?;
     // The two-byte form carries each of them.
     let two_byte_form = Some(ExtensionsForm::TwoByte);
-    renumber(&mut buf[..new_len], two_byte_form, group.ids);
+    renumber(&mut buf[..new_len], two_byte_form, ids);
     Ok(new_len)
 }
 
 // Makes the header that the packet gets with these fields for the group in the first bytes of the
 // buffer, and returns how many bytes it has.
-pub(super) fn make_header(
+pub(super) fn make_header<L: ElementList>(
     packet: &RtpPacket<'_>,
     fields: &Fields,
-    group: &Group<'_>,
+    group: &GroupOf<'_, L>,
     buf: &mut [u8],
 ) -> Result<usize, NotRouted>
     requires { IfSome fields.now.payload_type (λ pt. pt ≤ 127) }
     ensures made { IfOk result (λ len. IsRoutedByCalls (header_in packet.now) fields.now
-        (new_id group.now.ids.now) (elements_of group.now.elements.now) group.now.allowed
+        (new_id group.now.ids.now) (L.elements group.now.elements) group.now.allowed
         buf.new len) }
-    ensures ids { IfOk result (λ _. HasNone (elements_of group.now.elements.now) 0) }
+    ensures ids { IfOk result (λ _. HasNone (L.elements group.now.elements) 0) }
     ensures within { IfOk result (λ len. len ≤ length buf.new) }
     ensures cause { IfErr result (KeepsFromRouting (header_in packet.now) fields.now
-        (new_id group.now.ids.now) (elements_of group.now.elements.now) group.now.allowed
+        (new_id group.now.ids.now) (L.elements group.now.elements) group.now.allowed
         (length buf.old)) }
     ensures none_refused { IfOk result (λ _. (cause : NotRouted) →
         KeepsFromRouting (header_in packet.now) fields.now (new_id group.now.ids.now)
-        (elements_of group.now.elements.now) group.now.allowed (length buf.old) cause → ⊥) }
+        (L.elements group.now.elements) group.now.allowed (length buf.old) cause → ⊥) }
 {
     let needed = packet.header_len();
     if buf.len() < needed {
         return Err(NotRouted::NotPut(NotPut::NoRoom { needed }));
     }
     copy_header(packet, fields, &mut buf[..needed]);
-    let start = renumber_in_form(buf, needed, packet.form(), group)?;
+    let start = renumber_in_form(buf, needed, packet.form(), group.ids, group.allowed)?;
     let len = put_each(buf, start, group)?;
     // It is still a packet.
     Ok(compact_copy::<1>(&mut buf[..len]).unwrap())
@@ -151,33 +161,34 @@ pub(super) fn make_header(
 /// Of the packet `90 60 00 05 00 00 00 64 00 00 00 2C BE DE 00 01 10 AA 00 00` (hexadecimal) the
 /// number 9, the id 3 for 1 and the data `00 07` of the id 4 make
 /// `90 60 00 09 00 00 00 64 00 00 00 2C BE DE 00 02 30 AA 41 00 07 00 00 00`, and 24 is returned.
-pub fn route_header(
+pub fn route_header<L: ElementList>(
     packet: &RtpPacket<'_>,
     fields: &Fields,
-    group: &Group<'_>,
+    group: &GroupOf<'_, L>,
     buf: &mut [u8],
 ) -> Result<usize, NotRouted>
     requires { IfSome fields.now.payload_type (λ pt. pt ≤ 127) }
     ensures routed { IfOk result (λ len. IsRouted (datagram_of packet.now) fields.now
-        (new_id group.now.ids.now) (elements_of group.now.elements.now) group.now.allowed
+        (new_id group.now.ids.now) (L.elements group.now.elements) group.now.allowed
         (take len buf.new)) }
 
     // There is no other such header.
     ensures only { IfOk result (λ len. (header : List ℕ) →
         ((k : ℕ) → slice_index header k < 256) → IsRouted (datagram_of packet.now) fields.now
-        (new_id group.now.ids.now) (elements_of group.now.elements.now) group.now.allowed header →
+        (new_id group.now.ids.now) (L.elements group.now.elements) group.now.allowed header →
         header ≡ take len buf.new) }
     ensures within { IfOk result (λ len. len ≤ length buf.new) }
     ensures cause { IfErr result (KeepsFromRouting (header_in packet.now) fields.now
-        (new_id group.now.ids.now) (elements_of group.now.elements.now) group.now.allowed
+        (new_id group.now.ids.now) (L.elements group.now.elements) group.now.allowed
         (length buf.old)) }
     ensures refused { IsErr result ↔ ((cause : NotRouted)
         × KeepsFromRouting (header_in packet.now) fields.now (new_id group.now.ids.now)
-        (elements_of group.now.elements.now) group.now.allowed (length buf.old) cause) }
+        (L.elements group.now.elements) group.now.allowed (length buf.old) cause) }
 {
-    if group.elements.len() <= MAX_ELEMENTS && have_own_ids(group.elements) {
-        let mut slots = [Slot { start: 0, len: 0 }; MAX_ELEMENTS];
-        if let Some(len) = write_by_walk(packet, fields, group, buf, &mut slots) {
+    let mut numbers = [0; IDS];
+    if group.elements.count() <= MAX_ELEMENTS && number_elements(group.elements, &mut numbers) {
+        let mut slots = NO_SLOTS;
+        if let Some(len) = write_by_walk(packet, fields, group, &numbers, buf, &mut slots) {
             return Ok(len);
         }
     }

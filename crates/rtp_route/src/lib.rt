@@ -24,12 +24,13 @@ mod in_place;
 mod making;
 mod not_routed;
 mod not_written;
+mod numbers;
 mod retransmission;
 mod slots;
 mod template;
 mod walk;
 
-pub use by_calls::{Group, route_header, routes_as_the_calls_do};
+pub use by_calls::{Group, GroupOf, route_header, routes_as_the_calls_do};
 pub use making::make_template;
 pub use not_routed::NotRouted;
 pub use not_written::NotWritten;

@@ -1,7 +1,6 @@
 //! A header that is made once for a group of receivers, and kept by the caller.
 
 ghost use Rattle.std.specs.Prelude.{◌≡◌, ◌↔◌, ◌+◌, ◌≤◌, length, take, All, IsErr, IfOk, IfErr};
-ghost use Rattle.rtp_ext.specs.ElementsInARow.{elements_of};
 ghost use Rattle.rtp_ext.specs.NewIds.{new_id};
 ghost use Rattle.rtp_wire.specs.PartsOf.{datagram_of};
 ghost use Rattle.rtp_route.specs.declared.not_routed.NotRouted.{NotRouted};
@@ -12,37 +11,39 @@ ghost use Rattle.rtp_route.specs.Template.{HaveOwnIds};
 
 use super::by_calls::make_header;
 use super::by_walk::write_by_walk;
-use super::slots::{MAX_ELEMENTS, Slot, have_own_ids, slots_of};
-use super::{Group, NotRouted};
+use super::numbers::{IDS, number_elements};
+use super::slots::{MAX_ELEMENTS, Slot, slots_of};
+use super::{GroupOf, NotRouted};
+use rtp_ext::ElementList;
 use rtp_wire::{Fields, RtpPacket};
 
 // Makes the header by the calls for one packet, one after another, and looks for the places in it.
 // It stays out of line, since few headers are made so.
 #[cold]
 #[inline(never)]
-fn make_by_calls(
-    packet: &RtpPacket<'_>,
-    group: &Group<'_>,
+fn make_by_calls<L: ElementList>(
+    packet: RtpPacket<'_>,
+    group: &GroupOf<'_, L>,
     buf: &mut [u8],
     slots: &mut [Slot; MAX_ELEMENTS],
 ) -> Result<usize, NotRouted>
-    requires few { length group.now.elements.now ≤ 16 }
-    requires own { HaveOwnIds (elements_of group.now.elements.now) }
-    ensures made { IfOk result (λ len. IsGroupHeader (datagram_of packet.now)
-        (new_id group.now.ids.now) (elements_of group.now.elements.now) group.now.allowed
-        (take len buf.new) (take (length group.now.elements.now) slots.new)) }
+    requires few { length (L.elements group.now.elements) ≤ 16 }
+    requires own { HaveOwnIds (L.elements group.now.elements) }
+    ensures made { IfOk result (λ len. IsGroupHeader (datagram_of packet.entry)
+        (new_id group.now.ids.now) (L.elements group.now.elements) group.now.allowed
+        (take len buf.new) (take (length (L.elements group.now.elements)) slots.new)) }
     ensures room { IfOk result (λ len. len ≤ length buf.new) }
     ensures short { IfOk result (λ len. len ≤ 262216) }
     ensures within { IfOk result (λ len. All (λ slot. slot.start + slot.len ≤ len)
-        (take (length group.now.elements.now) slots.new)) }
-    ensures cause { IfErr result (KeepsFromRouting (header_in packet.now) no_fields
-        (new_id group.now.ids.now) (elements_of group.now.elements.now) group.now.allowed
+        (take (length (L.elements group.now.elements)) slots.new)) }
+    ensures cause { IfErr result (KeepsFromRouting (header_in packet.entry) no_fields
+        (new_id group.now.ids.now) (L.elements group.now.elements) group.now.allowed
         (length buf.old)) }
     ensures none_refused { IfOk result (λ _. (cause : NotRouted) →
-        KeepsFromRouting (header_in packet.now) no_fields (new_id group.now.ids.now)
-        (elements_of group.now.elements.now) group.now.allowed (length buf.old) cause → ⊥) }
+        KeepsFromRouting (header_in packet.entry) no_fields (new_id group.now.ids.now)
+        (L.elements group.now.elements) group.now.allowed (length buf.old) cause → ⊥) }
 {
-    let len = make_header(packet, &Fields::default(), group, buf)?;
+    let len = make_header(&packet, &Fields::default(), group, buf)?;
     // The calls made a packet, in which each element is.
     let header = RtpPacket::parse(&buf[..len]).unwrap();
     *slots = slots_of(&header, group.elements).unwrap();
@@ -55,35 +56,36 @@ fn make_by_calls(
 /// [`HeaderTemplate::new`](super::HeaderTemplate::new) is, and the buffer and the places then are
 /// any, as are the buffer behind the header and the places after those.
 #[inline(always)]
-pub fn make_template(
+pub fn make_template<L: ElementList>(
     packet: &RtpPacket<'_>,
-    group: &Group<'_>,
+    group: &GroupOf<'_, L>,
     buf: &mut [u8],
     slots: &mut [Slot; MAX_ELEMENTS],
 ) -> Result<usize, NotRouted>
     ensures made { IfOk result (λ len. IsGroupHeader (datagram_of packet.now)
-        (new_id group.now.ids.now) (elements_of group.now.elements.now) group.now.allowed
-        (take len buf.new) (take (length group.now.elements.now) slots.new)) }
-    ensures few { IfOk result (λ _. length group.now.elements.now ≤ 16) }
+        (new_id group.now.ids.now) (L.elements group.now.elements) group.now.allowed
+        (take len buf.new) (take (length (L.elements group.now.elements)) slots.new)) }
+    ensures few { IfOk result (λ _. length (L.elements group.now.elements) ≤ 16) }
     ensures room { IfOk result (λ len. len ≤ length buf.new) }
     ensures short { IfOk result (λ len. len ≤ 262216) }
     ensures within { IfOk result (λ len. All (λ slot. slot.start + slot.len ≤ len)
-        (take (length group.now.elements.now) slots.new)) }
+        (take (length (L.elements group.now.elements)) slots.new)) }
     ensures cause { IfErr result (KeepsFromTemplate (header_in packet.now)
-        (new_id group.now.ids.now) (elements_of group.now.elements.now) group.now.allowed
+        (new_id group.now.ids.now) (L.elements group.now.elements) group.now.allowed
         (length buf.old)) }
     ensures refused { IsErr result ↔ ((cause : NotRouted)
         × KeepsFromTemplate (header_in packet.now) (new_id group.now.ids.now)
-        (elements_of group.now.elements.now) group.now.allowed (length buf.old) cause) }
+        (L.elements group.now.elements) group.now.allowed (length buf.old) cause) }
 {
-    if group.elements.len() > MAX_ELEMENTS {
+    if group.elements.count() > MAX_ELEMENTS {
         return Err(NotRouted::ManyElements);
     }
-    if !have_own_ids(group.elements) {
+    let mut numbers = [0; IDS];
+    if !number_elements(group.elements, &mut numbers) {
         return Err(NotRouted::RepeatedId);
     }
-    match write_by_walk(packet, &Fields::default(), group, buf, slots) {
+    match write_by_walk(packet, &Fields::default(), group, &numbers, buf, slots) {
         Some(len) => Ok(len),
-        None => make_by_calls(packet, group, buf, slots),
+        None => make_by_calls(*packet, group, buf, slots),
     }
 }

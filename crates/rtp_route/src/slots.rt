@@ -6,18 +6,19 @@ ghost use Rattle.std.specs.List.{AllByRecursion};
 ghost use Rattle.rtp_base.specs.Overwriting.{overwritten};
 ghost use Rattle.rtp_ext.specs.declared.form.ExtensionsForm.{ExtensionsForm};
 ghost use Rattle.rtp_ext.specs.Elements.{Element};
-ghost use Rattle.rtp_ext.specs.ElementsInARow.{elements_of};
-ghost use Rattle.rtp_ext.specs.ElementsInPlace.{HasNone};
 ghost use Rattle.rtp_wire.specs.PartsOf.{parts_of};
 ghost use Rattle.rtp_route.specs.declared.slots.Slot.{Slot};
 ghost use Rattle.rtp_route.specs.Template.{HaveOwnIds, HasOnly, HasRow, IsSlot, AreSlots, LiesInHeader, body_start_of, slot_lengths, total_of, pieces, filled_in};
 
-use rtp_base::put;
-use rtp_ext::{last_place, put_data};
+use rtp_base::{put, put_few};
+use rtp_ext::{ElementList, last_place};
 use rtp_wire::RtpPacket;
 
 /// The most elements that are put into a header for a group.
 pub const MAX_ELEMENTS: usize = 16;
+
+// As many places as there can be, of which none is known.
+pub(super) const NO_SLOTS: [Slot; MAX_ELEMENTS] = [Slot { start: 0, len: 0 }; MAX_ELEMENTS];
 
 /// Where the data of an element lie in a header.
 #[derive(Clone, Copy)]
@@ -57,43 +58,6 @@ impl SlotList for &[Slot] {
     }
 }
 
-// Which of the elements has the id.
-#[inline(always)]
-pub(super) fn index_of(elements: &[(u8, &[u8])], id: u8) -> Option<usize>
-    ensures within { IfSome result (λ index. index < length elements.now) }
-    ensures found { IfSome result (λ index. (was : List ℕ) × (drop index (elements_of elements.now)
-        ≡ (id, was) ∷ drop (index + 1) (elements_of elements.now))) }
-    ensures none { IfNone result (HasNone (elements_of elements.now) id) }
-{
-    for index in 0..elements.len() {
-        if elements[index].0 == id {
-            return Some(index);
-        }
-    }
-    None
-}
-
-// Whether one of the elements has the id.
-#[inline(always)]
-fn has_id(elements: &[(u8, &[u8])], id: u8) -> bool
-    ensures none { OnFalse result (HasNone (elements_of elements.now) id) }
-    ensures some { OnTrue result (HasNone (elements_of elements.now) id → ⊥) }
-{
-    index_of(elements, id).is_some()
-}
-
-// Whether no two of the elements have one id.
-pub(super) fn have_own_ids(elements: &[(u8, &[u8])]) -> bool
-    ensures { IsTrue result ↔ HaveOwnIds (elements_of elements.now) }
-{
-    for index in 0..elements.len() {
-        if has_id(&elements[index + 1..], elements[index].0) {
-            return false;
-        }
-    }
-    true
-}
-
 // The place of the last element of the id in the packet's header, and none without one.
 fn slot_of(packet: &RtpPacket<'_>, id: u8) -> Option<Slot>
     ensures found { (form : ExtensionsForm) (elements : List Element) (new : Element) →
@@ -111,25 +75,26 @@ fn slot_of(packet: &RtpPacket<'_>, id: u8) -> Option<Slot>
 }
 
 // The places of the elements in the packet's header.
-pub(super) fn slots_of(
+pub(super) fn slots_of<L: ElementList>(
     packet: &RtpPacket<'_>,
-    elements: &[(u8, &[u8])],
+    elements: L,
 ) -> Option<[Slot; MAX_ELEMENTS]>
-    requires { length elements.now ≤ 16 }
+    requires { length (L.elements elements) ≤ 16 }
     ensures found { (form : ExtensionsForm) (row : List Element) →
         HasRow (parts_of packet.now) form row →
-        AllByRecursion (HasOnly row) (elements_of elements.now) →
+        AllByRecursion (HasOnly row) (L.elements elements) →
         (slots : List Slot) × (result ≡ Some slots)
-        × AreSlots form (body_start_of (parts_of packet.now)) row (elements_of elements.now)
-        (take (length elements.now) slots) }
+        × AreSlots form (body_start_of (parts_of packet.now)) row (L.elements elements)
+        (take (length (L.elements elements)) slots) }
     ensures long { IfSome result (λ slots. length slots ≡ 16) }
     ensures within { IfSome result (λ slots. All (LiesInHeader (parts_of packet.now))
-        (take (length elements.now) slots)) }
-    ensures none { elements_of elements.now ≡ [] → IsSome result }
+        (take (length (L.elements elements)) slots)) }
+    ensures none { L.elements elements ≡ [] → IsSome result }
 {
-    let mut slots = [Slot { start: 0, len: 0 }; MAX_ELEMENTS];
-    for index in 0..elements.len() {
-        slots[index] = slot_of(packet, elements[index].0)?;
+    let mut slots = NO_SLOTS;
+    for index in 0..elements.count() {
+        let (id, _) = elements.at(index);
+        slots[index] = slot_of(packet, id)?;
     }
     Some(slots)
 }
@@ -159,7 +124,7 @@ pub(super) fn fill(buf: &mut [u8], slots: &[Slot], contents: &[&[u8]])
     ensures { buf.new ≡ filled_in slots.now (map (λ bytes. bytes.now) contents.now) buf.old }
 {
     for index in 0..slots.len() {
-        put_data(buf, slots[index].start as usize, contents[index]);
+        put_few(buf, slots[index].start as usize, contents[index]);
     }
 }
 

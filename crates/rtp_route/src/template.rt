@@ -4,7 +4,6 @@ ghost use Rattle.std.specs.Prelude.{◌≡◌, ◌↔◌, ◌+◌, ◌<◌, ◌�
 ghost use Rattle.rtp_ext.specs.declared.form.ExtensionsForm.{ExtensionsForm};
 ghost use Rattle.rtp_route.specs.declared.not_written.NotWritten.{NotWritten};
 ghost use Rattle.rtp_ext.specs.Elements.{Element};
-ghost use Rattle.rtp_ext.specs.ElementsInARow.{elements_of};
 ghost use Rattle.rtp_ext.specs.NewIds.{new_id};
 ghost use Rattle.rtp_wire.specs.Packet.{header_len_of};
 ghost use Rattle.rtp_wire.specs.PartsOf.{parts_of, datagram_of};
@@ -17,8 +16,9 @@ ghost use Rattle.rtp_route.specs.Routing.{IsRouted};
 ghost use Rattle.rtp_route.specs.Template.{with_data, data_lengths, slot_lengths, total_of, pieces, LiesInHeader};
 
 use super::in_place::{copy_header, send_again};
-use super::slots::{MAX_ELEMENTS, Slot, SlotList, fill, fill_joined, have_lengths};
-use super::{Group, NotRouted, NotWritten, make_template};
+use super::slots::{MAX_ELEMENTS, NO_SLOTS, Slot, SlotList, fill, fill_joined, have_lengths};
+use super::{GroupOf, NotRouted, NotWritten, make_template};
+use rtp_ext::ElementList;
 use rtp_wire::{Fields, RtpPacket};
 
 /// A packet's header for a group of receivers: what they have in common is made once, and each then
@@ -45,24 +45,24 @@ impl<'a> HeaderTemplate<'a> {
     /// The cause is [`NotRouted::ManyElements`] for more than 16 elements, else
     /// [`NotRouted::RepeatedId`] for two of one id, and else that of
     /// [`route_header`](super::route_header). The buffer then has any bytes.
-    pub fn new(
+    pub fn new<L: ElementList>(
         packet: &RtpPacket<'_>,
-        group: &Group<'_>,
+        group: &GroupOf<'_, L>,
         buf: &'a mut [u8],
     ) -> Result<Self, NotRouted>
         ensures made { IfOk result (IsTemplate (datagram_of packet.now)
-            (new_id group.now.ids.now) (elements_of group.now.elements.now) group.now.allowed) }
+            (new_id group.now.ids.now) (L.elements group.now.elements) group.now.allowed) }
         ensures cause { IfErr result (KeepsFromTemplate (header_in packet.now)
-            (new_id group.now.ids.now) (elements_of group.now.elements.now) group.now.allowed
+            (new_id group.now.ids.now) (L.elements group.now.elements) group.now.allowed
             (length buf.old)) }
         ensures refused { IsErr result ↔ ((cause : NotRouted)
             × KeepsFromTemplate (header_in packet.now) (new_id group.now.ids.now)
-            (elements_of group.now.elements.now) group.now.allowed (length buf.old) cause) }
+            (L.elements group.now.elements) group.now.allowed (length buf.old) cause) }
     {
-        let mut slots = [Slot { start: 0, len: 0 }; MAX_ELEMENTS];
+        let mut slots = NO_SLOTS;
         let len = make_template(packet, group, buf, &mut slots)?;
         let header = RtpPacket::parse(&buf[..len]).unwrap();
-        let count = group.elements.len();
+        let count = group.elements.count();
         Ok(HeaderTemplate {
             header,
             slots,

@@ -6,18 +6,19 @@ ghost use Rattle.rtp_base.specs.Overwriting.{overwritten};
 ghost use Rattle.rtp_ext.specs.declared.form.ExtensionsForm.TheVariants.{OneByte};
 ghost use Rattle.rtp_ext.specs.ElementWriting.{element_header};
 ghost use Rattle.rtp_ext.specs.Elements.{Element, AreElements, element_bytes, elements_bytes};
-ghost use Rattle.rtp_ext.specs.ElementsInARow.{elements_of, IsWritable};
+ghost use Rattle.rtp_ext.specs.ElementsInARow.{IsWritable};
 ghost use Rattle.rtp_ext.specs.ElementsInPlace.{HasNone};
 ghost use Rattle.rtp_ext.specs.NewIds.{new_id};
 ghost use Rattle.rtp_ext.specs.WrittenBlock.{filled};
 ghost use Rattle.rtp_route.specs.Routing.{put_all};
 ghost use Rattle.rtp_route.specs.Template.{AreSlots};
-ghost use Rattle.rtp_route.specs.Walk.{CanBePut, ArePlaced, AreWritten, AreKept, IsBodyFor};
+ghost use Rattle.rtp_route.specs.Walk.{no_slots, AreNumbersOf, CanBePut, ArePlaced, AreWritten, AreKept, IsBodyFor};
 
-use super::Group;
-use super::slots::{MAX_ELEMENTS, Slot, index_of};
-use rtp_base::put;
-use rtp_ext::{Elements, ExtensionsForm, put_data};
+use super::GroupOf;
+use super::numbers::{IDS, index_of};
+use super::slots::{MAX_ELEMENTS, Slot};
+use rtp_base::{fill_word, put, put_few};
+use rtp_ext::{ElementList, Elements, ExtensionsForm};
 
 // Puts the header of an element at the offset, and returns where its data begin.
 #[inline(always)]
@@ -55,35 +56,35 @@ fn write_behind(
         return None;
     }
     let data_at = put_header(buf, at, form, id, bytes.len() as u8);
-    put_data(buf, data_at, bytes);
+    put_few(buf, data_at, bytes);
     Some(data_at + bytes.len())
 }
 
 // Writes the group's element at the index, and keeps the place of its data.
 #[inline(always)]
-fn write_own(
+fn write_own<L: ElementList>(
     buf: &mut [u8],
     at: usize,
     form: ExtensionsForm,
-    elements: &[(u8, &[u8])],
+    elements: L,
     index: usize,
     slots: &mut [Slot; MAX_ELEMENTS],
 ) -> Option<usize>
-    requires index { index < length elements.now }
-    requires elements { CanBePut form (elements_of elements.now) }
+    requires index { index < length (L.elements elements) }
+    requires elements { CanBePut form (L.elements elements) }
     requires room { at ≤ length buf.old }
     requires short { length buf.old ≤ 262140 }
     ensures written { IfSome result (λ end. (start : ℕ) (old : List ℕ) (written : List Element)
         (element : Element) →
-        drop index (elements_of elements.now)
-        ≡ element ∷ drop (index + 1) (elements_of elements.now) →
-        AreWritten form start (elements_of elements.now) old written slots.old buf.old at →
+        drop index (L.elements elements)
+        ≡ element ∷ drop (index + 1) (L.elements elements) →
+        AreWritten form start (L.elements elements) old written slots.old buf.old at →
         HasNone written element.0 →
-        AreWritten form start (elements_of elements.now) old (written ++ element ∷ [])
+        AreWritten form start (L.elements elements) old (written ++ element ∷ [])
         slots.new buf.new end) }
     ensures within { IfSome result (λ end. end ≤ length buf.old) }
 {
-    let (id, bytes) = elements[index];
+    let (id, bytes) = elements.at(index);
     let end = write_behind(buf, at, form, id, bytes)?;
     slots[index] = Slot {
         start: (end - bytes.len()) as u32,
@@ -95,35 +96,38 @@ fn write_own(
 // Writes an element of the packet under its new id, or in its place the group's element of that id;
 // `None` where this one is written before it.
 #[inline(always)]
-fn write_next(
+fn write_next<L: ElementList>(
     buf: &mut [u8],
     at: usize,
     form: ExtensionsForm,
-    elements: &[(u8, &[u8])],
+    group: &GroupOf<'_, L>,
+    numbers: &[u8; IDS],
     slots: &mut [Slot; MAX_ELEMENTS],
     id: u8,
     bytes: &[u8],
 ) -> Option<usize>
-    requires elements { CanBePut form (elements_of elements.now) }
+    requires elements { CanBePut form (L.elements group.now.elements) }
+    requires numbers { AreNumbersOf (L.elements group.now.elements) numbers.now }
     requires room { at ≤ length buf.old }
     requires short { length buf.old ≤ 262140 }
     requires writable { IsWritable form (id, bytes.now) }
     ensures written { IfSome result (λ end. (start : ℕ) (old : List ℕ) (written : List Element) →
         1 ≤ start →
-        AreWritten form start (elements_of elements.now) old written slots.old buf.old at →
+        AreWritten form start (L.elements group.now.elements) old written slots.old buf.old
+        at →
         (element : Element) × (element.0 ≡ id)
-        × (HasNone (elements_of elements.now) id → element ≡ (id, bytes.now))
-        × AreWritten form start (elements_of elements.now) old (written ++ element ∷ [])
-        slots.new buf.new end) }
+        × (HasNone (L.elements group.now.elements) id → element ≡ (id, bytes.now))
+        × AreWritten form start (L.elements group.now.elements) old
+        (written ++ element ∷ []) slots.new buf.new end) }
     ensures within { IfSome result (λ end. end ≤ length buf.old) }
 {
-    match index_of(elements, id) {
+    match index_of(numbers, id) {
         None => write_behind(buf, at, form, id, bytes),
         Some(index) => {
             if slots[index].start != 0 {
                 return None;
             }
-            write_own(buf, at, form, elements, index, slots)
+            write_own(buf, at, form, group.elements, index, slots)
         }
     }
 }
@@ -155,24 +159,26 @@ fn carries(was: ExtensionsForm, form: ExtensionsForm, id: u8, bytes: &[u8]) -> b
 // can't carry one, or two have the id of one of the group's elements. It stays out of line, so that
 // the walk has the registers to itself.
 #[inline(never)]
-fn write_kept(
+fn write_kept<L: ElementList>(
     buf: &mut [u8],
     at: usize,
     was: ExtensionsForm,
     form: ExtensionsForm,
     body: &[u8],
-    group: &Group<'_>,
+    group: &GroupOf<'_, L>,
+    numbers: &[u8; IDS],
     slots: &mut [Slot; MAX_ELEMENTS],
 ) -> Option<usize>
     requires some { 1 ≤ at }
-    requires elements { CanBePut form (elements_of group.now.elements.now) }
+    requires elements { CanBePut form (L.elements group.now.elements) }
+    requires numbers { AreNumbersOf (L.elements group.now.elements) numbers.now }
     requires room { at ≤ length buf.old }
     requires short { length buf.old ≤ 262140 }
     requires carries { (element : Element) → IsWritable was element → IsWritable form element }
-    requires fresh { ArePlaced form at [] (elements_of group.now.elements.now) slots.old }
+    requires fresh { ArePlaced form at [] (L.elements group.now.elements) slots.old }
     ensures kept { IfSome result (λ end. (elements : List Element) →
         AreElements was body.now elements →
-        AreKept form (new_id group.now.ids.now) (elements_of group.now.elements.now)
+        AreKept form (new_id group.now.ids.now) (L.elements group.now.elements)
         elements at buf.old slots.new buf.new end) }
     ensures within { IfSome result (λ end. end ≤ length buf.old) }
 {
@@ -182,7 +188,7 @@ fn write_kept(
             if !carries(was, form, new, bytes) {
                 return None;
             }
-            end = write_next(buf, end, form, group.elements, slots, new, bytes)?;
+            end = write_next(buf, end, form, group, numbers, slots, new, bytes)?;
         }
     }
     Some(end)
@@ -190,27 +196,27 @@ fn write_kept(
 
 // Writes those of the group's elements that have no place yet, and returns where they end.
 #[inline(always)]
-fn write_lacking(
+fn write_lacking<L: ElementList>(
     buf: &mut [u8],
     at: usize,
     form: ExtensionsForm,
-    elements: &[(u8, &[u8])],
+    elements: L,
     slots: &mut [Slot; MAX_ELEMENTS],
 ) -> Option<usize>
-    requires elements { CanBePut form (elements_of elements.now) }
+    requires elements { CanBePut form (L.elements elements) }
     requires room { at ≤ length buf.old }
     requires short { length buf.old ≤ 262140 }
     ensures written { IfSome result (λ end. (start : ℕ) (old : List ℕ) (written : List Element) →
         1 ≤ start →
-        AreWritten form start (elements_of elements.now) old written slots.old buf.old at →
-        AreWritten form start (elements_of elements.now) old
-        (put_all (elements_of elements.now) written) slots.new buf.new end
-        × AreSlots form start (put_all (elements_of elements.now) written)
-        (elements_of elements.now) (take (length elements.now) slots.new)) }
+        AreWritten form start (L.elements elements) old written slots.old buf.old at →
+        AreWritten form start (L.elements elements) old
+        (put_all (L.elements elements) written) slots.new buf.new end
+        × AreSlots form start (put_all (L.elements elements) written)
+        (L.elements elements) (take (length (L.elements elements)) slots.new)) }
     ensures within { IfSome result (λ end. end ≤ length buf.old) }
 {
     let mut end = at;
-    for index in 0..elements.len() {
+    for index in 0..elements.count() {
         if slots[index].start == 0 {
             end = write_own(buf, end, form, elements, index, slots)?;
         }
@@ -218,59 +224,41 @@ fn write_lacking(
     Some(end)
 }
 
-// Puts up to three zeros at the offset.
-#[inline(always)]
-fn put_padding(buf: &mut [u8], at: usize, count: usize)
-    requires room { at + count ≤ length buf.old }
-    requires few { count ≤ 3 }
-    ensures { buf.new ≡ overwritten buf.old at (replicate count 0) }
-{
-    match count {
-        0 => {}
-        1 => {
-            put(buf, at, &[0]);
-        }
-        2 => {
-            put(buf, at, &[0, 0]);
-        }
-        _ => {
-            put(buf, at, &[0, 0, 0]);
-        }
-    }
-}
-
 // Writes the body that a block's body becomes for the group at the offset, which is of whole words,
 // and returns where it ends; the places are those of the group's elements. `None` where another way
-// has to be taken. The places before are passed over.
+// has to be taken.
 #[inline(always)]
-pub(super) fn write_body(
+pub(super) fn write_body<L: ElementList>(
     buf: &mut [u8],
     at: usize,
     was: ExtensionsForm,
     form: ExtensionsForm,
     body: &[u8],
-    group: &Group<'_>,
+    group: &GroupOf<'_, L>,
+    numbers: &[u8; IDS],
     slots: &mut [Slot; MAX_ELEMENTS],
 ) -> Option<usize>
     requires some { 1 ≤ at }
     requires whole { at % 4 ≡ 0 }
-    requires elements { CanBePut form (elements_of group.now.elements.now) }
+    requires elements { CanBePut form (L.elements group.now.elements) }
+    requires numbers { AreNumbersOf (L.elements group.now.elements) numbers.now }
     requires room { at ≤ length buf.old }
     requires short { length buf.old ≤ 262140 }
     requires carries { (element : Element) → IsWritable was element → IsWritable form element }
+    requires fresh { slots.old ≡ no_slots }
     ensures written { IfSome result (λ end. (elements : List Element) →
         AreElements was body.now elements →
-        IsBodyFor form (new_id group.now.ids.now) (elements_of group.now.elements.now)
-        elements at (take (length group.now.elements.now) slots.new) buf.new end) }
+        IsBodyFor form (new_id group.now.ids.now) (L.elements group.now.elements)
+        elements at (take (length (L.elements group.now.elements)) slots.new)
+        buf.new end) }
     ensures within { IfSome result (λ end. end ≤ length buf.old) }
 {
-    *slots = [Slot { start: 0, len: 0 }; MAX_ELEMENTS];
-    let kept = write_kept(buf, at, was, form, body, group, slots)?;
+    let kept = write_kept(buf, at, was, form, body, group, numbers, slots)?;
     let len = write_lacking(buf, kept, form, group.elements, slots)?;
     let end = len.next_multiple_of(4);
     if end > buf.len() {
         return None;
     }
-    put_padding(buf, len, end - len);
+    fill_word(buf, len, end - len);
     Some(end)
 }

@@ -1,6 +1,6 @@
 //! A sender of packets of padding, and their receiver.
 
-ghost use Rattle.std.specs.Prelude.{◌≡◌, ◌+◌, ◌<◌, ◌≤◌, [], length, true, false, IfSome, IfNone, IsSome, IsSomeAnd};
+ghost use Rattle.std.specs.Prelude.{◌≡◌, ◌↔◌, ◌+◌, ◌<◌, ◌≤◌, [], length, true, false, IfSome, IfNone, IsSome, IsSomeAnd};
 ghost use Rattle.rtp_uses.specs.PaddingPackets.{IsPadded};
 ghost use Rattle.rtp_wire.specs.Padding.{padding_count, IsUnpadded};
 ghost use Rattle.rtp_wire.specs.Written.{wire_bytes};
@@ -28,10 +28,8 @@ pub fn write_padding(
     ensures written { IfSome result (
         IsPadded (wire_bytes exts.now header.new) pad_len block_size out.old out.new) }
     ensures unchanged { IfNone result (out.new ≡ out.old) }
-    ensures refused { IfNone result (
-        length out.old < length (wire_bytes exts.now header.new) + 240) }
-    ensures room { IfSome result (λ _.
-        length (wire_bytes exts.now header.new) + 240 ≤ length out.old) }
+    ensures room { IsSome result ↔
+        length (wire_bytes exts.now header.new) + 240 ≤ length out.old }
 {
     header.has_padding = true;
     if out.len() < header.wire_len(exts) + MAX_BLANK_PADDING_PAYLOAD_SIZE {
@@ -70,11 +68,9 @@ pub fn payload_of_padding<'a>(
     requires payload_type { header.old.payload_type ≤ 127 }
     requires sources { header.old.csrc_count ≤ 15 }
     ensures nothing { IfSome result (λ payload. payload.now ≡ []) }
-    ensures found { length (wire_bytes exts.now (record header.old { has_padding = true })) + 240
-        ≤ length out.old → IsSome result }
-    ensures room { IfSome result (λ _.
+    ensures room { IsSome result ↔
         length (wire_bytes exts.now (record header.old { has_padding = true })) + 240
-        ≤ length out.old) }
+        ≤ length out.old }
 {
     let end = write_padding(header, exts, pad_len, block_size, out)?;
     unpad_payload(&out[header.wire_len(exts)..end])

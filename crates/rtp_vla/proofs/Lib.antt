@@ -15,7 +15,6 @@ pub mod AllocationTrimming
 pub mod AllocationSpelling
 pub mod AllocationWriting
 pub mod UpToLemmas
-pub mod LentLemmas
 pub mod MeasuringLemmas
 pub mod PuttingLemmas
 mod SettingLemmas

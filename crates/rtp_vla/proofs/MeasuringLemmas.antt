@@ -1,10 +1,9 @@
 -- Layers that are measured from the last one on.
-use Rattle.rtp_vla.proofs.Common.{◌≡◌, ℕ, ◌+◌, ◌^◌, ◌<◌, ◌≤◌, ◌⊎◌, inl, inr, ⊎_elim, slice_get, slice_get_within, get_or_from_slice_get, take-append-drop, List, [], ◌∷◌, ◌++◌, length, take, drop, set, Bool, true, false, cond, Option, Some, None, refl, sym, ap, ◌∙◌, arith, is_none, filter, list_all, ◌&&◌, IfNone, drop_at, and_left, and_right, and_parts, and_from, false≢true, cases_lt, pow-le-pow_right, append_assoc, drop_more, drop-set-lt, length-set, Layer, Stream, is_active, active_layers, mask_of, stream_fits, rates_fit, resolution_fits, resolutions_in_front, layers_fit, ResolutionAndFramerate}
+use Rattle.rtp_vla.proofs.Common.{◌≡◌, ℕ, ◌+◌, ◌^◌, ◌<◌, ◌≤◌, ◌⊎◌, inl, inr, ⊎_elim, slice_get, slice_get_within, get_or_from_slice_get, list_all_at, take-append-drop, List, [], ◌∷◌, ◌++◌, length, take, drop, set, Bool, true, false, cond, Option, Some, None, refl, sym, ap, ◌∙◌, arith, is_none, filter, list_all, ◌&&◌, IfNone, drop_at, and_left, and_right, and_parts, and_from, false≢true, cases_lt, pow-le-pow_right, append_assoc, drop_more, drop-set-lt, length-set, Layer, Stream, is_active, active_layers, mask_of, stream_fits, rates_fit, resolution_fits, resolutions_in_front, layers_fit, ResolutionAndFramerate}
 use Rattle.std.proofs.lemmas.List.Elements.{filter-append}
 use Rattle.std.proofs.Common.{get_or-set_same}
 use Rattle.std.proofs.lemmas.List.Concat.{flat_map-append}
 use Rattle.rtp_vla.proofs.AllocationWritingLemmas.{few_active}
-use Rattle.rtp_vla.proofs.LentLemmas.{list_all-with}
 
 -- ---- What can't be written stays so
 
@@ -48,9 +47,6 @@ filter_one layer layers b is = ap (λ (a : Bool). cond a (layer ∷ filter is_ac
 pub filter_active : (layer : Layer) (layers : List Layer) → is_active layer ≡ true → filter is_active (layer ∷ layers) ≡ layer ∷ filter is_active layers
 filter_active layer layers is = filter_one layer layers true is
 
-pub filter_idle : (layer : Layer) (layers : List Layer) → is_active layer ≡ false → filter is_active (layer ∷ layers) ≡ filter is_active layers
-filter_idle layer layers is = filter_one layer layers false is
-
 -- at most three layers are active below a mask of 8
 pub few_below : (stream : Stream) → mask_of stream ≤ 7 → length (filter is_active stream) ≤ 3
 few_below stream low =
@@ -88,6 +84,10 @@ pub drop_set : (xs : List ℕ) (i x : ℕ) → i < length xs → drop i (set xs 
 drop_set xs i x within =
     drop_more (set xs i x) i 0 (omega (arith, within, length-set xs i x))
     ∙ (λ j. get_or-set_same xs i x 0 within j ∷ drop-set-lt (i + 1) xs i x (omega arith) j)
+
+-- a test that fails at an index fails for all
+list_all-with : {A : Type 0} (p : A → Bool) (xs : List A) (i : ℕ) (x : A) → slice_get xs i ≡ Some x → p x ≡ false → list_all p xs ≡ false
+list_all-with p xs i x is fails = list_all_at p xs i x (slice_get_within xs i x is) (ap p (get_or_from_slice_get xs i x x is) ∙ fails)
 
 -- where a stream can't stand before those after it
 pub unfit_streams : (streams : List Stream) (i : ℕ) (s : Stream) → slice_get streams i ≡ Some s

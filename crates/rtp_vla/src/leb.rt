@@ -127,7 +127,9 @@ fn low_and_high(number: u16) -> [u8; 2]
     number.to_le_bytes()
 }
 
-// The same. Most rates in use have one or two bytes: between two comes a bit that is set.
+// The same. Most rates in use have one or two bytes. Two are put as one number of 16 bits, the low
+// byte first: from its lowest bit on the rate's low seven bits, a 1 that says that a byte follows,
+// and the rate's high seven bits.
 #[inline(always)]
 pub(super) fn put_leb(buf: &mut [u8], at: usize, value: u64) -> usize
     requires small { value < 2 ^ 63 }

@@ -1,7 +1,7 @@
 //! The streams and layers of an allocation that is lent: those of lists, of values of fixed size,
 //! or of a caller's own types.
 
-ghost use Rattle.std.specs.Prelude.{◌≡◌, ◌∷◌, ◌++◌, [], length, map, IfSome, IfNone};
+ghost use Rattle.std.specs.Prelude.{◌≡◌, ◌∷◌, ◌++◌, [], map, IfSome, IfNone};
 ghost use Rattle.std.specs.List.{filter};
 ghost use Rattle.rtp_vla.specs.Allocation.{is_active};
 
@@ -93,14 +93,6 @@ impl<'a, L: Lendable> LentLayers<'a, L> {
         ensures { result ≡ map L.layer left.now }
     {
         LentLayers { left }
-    }
-
-    // No layers.
-    #[inline(always)]
-    pub(super) fn new() -> Self
-        ensures { result ≡ [] }
-    {
-        LentLayers { left: &[] }
     }
 
     // Takes the last layer.

@@ -1,7 +1,7 @@
 -- A packet in a buffer that gets padding: its bytes, and what they say.
 use Rattle.rtp_wire.proofs.Common.{◌≡◌, ℕ, zero, suc, ◌+◌, ◌-◌, ◌*◌, ◌/◌, ◌%◌, ◌<◌, ◌≤◌, true, List, [], ◌∷◌, ◌++◌, length, take, drop, inl, inr, refl, sym, ap, subst, ◌∙◌, arith, append_assoc, length-append, length-take-le, take_at, drop_at, slice_index, replicate, cases_lt, length-replicate, ChangesOnly, PacketParts, IsPacket, padding_bytes, with_padding_bit, IsPaddingLength, is_set, form_in, header_end, parts_at}
 use Rattle.rtp_base.specs.Overwriting.{overwritten}
-use Rattle.rtp_wire.specs.AddedPadding.{with_padding}
+use Rattle.rtp_wire.specs.AddedPadding.{with_padding, IsAddedCount}
 use Rattle.rtp_wire.proofs.FlagLemmas.{bit-once}
 use Rattle.rtp_wire.proofs.HeaderFound.{HasHeader, IsWhole-header}
 use Rattle.rtp_wire.proofs.PacketLemmas.{bit-is_set, IsPacket-whole, whole_and_parts}
@@ -86,6 +86,10 @@ behind-padded buf len n some room =
     ∙ drop_at (take len bit ++ pads) (drop (len + length pads) bit) (len + suc n) (omega (arith, length-append (take len bit) pads, long, length-padding n))
     ∙ ap (λ (k : ℕ). drop (len + k) bit) (length-padding n)
     ∙ drop-with_bit (len + suc n) buf (omega arith)
+
+pub added : (wanted block count : ℕ) → (wanted ≡ 0 → count ≡ 0) → (0 < wanted → IsPaddingLength wanted block count) → IsAddedCount wanted block count
+added zero block count nothing some = nothing refl
+added (suc n) block count nothing some = some (omega arith)
 
 -- what is known of the buffer, whether padding was wanted or not
 module _ (buf new : List ℕ) (len count pad_len block : ℕ) (nothing : pad_len ≡ 0 → count ≡ 0) (same : pad_len ≡ 0 → new ≡ buf)

@@ -110,14 +110,6 @@ fn are_spaces(bytes: &[u8]) -> bool
     bytes.iter().all(|byte| *byte == b' ')
 }
 
-// Whether the bytes are letters, digits and underscores, followed by spaces only.
-fn is_padded_text(bytes: &[u8]) -> bool
-    ensures { IsTrue result ↔ IsIdArray bytes.now }
-{
-    let (text, spaces) = bytes.split_at(text_len(bytes));
-    are_id_bytes(text) && are_spaces(spaces)
-}
-
 // Writes what an identifier keeps of the text to the front of the bytes. Returns its length.
 fn put_text(text: &str, bytes: &mut [u8]) -> usize
     ensures text { take result bytes.new ≡ id_text (length bytes.old) text.now }
@@ -181,11 +173,12 @@ impl<const N: usize> IdText<N> {
         }
     }
 
-    // Whether the bytes are those of an identifier.
+    // Whether the bytes are letters, digits and underscores, followed by spaces only.
     pub(super) fn is_id_array(bytes: &[u8; N]) -> bool
         ensures { IsTrue result ↔ IsIdArray bytes.now }
     {
-        is_padded_text(bytes)
+        let (text, spaces) = bytes.split_at(text_len(bytes));
+        are_id_bytes(text) && are_spaces(spaces)
     }
 
     // The identifier of these bytes.

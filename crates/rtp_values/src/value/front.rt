@@ -56,21 +56,6 @@ pub(crate) fn first_u64(bytes: &[u8]) -> Option<u64>
     Some(u64::from_be_bytes(*number))
 }
 
-// Puts the bytes of a text at the front of the buffer, and returns their number. Most texts have a
-// few, which are put one by one.
-pub(super) fn put_text(buf: &mut [u8], text: &[u8]) -> usize
-    requires room { length text.now ≤ length buf.old }
-    ensures length { result ≡ length text.now }
-    ensures written { buf.new ≡ overwritten buf.old 0 text.now }
-{
-    match text {
-        [a] => put(buf, 0, &[*a]),
-        [a, b] => put(buf, 0, &[*a, *b]),
-        [a, b, c] => put(buf, 0, &[*a, *b, *c]),
-        _ => put(buf, 0, text),
-    }
-}
-
 // Puts the number in two bytes at the front of the buffer, and returns 2.
 pub(super) fn put_u16(buf: &mut [u8], number: u16) -> usize
     requires room { 2 ≤ length buf.old }

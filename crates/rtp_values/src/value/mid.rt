@@ -4,9 +4,8 @@ ghost use Rattle.rtp_values.specs.declared.kind.Extension.TheVariants.{RtpMid};
 ghost use Rattle.rtp_values.specs.Spelling.{HasRoom};
 ghost use Rattle.rtp_values.specs.KindBytes.{SetsFields, WritesData};
 
-use super::front::put_text;
 use super::{GetValues, SetValues};
-use rtp_base::Mid;
+use rtp_base::{Mid, put_few};
 
 #[inline(always)]
 pub(super) fn read<V: SetValues>(buf: &[u8], ev: &mut V) -> Option<()>
@@ -24,5 +23,6 @@ pub(super) fn write<V: GetValues>(buf: &mut [u8], ev: &V) -> Option<usize>
     ensures { WritesData RtpMid (V.values ev.now) buf.old buf.new result }
 {
     let text = ev.mid()?;
-    Some(put_text(buf, text))
+    put_few(buf, 0, text);
+    Some(text.len())
 }

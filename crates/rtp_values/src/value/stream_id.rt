@@ -4,9 +4,8 @@ ghost use Rattle.rtp_values.specs.declared.kind.Extension.TheVariants.{RtpStream
 ghost use Rattle.rtp_values.specs.Spelling.{HasRoom};
 ghost use Rattle.rtp_values.specs.KindBytes.{SetsFields, WritesData};
 
-use super::front::put_text;
 use super::{GetValues, SetValues};
-use rtp_base::Rid;
+use rtp_base::{Rid, put_few};
 
 pub(super) fn read<V: SetValues>(buf: &[u8], ev: &mut V) -> Option<()>
     ensures { SetsFields V.shows RtpStreamId buf.now ev.old ev.new result }
@@ -22,7 +21,8 @@ pub(super) fn write<V: GetValues>(buf: &mut [u8], ev: &V) -> Option<usize>
     ensures { WritesData RtpStreamId (V.values ev.now) buf.old buf.new result }
 {
     let text = ev.rid()?;
-    Some(put_text(buf, text))
+    put_few(buf, 0, text);
+    Some(text.len())
 }
 
 pub(super) fn read_repaired<V: SetValues>(buf: &[u8], ev: &mut V) -> Option<()>
@@ -39,5 +39,6 @@ pub(super) fn write_repaired<V: GetValues>(buf: &mut [u8], ev: &V) -> Option<usi
     ensures { WritesData RepairedRtpStreamId (V.values ev.now) buf.old buf.new result }
 {
     let text = ev.repaired_rid()?;
-    Some(put_text(buf, text))
+    put_few(buf, 0, text);
+    Some(text.len())
 }

@@ -14,7 +14,7 @@ ghost use Rattle.rtp_wire.specs.WrittenInForm.{block_bytes_in, IsWithinMap};
 ghost use Rattle.rtp_ext.specs.KindsById.{known_slots};
 ghost use Rattle.rtp_ext.specs.declared.form.ExtensionsForm.TheVariants.{OneByte};
 
-use rtp_base::put;
+use rtp_base::{fill_word, put};
 use rtp_ext::{
     ElementList, ElementValues, ExtensionsForm, Kinds, KnownIds, put_elements, values_len,
     values_len_at_most, write_values,
@@ -30,21 +30,6 @@ fn block_header(form: ExtensionsForm, words: u16) -> [u8; BLOCK_HEADER_LEN]
     let [form_high, form_low] = form.serialize();
     let [words_high, words_low] = words.to_be_bytes();
     [form_high, form_low, words_high, words_low]
-}
-
-// Puts up to three zeros at an offset, those that fill a word, and returns the offset after them.
-fn fill_word(buf: &mut [u8], at: usize, count: usize) -> usize
-    requires few { count ≤ 3 }
-    requires room { at + count ≤ length buf.old }
-    ensures written { buf.new ≡ overwritten buf.old at (replicate count 0) }
-    ensures end { result ≡ at + count }
-{
-    match count {
-        0 => at,
-        1 => put(buf, at, &[0]),
-        2 => put(buf, at, &[0, 0]),
-        _ => put(buf, at, &[0, 0, 0]),
-    }
 }
 
 // So many bytes, with the zeros that fill their last word.

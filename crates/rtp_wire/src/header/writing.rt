@@ -8,8 +8,8 @@ ghost use Rattle.rtp_wire.specs.Packet.{IsFirstByte};
 ghost use Rattle.rtp_wire.specs.Written.{wire_bytes, image_of, CannotBeWritten};
 
 use super::RtpHeader;
-use super::writing_values::{announced_form, try_write_values, values_wire_len, write_in};
-use rtp_ext::{Kinds, KnownIds};
+use super::writing_values::{try_write_values, values_wire_len, write_in};
+use rtp_ext::{Kinds, KnownIds, values_form};
 
 impl RtpHeader {
     /// Returns how many bytes [`write_to`](Self::write_to) writes under the map: a multiple of
@@ -62,7 +62,11 @@ impl RtpHeader {
             (image_of (K.slots exts.now) self.now) }
     {
         let ids = KnownIds::of(exts);
-        let form = announced_form(self, &ids, &self.ext_vals);
+        let form = if self.has_extension {
+            Some(values_form(&ids, &self.ext_vals))
+        } else {
+            None
+        };
         write_in(self, &ids, &self.ext_vals, form, buf)
     }
 

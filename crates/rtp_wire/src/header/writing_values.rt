@@ -78,11 +78,12 @@ pub fn try_write_values<F: GetFields, K: Kinds, V: ElementValues>(
         return Some(write_in(fields, &KnownIds::of(exts), values, None, buf));
     }
     let ids = KnownIds::of(exts);
-    let form = announced_form(fields, &ids, values);
-    if !fits(fields, &ids, values, form, buf.len()) {
+    let form = values_form(&ids, values);
+    let before = 12 + 4 * fields.csrc_count();
+    if !block_fits(&ids, values, form, buf.len() - before) {
         return None;
     }
-    Some(write_in(fields, &ids, values, form, buf))
+    Some(write_in(fields, &ids, values, Some(form), buf))
 }
 
 // At least so many bytes are written, whatever the map and the values are.
@@ -98,52 +99,6 @@ fn least_len<F: GetFields>(fields: &F) -> usize
         before + BLOCK_HEADER_LEN
     } else {
         before
-    }
-}
-
-// The form of the block that X announces, and `None` where X is clear.
-#[inline(always)]
-pub(super) fn announced_form<F: GetFields, K: Kinds, V: ElementValues>(
-    fields: &F,
-    ids: &KnownIds<'_, K>,
-    values: &V,
-) -> Option<ExtensionsForm>
-    ensures form { result
-        ≡ announced_form ids.now (F.header fields.now).has_extension (V.values values.now) }
-    ensures short { result ≡ Some OneByte
-        → TakesAtMost17Each (known_slots ids.now) (V.values values.now) }
-    ensures few { IfSome result (λ _. HasFewData (V.values values.now)) }
-{
-    if !fields.has_extension() {
-        return None;
-    }
-    Some(values_form(ids, values))
-}
-
-// Whether the header has room, with its block in this form, where what stands before the block has
-// it.
-#[inline(always)]
-fn fits<F: GetFields, K: Kinds, V: ElementValues>(
-    fields: &F,
-    ids: &KnownIds<'_, K>,
-    values: &V,
-    form: Option<ExtensionsForm>,
-    room: usize,
-) -> bool
-    requires sources { (F.header fields.now).csrc_count ≤ 15 }
-    requires before { 12 + 4 * (F.header fields.now).csrc_count ≤ room }
-    requires form { form
-        ≡ announced_form ids.now (F.header fields.now).has_extension (V.values values.now) }
-    requires short { form ≡ Some OneByte
-        → TakesAtMost17Each (known_slots ids.now) (V.values values.now) }
-    requires few { IfSome form (λ _. HasFewData (V.values values.now)) }
-    ensures { IsTrue result ↔ (length (wire_bytes
-        ids.now (with_values (F.header fields.now) (V.values values.now))) ≤ room) }
-{
-    let before = 12 + 4 * fields.csrc_count();
-    match form {
-        Some(form) => block_fits(ids, values, form, room - before),
-        None => true,
     }
 }
 

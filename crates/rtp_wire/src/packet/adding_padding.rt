@@ -1,7 +1,7 @@
 //! Padding that is put behind the payload of a packet in a buffer.
 
 ghost use Rattle.std.specs.Prelude.{◌≡◌, ◌+◌, ◌<◌, ℕ, length, drop, true, false, IsNone, IfSome, IfNone};
-ghost use Rattle.rtp_wire.specs.AddedPadding.{with_padding};
+ghost use Rattle.rtp_wire.specs.AddedPadding.{with_padding, IsAddedCount};
 ghost use Rattle.rtp_wire.specs.Padding.{IsPaddingLength};
 
 use super::RtpPacketBuf;
@@ -22,9 +22,7 @@ impl<'a> RtpPacketBuf<'a> {
     pub fn add_padding(&mut self, pad_len: u8, block_size: usize) -> Option<usize>
         ensures parts { IfSome result (λ count.
             parts_within self.new ≡ with_padding count (parts_within self.old)) }
-        ensures count { IfSome result (λ count.
-            0 < pad_len → IsPaddingLength pad_len block_size count) }
-        ensures nothing { IfSome result (λ count. pad_len ≡ 0 → count ≡ 0) }
+        ensures count { IfSome result (IsAddedCount pad_len block_size) }
         ensures length { IfSome result (λ count. len_of self.new ≡ len_of self.old + count) }
         ensures behind { IfSome result (λ _. drop (len_of self.new) (whole_of self.new).now
             ≡ drop (len_of self.new) (whole_of self.old).now) }

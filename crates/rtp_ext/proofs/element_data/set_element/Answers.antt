@@ -14,7 +14,7 @@ returns-then-place-data-clause-answer c = λ elements are. (
 
 set_last : goal.returns-clause-set
 set_last c =
-    SetsLast-at c.args.form c.args.id c.args.data.now c.args.body.now c.put_data.new.buf c.in-Some.place c.in-Some.ensures.found c.if-place-data.false c.put_data.ensures
+    SetsLast-at c.args.form c.args.id c.args.data.now c.args.body.now c.put_few.new.buf c.in-Some.place c.in-Some.ensures.found c.if-place-data.false c.put_few.ensures
 
 pub returns-clause-set : goal.returns-clause-set
 returns-clause-set c = set_last c
@@ -25,7 +25,7 @@ returns-clause-written c = record {
   id_is = c.in-Some.ensures.id;
   lies = c.in-Some.ensures.lies;
   end_is = omega (arith, c.in-Some.ensures.found.end_is, c.if-place-data.false);
-  new_is = c.put_data.ensures;
+  new_is = c.put_few.ensures;
 }
 
 pub returns-clause-answer : goal.returns-clause-answer
@@ -39,13 +39,13 @@ returns-clause-answer c = λ elements are. (
 
 pub returns-clause-other_values : goal.returns-clause-other_values
 returns-clause-other_values c exts kind old new mapped was says =
-    let set : SetsLast c.args.form c.args.id c.args.data.now c.args.body.now c.put_data.new.buf = set_last c in
+    let set : SetsLast c.args.form c.args.id c.args.data.now c.args.body.now c.put_few.new.buf = set_last c in
     other_fields exts c.args.id kind set.before set.after set.was c.args.data.now old new mapped
     (subst (λ es. AreValues exts es no_values old) (AreElements-same c.args.form c.args.body.now was.elements _ was.are_elements set.old_elements) was.are_values)
-    (subst (λ es. AreValues exts es no_values new) (AreElements-same c.args.form c.put_data.new.buf says.elements _ says.are_elements set.new_elements) says.are_values)
+    (subst (λ es. AreValues exts es no_values new) (AreElements-same c.args.form c.put_few.new.buf says.elements _ says.are_elements set.new_elements) says.are_values)
 
 pub returns-clause-values : goal.returns-clause-values
 returns-clause-values c exts kind new only well_formed says =
-    let set : SetsLast c.args.form c.args.id c.args.data.now c.args.body.now c.put_data.new.buf = set_last c in
+    let set : SetsLast c.args.form c.args.id c.args.data.now c.args.body.now c.put_few.new.buf = set_last c in
     said_fields exts c.args.id kind set.before set.after c.args.data.now new only set.last well_formed
-    (subst (λ es. AreValues exts es no_values new) (AreElements-same c.args.form c.put_data.new.buf says.elements _ says.are_elements set.new_elements) says.are_values)
+    (subst (λ es. AreValues exts es no_values new) (AreElements-same c.args.form c.put_few.new.buf says.elements _ says.are_elements set.new_elements) says.are_values)

@@ -23,16 +23,16 @@ returns-then-survey-ne1-clause-answer c = λ form elements is are. (
       ],
 )
 
-pub put_data-requires : goal.put_data-requires
-put_data-requires c =
+pub put_few-requires : goal.put_few-requires
+put_few-requires c =
     let d = data_within c.requires.0 c.args.body.now c.args.id c.args.survey.now c.in-Some.place c.requires.1 c.in-Some.is in
     let e = data_in_body c.requires.0 c.args.body.now c.args.id c.args.survey.now c.in-Some.place c.requires.1 c.in-Some.is in
     omega arith
 
 pub returns-clause-set : goal.returns-clause-set
 returns-clause-set c = λ form is.
-    SetsLast-at form c.args.id c.args.data.now c.args.body.now c.put_data.new.buf c.in-Some.place
-    (last_known form c.args.body.now c.args.id c.args.survey.now c.in-Some.place is c.in-Some.is) c.if-place-data.false c.put_data.ensures
+    SetsLast-at form c.args.id c.args.data.now c.args.body.now c.put_few.new.buf c.in-Some.place
+    (last_known form c.args.body.now c.args.id c.args.survey.now c.in-Some.place is c.in-Some.is) c.if-place-data.false c.put_few.ensures
 
 pub returns-clause-answer : goal.returns-clause-answer
 returns-clause-answer c = λ form elements is are. (
@@ -42,4 +42,4 @@ returns-clause-answer c = λ form elements is are. (
 
 pub returns-clause-elements : goal.returns-clause-elements
 returns-clause-elements c = λ form elements is are.
-    sole_set form c.args.body.now c.args.id c.args.survey.now c.in-Some.place is c.in-Some.is elements c.args.data.now are c.if-survey-ne1.false c.if-place-data.false c.put_data.new.buf c.put_data.ensures
+    sole_set form c.args.body.now c.args.id c.args.survey.now c.in-Some.place is c.in-Some.is elements c.args.data.now are c.if-survey-ne1.false c.if-place-data.false c.put_few.new.buf c.put_few.ensures

@@ -1,6 +1,5 @@
 use Rattle.std.proofs.Common.{rules, ◌≡◌, ◌≤◌, ◌∙◌, inl, ℕ, List, ◌++◌, length, take, drop, Option, Result, Ok, Err, IsOk, IsErr, ◌↔◌, refl, sym, ap, subst, arith, take_at}
 use Rattle.std.proofs.lemmas.Result.{err_from_is_err_and}
-use Rattle.rtp_ext.specs.ElementsInARow.{elements_of}
 use Rattle.rtp_ext.specs.NewIds.{new_id}
 use Rattle.rtp_ext.specs.declared.form.ExtensionsForm.{ExtensionsForm}
 use Rattle.rtp_wire.specs.PartsAt.{HasLayout}
@@ -19,12 +18,12 @@ use Rattle.rtp_route.proofs.StartLemmas.{started}
 use Rattle.rtp_route.proofs.by_calls.make_header.Goals as goal
 
 pub returns-then-buf-needed-clause-cause : goal.returns-then-buf-needed-clause-cause
-returns-then-buf-needed-clause-cause c =
+returns-then-buf-needed-clause-cause g c =
     let long = header_in-length c.args.packet.now in
     inl (ap NoRoom (c.header_len-needed.ensures ∙ sym long), omega (arith, c.if-buf-needed.true, c.header_len-needed.ensures, long))
 
 pub renumber_in_form-requires-clause-held : goal.renumber_in_form-requires-clause-held
-renumber_in_form-requires-clause-held c =
+renumber_in_form-requires-clause-held g c =
     let needed = c.header_len-needed.result in
     let long : length c.copy_header.new.buf ≡ needed = search rules in
     subst (λ (b : List ℕ). HasLayout b needed c.form.result) (sym (take_at c.copy_header.new.buf _ needed long))
@@ -32,11 +31,11 @@ renumber_in_form-requires-clause-held c =
     (subst (λ (n : ℕ). HasLayout c.copy_header.new.buf n (form_of_block (parts_of c.args.packet.now).block)) long c.copy_header.ensures.held))
 
 pub returns-in_err-start-clause-cause : goal.returns-in_err-start-clause-cause
-returns-in_err-start-clause-cause c =
+returns-in_err-start-clause-cause g c =
     let packet = c.args.packet.now in
     let fields = c.args.fields.now in
     let ids = new_id c.args.group.now.ids.now in
-    let news = elements_of c.args.group.now.elements.now in
+    let news = g.L.ElementList.elements c.args.group.now.elements in
     let allowed = c.args.group.now.allowed in
     let buf = c.args.buf.now in
     let needed = c.header_len-needed.result in
@@ -48,11 +47,11 @@ returns-in_err-start-clause-cause c =
     rw (p.1, p.2) (kept-set packet fields ids news allowed (length buf) set is_set cause (subst (λ (k : ℕ). KeepsFromNewIds set ids allowed k cause) room c.in_err-start.ensures.cause))
 
 pub returns-in_err-len-clause-cause : goal.returns-in_err-len-clause-cause
-returns-in_err-len-clause-cause c =
+returns-in_err-len-clause-cause g c =
     let packet = c.args.packet.now in
     let fields = c.args.fields.now in
     let ids = new_id c.args.group.now.ids.now in
-    let news = elements_of c.args.group.now.elements.now in
+    let news = g.L.ElementList.elements c.args.group.now.elements in
     let allowed = c.args.group.now.allowed in
     let buf = c.args.buf.now in
     let needed = c.header_len-needed.result in
@@ -70,11 +69,11 @@ ok-unless (Ok value) Q refused none = refl
 ok-unless (Err cause) Q refused none = absurd (none (refused.0 refl))
 
 pub unwrap-requires : goal.unwrap-requires
-unwrap-requires c =
+unwrap-requires g c =
     let packet = c.args.packet.now in
     let fields = c.args.fields.now in
     let ids = new_id c.args.group.now.ids.now in
-    let news = elements_of c.args.group.now.elements.now in
+    let news = g.L.ElementList.elements c.args.group.now.elements in
     let allowed = c.args.group.now.allowed in
     let buf = c.args.buf.now in
     let needed = c.header_len-needed.result in
@@ -87,11 +86,11 @@ unwrap-requires c =
     ok-unless c.compact_copy.result _ c.compact_copy.ensures.refused (λ (none : IsNoPacket put). no_packet-refused _ packet_now.0 none packet_now.1)
 
 pub returns-clause-made : goal.returns-clause-made
-returns-clause-made c =
+returns-clause-made g c =
     let packet = c.args.packet.now in
     let fields = c.args.fields.now in
     let ids = new_id c.args.group.now.ids.now in
-    let news = elements_of c.args.group.now.elements.now in
+    let news = g.L.ElementList.elements c.args.group.now.elements in
     let allowed = c.args.group.now.allowed in
     let buf = c.args.buf.now in
     let needed = c.header_len-needed.result in
@@ -111,11 +110,11 @@ returns-clause-made c =
     }
 
 pub returns-clause-none_refused : goal.returns-clause-none_refused
-returns-clause-none_refused c =
+returns-clause-none_refused g c =
     let packet = c.args.packet.now in
     let fields = c.args.fields.now in
     let ids = new_id c.args.group.now.ids.now in
-    let news = elements_of c.args.group.now.elements.now in
+    let news = g.L.ElementList.elements c.args.group.now.elements in
     let allowed = c.args.group.now.allowed in
     let buf = c.args.buf.now in
     let needed = c.header_len-needed.result in

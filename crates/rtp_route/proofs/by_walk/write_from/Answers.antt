@@ -1,9 +1,8 @@
 use Rattle.std.proofs.Common.{◌≡◌, ◌≤◌, ◌+◌, ◌*◌, ℕ, List, length, take, drop, All, refl, ap, sym, subst, arith, take_at, length-take, length-take-le, length-append, length-drop}
-use Rattle.std.proofs.lemmas.List.{length-map}
 use Rattle.rtp_ext.specs.Elements.{Element, AreElements}
 use Rattle.rtp_ext.specs.ElementReading.{elements_left}
 use Rattle.rtp_ext.specs.declared.form.ExtensionsForm.TheVariants.{TwoByte}
-use Rattle.rtp_ext.specs.ElementsInARow.{elements_of, IsWritable}
+use Rattle.rtp_ext.specs.ElementsInARow.{IsWritable}
 use Rattle.rtp_ext.specs.NewIds.{new_id}
 use Rattle.rtp_ext.proofs.ElementLemmasOfBodies.{AreElements-found}
 use Rattle.rtp_wire.specs.PartsOf.{datagram_of}
@@ -14,7 +13,6 @@ use Rattle.rtp_route.proofs.ByCallsLemmas.{alone_parts, header-is, header-alone}
 use Rattle.rtp_route.proofs.ByWalkLemmas.{long-front_of, short-body, laid-of, layout-laid, made-by_walk}
 use Rattle.rtp_route.proofs.FormsLemmas.{carries-news, carries-from, fits-from}
 use Rattle.rtp_route.proofs.LengthLemmas.{short-header}
-use Rattle.rtp_route.proofs.LentLemmas.{element_of}
 use Rattle.rtp_route.proofs.NoneKeptLemmas.{none-kept}
 use Rattle.rtp_route.proofs.WalkedLemmas.{written-no_zero}
 use Rattle.rtp_route.proofs.WideLemmas.{wide}
@@ -24,75 +22,75 @@ all-short : (news : List Element) → All (IsWritable TwoByte) news → All (λ 
 all-short news all k d there = (all k d there).1.2
 
 pub overflow_add-header : goal.overflow_add-header
-overflow_add-header c =
+overflow_add-header g c =
     omega (arith, short-header c.args.packet.now, length-packet c.header_bytes-header.result.now (alone_parts c.args.packet.now) c.header_bytes-header.ensures.alone)
 
 pub slice_bounds-front-count : goal.slice_bounds-front-count
-slice_bounds-front-count c =
+slice_bounds-front-count g c =
     short-body c.args.packet.now c.in_ok-was.was' c.header_bytes-header.result.now c.in_ok-was.body.now c.header_bytes-header.ensures.alone c.in_ok-was.ensures.parts
 
 pub write_body-requires-clause-some : goal.write_body-requires-clause-some
-write_body-requires-clause-some c =
+write_body-requires-clause-some g c =
     omega (arith, long-front_of c.args.packet.now c.in_ok-was.was' c.header_bytes-header.result.now c.in_ok-was.body.now c.header_bytes-header.ensures.alone c.in_ok-was.ensures.parts)
 
 pub write_body-requires-clause-whole : goal.write_body-requires-clause-whole
-write_body-requires-clause-whole c =
+write_body-requires-clause-whole g c =
     omega (arith, long-front_of c.args.packet.now c.in_ok-was.was' c.header_bytes-header.result.now c.in_ok-was.body.now c.header_bytes-header.ensures.alone c.in_ok-was.ensures.parts)
 
 pub put_front-requires-clause-some : goal.put_front-requires-clause-some
-put_front-requires-clause-some c =
+put_front-requires-clause-some g c =
     omega (arith, long-front_of c.args.packet.now c.in_ok-was.was' c.header_bytes-header.result.now c.in_ok-was.body.now c.header_bytes-header.ensures.alone c.in_ok-was.ensures.parts)
 
 pub write_body-requires-clause-elements : goal.write_body-requires-clause-elements
-write_body-requires-clause-elements c = record {
-  few = omega (arith, length-map c.args.group.now.elements.now element_of, c.requires.few);
+write_body-requires-clause-elements g c = record {
+  few = c.requires.few;
   own = c.requires.own;
-  writable = carries-news c.args.group.now.allowed c.args.start c.in_ok-form.form (elements_of c.args.group.now.elements.now) c.in_ok-form.ensures.form c.in_ok-form.ensures.carried;
+  writable = carries-news c.args.group.now.allowed c.args.start c.in_ok-form.form (g.L.ElementList.elements c.args.group.now.elements) c.in_ok-form.ensures.form c.in_ok-form.ensures.carried;
 }
 
 pub write_body-requires-clause-carries : goal.write_body-requires-clause-carries
-write_body-requires-clause-carries c =
+write_body-requires-clause-carries g c =
     let was = c.in_ok-was.was' in
     let body = c.in_ok-was.body.now in
     let elements : List Element = elements_left was body in
-    carries-from c.args.group.now.allowed (new_id c.args.group.now.ids.now) was c.args.start c.in_ok-form.form body elements (elements_of c.args.group.now.elements.now)
+    carries-from c.args.group.now.allowed (new_id c.args.group.now.ids.now) was c.args.start c.in_ok-form.form body elements (g.L.ElementList.elements c.args.group.now.elements)
     (c.requires.start was body elements c.in_ok-was.ensures.parts (AreElements-found was body c.in_ok-was.ensures.bytes)) c.in_ok-form.ensures.form
 
 pub overflow_sub-len : goal.overflow_sub-len
-overflow_sub-len c =
+overflow_sub-len g c =
     let was = c.in_ok-was.was' in
     let body = c.in_ok-was.body.now in
     (c.in_ok-len.ensures.written (elements_left was body) (AreElements-found was body c.in_ok-was.ensures.bytes)).after
 
 pub set_fields-requires-clause-held : goal.set_fields-requires-clause-held
-set_fields-requires-clause-held c =
+set_fields-requires-clause-held g c =
     let packet = c.args.packet.now in
     let was = c.in_ok-was.was' in
     let body = c.in_ok-was.body.now in
     let ids = new_id c.args.group.now.ids.now in
-    let news = elements_of c.args.group.now.elements.now in
+    let news = g.L.ElementList.elements c.args.group.now.elements in
     let header = c.header_bytes-header.result.now in
     let form = c.in_ok-form.form in
     let end = c.in_ok-len.len in
     let written = c.write_body.new.buf in
-    let slots = take (length c.args.group.now.elements.now) c.write_body.new.slots in
+    let slots = take (length (g.L.ElementList.elements c.args.group.now.elements)) c.write_body.new.slots in
     let laid = laid-of packet ids news was form header body written (drop c.min-most.result c.args.buf.now) c.put_front.new.buf end slots c.header_bytes-header.ensures.front
     c.header_bytes-header.ensures.alone c.in_ok-was.ensures.parts c.in_ok-was.ensures.bytes c.in_ok-len.ensures.written (omega (arith, c.in_ok-len.ensures.within, c.write_body.auto.buf))
     (omega (arith, c.write_body.auto.buf, length-take c.min-most.result c.args.buf.now, c.min-most.ensures)) c.put_front.ensures in
     layout-laid packet ids news was form header body _ c.put_front.new.buf end (elements_left was body) slots laid
 
 pub returns : goal.returns
-returns c =
+returns g c =
     let packet = c.args.packet.now in
     let was = c.in_ok-was.was' in
     let body = c.in_ok-was.body.now in
     let ids = new_id c.args.group.now.ids.now in
-    let news = elements_of c.args.group.now.elements.now in
+    let news = g.L.ElementList.elements c.args.group.now.elements in
     let header = c.header_bytes-header.result.now in
     let form = c.in_ok-form.form in
     let end = c.in_ok-len.len in
     let written = c.write_body.new.buf in
-    let slots = take (length c.args.group.now.elements.now) c.write_body.new.slots in
+    let slots = take (length (g.L.ElementList.elements c.args.group.now.elements)) c.write_body.new.slots in
     let laid = laid-of packet ids news was form header body written (drop c.min-most.result c.args.buf.now) c.put_front.new.buf end slots c.header_bytes-header.ensures.front
     c.header_bytes-header.ensures.alone c.in_ok-was.ensures.parts c.in_ok-was.ensures.bytes c.in_ok-len.ensures.written (omega (arith, c.in_ok-len.ensures.within, c.write_body.auto.buf))
     (omega (arith, c.write_body.auto.buf, length-take c.min-most.result c.args.buf.now, c.min-most.ensures)) c.put_front.ensures in

@@ -5,6 +5,6 @@ use Rattle.rtp_route.proofs.FormsLemmas.{start-two}
 use Rattle.rtp_route.proofs.by_walk.write_in_two_byte_form.Goals as goal
 
 pub write_from-requires-clause-start : goal.write_from-requires-clause-start
-write_from-requires-clause-start c =
-    start-two c.args.group.now.allowed (new_id c.args.group.now.ids.now) (parts_of c.args.packet.now).block c.in_ok-was.was' c.in_ok-was.body.now c.in_ok-was.ensures.parts c.requires.allowed
+write_from-requires-clause-start g c =
+    start-two c.args.group.now.allowed (new_id c.args.group.now.ids.now) (parts_of c.args.packet).block c.in_ok-was.was' c.in_ok-was.body.now c.in_ok-was.ensures.parts c.requires.allowed
     (λ elements are carried. false≢true ((c.if-can_renumber.ensures elements are).1 carried))

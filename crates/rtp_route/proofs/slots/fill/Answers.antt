@@ -4,8 +4,8 @@ use Rattle.rtp_route.specs.declared.slots.Slot.{Slot}
 use Rattle.rtp_route.proofs.SlotLemmas.{length-at}
 use Rattle.rtp_route.proofs.slots.fill.Goals as goal
 
-pub put_data-requires : goal.put_data-requires
-put_data-requires c =
+pub put_few-requires : goal.put_few-requires
+put_few-requires c =
     let slot : Slot = record { start = 0; len = 0 } in
     let bytes : Bor (List ℕ) = record { ref_ptr = (0, 0); now = [] } in
     let at = c.requires.within c.loop-index.index slot (omega (arith, c.loop-index-test.true)) in

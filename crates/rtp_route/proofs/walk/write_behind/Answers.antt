@@ -11,7 +11,7 @@ returns-clause-written c =
     let buf = c.args.buf.now in
     let bytes = c.args.bytes.now in
     let header : List ℕ = element_header c.args.form c.args.id (length bytes) in
-    c.put_data.ensures
+    c.put_few.ensures
     ∙ ap (λ (b : List ℕ). overwritten b c.put_header-data_at.result bytes) c.put_header-data_at.ensures.written
     ∙ overwritten-overwritten buf header bytes c.args.at c.put_header-data_at.result c.put_header-data_at.ensures.end
     (omega (arith, c.put_header-data_at.ensures.end, header-length c.args.form c.args.id bytes, header-short c.args.form c.args.id bytes, c.if-buf-at.false, c.requires.room))

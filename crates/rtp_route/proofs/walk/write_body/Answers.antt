@@ -1,36 +1,37 @@
-use Rattle.std.proofs.Common.{◌≡◌, ◌∙◌, ◌-◌, List, length, take, drop, refl, ap, subst, arith}
+use Rattle.std.proofs.Common.{◌≡◌, ◌∙◌, ◌-◌, List, [], length, take, drop, refl, sym, ap, subst, arith}
 use Rattle.std.specs.List.{filter_map}
 use Rattle.rtp_ext.specs.Elements.{Element, elements_bytes, AreElements}
-use Rattle.rtp_ext.specs.ElementsInARow.{elements_of}
 use Rattle.rtp_ext.specs.ElementsInPlace.{renumbered}
 use Rattle.rtp_ext.specs.NewIds.{new_id}
 use Rattle.rtp_ext.specs.WrittenBlock.{filled}
 use Rattle.rtp_route.specs.Routing.{put_all}
 use Rattle.rtp_route.specs.Template.{AreSlots}
+use Rattle.rtp_route.specs.Walk.{ArePlaced}
 use Rattle.rtp_route.proofs.WalkLemmas.{placed-none, body-filled, row-read}
 use Rattle.rtp_route.proofs.WalkedLemmas.{like-none, written-no_zero, put_all-like}
 use Rattle.rtp_route.proofs.walk.write_body.Goals as goal
 
 pub write_kept-requires-clause-fresh : goal.write_kept-requires-clause-fresh
-write_kept-requires-clause-fresh c =
-    placed-none c.args.form c.args.at (elements_of c.args.group.now.elements.now) _ 16 refl c.requires.elements.few
+write_kept-requires-clause-fresh g c =
+    let news = g.L.ElementList.elements c.args.group.now.elements in
+    subst (ArePlaced c.args.form c.args.at [] news) (sym c.requires.fresh) (placed-none c.args.form c.args.at news (record { start = 0; len = 0 }) 16 refl c.requires.elements.few)
 
 pub returns-clause-written : goal.returns-clause-written
-returns-clause-written c elements are =
+returns-clause-written g c elements are =
     let form = c.args.form in
     let at = c.args.at in
     let ids = new_id c.args.group.now.ids.now in
-    let news = elements_of c.args.group.now.elements.now in
-    let slots = take (length c.args.group.now.elements.now) c.write_lacking.new.slots in
+    let news = g.L.ElementList.elements c.args.group.now.elements in
+    let slots = take (length (g.L.ElementList.elements c.args.group.now.elements)) c.write_lacking.new.slots in
     let kept = c.in_ok-kept.ensures.kept elements are in
     let written = c.in_ok-len.ensures.written at c.args.buf.now kept.written c.requires.some kept.are_written in
     let row : List Element = put_all news kept.written in
     let same : row ≡ put_all news (filter_map (renumbered ids) elements) = put_all-like news kept.written (filter_map (renumbered ids) elements) kept.like in
     let rounded = c.next_multiple_of-end.ensures in
-    let body : take (c.next_multiple_of-end.result - at) (drop at c.put_padding.new.buf) ≡ filled (elements_bytes form row) =
-    body-filled c.args.buf.now c.write_lacking.new.buf c.put_padding.new.buf (elements_bytes form row) at c.in_ok-len.len c.next_multiple_of-end.result written.0.bytes_are written.0.at_is
+    let body : take (c.next_multiple_of-end.result - at) (drop at c.fill_word.new.buf) ≡ filled (elements_bytes form row) =
+    body-filled c.args.buf.now c.write_lacking.new.buf c.fill_word.new.buf (elements_bytes form row) at c.in_ok-len.len c.next_multiple_of-end.result written.0.bytes_are written.0.at_is
     (omega (arith, written.0.as_long, c.in_ok-len.ensures.within, c.write_kept.auto.buf)) (omega (arith, rounded.lower_bound)) (omega (arith, rounded.upper_bound)) (omega (arith, rounded.multiple)) c.requires.whole
-    c.put_padding.ensures in
+    c.fill_word.ensures.written in
     record {
       after = omega (arith, written.0.at_is, rounded.lower_bound);
       whole = omega (arith, rounded.multiple);

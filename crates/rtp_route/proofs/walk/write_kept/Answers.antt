@@ -9,18 +9,18 @@ use Rattle.rtp_route.proofs.WalkedLemmas.{kept-start, kept-new, kept-none}
 use Rattle.rtp_route.proofs.walk.write_kept.Goals as goal
 
 pub loop-id-init : goal.loop-id-init
-loop-id-init c = (
+loop-id-init g c = (
   tt,
   tt,
   c.requires.room,
   refl,
   search rules,
-  kept-start c.args.form (new_id c.args.group.now.ids.now) (elements_of c.args.group.now.elements.now) c.args.at c.args.buf.now c.args.slots.now c.requires.fresh,
+  kept-start c.args.form (new_id c.args.group.now.ids.now) (g.L.ElementList.elements c.args.group.now.elements) c.args.at c.args.buf.now c.args.slots.now c.requires.fresh,
 )
 
 pub loop-id-preserved-in-Some-new_id : goal.loop-id-preserved-in-Some-new_id
-loop-id-preserved-in-Some-new_id c =
-    let news = elements_of c.args.group.now.elements.now in (
+loop-id-preserved-in-Some-new_id g c =
+    let news = g.L.ElementList.elements c.args.group.now.elements in (
       tt,
       tt,
       omega (arith, c.in_ok-end.ensures.within, c.write_next.auto.buf),
@@ -32,20 +32,20 @@ loop-id-preserved-in-Some-new_id c =
     )
 
 pub loop-id-preserved : goal.loop-id-preserved
-loop-id-preserved c = (
+loop-id-preserved g c = (
   tt,
   tt,
   c.loop-id.invariant.2,
   c.loop-id.invariant.3,
   c.loop-id.invariant.4,
-  kept-none c.args.form (new_id c.args.group.now.ids.now) (elements_of c.args.group.now.elements.now) c.args.at c.args.buf.now c.loop-id.slots c.loop-id.buf c.loop-id.end c.loop-id.yielded
+  kept-none c.args.form (new_id c.args.group.now.ids.now) (g.L.ElementList.elements c.args.group.now.elements) c.args.at c.args.buf.now c.loop-id.slots c.loop-id.buf c.loop-id.end c.loop-id.yielded
       (c.in-Some.id, c.in-Some.bytes) c.loop-id.invariant.5 (sym c.new_id.ensures ∙ c.in_default.is),
 )
 
 pub returns-clause-kept : goal.returns-clause-kept
-returns-clause-kept c elements are =
+returns-clause-kept g c elements are =
     let read = (YieldsList-end (YieldsList-from_first (λ (item : ℕ × Bor (List ℕ)). (item.0, item.1.now)) (λ left. left) c.new-id-items.result c.into_iter-id-iterator.ensures.into_iter_gives)
     c.loop-id.yielded _ c.loop-id.yielded_by _ _ c.in-None.is c.next.ensures.steps).0 in
     let all : elements_of c.loop-id.yielded ≡ elements = read ∙ sym (c.new-id-items.ensures.only elements are) in
-    subst (λ (es : List Element). AreKept c.args.form (new_id c.args.group.now.ids.now) (elements_of c.args.group.now.elements.now) es c.args.at c.args.buf.now c.loop-id.slots c.loop-id.buf c.loop-id.end)
+    subst (λ (es : List Element). AreKept c.args.form (new_id c.args.group.now.ids.now) (g.L.ElementList.elements c.args.group.now.elements) es c.args.at c.args.buf.now c.loop-id.slots c.loop-id.buf c.loop-id.end)
     all c.loop-id.invariant.5

@@ -6,10 +6,10 @@ use Rattle.rtp_route.proofs.walk.write_kept.Given as goal
 
 -- the elements that were passed are written
 abbrev pub invariant-loop-id : goal.invariant-loop-id
-invariant-loop-id l =
-    (goal.iterator-loop-id).can_next l.id-iterator
-    × (goal.iterator-loop-id).is_finite l.id-iterator
+invariant-loop-id g l =
+    (goal.iterator-loop-id g).can_next l.id-iterator
+    × (goal.iterator-loop-id g).is_finite l.id-iterator
     × (l.end ≤ length l.buf)
     × (length l.buf ≡ length l.initial.buf)
     × (length l.slots ≡ 16)
-    × AreKept l.form (new_id l.group.ids.now) (elements_of l.group.elements.now) (elements_of l.yielded) l.fn.at l.initial.buf l.slots l.buf l.end
+    × AreKept l.form (new_id l.group.ids.now) (g.L.ElementList.elements l.group.elements) (elements_of l.yielded) l.fn.at l.initial.buf l.slots l.buf l.end

@@ -1,33 +1,31 @@
-use Rattle.std.proofs.Common.{◌≡◌, ◌∙◌, ◌+◌, ℕ, List, [], ◌∷◌, length, take, drop, get_or, refl, ap, sym, subst, arith}
-use Rattle.std.proofs.lemmas.List.{drop_all, length-map}
+use Rattle.std.proofs.Common.{◌≡◌, ◌∙◌, ◌+◌, ◌<◌, ℕ, List, [], ◌∷◌, length, drop, get_or, refl, ap, sym, subst, arith}
+use Rattle.std.proofs.lemmas.List.{drop_all, drop_more}
 use Rattle.rtp_ext.specs.Elements.{Element}
-use Rattle.rtp_ext.specs.ElementsInARow.{elements_of}
 use Rattle.rtp_route.specs.declared.slots.Slot.{Slot}
 use Rattle.rtp_route.specs.Routing.{put_all}
-use Rattle.rtp_route.specs.Template.{AreSlots}
 use Rattle.rtp_route.specs.Walk.{AreWritten}
-use Rattle.rtp_route.proofs.LentLemmas.{Lent, element_of, split-at}
 use Rattle.rtp_route.proofs.OnlyLemmas.{only-put_all}
 use Rattle.rtp_route.proofs.WalkLemmas.{placed-all}
 use Rattle.rtp_route.proofs.WalkedLemmas.{under_way-lacking, under_way-there}
 use Rattle.rtp_route.proofs.walk.write_lacking.Goals as goal
 use Rattle.rtp_route.proofs.walk.write_lacking.Goals.{then-slots-index-eq0+in_ok-end, else-slots-index-eq0}
 
-abbrev none_lent : Lent
-none_lent = (0, record { ref_ptr = (0, 0); now = [] })
+one-more : (news : List Element) (index : ℕ) → index < length news → (element : Element) × (drop index news ≡ element ∷ drop (index + 1) news)
+one-more news index within = (get_or news index (0, []), drop_more news index (0, []) within)
 
 abbrev no_slot : Slot
 no_slot = record { start = 0; len = 0 }
 
 pub loop-index-init : goal.loop-index-init
-loop-index-init c = (c.requires.room, refl, λ start old written some is. record { written = written; with_rest = refl; are_written = is })
+loop-index-init g c = (c.requires.room, refl, λ start old written some is. record { written = written; with_rest = refl; are_written = is })
 
 pub loop-index-preserved : goal.loop-index-preserved
-loop-index-preserved c =
+loop-index-preserved g c =
     let at = c.loop-index in
-    let news = elements_of c.args.elements.now in
-    let element : Element = element_of (get_or c.args.elements.now at.index none_lent) in
-    let there : drop at.index news ≡ element ∷ drop (at.index + 1) news = split-at c.args.elements.now at.index none_lent (omega (arith, c.loop-index-test.true)) in
+    let news = g.L.ElementList.elements c.args.elements in
+    let split = one-more news at.index (omega (arith, c.loop-index-test.true)) in
+    let element : Element = split.0 in
+    let there : drop at.index news ≡ element ∷ drop (at.index + 1) news = split.1 in
     elim c.if-slots-index-eq0.branch [
       | then-slots-index-eq0+in_ok-end w ↦
           rw (w.buf-is, w.slots-is, w.end-is) (
@@ -48,16 +46,14 @@ loop-index-preserved c =
     ]
 
 pub returns-clause-written : goal.returns-clause-written
-returns-clause-written c start old written some is =
+returns-clause-written g c start old written some is =
     let form = c.args.form in
-    let news = elements_of c.args.elements.now in
-    let count : length news ≡ length c.args.elements.now = length-map c.args.elements.now element_of in
+    let news = g.L.ElementList.elements c.args.elements in
     let done = c.loop-index.invariant.2 start old written some is in
-    let none_left : drop c.loop-index.index news ≡ [] = drop_all c.loop-index.index news (omega (arith, count, c.loop-index-test.false)) in
+    let none_left : drop c.loop-index.index news ≡ [] = drop_all c.loop-index.index news (omega (arith, c.loop-index-test.false)) in
     let row_is : done.written ≡ put_all news written = ap (λ (es : List Element). put_all es done.written) (sym none_left) ∙ done.with_rest in
     let all : AreWritten form start news old (put_all news written) c.loop-index.slots c.loop-index.buf c.loop-index.end =
     subst (λ (es : List Element). AreWritten form start news old es c.loop-index.slots c.loop-index.buf c.loop-index.end) row_is done.are_written in (
       all,
-      subst (λ (n : ℕ). AreSlots form start (put_all news written) news (take n c.loop-index.slots)) count
-          (placed-all form start (put_all news written) news c.loop-index.slots all.placed (only-put_all news written c.requires.elements.own)),
+      placed-all form start (put_all news written) news c.loop-index.slots all.placed (only-put_all news written c.requires.elements.own),
     )

@@ -1,14 +1,13 @@
 use Rattle.std.proofs.Common.{◌≡◌, ◌≤◌, ℕ, List, length}
 use Rattle.rtp_ext.specs.Elements.{Element}
-use Rattle.rtp_ext.specs.ElementsInARow.{elements_of}
 use Rattle.rtp_route.specs.Walk.{AreWritten}
 use Rattle.rtp_route.proofs.WalkedLemmas.{IsUnderWay}
 use Rattle.rtp_route.proofs.walk.write_lacking.Given as goal
 
 -- those before the index are written
 abbrev pub invariant-loop-index : goal.invariant-loop-index
-invariant-loop-index l =
+invariant-loop-index g l =
     (l.end ≤ length l.buf)
     × (length l.buf ≡ length l.initial.buf)
-    × ((start : ℕ) (old : List ℕ) (written : List Element) → 1 ≤ start → AreWritten l.form start (elements_of l.elements) old written l.initial.slots l.initial.buf l.fn.at
-    → IsUnderWay l.form start (elements_of l.elements) l.index old written l.slots l.buf l.end)
+    × ((start : ℕ) (old : List ℕ) (written : List Element) → 1 ≤ start → AreWritten l.form start (g.L.ElementList.elements l.elements) old written l.initial.slots l.initial.buf l.fn.at
+    → IsUnderWay l.form start (g.L.ElementList.elements l.elements) l.index old written l.slots l.buf l.end)

@@ -1,34 +1,31 @@
-use Rattle.std.proofs.Common.{rules, ◌≡◌, ◌∙◌, ◌+◌, ◌-◌, [], ◌∷◌, ◌++◌, length, drop, get_or, set, refl, sym, subst, arith}
+use Rattle.std.proofs.Common.{rules, ◌≡◌, ◌∙◌, ◌+◌, ◌-◌, [], ◌∷◌, ◌++◌, length, drop, set, refl, sym, subst, arith}
 use Rattle.rtp_ext.specs.Elements.{Element}
-use Rattle.rtp_ext.specs.ElementsInARow.{elements_of, IsWritable}
+use Rattle.rtp_ext.specs.ElementsInARow.{IsWritable}
 use Rattle.rtp_ext.specs.ElementsInPlace.{HasNone}
-use Rattle.rtp_ext.proofs.RawWritingLemmas.{IsWritable-short}
+use Rattle.rtp_ext.proofs.RawWritingLemmas.{left-more, IsWritable-short}
 use Rattle.rtp_route.specs.declared.slots.Slot.{Slot}
 use Rattle.rtp_route.specs.Walk.{AreWritten}
-use Rattle.rtp_route.proofs.LentLemmas.{Lent, element_of, split-at}
 use Rattle.rtp_route.proofs.WalkLemmas.{at-index, own-written}
 use Rattle.rtp_route.proofs.walk.write_own.Goals as goal
 
-abbrev none_lent : Lent
-none_lent = (0, record { ref_ptr = (0, 0); now = [] })
-
 pub write_behind-requires-clause-writable : goal.write_behind-requires-clause-writable
-write_behind-requires-clause-writable c =
-    at-index (IsWritable c.args.form) (elements_of c.args.elements.now) c.args.index (element_of (get_or c.args.elements.now c.args.index none_lent)) _ c.requires.elements.writable
-    (split-at c.args.elements.now c.args.index none_lent c.requires.index)
+write_behind-requires-clause-writable g c =
+    at-index (IsWritable c.args.form) (g.L.ElementList.elements c.args.elements) c.args.index (c.at-id.result.0, c.at-id.result.1.now) _ c.requires.elements.writable
+    (left-more (g.L.ElementList.elements c.args.elements) c.args.index _ c.at-id.ensures)
 
 pub overflow_cast-slots-2 : goal.overflow_cast-slots-2
-overflow_cast-slots-2 c =
-    let can : IsWritable c.args.form (element_of (get_or c.args.elements.now c.args.index none_lent)) =
-    at-index (IsWritable c.args.form) (elements_of c.args.elements.now) c.args.index (element_of (get_or c.args.elements.now c.args.index none_lent)) _ c.requires.elements.writable
-    (split-at c.args.elements.now c.args.index none_lent c.requires.index) in
+overflow_cast-slots-2 g c =
+    let here : Element = (c.at-id.result.0, c.at-id.result.1.now) in
+    let can : IsWritable c.args.form here =
+    at-index (IsWritable c.args.form) (g.L.ElementList.elements c.args.elements) c.args.index here _ c.requires.elements.writable
+    (left-more (g.L.ElementList.elements c.args.elements) c.args.index here c.at-id.ensures) in
     omega (arith, IsWritable-short c.args.form _ can)
 
 pub returns-clause-written : goal.returns-clause-written
-returns-clause-written c start old written element there is none =
-    let news = elements_of c.args.elements.now in
-    let here : Element = element_of (get_or c.args.elements.now c.args.index none_lent) in
-    let split = split-at c.args.elements.now c.args.index none_lent c.requires.index in
+returns-clause-written g c start old written element there is none =
+    let news = g.L.ElementList.elements c.args.elements in
+    let here : Element = (c.at-id.result.0, c.at-id.result.1.now) in
+    let split = left-more news c.args.index here c.at-id.ensures in
     let can : IsWritable c.args.form here = at-index (IsWritable c.args.form) news c.args.index here _ c.requires.elements.writable split in
     let cons : here ∷ drop (c.args.index + 1) news ≡ element ∷ drop (c.args.index + 1) news = sym split ∙ there in
     let same : here ≡ element = cc in

@@ -10,16 +10,12 @@ push_layer-requires c = rw c.from-stream.ensures (record {
 
 pub returns-clause-put : goal.returns-clause-put
 returns-clause-put c a stream is =
-    let push = rw c.from-stream.ensures at c.push_layer.ensures in
     let unused : Stream = record { layers = []; count = 0 } in
-    rw (push.put unused)
-    (shows_layer a stream c.args.layer.now c.args.self.now c.view_of_layer.result unused _ refl
-    (omega (arith, push.layers unused, c.requires, layer_room-last c.args.self.now.count c.args.self.now.streams unused c.requires))
-    c.view_of_layer.ensures is)
+    let put = (rw c.from-stream.ensures at c.push_layer.ensures).put unused in
+    rw put.1 (shows_layer a stream c.args.layer.now c.args.self.now unused put.0 (put.3 stream) is)
 
 pub returns-clause-layers : goal.returns-clause-layers
 returns-clause-layers c =
-    let push = rw c.from-stream.ensures at c.push_layer.ensures in
     let unused : Stream = record { layers = []; count = 0 } in
-    rw (push.put unused)
-    (layer_room-more c.args.self.now.count c.args.self.now.streams unused _ c.requires refl)
+    let put = (rw c.from-stream.ensures at c.push_layer.ensures).put unused in
+    rw put.1 (layer_room-more c.args.self.now.count c.args.self.now.streams unused put.0 c.requires put.2)

@@ -1,5 +1,0 @@
-use Rattle.rtp_wire.proofs.Common.{sym, overwritten-nil}
-use Rattle.rtp_wire.proofs.header.block.fill_word.Goals as goal
-
-pub returns-in-0-clause-written : goal.returns-in-0-clause-written
-returns-in-0-clause-written c = rw c.in-0.is (sym (overwritten-nil c.args.buf.now c.args.at))
