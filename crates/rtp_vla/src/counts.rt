@@ -5,6 +5,9 @@ ghost use Rattle.rtp_vla.specs.AllocationReading as reading;
 
 use std::marker::Model;
 
+// The high bit of each count.
+const HIGH_BITS: u64 = 0xAAAA_AAAA;
+
 /// The counts that are left, at most 16.
 #[derive(Drop)]
 pub(super) struct Counts {
@@ -80,18 +83,13 @@ impl Counts {
         count
     }
 
-    // How many rates the counts announce.
+    // How many rates the counts announce, for each one more than it says. A bit that is set adds
+    // one, and the high bit of a count one more.
     pub(super) fn rate_count(&self) -> usize
         ensures { result ≡ reading.rate_count self.now }
     {
-        let mut left = Counts {
-            bits: self.bits,
-            left: self.left,
-        };
-        let mut rates = 0;
-        for _i in 0..self.left {
-            rates += usize::from(left.next()) + 1;
-        }
-        rates
+        let counts = u64::from(self.bits) >> (32 - 2 * self.left);
+        let sum = counts.count_ones() + (counts & HIGH_BITS).count_ones();
+        self.left + sum as usize
     }
 }

@@ -1,6 +1,6 @@
-use Rattle.std.proofs.Common.{arith}
-use Rattle.rtp_vla.proofs.CountsLemmas.{length-counts_in}
+use Rattle.rtp_vla.proofs.Common.{◌*◌, ◌/◌, ◌-◌, ◌^◌, arith, ap, rate_count}
+use Rattle.rtp_vla.proofs.CountsLemmas.{bits_weigh, rate_count-bits}
 use Rattle.rtp_vla.proofs.counts.Counts.rate_count.Goals as goal
 
-pub loop-i-init : goal.loop-i-init
-loop-i-init c = record { rates = omega arith; len = omega (arith, length-counts_in c.self.inside.left c.self.inside.bits); few = omega arith }
+pub returns : goal.returns
+returns c = omega (arith, ap (λ bits. bits_weigh (bits / 2 ^ (32 - 2 * c.self.inside.left))) c.from.ensures, rate_count-bits c.self.inside.left c.self.inside.bits (omega (arith, c.self.invariant)) (omega (arith, c.self.ranges)), ap rate_count c.self.view_is)
