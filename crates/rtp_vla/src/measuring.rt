@@ -34,17 +34,15 @@ fn rates_len(rates: &[TemporalLayerAllocation]) -> Option<usize>
 }
 
 // How many bytes the resolution of a layer has that can be written before others with resolutions.
-fn resolution_len(resolution: &Option<ResolutionAndFramerate>) -> Option<usize>
-    ensures fits { IfSome result (λ len. (written.resolution_fits false resolution.now ≡ true)
-        × (len ≡ length (written.resolution_field resolution.now))) }
-    ensures unfit { IfNone result (written.resolution_fits false resolution.now ≡ false) }
+fn resolution_len(resolution: Option<ResolutionAndFramerate>) -> Option<usize>
+    ensures fits { IfSome result (λ len. (written.resolution_fits false resolution ≡ true)
+        × (len ≡ length (written.resolution_field resolution))) }
+    ensures unfit { IfNone result (written.resolution_fits false resolution ≡ false) }
     ensures few { IfSome result (λ len. len ≤ 5) }
 {
     let Some(resolution) = resolution else {
         return Some(0);
     };
-    // Read for the proof alone, which then knows that it is a byte.
-    let _framerate = resolution.framerate;
     if resolution.width == 0 {
         return None;
     }
@@ -89,7 +87,7 @@ impl Measure {
             self.len += rates;
             return Some(());
         }
-        let resolution = resolution_len(&layer.resolution_and_framerate)?;
+        let resolution = resolution_len(layer.resolution_and_framerate)?;
         self.active += 1;
         self.len += rates + resolution;
         self.is_sized = true;
