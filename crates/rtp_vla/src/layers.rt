@@ -6,7 +6,7 @@ ghost use Rattle.rtp_vla.specs.AllocationReading as reading;
 
 use super::allocation::ResolutionAndFramerate;
 use super::counts::Counts;
-use super::parts::{Rates, put_rates, resolution_at};
+use super::parts::{Rates, resolution_at};
 use std::marker::Model;
 
 /// The active layers that are left to read.
@@ -76,7 +76,7 @@ impl<'a> LayerReader<'a> {
             return None;
         }
         let count = usize::from(self.counts.next()) + 1;
-        self.rates = put_rates(self.rates, count, rates);
+        self.rates = rates.put_rates(self.rates, count);
         let (resolution_and_framerate, resolutions) = resolution_at(self.resolutions);
         self.resolutions = resolutions;
         resolution_and_framerate

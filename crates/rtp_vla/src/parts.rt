@@ -1,16 +1,16 @@
 //! The parts of an allocation, each read by itself.
 
-ghost use Rattle.std.specs.Prelude.{◌≡◌, ◌↔◌, ℕ, ◌+◌, ◌*◌, ◌/◌, ◌<◌, ◌≤◌, [], length, take, slice_index, Some, IsTrue, IfSome, IfNone};
+ghost use Rattle.std.specs.Prelude.{◌≡◌, ◌↔◌, ℕ, ◌+◌, ◌*◌, ◌/◌, ◌<◌, ◌≤◌, length, take, slice_index, Some, IsTrue, IfSome, IfNone};
 ghost use Rattle.std.specs.List.{AllByRecursion};
 ghost use Rattle.rtp_vla.specs.AllocationReading as reading;
 
 use super::allocation::{ResolutionAndFramerate, TemporalLayerAllocation};
 use super::leb::parse_leb_u63;
-use super::up_to::UpTo;
 
-/// Where the rates of a layer are put, one after the other.
+/// Where the rates of a layer are put.
 pub(super) trait Rates {
-    ghost use Rattle.std.specs.Prelude.{ℕ, ◌≡◌, ◌+◌, ◌≤◌, ◌++◌, ◌∷◌, [], List, length};
+    ghost use Rattle.std.specs.Prelude.{ℕ, ◌≡◌, ◌≤◌, [], List};
+    ghost use Rattle.rtp_vla.specs.AllocationReading as reading;
 
     // The rates so far.
     ghost rates: { Self → List ℕ };
@@ -18,13 +18,12 @@ pub(super) trait Rates {
     // How many more there is room for.
     ghost room: { Self → ℕ };
 
-    // Puts a rate after the others, of which there are so many: a list knows it, and elsewhere it is
-    // in a register.
-    fn put(&mut self, count: usize, rate: TemporalLayerAllocation)
-        requires room { 1 ≤ room self.old }
-        requires after { length (rates self.old) ≡ count }
-        ensures rates { rates self.new ≡ rates self.old ++ rate ∷ [] }
-        ensures room { room self.new + 1 ≡ room self.old };
+    // Puts the first `count` rates, and returns the bytes after them.
+    fn put_rates<'a>(&mut self, bytes: &'a [u8], count: usize) -> &'a [u8]
+        requires none { rates self.old ≡ [] }
+        requires room { count ≤ room self.old }
+        ensures rates { rates self.new ≡ reading.rates_of count bytes.now }
+        ensures after { result.now ≡ reading.after_rates count bytes.now };
 }
 
 impl Rates for Vec<TemporalLayerAllocation> {
@@ -34,39 +33,16 @@ impl Rates for Vec<TemporalLayerAllocation> {
 
     ghost room = { λ list. vec_capacity list - vec_len list };
 
-    #[inline(always)]
-    fn put(&mut self, _count: usize, rate: TemporalLayerAllocation) {
-        self.push_reserved(rate);
+    #[inline]
+    fn put_rates<'a>(&mut self, bytes: &'a [u8], count: usize) -> &'a [u8] {
+        let mut after = bytes;
+        for _i in 0..count {
+            let (cumulative_kbps, next) = parse_leb_u63(after);
+            self.push_reserved(TemporalLayerAllocation { cumulative_kbps });
+            after = next;
+        }
+        after
     }
-}
-
-impl Rates for UpTo<TemporalLayerAllocation, 4> {
-    ghost use Rattle.std.specs.Prelude.{◌-◌, length};
-
-    ghost rates = { λ list. list };
-
-    ghost room = { λ list. 4 - length list };
-
-    #[inline(always)]
-    fn put(&mut self, count: usize, rate: TemporalLayerAllocation) {
-        self.push_at(count, rate);
-    }
-}
-
-// Puts the first `count` rates, and returns the bytes after them.
-pub(super) fn put_rates<'a, R: Rates>(bytes: &'a [u8], count: usize, rates: &mut R) -> &'a [u8]
-    requires none { R.rates rates.old ≡ [] }
-    requires room { count ≤ R.room rates.old }
-    ensures rates { R.rates rates.new ≡ reading.rates_of count bytes.now }
-    ensures after { result.now ≡ reading.after_rates count bytes.now }
-{
-    let mut after = bytes;
-    for i in 0..count {
-        let (cumulative_kbps, next) = parse_leb_u63(after);
-        rates.put(i, TemporalLayerAllocation { cumulative_kbps });
-        after = next;
-    }
-    after
 }
 
 // The bytes after the first `count` rates.

@@ -5,6 +5,9 @@ ghost use Rattle.rtp_vla.specs.Allocation.{Stream};
 ghost use Rattle.rtp_vla.specs.AllocationReading.{layer_room};
 ghost use Rattle.rtp_vla.specs.UpTo.{padded};
 
+use super::allocation::TemporalLayerAllocation;
+use super::leb::parse_leb_u63;
+use super::parts::Rates;
 use super::video_layers::{VideoLayer, VideoStream};
 use std::alloc::AllocError;
 use std::marker::Model;
@@ -79,17 +82,6 @@ impl<T: Unused, const N: usize> UpTo<T, N> {
         self.len += 1;
     }
 
-    // The same, where there are so many.
-    #[inline(always)]
-    pub(super) fn push_at(&mut self, len: usize, item: T)
-        requires room { length self.old < N }
-        requires len { length self.old ≡ len }
-        ensures { self.new ≡ self.old ++ item ∷ [] }
-    {
-        self.items[len] = item;
-        self.len = len + 1;
-    }
-
     // The items, and after them what isn't used.
     #[inline(always)]
     pub(super) fn places(&self) -> [T; N]
@@ -116,5 +108,26 @@ impl UpTo<VideoStream, 4> {
             self.new ≡ before ++ (stream ++ layer.now ∷ []) ∷ [] }
     {
         self.items[self.len - 1].push(*layer);
+    }
+}
+
+// The rates go straight into their places, and how many there are is stored once.
+impl Rates for UpTo<TemporalLayerAllocation, 4> {
+    ghost use Rattle.std.specs.Prelude.{◌-◌, length};
+
+    ghost rates = { λ list. list };
+
+    ghost room = { λ list. 4 - length list };
+
+    #[inline]
+    fn put_rates<'a>(&mut self, bytes: &'a [u8], count: usize) -> &'a [u8] {
+        let mut after = bytes;
+        for i in 0..count {
+            let (cumulative_kbps, next) = parse_leb_u63(after);
+            self.items[i] = TemporalLayerAllocation { cumulative_kbps };
+            after = next;
+        }
+        self.len = count;
+        after
     }
 }
