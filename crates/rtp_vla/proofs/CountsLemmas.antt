@@ -34,9 +34,9 @@ counts_in-byte n a rest small below =
     let n4 : (1073741824 * (a % 4) + 64 * rest) * 4 % 4294967296 ≡ 256 * rest = omega arith in
     rw (b0, n1, b1, n2, b2, n3, b3, n4) refl
 
-none : (bits : ℕ) → counts_in 0 bits ≡ []
+pub counts_in-none : (bits : ℕ) → counts_in 0 bits ≡ []
 unfolding counts_in
-none bits = refl
+counts_in-none bits = refl
 
 -- zeros after the bytes are not among their counts
 front : (bytes : List ℕ) (n : ℕ) → length bytes ≤ 4 → n ≤ 4 * length bytes
@@ -62,7 +62,7 @@ counts_in-quarters a b c d a-small b-small c-small d-small =
     ∙ ap (λ xs. b / 64 % 4 ∷ b / 16 % 4 ∷ b / 4 % 4 ∷ b % 4 ∷ xs) (
     ap (counts_in 8) third ∙ counts_in-byte 4 c (65536 * d) c-small (omega arith)
     ∙ ap (λ xs. c / 64 % 4 ∷ c / 16 % 4 ∷ c / 4 % 4 ∷ c % 4 ∷ xs) (
-    ap (counts_in 4) fourth ∙ counts_in-byte 0 d 0 d-small (omega arith) ∙ ap (λ xs. d / 64 % 4 ∷ d / 16 % 4 ∷ d / 4 % 4 ∷ d % 4 ∷ xs) (none 0))))
+    ap (counts_in 4) fourth ∙ counts_in-byte 0 d 0 d-small (omega arith) ∙ ap (λ xs. d / 64 % 4 ∷ d / 16 % 4 ∷ d / 4 % 4 ∷ d % 4 ∷ xs) (counts_in-none 0))))
 
 -- the first counts of more
 counts_in-front : (n m bits : ℕ) → n ≤ m → counts_in n bits ≡ take n (counts_in m bits)

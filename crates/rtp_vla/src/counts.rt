@@ -84,10 +84,14 @@ impl Counts {
     }
 
     // How many rates the counts announce, for each one more than it says. A bit that is set adds
-    // one, and the high bit of a count one more.
+    // one, and the high bit of a count one more. Without counts no bits are looked at, since data of
+    // other kinds often mean an allocation without active layers.
     pub(super) fn rate_count(&self) -> usize
         ensures { result ≡ reading.rate_count self.now }
     {
+        if self.left == 0 {
+            return 0;
+        }
         let counts = u64::from(self.bits) >> (32 - 2 * self.left);
         let sum = counts.count_ones() + (counts & HIGH_BITS).count_ones();
         self.left + sum as usize
