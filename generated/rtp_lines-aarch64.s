@@ -2,8 +2,8 @@
  * rtp_lines for Linux on aarch64: the assembly text that Rattle's compiler makes of the program, each function of which is proved.
  * Made anew by: generated/make
  * kit: rattle-kit-13f logic dac8208d650f15bf
- * sources: 5d856ad6595183ad005d1e6aae0a3ded560495241fe2c0d931486f6d8fe6b4d9
- * text: 8d7d381e8429e844c0fa40fd4a8c068063c7bfb120812c0f8cb26af0477e283e
+ * sources: 7bf05a8d7e95741dce19905152db5d3af7b9098f8794ed3540ec3053d4024786
+ * text: b538b20f8096526d8dc562bb97df2205c5e851f01b8a0e3be49a44cafe449ecb
  * SPDX-License-Identifier: MIT OR Apache-2.0
  * Copyright (c) 2026 The rtp-wire developers (NOTICE)
  */
@@ -8034,59 +8034,74 @@
 	add	sp, sp, #80
 	ret
 .Lrtp_BB8_17:
-	mov	x9, x21
 	cbz	x10, .Lrtp_BB8_20
 	cmp	x10, #1
 	b.ne	.Lrtp_BB8_21
-	ldrb	w11, [x8]
-	lsl	w11, w11, #24
-	cbnz	w21, .Lrtp_BB8_27
-	b	.Lrtp_BB8_42
+	ldrb	w9, [x8]
+	lsl	w9, w9, #24
+	cbnz	w21, .Lrtp_BB8_28
+	b	.Lrtp_BB8_23
 .Lrtp_BB8_20:
-	mov	w11, wzr
-	cbnz	w21, .Lrtp_BB8_27
-	b	.Lrtp_BB8_42
+	mov	w9, wzr
+	cbnz	w21, .Lrtp_BB8_28
+	b	.Lrtp_BB8_23
 .Lrtp_BB8_21:
 	cmp	w21, #8
-	b.hi	.Lrtp_BB8_23
-	ldrh	w11, [x8]
-	rev	w11, w11
-	cbnz	w21, .Lrtp_BB8_27
-	b	.Lrtp_BB8_42
+	b.hi	.Lrtp_BB8_24
+	ldrh	w9, [x8]
+	rev	w9, w9
+	cbnz	w21, .Lrtp_BB8_28
 .Lrtp_BB8_23:
+	mov	w0, #1
+	ldp	x20, x19, [sp, #64]
+	ldp	x22, x21, [sp, #48]
+	ldp	x29, x30, [sp, #32]
+	add	sp, sp, #80
+	ret
+.Lrtp_BB8_24:
 	cmp	x10, #3
-	b.ne	.Lrtp_BB8_25
-	ldrb	w11, [x8, #2]
-	ldrh	w12, [x8]
-	orr	w11, w12, w11, lsl #16
-	b	.Lrtp_BB8_26
-.Lrtp_BB8_25:
-	ldr	w11, [x8]
+	b.ne	.Lrtp_BB8_26
+	ldrb	w9, [x8, #2]
+	ldrh	w11, [x8]
+	orr	w9, w11, w9, lsl #16
+	b	.Lrtp_BB8_27
 .Lrtp_BB8_26:
-	rev	w11, w11
+	ldr	w9, [x8]
 .Lrtp_BB8_27:
-	mov	x12, xzr
-	add	x20, x8, x10
+	rev	w9, w9
 .Lrtp_BB8_28:
-	lsr	w13, w11, #30
-	mov	w8, w11
-	mov	x10, x12
-	lsl	w11, w11, #2
-	subs	x9, x9, #1
-	add	w12, w13, #1
-	add	x12, x10, x12
-	b.ne	.Lrtp_BB8_28
-	cbz	x12, .Lrtp_BB8_41
-	mov	w8, w8
-	add	x8, x10, x8, lsr #30
-	add	x22, x8, #1
-	b	.Lrtp_BB8_33
+	mov	w11, #32
+	mov	w9, w9
+	add	x20, x8, x10
+	sub	x11, x11, x21, lsl #1
+	lsr	x9, x9, x11
+	and	w11, w9, #0xaaaaaaaa
+	fmov	d1, x9
+	fmov	s0, w11
+	cnt	v1.8b, v1.8b
+	cnt	v0.8b, v0.8b
+	addv	b1, v1.8b
+	addv	b0, v0.8b
+	fmov	w9, s1
+	fmov	w11, s0
+	add	x9, x9, x21
+	adds	x22, x9, x11
+	b.ne	.Lrtp_BB8_33
+.Lrtp_BB8_29:
+	subs	x9, x19, #5
+	b.hs	.Lrtp_BB8_41
+	mov	w0, #1
+	ldp	x20, x19, [sp, #64]
+	ldp	x22, x21, [sp, #48]
+	ldp	x29, x30, [sp, #32]
+	add	sp, sp, #80
+	ret
 .Lrtp_BB8_31:
 	sub	x19, x19, #1
 	add	x20, x20, #1
 .Lrtp_BB8_32:
 	subs	x22, x22, #1
-	b.eq	.Lrtp_BB8_41
+	b.eq	.Lrtp_BB8_29
 .Lrtp_BB8_33:
 	cbz	x19, .Lrtp_BB8_32
 	ldrsb	w8, [x20]
@@ -8111,18 +8126,8 @@
 	sub	x19, x19, x8
 	b	.Lrtp_BB8_32
 .Lrtp_BB8_41:
-	subs	x9, x19, #5
-	b.hs	.Lrtp_BB8_43
-.Lrtp_BB8_42:
-	mov	w0, #1
-	ldp	x20, x19, [sp, #64]
-	ldp	x22, x21, [sp, #48]
-	ldp	x29, x30, [sp, #32]
-	add	sp, sp, #80
-	ret
-.Lrtp_BB8_43:
 	mov	w8, #1
-.Lrtp_BB8_44:
+.Lrtp_BB8_42:
 	ldrh	w10, [x20]
 	rev	w11, w10
 	mov	w10, #65535
@@ -8139,7 +8144,7 @@
 	sub	x9, x9, #5
 	add	x8, x8, #1
 	add	x20, x20, #5
-	b.hs	.Lrtp_BB8_44
+	b.hs	.Lrtp_BB8_42
 	b	.Lrtp_BB8_16
 .Lrtp_func_end8:
 	.size	"rtp_ext::block_values::is_another_allocation", .Lrtp_func_end8-"rtp_ext::block_values::is_another_allocation"
@@ -8421,7 +8426,6 @@
 	subs	x22, x9, x10
 	b.lo	.Lrtp_BB10_36
 .Lrtp_BB10_28:
-	mov	x9, x20
 	add	x21, x8, x10
 	cbz	x10, .Lrtp_BB10_31
 	cmp	x10, #1
@@ -8431,13 +8435,13 @@
 	mov	x24, x22
 	mov	x23, x21
 	cbnz	w20, .Lrtp_BB10_42
-	b	.Lrtp_BB10_58
+	b	.Lrtp_BB10_56
 .Lrtp_BB10_31:
 	mov	w25, wzr
 	mov	x24, x22
 	mov	x23, x21
 	cbnz	w20, .Lrtp_BB10_42
-	b	.Lrtp_BB10_58
+	b	.Lrtp_BB10_56
 .Lrtp_BB10_32:
 	cmp	w20, #8
 	b.hi	.Lrtp_BB10_38
@@ -8446,7 +8450,7 @@
 	mov	x24, x22
 	mov	x23, x21
 	cbnz	w20, .Lrtp_BB10_42
-	b	.Lrtp_BB10_58
+	b	.Lrtp_BB10_56
 .Lrtp_BB10_34:
 	cbz	x22, .Lrtp_BB10_36
 	mov	x0, x21
@@ -8465,85 +8469,86 @@
 .Lrtp_BB10_38:
 	cmp	x10, #3
 	b.ne	.Lrtp_BB10_40
-	ldrb	w10, [x8, #2]
+	ldrb	w9, [x8, #2]
 	ldrh	w8, [x8]
-	orr	w8, w8, w10, lsl #16
+	orr	w8, w8, w9, lsl #16
 	b	.Lrtp_BB10_41
 .Lrtp_BB10_40:
 	ldr	w8, [x8]
 .Lrtp_BB10_41:
 	rev	w25, w8
 .Lrtp_BB10_42:
-	mov	x11, xzr
+	mov	w8, #32
+	mov	w9, w25
 	mov	w26, w25
-	mov	w12, w25
-.Lrtp_BB10_43:
-	lsr	w13, w12, #30
-	mov	w8, w12
-	mov	x10, x11
-	lsl	w12, w12, #2
-	subs	x9, x9, #1
-	add	w11, w13, #1
-	add	x11, x10, x11
-	b.ne	.Lrtp_BB10_43
+	sub	x8, x8, x20, lsl #1
 	mov	x23, x21
 	mov	x24, x22
-	cbz	x11, .Lrtp_BB10_56
-	mov	w8, w8
+	lsr	x8, x9, x8
+	and	w9, w8, #0xaaaaaaaa
+	fmov	d1, x8
+	fmov	s0, w9
+	cnt	v1.8b, v1.8b
+	cnt	v0.8b, v0.8b
+	addv	b1, v1.8b
+	addv	b0, v0.8b
+	fmov	w8, s1
+	fmov	w9, s0
+	add	x8, x8, x20
+	adds	x25, x8, x9
+	b.eq	.Lrtp_BB10_54
 	mov	x24, x22
 	mov	x23, x21
-	add	x8, x10, x8, lsr #30
-	add	x25, x8, #1
-	b	.Lrtp_BB10_48
-.Lrtp_BB10_46:
+	b	.Lrtp_BB10_46
+.Lrtp_BB10_44:
 	sub	x24, x24, #1
 	add	x23, x23, #1
-.Lrtp_BB10_47:
+.Lrtp_BB10_45:
 	subs	x25, x25, #1
-	b.eq	.Lrtp_BB10_56
-.Lrtp_BB10_48:
-	cbz	x24, .Lrtp_BB10_47
+	b.eq	.Lrtp_BB10_54
+.Lrtp_BB10_46:
+	cbz	x24, .Lrtp_BB10_45
 	ldrsb	w8, [x23]
-	tbz	w8, #31, .Lrtp_BB10_46
+	tbz	w8, #31, .Lrtp_BB10_44
 	cmp	x24, #1
-	b.eq	.Lrtp_BB10_53
+	b.eq	.Lrtp_BB10_51
 	ldrsb	w8, [x23, #1]
-	tbnz	w8, #31, .Lrtp_BB10_53
+	tbnz	w8, #31, .Lrtp_BB10_51
 	mov	w8, #2
-	b	.Lrtp_BB10_55
-.Lrtp_BB10_53:
+	b	.Lrtp_BB10_53
+.Lrtp_BB10_51:
 	sub	x0, x29, #32
 	mov	x1, x23
 	mov	x2, x24
 	bl	"rtp_vla::leb::long_number_at"
 	ldurb	w8, [x29, #-32]
 	cmp	w8, #1
-	b.ne	.Lrtp_BB10_47
+	b.ne	.Lrtp_BB10_45
 	ldur	x8, [x29, #-16]
-.Lrtp_BB10_55:
+.Lrtp_BB10_53:
 	add	x23, x23, x8
 	sub	x24, x24, x8
-	b	.Lrtp_BB10_47
-.Lrtp_BB10_56:
+	b	.Lrtp_BB10_45
+.Lrtp_BB10_54:
 	subs	x9, x24, #5
-	b.hs	.Lrtp_BB10_116
+	b.hs	.Lrtp_BB10_114
 	mov	w25, w26
-.Lrtp_BB10_58:
+.Lrtp_BB10_56:
 	add	x8, x28, x28, lsl #1
 	mov	w1, #8
 	lsl	x0, x8, #3
 	bl	rattle_alloc
 	str	x1, [sp, #48]
-	tbz	w0, #0, .Lrtp_BB10_171
+	tbz	w0, #0, .Lrtp_BB10_169
 	lsr	w8, w19, #6
 	mov	x20, xzr
 	str	x27, [sp, #24]
 	stp	x8, x28, [sp, #8]
-	b	.Lrtp_BB10_62
-.Lrtp_BB10_60:
+	b	.Lrtp_BB10_60
+.Lrtp_BB10_58:
 	ldp	x28, x27, [sp, #16]
 	ldp	x10, x20, [sp, #32]
-.Lrtp_BB10_61:
+.Lrtp_BB10_59:
 	mov	w8, #24
 	ldr	x9, [sp, #48]
 	madd	x8, x20, x8, x9
@@ -8551,34 +8556,34 @@
 	cmp	x20, x28
 	stp	x13, x26, [x8]
 	str	x10, [x8, #16]
-	b.eq	.Lrtp_BB10_172
-.Lrtp_BB10_62:
+	b.eq	.Lrtp_BB10_170
+.Lrtp_BB10_60:
 	sub	x8, x29, #36
 	mov	w9, #32
 	ldrb	w19, [x8, x20]
 	clz	w8, w19
 	sub	w8, w9, w8
 	and	x10, x8, #0xff
-	cbz	w19, .Lrtp_BB10_115
+	cbz	w19, .Lrtp_BB10_113
 	lsl	x0, x10, #5
 	mov	w1, #8
 	str	x10, [sp, #32]
 	bl	rattle_alloc
 	stur	x1, [x29, #-48]
-	tbz	w0, #0, .Lrtp_BB10_146
+	tbz	w0, #0, .Lrtp_BB10_144
 	ldur	x13, [x29, #-48]
 	str	x20, [sp, #40]
 	mov	x20, xzr
 	mov	x26, xzr
-	b	.Lrtp_BB10_67
-.Lrtp_BB10_65:
+	b	.Lrtp_BB10_65
+.Lrtp_BB10_63:
 	mov	x28, xzr
 	mov	w9, wzr
 	mov	w8, wzr
 	mov	w10, wzr
 	mov	w11, wzr
 	sub	x1, x29, #8
-.Lrtp_BB10_66:
+.Lrtp_BB10_64:
 	ubfx	w19, w19, #1, #7
 	add	x12, x13, x20
 	add	x26, x26, #1
@@ -8590,41 +8595,41 @@
 	strh	w10, [x12, #28]
 	strb	w8, [x12, #30]
 	strb	wzr, [x12, #31]
-	cbz	w19, .Lrtp_BB10_60
-.Lrtp_BB10_67:
-	tbz	w19, #0, .Lrtp_BB10_65
+	cbz	w19, .Lrtp_BB10_58
+.Lrtp_BB10_65:
+	tbz	w19, #0, .Lrtp_BB10_63
 	lsr	w27, w25, #30
 	mov	w1, #8
 	add	w28, w27, #1
 	ubfiz	x0, x28, #3, #32
 	bl	rattle_alloc
-	tbz	w0, #0, .Lrtp_BB10_121
-	cbz	x22, .Lrtp_BB10_72
+	tbz	w0, #0, .Lrtp_BB10_119
+	cbz	x22, .Lrtp_BB10_70
 	ldrsb	x8, [x21]
-	tbnz	x8, #63, .Lrtp_BB10_73
+	tbnz	x8, #63, .Lrtp_BB10_71
 	sub	x22, x22, #1
 	add	x21, x21, #1
 	str	x8, [x1]
-	cbnz	w27, .Lrtp_BB10_78
-	b	.Lrtp_BB10_89
-.Lrtp_BB10_72:
+	cbnz	w27, .Lrtp_BB10_76
+	b	.Lrtp_BB10_87
+.Lrtp_BB10_70:
 	str	xzr, [x1]
-	cbnz	w27, .Lrtp_BB10_78
-	b	.Lrtp_BB10_89
-.Lrtp_BB10_73:
+	cbnz	w27, .Lrtp_BB10_76
+	b	.Lrtp_BB10_87
+.Lrtp_BB10_71:
 	cmp	x22, #1
-	b.eq	.Lrtp_BB10_76
+	b.eq	.Lrtp_BB10_74
 	ldrsb	x9, [x21, #1]
-	tbnz	x9, #63, .Lrtp_BB10_76
+	tbnz	x9, #63, .Lrtp_BB10_74
 	and	x8, x8, #0x7f
 	orr	x8, x8, x9, lsl #7
 	mov	w9, #2
 	add	x21, x21, x9
 	sub	x22, x22, x9
 	str	x8, [x1]
-	cbnz	w27, .Lrtp_BB10_78
-	b	.Lrtp_BB10_89
-.Lrtp_BB10_76:
+	cbnz	w27, .Lrtp_BB10_76
+	b	.Lrtp_BB10_87
+.Lrtp_BB10_74:
 	stur	w25, [x29, #-52]
 	mov	x25, x1
 	sub	x0, x29, #32
@@ -8633,42 +8638,42 @@
 	bl	"rtp_vla::leb::long_number_at"
 	ldurb	w8, [x29, #-32]
 	cmp	w8, #1
-	b.ne	.Lrtp_BB10_88
+	b.ne	.Lrtp_BB10_86
 	ldp	x8, x9, [x29, #-24]
 	mov	x1, x25
 	ldur	w25, [x29, #-52]
 	add	x21, x21, x9
 	sub	x22, x22, x9
 	str	x8, [x1]
-	cbz	w27, .Lrtp_BB10_89
-.Lrtp_BB10_78:
-	cbz	x22, .Lrtp_BB10_81
+	cbz	w27, .Lrtp_BB10_87
+.Lrtp_BB10_76:
+	cbz	x22, .Lrtp_BB10_79
 	ldrsb	w9, [x21]
 	and	x8, x9, #0xff
-	tbnz	w9, #31, .Lrtp_BB10_82
+	tbnz	w9, #31, .Lrtp_BB10_80
 	sub	x22, x22, #1
 	add	x21, x21, #1
 	ldur	x13, [x29, #-48]
 	cmp	w28, #2
 	str	x8, [x1, #8]
-	b.ne	.Lrtp_BB10_91
-	b	.Lrtp_BB10_100
-.Lrtp_BB10_81:
+	b.ne	.Lrtp_BB10_89
+	b	.Lrtp_BB10_98
+.Lrtp_BB10_79:
 	ldur	x13, [x29, #-48]
 	cmp	w28, #2
 	str	xzr, [x1, #8]
-	b.ne	.Lrtp_BB10_91
-	b	.Lrtp_BB10_100
-.Lrtp_BB10_82:
+	b.ne	.Lrtp_BB10_89
+	b	.Lrtp_BB10_98
+.Lrtp_BB10_80:
 	cmp	x22, #1
-	b.eq	.Lrtp_BB10_85
+	b.eq	.Lrtp_BB10_83
 	ldrsb	x9, [x21, #1]
-	tbnz	x9, #63, .Lrtp_BB10_85
+	tbnz	x9, #63, .Lrtp_BB10_83
 	and	x8, x8, #0x7f
 	orr	x8, x8, x9, lsl #7
 	mov	w9, #2
-	b	.Lrtp_BB10_87
-.Lrtp_BB10_85:
+	b	.Lrtp_BB10_85
+.Lrtp_BB10_83:
 	mov	x8, x21
 	mov	w21, w25
 	mov	x25, x1
@@ -8679,59 +8684,59 @@
 	bl	"rtp_vla::leb::long_number_at"
 	ldurb	w8, [x29, #-32]
 	cmp	w8, #1
-	b.ne	.Lrtp_BB10_90
+	b.ne	.Lrtp_BB10_88
 	ldp	x8, x9, [x29, #-24]
 	mov	x1, x25
 	mov	w25, w21
 	mov	x21, x27
-.Lrtp_BB10_87:
+.Lrtp_BB10_85:
 	add	x21, x21, x9
 	sub	x22, x22, x9
 	ldur	x13, [x29, #-48]
 	cmp	w28, #2
 	str	x8, [x1, #8]
-	b.ne	.Lrtp_BB10_91
-	b	.Lrtp_BB10_100
-.Lrtp_BB10_88:
+	b.ne	.Lrtp_BB10_89
+	b	.Lrtp_BB10_98
+.Lrtp_BB10_86:
 	mov	x1, x25
 	ldur	w25, [x29, #-52]
 	str	xzr, [x1]
-	cbnz	w27, .Lrtp_BB10_78
-.Lrtp_BB10_89:
+	cbnz	w27, .Lrtp_BB10_76
+.Lrtp_BB10_87:
 	ldur	x13, [x29, #-48]
 	lsl	w25, w25, #2
 	subs	x12, x24, #5
-	b.lo	.Lrtp_BB10_101
-	b	.Lrtp_BB10_114
-.Lrtp_BB10_90:
+	b.lo	.Lrtp_BB10_99
+	b	.Lrtp_BB10_112
+.Lrtp_BB10_88:
 	mov	x1, x25
 	mov	w25, w21
 	mov	x21, x27
 	ldur	x13, [x29, #-48]
 	cmp	w28, #2
 	str	xzr, [x1, #8]
-	b.eq	.Lrtp_BB10_100
-.Lrtp_BB10_91:
-	cbz	x22, .Lrtp_BB10_94
+	b.eq	.Lrtp_BB10_98
+.Lrtp_BB10_89:
+	cbz	x22, .Lrtp_BB10_92
 	ldrsb	w9, [x21]
 	and	x8, x9, #0xff
-	tbnz	w9, #31, .Lrtp_BB10_95
+	tbnz	w9, #31, .Lrtp_BB10_93
 	sub	x22, x22, #1
 	add	x21, x21, #1
 	cmp	w28, #3
 	str	x8, [x1, #16]
-	b.eq	.Lrtp_BB10_100
-	b	.Lrtp_BB10_103
-.Lrtp_BB10_94:
+	b.eq	.Lrtp_BB10_98
+	b	.Lrtp_BB10_101
+.Lrtp_BB10_92:
 	cmp	w28, #3
 	str	xzr, [x1, #16]
-	b.eq	.Lrtp_BB10_100
-	b	.Lrtp_BB10_103
-.Lrtp_BB10_95:
-	cmp	x22, #1
 	b.eq	.Lrtp_BB10_98
+	b	.Lrtp_BB10_101
+.Lrtp_BB10_93:
+	cmp	x22, #1
+	b.eq	.Lrtp_BB10_96
 	ldrsb	x9, [x21, #1]
-	tbnz	x9, #63, .Lrtp_BB10_98
+	tbnz	x9, #63, .Lrtp_BB10_96
 	and	x8, x8, #0x7f
 	orr	x8, x8, x9, lsl #7
 	mov	w9, #2
@@ -8739,9 +8744,9 @@
 	sub	x22, x22, x9
 	cmp	w28, #3
 	str	x8, [x1, #16]
-	b.eq	.Lrtp_BB10_100
-	b	.Lrtp_BB10_103
-.Lrtp_BB10_98:
+	b.eq	.Lrtp_BB10_98
+	b	.Lrtp_BB10_101
+.Lrtp_BB10_96:
 	mov	x8, x21
 	mov	w21, w25
 	mov	x25, x1
@@ -8752,7 +8757,7 @@
 	bl	"rtp_vla::leb::long_number_at"
 	ldurb	w8, [x29, #-32]
 	cmp	w8, #1
-	b.ne	.Lrtp_BB10_102
+	b.ne	.Lrtp_BB10_100
 	ldp	x8, x9, [x29, #-24]
 	mov	x1, x25
 	ldur	x13, [x29, #-48]
@@ -8761,53 +8766,53 @@
 	sub	x22, x22, x9
 	cmp	w28, #3
 	str	x8, [x1, #16]
-	b.ne	.Lrtp_BB10_103
-.Lrtp_BB10_100:
+	b.ne	.Lrtp_BB10_101
+.Lrtp_BB10_98:
 	lsl	w25, w25, #2
 	subs	x12, x24, #5
-	b.hs	.Lrtp_BB10_114
-.Lrtp_BB10_101:
+	b.hs	.Lrtp_BB10_112
+.Lrtp_BB10_99:
 	mov	w9, wzr
 	mov	w8, wzr
 	mov	w10, wzr
 	mov	w11, wzr
-	b	.Lrtp_BB10_66
-.Lrtp_BB10_102:
+	b	.Lrtp_BB10_64
+.Lrtp_BB10_100:
 	ldur	x13, [x29, #-48]
 	mov	x1, x25
 	mov	w25, w21
 	mov	x21, x27
 	cmp	w28, #3
 	str	xzr, [x1, #16]
-	b.eq	.Lrtp_BB10_100
-.Lrtp_BB10_103:
-	cbz	x22, .Lrtp_BB10_106
+	b.eq	.Lrtp_BB10_98
+.Lrtp_BB10_101:
+	cbz	x22, .Lrtp_BB10_104
 	ldrsb	w9, [x21]
 	and	x8, x9, #0xff
-	tbnz	w9, #31, .Lrtp_BB10_107
+	tbnz	w9, #31, .Lrtp_BB10_105
 	sub	x22, x22, #1
 	add	x21, x21, #1
 	str	x8, [x1, #24]
 	lsl	w25, w25, #2
 	subs	x12, x24, #5
-	b.lo	.Lrtp_BB10_101
-	b	.Lrtp_BB10_114
-.Lrtp_BB10_106:
+	b.lo	.Lrtp_BB10_99
+	b	.Lrtp_BB10_112
+.Lrtp_BB10_104:
 	str	xzr, [x1, #24]
 	lsl	w25, w25, #2
 	subs	x12, x24, #5
-	b.lo	.Lrtp_BB10_101
-	b	.Lrtp_BB10_114
-.Lrtp_BB10_107:
+	b.lo	.Lrtp_BB10_99
+	b	.Lrtp_BB10_112
+.Lrtp_BB10_105:
 	cmp	x22, #1
-	b.eq	.Lrtp_BB10_110
+	b.eq	.Lrtp_BB10_108
 	ldrsb	x9, [x21, #1]
-	tbnz	x9, #63, .Lrtp_BB10_110
+	tbnz	x9, #63, .Lrtp_BB10_108
 	and	x8, x8, #0x7f
 	orr	x8, x8, x9, lsl #7
 	mov	w9, #2
-	b	.Lrtp_BB10_112
-.Lrtp_BB10_110:
+	b	.Lrtp_BB10_110
+.Lrtp_BB10_108:
 	mov	x8, x21
 	mov	w21, w25
 	mov	x25, x1
@@ -8818,21 +8823,21 @@
 	bl	"rtp_vla::leb::long_number_at"
 	ldurb	w8, [x29, #-32]
 	cmp	w8, #1
-	b.ne	.Lrtp_BB10_113
+	b.ne	.Lrtp_BB10_111
 	ldp	x8, x9, [x29, #-24]
 	mov	x1, x25
 	ldur	x13, [x29, #-48]
 	mov	w25, w21
 	mov	x21, x27
-.Lrtp_BB10_112:
+.Lrtp_BB10_110:
 	add	x21, x21, x9
 	sub	x22, x22, x9
 	str	x8, [x1, #24]
 	lsl	w25, w25, #2
 	subs	x12, x24, #5
-	b.lo	.Lrtp_BB10_101
-	b	.Lrtp_BB10_114
-.Lrtp_BB10_113:
+	b.lo	.Lrtp_BB10_99
+	b	.Lrtp_BB10_112
+.Lrtp_BB10_111:
 	ldur	x13, [x29, #-48]
 	mov	x1, x25
 	mov	w25, w21
@@ -8840,8 +8845,8 @@
 	str	xzr, [x1, #24]
 	lsl	w25, w25, #2
 	subs	x12, x24, #5
-	b.lo	.Lrtp_BB10_101
-.Lrtp_BB10_114:
+	b.lo	.Lrtp_BB10_99
+.Lrtp_BB10_112:
 	ldrh	w8, [x23]
 	ldrh	w9, [x23, #2]
 	mov	x24, x12
@@ -8854,16 +8859,16 @@
 	add	w11, w10, #1
 	add	w10, w9, #1
 	mov	w9, #1
-	b	.Lrtp_BB10_66
-.Lrtp_BB10_115:
+	b	.Lrtp_BB10_64
+.Lrtp_BB10_113:
 	mov	x26, xzr
 	sub	x13, x29, #8
-	b	.Lrtp_BB10_61
-.Lrtp_BB10_116:
+	b	.Lrtp_BB10_59
+.Lrtp_BB10_114:
 	mov	w8, #1
 	mov	x10, x23
 	mov	w25, w26
-.Lrtp_BB10_117:
+.Lrtp_BB10_115:
 	ldrh	w11, [x10]
 	rev	w12, w11
 	mov	w11, #65535
@@ -8874,147 +8879,147 @@
 	cmp	w11, w12, lsr #16
 	b.eq	.Lrtp_BB10_36
 	cmp	x8, x20
-	b.hs	.Lrtp_BB10_58
+	b.hs	.Lrtp_BB10_56
 	cmp	x9, #5
 	sub	x9, x9, #5
 	add	x8, x8, #1
 	add	x10, x10, #5
-	b.hs	.Lrtp_BB10_117
-	b	.Lrtp_BB10_58
-.Lrtp_BB10_121:
+	b.hs	.Lrtp_BB10_115
+	b	.Lrtp_BB10_56
+.Lrtp_BB10_119:
 	ldur	x19, [x29, #-48]
-	cbz	x20, .Lrtp_BB10_145
+	cbz	x20, .Lrtp_BB10_143
 	ldr	x8, [x19, #16]
-	cbz	x8, .Lrtp_BB10_124
+	cbz	x8, .Lrtp_BB10_122
 	ldr	x0, [x19]
 	bl	rattle_dealloc
-.Lrtp_BB10_124:
+.Lrtp_BB10_122:
 	cmp	x20, #32
-	b.eq	.Lrtp_BB10_145
+	b.eq	.Lrtp_BB10_143
 	ldr	x8, [x19, #48]
-	cbz	x8, .Lrtp_BB10_127
+	cbz	x8, .Lrtp_BB10_125
 	ldr	x0, [x19, #32]
 	bl	rattle_dealloc
-.Lrtp_BB10_127:
+.Lrtp_BB10_125:
 	cmp	x20, #64
-	b.eq	.Lrtp_BB10_145
+	b.eq	.Lrtp_BB10_143
 	ldr	x8, [x19, #80]
-	cbz	x8, .Lrtp_BB10_130
+	cbz	x8, .Lrtp_BB10_128
 	ldr	x0, [x19, #64]
 	bl	rattle_dealloc
-.Lrtp_BB10_130:
+.Lrtp_BB10_128:
 	cmp	x20, #96
-	b.eq	.Lrtp_BB10_145
+	b.eq	.Lrtp_BB10_143
 	ldr	x8, [x19, #112]
-	cbz	x8, .Lrtp_BB10_133
+	cbz	x8, .Lrtp_BB10_131
 	ldr	x0, [x19, #96]
 	bl	rattle_dealloc
-.Lrtp_BB10_133:
+.Lrtp_BB10_131:
 	cmp	x20, #128
-	b.eq	.Lrtp_BB10_145
+	b.eq	.Lrtp_BB10_143
 	ldr	x8, [x19, #144]
-	cbz	x8, .Lrtp_BB10_136
+	cbz	x8, .Lrtp_BB10_134
 	ldr	x0, [x19, #128]
 	bl	rattle_dealloc
-.Lrtp_BB10_136:
+.Lrtp_BB10_134:
 	cmp	x20, #160
-	b.eq	.Lrtp_BB10_145
+	b.eq	.Lrtp_BB10_143
 	ldr	x8, [x19, #176]
-	cbz	x8, .Lrtp_BB10_139
+	cbz	x8, .Lrtp_BB10_137
 	ldr	x0, [x19, #160]
 	bl	rattle_dealloc
-.Lrtp_BB10_139:
+.Lrtp_BB10_137:
 	cmp	x20, #192
-	b.eq	.Lrtp_BB10_145
+	b.eq	.Lrtp_BB10_143
 	ldr	x8, [x19, #208]
-	cbz	x8, .Lrtp_BB10_142
+	cbz	x8, .Lrtp_BB10_140
 	ldr	x0, [x19, #192]
 	bl	rattle_dealloc
-.Lrtp_BB10_142:
+.Lrtp_BB10_140:
 	cmp	x20, #224
-	b.eq	.Lrtp_BB10_145
+	b.eq	.Lrtp_BB10_143
 	ldr	x8, [x19, #240]
-	cbz	x8, .Lrtp_BB10_145
+	cbz	x8, .Lrtp_BB10_143
 	ldr	x0, [x19, #224]
 	bl	rattle_dealloc
-.Lrtp_BB10_145:
+.Lrtp_BB10_143:
 	mov	x0, x19
 	bl	rattle_dealloc
 	ldr	x20, [sp, #40]
-.Lrtp_BB10_146:
+.Lrtp_BB10_144:
 	ldr	x23, [sp, #48]
-	cbz	x20, .Lrtp_BB10_170
+	cbz	x20, .Lrtp_BB10_168
 	mov	x24, x20
 	ldp	x19, x20, [x23]
 	ldr	x21, [x23, #16]
-	cbz	x20, .Lrtp_BB10_152
+	cbz	x20, .Lrtp_BB10_150
 	add	x22, x19, #16
-	b	.Lrtp_BB10_150
-.Lrtp_BB10_149:
+	b	.Lrtp_BB10_148
+.Lrtp_BB10_147:
 	subs	x20, x20, #1
 	add	x22, x22, #32
-	b.eq	.Lrtp_BB10_152
-.Lrtp_BB10_150:
+	b.eq	.Lrtp_BB10_150
+.Lrtp_BB10_148:
 	ldr	x8, [x22]
-	cbz	x8, .Lrtp_BB10_149
+	cbz	x8, .Lrtp_BB10_147
 	ldur	x0, [x22, #-16]
 	bl	rattle_dealloc
-	b	.Lrtp_BB10_149
-.Lrtp_BB10_152:
-	cbz	x21, .Lrtp_BB10_154
+	b	.Lrtp_BB10_147
+.Lrtp_BB10_150:
+	cbz	x21, .Lrtp_BB10_152
 	mov	x0, x19
 	bl	rattle_dealloc
-.Lrtp_BB10_154:
+.Lrtp_BB10_152:
 	cmp	x24, #1
-	b.eq	.Lrtp_BB10_170
+	b.eq	.Lrtp_BB10_168
 	ldp	x19, x20, [x23, #24]
 	ldr	x21, [x23, #40]
-	cbz	x20, .Lrtp_BB10_160
+	cbz	x20, .Lrtp_BB10_158
 	add	x22, x19, #16
-	b	.Lrtp_BB10_158
-.Lrtp_BB10_157:
+	b	.Lrtp_BB10_156
+.Lrtp_BB10_155:
 	subs	x20, x20, #1
 	add	x22, x22, #32
-	b.eq	.Lrtp_BB10_160
-.Lrtp_BB10_158:
+	b.eq	.Lrtp_BB10_158
+.Lrtp_BB10_156:
 	ldr	x8, [x22]
-	cbz	x8, .Lrtp_BB10_157
+	cbz	x8, .Lrtp_BB10_155
 	ldur	x0, [x22, #-16]
 	bl	rattle_dealloc
-	b	.Lrtp_BB10_157
-.Lrtp_BB10_160:
-	cbz	x21, .Lrtp_BB10_162
+	b	.Lrtp_BB10_155
+.Lrtp_BB10_158:
+	cbz	x21, .Lrtp_BB10_160
 	mov	x0, x19
 	bl	rattle_dealloc
-.Lrtp_BB10_162:
+.Lrtp_BB10_160:
 	cmp	x24, #2
-	b.eq	.Lrtp_BB10_170
+	b.eq	.Lrtp_BB10_168
 	ldp	x19, x20, [x23, #48]
 	ldr	x21, [x23, #64]
-	cbz	x20, .Lrtp_BB10_168
+	cbz	x20, .Lrtp_BB10_166
 	add	x22, x19, #16
-	b	.Lrtp_BB10_166
-.Lrtp_BB10_165:
+	b	.Lrtp_BB10_164
+.Lrtp_BB10_163:
 	subs	x20, x20, #1
 	add	x22, x22, #32
-	b.eq	.Lrtp_BB10_168
-.Lrtp_BB10_166:
+	b.eq	.Lrtp_BB10_166
+.Lrtp_BB10_164:
 	ldr	x8, [x22]
-	cbz	x8, .Lrtp_BB10_165
+	cbz	x8, .Lrtp_BB10_163
 	ldur	x0, [x22, #-16]
 	bl	rattle_dealloc
-	b	.Lrtp_BB10_165
-.Lrtp_BB10_168:
-	cbz	x21, .Lrtp_BB10_170
+	b	.Lrtp_BB10_163
+.Lrtp_BB10_166:
+	cbz	x21, .Lrtp_BB10_168
 	mov	x0, x19
 	bl	rattle_dealloc
-.Lrtp_BB10_170:
+.Lrtp_BB10_168:
 	mov	x0, x23
 	bl	rattle_dealloc
-.Lrtp_BB10_171:
+.Lrtp_BB10_169:
 	mov	w0, #1
 	b	.Lrtp_BB10_37
-.Lrtp_BB10_172:
+.Lrtp_BB10_170:
 	ldr	x10, [sp, #48]
 	ldr	x11, [sp, #8]
 	b	.Lrtp_BB10_4

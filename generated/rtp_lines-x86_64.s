@@ -2,8 +2,8 @@
  * rtp_lines for Linux on x86_64: the assembly text that Rattle's compiler makes of the program, each function of which is proved.
  * Made anew by: generated/make
  * kit: rattle-kit-13f logic dac8208d650f15bf
- * sources: 5d856ad6595183ad005d1e6aae0a3ded560495241fe2c0d931486f6d8fe6b4d9
- * text: 611ee3aa49d0f7caa1db7cb8723900b81f78a374c35f1f973475b87d852a5c06
+ * sources: 7bf05a8d7e95741dce19905152db5d3af7b9098f8794ed3540ec3053d4024786
+ * text: 0a0f49d26275d70eae7cce2898d4d7b8b3c5401f2b6de9e3e8da50312655dc65
  * SPDX-License-Identifier: MIT OR Apache-2.0
  * Copyright (c) 2026 The rtp-wire developers (NOTICE)
  */
@@ -9846,7 +9846,7 @@
 	jne	.Lrtp_BB9_5
 	cmpb	$0, (%rdi)
 	sete	%al
-	jmp	.Lrtp_BB9_60
+	jmp	.Lrtp_BB9_54
 .Lrtp_BB9_1:
 	.cfi_def_cfa_offset 8
 	.cfi_restore %rbx
@@ -9880,7 +9880,7 @@
 	shrl	$2, %ecx
 	xorl	%eax, %eax
 	subq	%rcx, %rbx
-	jb	.Lrtp_BB9_60
+	jb	.Lrtp_BB9_54
 	testq	%rcx, %rcx
 	je	.Lrtp_BB9_27
 	cmpl	$1, %ecx
@@ -9892,15 +9892,15 @@
 	jne	.Lrtp_BB9_35
 .Lrtp_BB9_28:
 	movb	$1, %al
-	jmp	.Lrtp_BB9_60
+	jmp	.Lrtp_BB9_54
 .Lrtp_BB9_6:
 	leal	1(%rcx), %esi
 	shrl	%esi
 	subq	%rsi, %rbx
 	jae	.Lrtp_BB9_7
-.Lrtp_BB9_59:
+.Lrtp_BB9_53:
 	xorl	%eax, %eax
-	jmp	.Lrtp_BB9_60
+	jmp	.Lrtp_BB9_54
 .Lrtp_BB9_7:
 	movl	%ecx, %r10d
 	incl	%r10d
@@ -10007,58 +10007,23 @@
 .Lrtp_BB9_34:
 	bswapl	%eax
 .Lrtp_BB9_35:
-	leal	-1(%r15), %esi
-	movl	%r15d, %edx
-	andl	$3, %edx
-	cmpl	$3, %esi
-	jae	.Lrtp_BB9_37
-	xorl	%r12d, %r12d
-	jmp	.Lrtp_BB9_40
-.Lrtp_BB9_37:
-	movl	%r15d, %esi
-	andl	$-4, %esi
-	xorl	%r12d, %r12d
-	.p2align	4
-.Lrtp_BB9_38:
-	movl	%eax, %edi
-	shrl	$30, %edi
-	addq	%r12, %rdi
-	movl	%eax, %r8d
-	shrl	$28, %r8d
-	andl	$3, %r8d
-	addq	%rdi, %r8
-	movl	%eax, %edi
-	shrl	$26, %edi
-	andl	$3, %edi
-	addq	%r8, %rdi
-	movl	%eax, %r8d
-	shrl	$24, %r8d
-	andl	$3, %r8d
-	shll	$8, %eax
-	leaq	(%r8,%rdi), %r12
-	addq	$4, %r12
-	addq	$-4, %rsi
-	jne	.Lrtp_BB9_38
-	testq	%rdx, %rdx
-	je	.Lrtp_BB9_41
-	.p2align	4
-.Lrtp_BB9_40:
-	movl	%eax, %esi
-	shrl	$30, %esi
-	shll	$2, %eax
-	addq	%rsi, %r12
-	incq	%r12
-	decq	%rdx
-	jne	.Lrtp_BB9_40
-.Lrtp_BB9_41:
 	addq	%rcx, %r14
-	testq	%r12, %r12
-	jne	.Lrtp_BB9_42
-.Lrtp_BB9_53:
+	movl	%eax, %eax
+	leal	32(,%r15,2), %ecx
+	negl	%ecx
+	shrq	%cl, %rax
+	xorl	%r12d, %r12d
+	popcntl	%eax, %r12d
+	andl	$-1431655766, %eax
+	popcntl	%eax, %eax
+	addq	%r15, %r12
+	addq	%rax, %r12
+	jne	.Lrtp_BB9_36
+.Lrtp_BB9_47:
 	movb	$1, %al
 	cmpq	$5, %rbx
-	jae	.Lrtp_BB9_54
-.Lrtp_BB9_60:
+	jae	.Lrtp_BB9_48
+.Lrtp_BB9_54:
 	addq	$24, %rsp
 	.cfi_def_cfa_offset 40
 	popq	%rbx
@@ -10075,62 +10040,62 @@
 	.cfi_restore %r15
 	retq
 	.p2align	4
-.Lrtp_BB9_43:
+.Lrtp_BB9_37:
 	.cfi_def_cfa_offset 64
 	.cfi_offset %rbx, -40
 	.cfi_offset %r12, -32
 	.cfi_offset %r14, -24
 	.cfi_offset %r15, -16
 	xorl	%ebx, %ebx
-.Lrtp_BB9_52:
+.Lrtp_BB9_46:
 	decq	%r12
-	je	.Lrtp_BB9_53
-.Lrtp_BB9_42:
+	je	.Lrtp_BB9_47
+.Lrtp_BB9_36:
 	testq	%rbx, %rbx
-	je	.Lrtp_BB9_43
+	je	.Lrtp_BB9_37
 	cmpb	$0, (%r14)
-	js	.Lrtp_BB9_46
+	js	.Lrtp_BB9_40
 	decq	%rbx
 	incq	%r14
-	jmp	.Lrtp_BB9_52
+	jmp	.Lrtp_BB9_46
 	.p2align	4
-.Lrtp_BB9_46:
+.Lrtp_BB9_40:
 	cmpq	$1, %rbx
-	je	.Lrtp_BB9_49
+	je	.Lrtp_BB9_43
 	cmpb	$0, 1(%r14)
-	js	.Lrtp_BB9_49
+	js	.Lrtp_BB9_43
 	movl	$2, %eax
-	jmp	.Lrtp_BB9_51
-.Lrtp_BB9_49:
+	jmp	.Lrtp_BB9_45
+.Lrtp_BB9_43:
 	movq	%rsp, %rdi
 	movq	%r14, %rsi
 	movq	%rbx, %rdx
 	callq	"rtp_vla::leb::long_number_at"
 	cmpb	$1, (%rsp)
-	jne	.Lrtp_BB9_52
+	jne	.Lrtp_BB9_46
 	movq	16(%rsp), %rax
-.Lrtp_BB9_51:
+.Lrtp_BB9_45:
 	addq	%rax, %r14
 	subq	%rax, %rbx
-	jmp	.Lrtp_BB9_52
-.Lrtp_BB9_54:
+	jmp	.Lrtp_BB9_46
+.Lrtp_BB9_48:
 	addq	$-5, %rbx
 	movl	$1, %ecx
 	.p2align	4
-.Lrtp_BB9_57:
+.Lrtp_BB9_51:
 	cmpw	$-1, (%r14)
-	je	.Lrtp_BB9_59
+	je	.Lrtp_BB9_53
 	cmpw	$-1, 2(%r14)
-	je	.Lrtp_BB9_59
+	je	.Lrtp_BB9_53
 	subq	$5, %rbx
 	setb	%dl
 	cmpq	%r15, %rcx
-	jae	.Lrtp_BB9_60
+	jae	.Lrtp_BB9_54
 	incq	%rcx
 	addq	$5, %r14
 	testb	%dl, %dl
-	je	.Lrtp_BB9_57
-	jmp	.Lrtp_BB9_60
+	je	.Lrtp_BB9_51
+	jmp	.Lrtp_BB9_54
 .Lrtp_func_end9:
 	.size	"rtp_ext::block_values::is_another_allocation", .Lrtp_func_end9-"rtp_ext::block_values::is_another_allocation"
 	.cfi_endproc
@@ -10298,74 +10263,74 @@
 	.cfi_offset %r14, -32
 	.cfi_offset %r15, -24
 	.cfi_offset %rbp, -16
-	movq	%rdi, 56(%rsp)
+	movq	%rdi, 64(%rsp)
 	testq	%rdx, %rdx
-	je	.Lrtp_BB11_48
+	je	.Lrtp_BB11_34
 	movq	%rdx, %r14
 	cmpq	$1, %rdx
-	jne	.Lrtp_BB11_2
+	jne	.Lrtp_BB11_15
 	movzbl	(%rsi), %r8d
 	testb	%r8b, %r8b
-	jne	.Lrtp_BB11_3
-	movq	%rsp, %rbp
+	jne	.Lrtp_BB11_16
+	movq	%rsp, %rsi
 	xorl	%eax, %eax
-	xorl	%esi, %esi
-	movq	56(%rsp), %rdx
-.Lrtp_BB11_35:
+	xorl	%edi, %edi
+	movq	64(%rsp), %rdx
+.Lrtp_BB11_4:
 	movzbl	176(%rdx), %ecx
 	movq	192(%rdx), %rbx
-	movq	200(%rdx), %r8
-	movq	208(%rdx), %rdi
+	movq	200(%rdx), %r9
+	movq	208(%rdx), %r8
 	movq	$1, 176(%rdx)
 	movq	%rax, 184(%rdx)
-	movq	%rbp, 192(%rdx)
-	movq	%rsi, 200(%rdx)
-	movq	%rsi, 208(%rdx)
+	movq	%rsi, 192(%rdx)
+	movq	%rdi, 200(%rdx)
+	movq	%rdi, 208(%rdx)
 	cmpb	$1, %cl
-	jne	.Lrtp_BB11_48
-	movq	%rdi, 40(%rsp)
-	testq	%r8, %r8
-	je	.Lrtp_BB11_46
+	jne	.Lrtp_BB11_34
+	movq	%r8, 56(%rsp)
+	testq	%r9, %r9
+	je	.Lrtp_BB11_43
 	xorl	%r13d, %r13d
-	movq	%r8, 80(%rsp)
-	jmp	.Lrtp_BB11_38
+	movq	%r9, 80(%rsp)
+	jmp	.Lrtp_BB11_8
 	.p2align	4
-.Lrtp_BB11_45:
+.Lrtp_BB11_7:
 	incq	%r13
-	movq	80(%rsp), %r8
-	cmpq	%r8, %r13
-	je	.Lrtp_BB11_46
-.Lrtp_BB11_38:
+	movq	80(%rsp), %r9
+	cmpq	%r9, %r13
+	je	.Lrtp_BB11_43
+.Lrtp_BB11_8:
 	leaq	(,%r13,2), %rax
 	addq	%r13, %rax
 	movq	(%rbx,%rax,8), %r14
 	movq	8(%rbx,%rax,8), %r15
 	movq	16(%rbx,%rax,8), %rbp
 	testq	%r15, %r15
-	je	.Lrtp_BB11_43
+	je	.Lrtp_BB11_13
 	leaq	16(%r14), %r12
-	jmp	.Lrtp_BB11_40
+	jmp	.Lrtp_BB11_11
 	.p2align	4
-.Lrtp_BB11_42:
+.Lrtp_BB11_10:
 	addq	$32, %r12
 	decq	%r15
-	je	.Lrtp_BB11_43
-.Lrtp_BB11_40:
+	je	.Lrtp_BB11_13
+.Lrtp_BB11_11:
 	cmpq	$0, (%r12)
-	je	.Lrtp_BB11_42
+	je	.Lrtp_BB11_10
 	movq	-16(%r12), %rdi
 	callq	rattle_dealloc@PLT
-	jmp	.Lrtp_BB11_42
+	jmp	.Lrtp_BB11_10
 	.p2align	4
-.Lrtp_BB11_43:
+.Lrtp_BB11_13:
 	testq	%rbp, %rbp
-	je	.Lrtp_BB11_45
+	je	.Lrtp_BB11_7
 	movq	%r14, %rdi
 	callq	rattle_dealloc@PLT
-	jmp	.Lrtp_BB11_45
-.Lrtp_BB11_2:
+	jmp	.Lrtp_BB11_7
+.Lrtp_BB11_15:
 	movzbl	(%rsi), %r8d
-.Lrtp_BB11_3:
+.Lrtp_BB11_16:
 	leaq	1(%rsi), %rcx
 	decq	%r14
 	movl	%r8d, %edi
@@ -10380,17 +10345,17 @@
 	movl	%edx, 12(%rsp)
 	testb	%al, %al
 	movb	%r8b, 7(%rsp)
-	je	.Lrtp_BB11_4
+	je	.Lrtp_BB11_18
 	xorl	%edx, %edx
 	popcntl	%eax, %edx
 	movl	%r9d, %eax
 	mulb	%dl
-	jmp	.Lrtp_BB11_22
-.Lrtp_BB11_4:
+	jmp	.Lrtp_BB11_33
+.Lrtp_BB11_18:
 	leal	1(%r9), %edx
 	shrl	%edx
 	subq	%rdx, %r14
-	jb	.Lrtp_BB11_48
+	jb	.Lrtp_BB11_34
 	leal	1(%r9), %eax
 	andl	$-2, %eax
 	movzbl	%dil, %r8d
@@ -10398,71 +10363,71 @@
 	pshufd	$68, %xmm0, %xmm0
 	xorl	%r8d, %r8d
 	testb	%r8b, %r8b
-	jne	.Lrtp_BB11_7
+	jne	.Lrtp_BB11_21
 	movzbl	(%rcx), %r8d
 	shrb	$4, %r8b
 	movb	%r8b, 12(%rsp)
-.Lrtp_BB11_7:
+.Lrtp_BB11_21:
 	movdqa	.Lrtp_CPI11_0(%rip), %xmm1
 	pcmpgtq	%xmm0, %xmm1
 	pcmpeqd	%xmm2, %xmm2
 	pxor	%xmm1, %xmm2
 	pextrb	$8, %xmm2, %r8d
 	testb	$1, %r8b
-	je	.Lrtp_BB11_9
+	je	.Lrtp_BB11_23
 	movzbl	(%rcx), %r8d
 	andb	$15, %r8b
 	movb	%r8b, 13(%rsp)
-.Lrtp_BB11_9:
+.Lrtp_BB11_23:
 	cmpl	$2, %eax
-	je	.Lrtp_BB11_14
+	je	.Lrtp_BB11_28
 	movl	$1, %eax
 	movq	%rax, %xmm1
 	movdqa	%xmm0, %xmm2
 	pcmpgtq	%xmm1, %xmm2
 	movd	%xmm2, %eax
 	testb	$1, %al
-	je	.Lrtp_BB11_12
+	je	.Lrtp_BB11_26
 	movzbl	2(%rsi), %eax
 	shrb	$4, %al
 	movb	%al, 14(%rsp)
-.Lrtp_BB11_12:
+.Lrtp_BB11_26:
 	pcmpgtq	.Lrtp_CPI11_1(%rip), %xmm0
 	pextrb	$8, %xmm0, %eax
 	testb	$1, %al
-	je	.Lrtp_BB11_14
+	je	.Lrtp_BB11_28
 	movzbl	2(%rsi), %eax
 	andb	$15, %al
 	movb	%al, 15(%rsp)
-.Lrtp_BB11_14:
+.Lrtp_BB11_28:
 	movzbl	12(%rsp), %eax
 	popcntl	%eax, %eax
 	testb	%dil, %dil
-	je	.Lrtp_BB11_18
+	je	.Lrtp_BB11_32
 	movzbl	13(%rsp), %esi
 	popcntl	%esi, %esi
 	addb	%sil, %al
 	cmpl	$2, %r9d
-	je	.Lrtp_BB11_18
+	je	.Lrtp_BB11_32
 	movzbl	14(%rsp), %esi
 	popcntl	%esi, %esi
 	addb	%sil, %al
 	cmpl	$3, %r9d
-	je	.Lrtp_BB11_18
+	je	.Lrtp_BB11_32
 	movzbl	15(%rsp), %esi
 	popcntl	%esi, %esi
 	addb	%sil, %al
-.Lrtp_BB11_18:
+.Lrtp_BB11_32:
 	addq	%rdx, %rcx
-.Lrtp_BB11_22:
+.Lrtp_BB11_33:
 	movzbl	%al, %ebx
 	leal	3(%rbx), %eax
 	shrl	$2, %eax
 	subq	%rax, %r14
-	jae	.Lrtp_BB11_23
-.Lrtp_BB11_48:
+	jae	.Lrtp_BB11_36
+.Lrtp_BB11_34:
 	xorl	%eax, %eax
-.Lrtp_BB11_122:
+.Lrtp_BB11_35:
 	addq	$136, %rsp
 	.cfi_def_cfa_offset 56
 	popq	%rbx
@@ -10478,216 +10443,172 @@
 	popq	%rbp
 	.cfi_def_cfa_offset 8
 	retq
-.Lrtp_BB11_23:
+.Lrtp_BB11_36:
 	.cfi_def_cfa_offset 192
 	leaq	(%rcx,%rax), %r12
 	testq	%rax, %rax
 	movq	%r9, 16(%rsp)
-	je	.Lrtp_BB11_24
+	je	.Lrtp_BB11_39
 	cmpl	$1, %eax
-	jne	.Lrtp_BB11_49
+	jne	.Lrtp_BB11_40
 	movzbl	(%rcx), %eax
 	shll	$24, %eax
-	jmp	.Lrtp_BB11_27
-.Lrtp_BB11_24:
+	jmp	.Lrtp_BB11_42
+.Lrtp_BB11_39:
 	movl	$0, 8(%rsp)
 	movq	%r14, %rdx
-	movq	%r12, %rsi
+	movq	%r12, %rbp
 	testq	%rbx, %rbx
-	jne	.Lrtp_BB11_54
-	jmp	.Lrtp_BB11_29
-.Lrtp_BB11_49:
+	jne	.Lrtp_BB11_48
+	jmp	.Lrtp_BB11_64
+.Lrtp_BB11_40:
 	cmpb	$8, %bl
-	ja	.Lrtp_BB11_51
+	ja	.Lrtp_BB11_45
 	movzwl	(%rcx), %eax
 	bswapl	%eax
-.Lrtp_BB11_27:
+.Lrtp_BB11_42:
 	movl	%eax, 8(%rsp)
 	movq	%r14, %rdx
-	movq	%r12, %rsi
+	movq	%r12, %rbp
 	testq	%rbx, %rbx
-	jne	.Lrtp_BB11_54
-	jmp	.Lrtp_BB11_29
-.Lrtp_BB11_46:
-	cmpq	$0, 40(%rsp)
-	je	.Lrtp_BB11_48
+	jne	.Lrtp_BB11_48
+	jmp	.Lrtp_BB11_64
+.Lrtp_BB11_43:
+	cmpq	$0, 56(%rsp)
+	je	.Lrtp_BB11_34
 	movq	%rbx, %rdi
 	callq	rattle_dealloc@PLT
-	jmp	.Lrtp_BB11_48
-.Lrtp_BB11_51:
+	jmp	.Lrtp_BB11_34
+.Lrtp_BB11_45:
 	cmpl	$3, %eax
-	jne	.Lrtp_BB11_53
+	jne	.Lrtp_BB11_47
 	movzbl	(%rcx), %eax
 	movzwl	1(%rcx), %ecx
 	shll	$8, %ecx
 	orl	%eax, %ecx
 	bswapl	%ecx
 	movl	%ecx, 8(%rsp)
-	jmp	.Lrtp_BB11_54
-.Lrtp_BB11_53:
+	jmp	.Lrtp_BB11_48
+.Lrtp_BB11_47:
 	movl	(%rcx), %eax
 	bswapl	%eax
 	movl	%eax, 8(%rsp)
-.Lrtp_BB11_54:
-	movl	%ebx, %eax
-	andl	$3, %eax
-	leal	-1(%rbx), %ecx
-	cmpb	$3, %cl
-	jae	.Lrtp_BB11_56
-	xorl	%r15d, %r15d
-	movl	8(%rsp), %ecx
-	jmp	.Lrtp_BB11_59
-.Lrtp_BB11_56:
-	movl	%ebx, %edx
-	andl	$-4, %edx
-	xorl	%r15d, %r15d
-	movl	8(%rsp), %ecx
-	.p2align	4
-.Lrtp_BB11_57:
-	movl	%ecx, %esi
-	shrl	$30, %esi
-	addq	%r15, %rsi
-	movl	%ecx, %edi
-	shrl	$28, %edi
-	andl	$3, %edi
-	addq	%rsi, %rdi
-	movl	%ecx, %esi
-	shrl	$26, %esi
-	andl	$3, %esi
-	addq	%rdi, %rsi
-	movl	%ecx, %edi
-	shrl	$24, %edi
-	andl	$3, %edi
-	shll	$8, %ecx
-	leaq	(%rdi,%rsi), %r15
-	addq	$4, %r15
-	addq	$-4, %rdx
-	jne	.Lrtp_BB11_57
-	testq	%rax, %rax
-	je	.Lrtp_BB11_60
-	.p2align	4
-.Lrtp_BB11_59:
-	movl	%ecx, %edx
-	shrl	$30, %edx
-	shll	$2, %ecx
-	addq	%rdx, %r15
-	incq	%r15
-	decq	%rax
-	jne	.Lrtp_BB11_59
-.Lrtp_BB11_60:
-	movq	%r12, %rsi
+.Lrtp_BB11_48:
+	movl	8(%rsp), %eax
+	leal	32(,%rbx,2), %ecx
+	negl	%ecx
+	shrq	%cl, %rax
+	popcntl	%eax, %r15d
+	andl	$-1431655766, %eax
+	popcntl	%eax, %eax
+	addq	%rbx, %r15
+	movq	%r12, %rbp
 	movq	%r14, %rdx
-	testq	%r15, %r15
-	je	.Lrtp_BB11_74
+	addq	%rax, %r15
+	je	.Lrtp_BB11_62
 	movq	%r14, %rdx
-	movq	%r12, %rsi
-	jmp	.Lrtp_BB11_62
+	movq	%r12, %rbp
+	jmp	.Lrtp_BB11_52
 	.p2align	4
-.Lrtp_BB11_63:
+.Lrtp_BB11_50:
 	xorl	%edx, %edx
-.Lrtp_BB11_73:
+.Lrtp_BB11_51:
 	decq	%r15
-	je	.Lrtp_BB11_74
-.Lrtp_BB11_62:
+	je	.Lrtp_BB11_62
+.Lrtp_BB11_52:
 	testq	%rdx, %rdx
-	je	.Lrtp_BB11_63
-	cmpb	$0, (%rsi)
-	js	.Lrtp_BB11_66
+	je	.Lrtp_BB11_50
+	cmpb	$0, (%rbp)
+	js	.Lrtp_BB11_55
 	decq	%rdx
-	incq	%rsi
-	jmp	.Lrtp_BB11_73
+	incq	%rbp
+	jmp	.Lrtp_BB11_51
 	.p2align	4
-.Lrtp_BB11_66:
+.Lrtp_BB11_55:
 	cmpq	$1, %rdx
-	je	.Lrtp_BB11_69
-	cmpb	$0, 1(%rsi)
-	js	.Lrtp_BB11_69
-	movq	%rsi, %r13
+	je	.Lrtp_BB11_58
+	cmpb	$0, 1(%rbp)
+	js	.Lrtp_BB11_58
+	movq	%rbp, %r13
 	movq	%rdx, %rbp
 	movl	$2, %eax
-	jmp	.Lrtp_BB11_72
-.Lrtp_BB11_69:
+	jmp	.Lrtp_BB11_60
+.Lrtp_BB11_58:
 	leaq	104(%rsp), %rdi
-	movq	%rsi, %r13
+	movq	%rbp, %r13
+	movq	%rbp, %rsi
 	movq	%rdx, %rbp
 	callq	"rtp_vla::leb::long_number_at"
 	cmpb	$1, 104(%rsp)
-	jne	.Lrtp_BB11_70
+	jne	.Lrtp_BB11_61
 	movq	120(%rsp), %rax
-.Lrtp_BB11_72:
+.Lrtp_BB11_60:
 	addq	%rax, %r13
 	subq	%rax, %rbp
-	movq	%r13, %rsi
+.Lrtp_BB11_61:
 	movq	%rbp, %rdx
-	jmp	.Lrtp_BB11_73
-.Lrtp_BB11_70:
-	movq	%rbp, %rdx
-	movq	%r13, %rsi
-	jmp	.Lrtp_BB11_73
-.Lrtp_BB11_74:
+	movq	%r13, %rbp
+	jmp	.Lrtp_BB11_51
+.Lrtp_BB11_62:
 	cmpq	$5, %rdx
-	jae	.Lrtp_BB11_79
+	jae	.Lrtp_BB11_92
 	movq	16(%rsp), %r9
-	jmp	.Lrtp_BB11_29
-.Lrtp_BB11_79:
+	jmp	.Lrtp_BB11_64
+.Lrtp_BB11_92:
 	movq	%rdx, %rdi
 	leaq	-5(%rdx), %rax
 	movl	$1, %ecx
-	movq	%rsi, %r8
-	movq	%rsi, %rdx
+	movq	%rbp, %rdx
 	movq	16(%rsp), %r9
 	.p2align	4
-.Lrtp_BB11_80:
+.Lrtp_BB11_93:
 	cmpw	$-1, (%rdx)
-	je	.Lrtp_BB11_48
+	je	.Lrtp_BB11_34
 	cmpw	$-1, 2(%rdx)
-	je	.Lrtp_BB11_48
+	je	.Lrtp_BB11_34
 	subq	$5, %rax
 	setb	%sil
 	cmpq	%rbx, %rcx
-	jae	.Lrtp_BB11_77
+	jae	.Lrtp_BB11_116
 	incq	%rcx
 	addq	$5, %rdx
 	testb	%sil, %sil
-	je	.Lrtp_BB11_80
-.Lrtp_BB11_77:
+	je	.Lrtp_BB11_93
+.Lrtp_BB11_116:
 	movq	%rdi, %rdx
-	movq	%r8, %rsi
-.Lrtp_BB11_29:
-	movq	%rsi, 64(%rsp)
+.Lrtp_BB11_64:
 	movq	%rdx, 72(%rsp)
 	movq	%r9, %r15
 	leal	(,%r9,8), %eax
 	leaq	(%rax,%rax,2), %rdi
 	movl	$8, %esi
 	callq	rattle_alloc@PLT
+	movq	%rdx, 24(%rsp)
 	testb	$1, %al
-	je	.Lrtp_BB11_121
-	movq	%rdx, %rbp
+	je	.Lrtp_BB11_115
 	shrb	$6, 7(%rsp)
 	xorl	%ebx, %ebx
-	movq	%rdx, 48(%rsp)
-	movq	%r15, %rsi
-	jmp	.Lrtp_BB11_31
-.Lrtp_BB11_103:
+	movq	%r15, %rdi
+	jmp	.Lrtp_BB11_68
+.Lrtp_BB11_66:
 	movl	%r13d, 8(%rsp)
-	movq	16(%rsp), %rsi
-	movq	24(%rsp), %rbx
-	movq	32(%rsp), %rdx
+	movq	16(%rsp), %rdi
+	movq	32(%rsp), %rbx
+	movq	48(%rsp), %rdx
 	movq	128(%rsp), %r13
-.Lrtp_BB11_33:
+.Lrtp_BB11_67:
 	leaq	(%rbx,%rbx,2), %rax
-	movq	48(%rsp), %rcx
+	movq	24(%rsp), %rcx
 	movq	%rdx, (%rcx,%rax,8)
 	movq	%rbp, 8(%rcx,%rax,8)
-	movq	%rcx, %rbp
 	movq	%r13, 16(%rcx,%rax,8)
 	incq	%rbx
-	cmpq	%rsi, %rbx
-	movq	56(%rsp), %rdx
+	cmpq	%rdi, %rbx
+	movq	64(%rsp), %rdx
 	movzbl	7(%rsp), %eax
-	je	.Lrtp_BB11_34
-.Lrtp_BB11_31:
+	movq	40(%rsp), %rbp
+	je	.Lrtp_BB11_117
+.Lrtp_BB11_68:
 	movzbl	12(%rsp,%rbx), %r15d
 	movl	$15, %eax
 	bsrl	%r15d, %eax
@@ -10696,22 +10617,23 @@
 	subb	%al, %cl
 	movzbl	%cl, %r13d
 	testl	%r15d, %r15d
-	je	.Lrtp_BB11_32
+	movq	%rbp, 40(%rsp)
+	je	.Lrtp_BB11_91
 	movl	%r13d, %edi
 	shll	$5, %edi
 	movl	$8, %esi
 	callq	rattle_alloc@PLT
 	testb	$1, %al
-	movq	%rbx, 24(%rsp)
-	je	.Lrtp_BB11_110
+	movq	%rbx, 32(%rsp)
+	je	.Lrtp_BB11_104
 	movq	%r13, 128(%rsp)
-	movq	%rdx, 32(%rsp)
+	movq	%rdx, 48(%rsp)
 	xorl	%ebp, %ebp
 	movl	8(%rsp), %r13d
-	jmp	.Lrtp_BB11_84
+	jmp	.Lrtp_BB11_73
 	.p2align	4
-.Lrtp_BB11_101:
-	movq	64(%rsp), %rdx
+.Lrtp_BB11_71:
+	movq	40(%rsp), %rdx
 	movd	(%rdx), %xmm1
 	movzbl	4(%rdx), %ecx
 	addq	$5, %rdx
@@ -10722,175 +10644,176 @@
 	psubw	%xmm0, %xmm1
 	movdqa	%xmm1, 80(%rsp)
 	movw	$1, %ax
-	movq	%rdx, 64(%rsp)
-.Lrtp_BB11_102:
+	movq	%rdx, 40(%rsp)
+.Lrtp_BB11_72:
 	movq	%rbp, %rdx
 	shlq	$5, %rdx
-	movq	32(%rsp), %rsi
-	movq	%r15, (%rsi,%rdx)
-	movq	%rbx, 8(%rsi,%rdx)
-	movq	%rbx, 16(%rsi,%rdx)
+	movq	48(%rsp), %rsi
+	movq	%rbx, (%rsi,%rdx)
+	movq	%r15, 8(%rsi,%rdx)
+	movq	%r15, 16(%rsi,%rdx)
 	movw	%ax, 24(%rsi,%rdx)
 	movdqa	80(%rsp), %xmm0
 	movd	%xmm0, 26(%rsi,%rdx)
 	movb	%cl, 30(%rsi,%rdx)
 	movb	$0, 31(%rsi,%rdx)
 	incq	%rbp
-	movl	40(%rsp), %r15d
+	movl	56(%rsp), %r15d
 	shrb	%r15b
-	je	.Lrtp_BB11_103
-.Lrtp_BB11_84:
+	je	.Lrtp_BB11_66
+.Lrtp_BB11_73:
 	pxor	%xmm0, %xmm0
 	movdqa	%xmm0, 80(%rsp)
-	movl	%r15d, 40(%rsp)
+	movl	%r15d, 56(%rsp)
 	testb	$1, %r15b
-	jne	.Lrtp_BB11_86
-	movq	%rsp, %r15
-	xorl	%ebx, %ebx
-	jmp	.Lrtp_BB11_100
+	jne	.Lrtp_BB11_75
+	movq	%rsp, %rbx
+	xorl	%r15d, %r15d
+	jmp	.Lrtp_BB11_90
 	.p2align	4
-.Lrtp_BB11_86:
-	movl	%r13d, %ebx
-	shrl	$30, %ebx
-	leal	8(,%rbx,8), %edi
+.Lrtp_BB11_75:
+	movl	%r13d, %r15d
+	shrl	$30, %r15d
+	leal	8(,%r15,8), %edi
 	movl	$8, %esi
 	callq	rattle_alloc@PLT
 	testb	$1, %al
-	je	.Lrtp_BB11_104
-	movq	%rdx, %r15
+	je	.Lrtp_BB11_98
+	movq	%rdx, %rbx
 	movl	%r13d, 8(%rsp)
-	incl	%ebx
+	incl	%r15d
 	xorl	%r13d, %r13d
-	jmp	.Lrtp_BB11_88
+	jmp	.Lrtp_BB11_79
 	.p2align	4
-.Lrtp_BB11_89:
+.Lrtp_BB11_77:
 	xorl	%eax, %eax
 	xorl	%r14d, %r14d
-.Lrtp_BB11_98:
-	movq	%rax, (%r15,%r13,8)
+.Lrtp_BB11_78:
+	movq	%rax, (%rbx,%r13,8)
 	incq	%r13
-	cmpq	%r13, %rbx
-	je	.Lrtp_BB11_99
-.Lrtp_BB11_88:
-	testq	%r14, %r14
+	cmpq	%r13, %r15
 	je	.Lrtp_BB11_89
+.Lrtp_BB11_79:
+	testq	%r14, %r14
+	je	.Lrtp_BB11_77
 	movsbq	(%r12), %rax
 	testq	%rax, %rax
-	js	.Lrtp_BB11_92
+	js	.Lrtp_BB11_82
 	decq	%r14
 	incq	%r12
-	jmp	.Lrtp_BB11_98
+	jmp	.Lrtp_BB11_78
 	.p2align	4
-.Lrtp_BB11_92:
+.Lrtp_BB11_82:
 	cmpq	$1, %r14
-	je	.Lrtp_BB11_95
+	je	.Lrtp_BB11_85
 	movsbq	1(%r12), %rcx
 	testq	%rcx, %rcx
-	js	.Lrtp_BB11_95
+	js	.Lrtp_BB11_85
 	andl	$127, %eax
 	shlq	$7, %rcx
 	orq	%rcx, %rax
 	movl	$2, %ecx
-	jmp	.Lrtp_BB11_97
-.Lrtp_BB11_95:
+	jmp	.Lrtp_BB11_87
+.Lrtp_BB11_85:
 	leaq	104(%rsp), %rdi
 	movq	%r12, %rsi
 	movq	%r14, %rdx
 	callq	"rtp_vla::leb::long_number_at"
 	cmpb	$1, 104(%rsp)
-	jne	.Lrtp_BB11_123
+	jne	.Lrtp_BB11_88
 	movq	112(%rsp), %rax
 	movq	120(%rsp), %rcx
-.Lrtp_BB11_97:
+.Lrtp_BB11_87:
 	addq	%rcx, %r12
 	subq	%rcx, %r14
-	jmp	.Lrtp_BB11_98
-.Lrtp_BB11_123:
+	jmp	.Lrtp_BB11_78
+.Lrtp_BB11_88:
 	xorl	%eax, %eax
-	jmp	.Lrtp_BB11_98
+	jmp	.Lrtp_BB11_78
 	.p2align	4
-.Lrtp_BB11_99:
+.Lrtp_BB11_89:
 	movl	8(%rsp), %r13d
 	shll	$2, %r13d
 	movq	72(%rsp), %rax
 	cmpq	$5, %rax
-	jae	.Lrtp_BB11_101
-.Lrtp_BB11_100:
+	jae	.Lrtp_BB11_71
+.Lrtp_BB11_90:
 	xorl	%eax, %eax
 	xorl	%ecx, %ecx
-	jmp	.Lrtp_BB11_102
-.Lrtp_BB11_32:
+	jmp	.Lrtp_BB11_72
+.Lrtp_BB11_91:
 	xorl	%ebp, %ebp
 	movq	%rsp, %rdx
-	jmp	.Lrtp_BB11_33
-.Lrtp_BB11_104:
+	jmp	.Lrtp_BB11_67
+.Lrtp_BB11_98:
 	testq	%rbp, %rbp
-	movq	32(%rsp), %r14
-	je	.Lrtp_BB11_109
+	movq	48(%rsp), %r14
+	je	.Lrtp_BB11_103
 	leaq	16(%r14), %rbx
-	jmp	.Lrtp_BB11_106
+	jmp	.Lrtp_BB11_101
 	.p2align	4
-.Lrtp_BB11_108:
+.Lrtp_BB11_100:
 	addq	$32, %rbx
 	decq	%rbp
-	je	.Lrtp_BB11_109
-.Lrtp_BB11_106:
+	je	.Lrtp_BB11_103
+.Lrtp_BB11_101:
 	cmpq	$0, (%rbx)
-	je	.Lrtp_BB11_108
+	je	.Lrtp_BB11_100
 	movq	-16(%rbx), %rdi
 	callq	rattle_dealloc@PLT
-	jmp	.Lrtp_BB11_108
-.Lrtp_BB11_109:
+	jmp	.Lrtp_BB11_100
+.Lrtp_BB11_103:
 	movq	%r14, %rdi
 	callq	rattle_dealloc@PLT
-	movq	48(%rsp), %rbp
-	movq	24(%rsp), %rbx
-.Lrtp_BB11_110:
+	movq	32(%rsp), %rbx
+.Lrtp_BB11_104:
 	testq	%rbx, %rbx
-	je	.Lrtp_BB11_120
+	movq	24(%rsp), %rbp
+	je	.Lrtp_BB11_114
 	xorl	%r14d, %r14d
-	jmp	.Lrtp_BB11_112
+	jmp	.Lrtp_BB11_107
 	.p2align	4
-.Lrtp_BB11_119:
+.Lrtp_BB11_106:
 	incq	%r14
-	cmpq	24(%rsp), %r14
-	je	.Lrtp_BB11_120
-.Lrtp_BB11_112:
+	cmpq	32(%rsp), %r14
+	je	.Lrtp_BB11_114
+.Lrtp_BB11_107:
 	leaq	(%r14,%r14,2), %rax
 	movq	(%rbp,%rax,8), %rbx
 	movq	8(%rbp,%rax,8), %r12
 	movq	16(%rbp,%rax,8), %r15
 	testq	%r12, %r12
-	je	.Lrtp_BB11_117
+	je	.Lrtp_BB11_112
 	leaq	16(%rbx), %r13
-	jmp	.Lrtp_BB11_114
+	jmp	.Lrtp_BB11_110
 	.p2align	4
-.Lrtp_BB11_116:
+.Lrtp_BB11_109:
 	addq	$32, %r13
 	decq	%r12
-	je	.Lrtp_BB11_117
-.Lrtp_BB11_114:
+	je	.Lrtp_BB11_112
+.Lrtp_BB11_110:
 	cmpq	$0, (%r13)
-	je	.Lrtp_BB11_116
+	je	.Lrtp_BB11_109
 	movq	-16(%r13), %rdi
 	callq	rattle_dealloc@PLT
-	jmp	.Lrtp_BB11_116
+	jmp	.Lrtp_BB11_109
 	.p2align	4
-.Lrtp_BB11_117:
+.Lrtp_BB11_112:
 	testq	%r15, %r15
-	je	.Lrtp_BB11_119
+	je	.Lrtp_BB11_106
 	movq	%rbx, %rdi
 	callq	rattle_dealloc@PLT
-	jmp	.Lrtp_BB11_119
-.Lrtp_BB11_120:
+	jmp	.Lrtp_BB11_106
+.Lrtp_BB11_114:
 	movq	%rbp, %rdi
 	callq	rattle_dealloc@PLT
-.Lrtp_BB11_121:
+.Lrtp_BB11_115:
 	movb	$1, %al
-	jmp	.Lrtp_BB11_122
-.Lrtp_BB11_34:
-	movzbl	%al, %eax
 	jmp	.Lrtp_BB11_35
+.Lrtp_BB11_117:
+	movzbl	%al, %eax
+	movq	24(%rsp), %rsi
+	jmp	.Lrtp_BB11_4
 .Lrtp_func_end11:
 	.size	"rtp_values::value::set_values::ExtensionValuesSetValues::read_layers", .Lrtp_func_end11-"rtp_values::value::set_values::ExtensionValuesSetValues::read_layers"
 	.cfi_endproc
