@@ -53,7 +53,7 @@ impl SlotList for StoredSlots<'_> {
     fn at(&self, index: usize) -> Slot {
         Slot {
             start: self.made.data_at[index],
-            len: self.made.data_len[index],
+            len: u32::from(self.made.data_len[index]),
         }
     }
 }

@@ -1,6 +1,6 @@
 //! A packet's header, made once for a group of receivers.
 
-ghost use Rattle.std.specs.Prelude.{◌≡◌, ◌≢◌, ◌↔◌, ◌≤◌, length, take, Option};
+ghost use Rattle.std.specs.Prelude.{◌≡◌, ◌≢◌, ◌↔◌, ◌≤◌, length, take, Option, All};
 ghost use Rattle.rtp_ext.specs.declared.form.ExtensionsForm.{ExtensionsForm};
 ghost use Rattle.rtp_ext.specs.NewIds.{new_id, ids_in_bytes};
 ghost use Rattle.rtp_wire.specs.NotAHeader.{IsNoPacket};
@@ -44,7 +44,8 @@ pub struct StoredTemplate {
 impl StoredTemplate {
     // Keeps the length of a header and its places, and zeros after the last place.
     fn store(&mut self, header_len: u32, slots: &[Slot])
-        requires { length slots.now ≤ 16 }
+        requires few { length slots.now ≤ 16 }
+        requires short { All (λ slot. slot.len ≤ 255) slots.now }
         ensures header_len { self.new.header_len ≡ header_len }
         ensures slots { slots_of self.new ≡ slots.now }
         ensures count { self.new.count ≡ length slots.now }
@@ -56,7 +57,7 @@ impl StoredTemplate {
         for index in 0..slots.len() {
             let slot = slots[index];
             self.data_at[index] = slot.start;
-            self.data_len[index] = slot.len;
+            self.data_len[index] = slot.len as u8;
             total += slot.len as u16;
         }
         self.header_len = header_len;

@@ -1,22 +1,28 @@
 -- How long headers are, and where data lie in them.
-use Rattle.std.proofs.Common.{◌≡◌, ℕ, ◌+◌, ◌-◌, ◌*◌, ◌<◌, ◌≤◌, Bool, true, false, List, [], ◌∷◌, length, take, drop, map, get_or, refl, ap, subst, ◌∙◌, arith, add-zero, length-drop, length-take, Some, All, slice_get}
+use Rattle.std.proofs.Common.{◌≡◌, ℕ, ◌+◌, ◌-◌, ◌*◌, ◌<◌, ◌≤◌, Bool, true, false, List, [], ◌∷◌, ◌++◌, length, take, drop, map, get_or, refl, ap, sym, subst, ◌∙◌, arith, add-zero, length-drop, length-take, Option, None, Some, All, slice_get}
 use Rattle.std.specs.Prelude.{slice_index, if◌then◌else◌}
+use Rattle.std.specs.List.{AllByRecursion}
+use Rattle.std.proofs.lemmas.List.Elements.{All-nil, All-cons}
 use Rattle.std.proofs.lemmas.List.{get_or-take, get_or-drop, drop_more}
 use Rattle.std.proofs.lemmas.List.Sums.{sum_by-cons}
 use Rattle.std.proofs.lemmas.Option.{slice_get_within, get_or_from_slice_get}
 use Rattle.rtp_base.specs.Overwriting.{overwritten}
 use Rattle.rtp_ext.specs.declared.form.ExtensionsForm.{ExtensionsForm}
 use Rattle.rtp_ext.specs.declared.form.ExtensionsForm.TheVariants.{OneByte, TwoByte}
-use Rattle.rtp_ext.specs.Elements.{IsElement}
+use Rattle.rtp_ext.specs.Elements.{Element, IsElement}
+use Rattle.rtp_ext.proofs.AnewLemmas.{AreElements-each}
 use Rattle.rtp_wire.specs.declared.packet.rtp_packet.RtpPacket.{RtpPacket}
 use Rattle.rtp_wire.specs.Block.{word_at}
 use Rattle.rtp_wire.specs.NotAHeader.{sources_end}
 use Rattle.rtp_wire.specs.Packet.{header_len_of}
+use Rattle.rtp_wire.specs.PacketElements.{AreElementsOf}
 use Rattle.rtp_wire.specs.PartsAt.{has_block, header_end}
 use Rattle.rtp_wire.specs.PartsOf.{parts_of}
 use Rattle.rtp_wire.proofs.PartsLemmas.{header_end-len}
 use Rattle.rtp_route.specs.declared.slots.Slot.{Slot}
-use Rattle.rtp_route.specs.Template.{slot_lengths, total_of, pieces, filled_in}
+use Rattle.rtp_route.specs.GroupHeader.{IsGroupHeader}
+use Rattle.rtp_route.specs.Routing.{IsFormAfter, row_in, routed_elements}
+use Rattle.rtp_route.specs.Template.{data_lengths, slot_lengths, total_of, pieces, filled_in, AreSlots}
 
 -- the word in two bytes
 word_at-bytes : (bytes : List ℕ) (offset : ℕ) → word_at bytes offset ≡ slice_index bytes offset * 256 + slice_index bytes (offset + 1)
@@ -90,3 +96,36 @@ pieces-lengths (slot ∷ slots) bytes long =
     let first : length (take slot.len bytes) ≡ slot.len = omega (arith, long, all, length-take slot.len bytes) in
     ap (λ (k : ℕ). k ∷ map length (pieces (slot_lengths slots) (drop slot.len bytes))) first
     ∙ ap (λ (ks : List ℕ). slot.len ∷ ks) (pieces-lengths slots (drop slot.len bytes) (omega (arith, long, all, length-drop slot.len bytes)))
+
+-- ---- the places of a group's elements
+
+middle : {X : Type 0} (P : X → Type 0) (before after : List X) (x : X) → AllByRecursion P (before ++ x ∷ after) → P x
+middle P [] after x all = all.0
+middle P (first ∷ before) after x all = middle P before after x all.1
+
+in_row : (form : ExtensionsForm) (start : ℕ) (row news : List Element) (slots : List Slot) → AllByRecursion (IsElement form) row → AreSlots form start row news slots
+    → All (λ (s : Slot). s.len ≤ 255) slots
+in_row form start row [] slots all are = subst (All (λ (s : Slot). s.len ≤ 255)) (sym are) (All-nil (λ (s : Slot). s.len ≤ 255))
+in_row form start row (new ∷ news) [] all are = absurd are
+in_row form start row (new ∷ news) (slot ∷ slots) all are =
+    let is = are.0 in
+    let element = middle (IsElement form) is.before is.after new (subst (AllByRecursion (IsElement form)) is.in_order all) in
+    All-cons (λ (s : Slot). s.len ≤ 255) slot slots (omega (arith, is.len_is, short-data form new.0 new.1 element)) (in_row form start row news slots all are.1)
+
+-- what is put has a form
+no_form : (allowed : Option ExtensionsForm) (form : ExtensionsForm) (news : List Element) → IsFormAfter allowed (Some form) news None → ⊥
+no_form allowed form [] is = absurd cc
+no_form allowed form (new ∷ news) is = no_form allowed is.0 news is.2
+
+by_form : (allowed start form : Option ExtensionsForm) (at : ℕ) (row news : List Element) (slots : List Slot) → IsFormAfter allowed start news form → AreElementsOf (row_in form row) row
+    → ((f : ExtensionsForm) → form ≡ Some f → AreSlots f at row news slots) → slot_lengths slots ≡ data_lengths news → All (λ (s : Slot). s.len ≤ 255) slots
+by_form allowed start (Some form) at row news slots after are slots_are lengths = in_row form at row news slots (AreElements-each form _ row are) (slots_are form refl)
+by_form allowed start None at row [] [] after are slots_are lengths = All-nil (λ (s : Slot). s.len ≤ 255)
+by_form allowed start None at row [] (slot ∷ slots) after are slots_are lengths = absurd cc
+by_form allowed start None at row (new ∷ news) slots after are slots_are lengths = absurd (no_form allowed after.0 news after.2)
+
+-- each has at most 255 bytes
+pub short-slots : (old : List ℕ) (ids : ℕ → Option ℕ) (news : List Element) (allowed : Option ExtensionsForm) (header : List ℕ) (slots : List Slot)
+    → IsGroupHeader old ids news allowed header slots → All (λ (s : Slot). s.len ≤ 255) slots
+short-slots old ids news allowed header slots is =
+    by_form allowed is.routed.start is.routed.form _ (routed_elements ids news is.routed.elements) news slots is.routed.form_is is.routed.are_elements is.slots_are is.lengths_are

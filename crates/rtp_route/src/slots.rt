@@ -20,13 +20,14 @@ pub const MAX_ELEMENTS: usize = 16;
 // As many places as there can be, of which none is known.
 pub(super) const NO_SLOTS: [Slot; MAX_ELEMENTS] = [Slot { start: 0, len: 0 }; MAX_ELEMENTS];
 
-/// Where the data of an element lie in a header.
+/// Where the data of an element lie in a header. Both numbers have 32 bits, so that places are copied
+/// many at once.
 #[derive(Clone, Copy)]
 pub struct Slot {
     /// How many bytes are before them, at most 262,216.
     pub start: u32,
-    /// How many they are.
-    pub len: u8,
+    /// How many they are, at most 255.
+    pub len: u32,
 }
 
 /// Places in a header, in order. A slice of places is such a list.
@@ -70,7 +71,7 @@ fn slot_of(packet: &RtpPacket<'_>, id: u8) -> Option<Slot>
     let place = last_place(form, body, id)?;
     Some(Slot {
         start: (packet.header_len() - body.len() + place.data_start) as u32,
-        len: (place.end - place.data_start) as u8,
+        len: (place.end - place.data_start) as u32,
     })
 }
 

@@ -88,7 +88,7 @@ fn write_own<L: ElementList>(
     let end = write_behind(buf, at, form, id, bytes)?;
     slots[index] = Slot {
         start: (end - bytes.len()) as u32,
-        len: bytes.len() as u8,
+        len: bytes.len() as u32,
     };
     Some(end)
 }

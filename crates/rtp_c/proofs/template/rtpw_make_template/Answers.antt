@@ -3,9 +3,15 @@ use Rattle.std.proofs.Common.{take, length-take}
 use Rattle.rtp_wire.specs.Packet.{header_len_of}
 use Rattle.rtp_route.specs.declared.slots.Slot.{Slot}
 use Rattle.rtp_route.specs.Template.{total_of}
+use Rattle.rtp_route.proofs.LengthLemmas.{short-slots}
 use Rattle.rtp_c.proofs.TemplateLemmas.{group-of, not_routed≢ok, not_routed-is, kept-of, header-of}
 use Rattle.rtp_c.proofs.WritingLemmas.{one_allowed}
 use Rattle.rtp_c.proofs.template.rtpw_make_template.Goals as goal
+
+pub store-requires-clause-short : goal.store-requires-clause-short
+store-requires-clause-short c =
+    subst (λ (n : ℕ). All (λ (s : Slot). s.len ≤ 255) (take n c.make_template.new.slots)) (sym c.count.ensures)
+    (short-slots _ _ _ _ _ _ c.in-Ok-make_template.ensures.made)
 
 pub returns-in-Ok-make_template-clause-made : goal.returns-in-Ok-make_template-clause-made
 returns-in-Ok-make_template-clause-made c form same is_ok =

@@ -8,4 +8,5 @@ returns c =
     let starts = c.args.self.now.starts in
     let lens = c.args.self.now.lens in
     let few : made.count ≤ length made.data_at = omega (arith, c.args.self.now.few, starts) in
-    place-at made.data_at made.data_len made.count c.args.index (starts ∙ sym lens) few (omega (arith, c.requires, count-of made.data_at made.data_len made.count (starts ∙ sym lens) few))
+    rw c.from.ensures
+    (place-at made.data_at made.data_len made.count c.args.index (starts ∙ sym lens) few (omega (arith, c.requires, count-of made.data_at made.data_len made.count (starts ∙ sym lens) few)))

@@ -12,7 +12,7 @@ loop-index-preserved c =
     let slots = c.args.slots.now in
     let there : at.index < length slots = omega (arith, c.loop-index-test.true) in
     let more = sum_by_more (λ (s : Slot). s.len) slots at.index none there in (
-      stored-more slots at.self.data_at at.self.data_len at.index none (omega (arith, at.invariant.1, at.invariant.2)) (omega (arith, at.invariant.1, c.requires, there)) there at.invariant.0,
+      stored-more slots at.self.data_at at.self.data_len at.index none (omega (arith, at.invariant.1, at.invariant.2)) (omega (arith, at.invariant.1, c.requires.few, there)) there at.invariant.0,
       length-set at.self.data_at at.index _ ∙ at.invariant.1,
       length-set at.self.data_len at.index _ ∙ at.invariant.2,
       omega (arith, more, at.invariant.3),
