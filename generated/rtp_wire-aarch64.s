@@ -2,8 +2,8 @@
  * rtp_wire for Linux on aarch64: the assembly text that Rattle's compiler makes of the library for C, each function of which but those at its end is proved.
  * Made anew by: generated/make
  * kit: rattle-kit-13f logic dac8208d650f15bf
- * sources: 329c62990c9122994e1d3a50cfc08b2abf7835abd80eff711ca3209256e82d1b
- * text: 34cae00504cbb029000df76e4b184a6a365cce09b4a85ef1bedb34a8e2bb4db2
+ * sources: be93d272909939d287b8d15b7464d4962e583584383871bb61f1724999ecf1a2
+ * text: c8ce82fa9ce0a449e34b3c49ac7fabe27cf00ce20313bb173be431991032d1c1
  * SPDX-License-Identifier: MIT OR Apache-2.0
  * Copyright (c) 2026 The rtp-wire developers (NOTICE)
  */
@@ -7774,11 +7774,8 @@
 	ldrb	w8, [x1]
 	strb	w8, [x23, x26]
 .Lrtp_BB38_3:
-	str	w26, [x27]
+	stp	w26, w25, [x27]
 	add	x26, x26, x25
-	strb	w25, [x27, #4]
-	sturh	wzr, [x27, #5]
-	strb	wzr, [x27, #7]
 .Lrtp_BB38_4:
 	mov	x25, x20
 	cbz	x24, .Lrtp_BB38_77
@@ -8353,10 +8350,7 @@
 	strb	w9, [x0, x23]
 .Lrtp_BB40_36:
 	add	x1, x23, x24
-	str	w23, [x2]
-	strb	w24, [x2, #4]
-	sturh	wzr, [x2, #5]
-	strb	wzr, [x2, #7]
+	stp	w23, w24, [x2]
 .Lrtp_BB40_37:
 	add	x21, x21, #1
 	cmp	x21, x16
@@ -10134,7 +10128,7 @@
 .Lrtp_BB41_279:
 	add	w8, w26, w23
 	sub	w9, w25, w26
-	bfi	x8, x9, #32, #8
+	orr	x8, x8, x9, lsl #32
 	sub	x9, x29, #144
 	str	x8, [x9, x19, lsl #3]
 	add	x19, x19, #1
@@ -10203,7 +10197,7 @@
 .Lrtp_BB41_298:
 	add	w8, w26, w23
 	sub	w9, w25, w26
-	bfi	x8, x9, #32, #8
+	orr	x8, x8, x9, lsl #32
 	sub	x9, x29, #144
 	str	x8, [x9, x19, lsl #3]
 	add	x19, x19, #1
@@ -23698,10 +23692,7 @@ rtpw_make_template:
 	strb	w8, [x17, x21]
 .Lrtp_BB139_38:
 	add	x8, x21, x26
-	str	w21, [x19]
-	strb	w26, [x19, #4]
-	sturh	wzr, [x19, #5]
-	strb	wzr, [x19, #7]
+	stp	w21, w26, [x19]
 .Lrtp_BB139_39:
 	add	x22, x22, #1
 	cmp	x22, x9
@@ -24075,8 +24066,8 @@ rtpw_make_template:
 	stur	w12, [x13, #-67]
 	strb	w14, [x8, x10]
 	add	x10, x10, #1
-	add	w11, w11, w14, uxtb
 	cmp	x9, x10
+	add	w11, w11, w14
 	b.ne	.Lrtp_BB139_108
 	b	.Lrtp_BB139_110
 .Lrtp_BB139_109:
@@ -24096,6 +24087,7 @@ rtpw_make_template:
 	ldp	q2, q1, [x12, #32]
 	adrp	x15, .Lrtp_CPI139_0
 	ldp	q4, q3, [x12], #64
+	ldr	q7, [x15, :lo12:.Lrtp_CPI139_0]
 	subs	x14, x14, #8
 	uzp2	v5.4s, v2.4s, v1.4s
 	ushr	v19.2d, v1.2d, #32
@@ -24106,12 +24098,10 @@ rtpw_make_template:
 	ushr	v17.2d, v3.2d, #32
 	ushr	v16.2d, v4.2d, #32
 	uzp1	v5.8h, v6.8h, v5.8h
-	ldr	q6, [x15, :lo12:.Lrtp_CPI139_0]
 	stp	q2, q1, [x11], #32
-	tbl	v6.16b, { v16.16b, v17.16b, v18.16b, v19.16b }, v6.16b
-	bic	v5.8h, #255, lsl #8
+	tbl	v6.16b, { v16.16b, v17.16b, v18.16b, v19.16b }, v7.16b
+	add	v0.8h, v0.8h, v5.8h
 	str	d6, [x13], #8
-	add	v0.8h, v5.8h, v0.8h
 	b.ne	.Lrtp_BB139_112
 	addv	h0, v0.8h
 	cmp	x9, x10
