@@ -50,7 +50,7 @@ mod writing_values;
 /// patch. That of the header file is `RTPW_VERSION`.
 #[unsafe(no_mangle)]
 pub extern "C" fn rtpw_version() -> u32
-    ensures { result ≡ 65536 }
+    ensures { result ≡ 65792 }
 {
-    65_536
+    65_792
 }
