@@ -150,9 +150,15 @@ rm -f -- "$work/librtp_wire.a"
 $cc -shared -o "$work/librtp_wire.so" "$object" \
     -Wl,-soname,"librtp_wire.so.$abi" -Wl,--no-undefined -Wl,-z,noexecstack -Wl,-z,relro -Wl,-z,now
 
-fill_in() { # template, file
-    "$here/fill_in" "$1" prefix="$prefix" libdir="$libdir" up="$(sed -E 's|[^/]+|..|g' <<<"$libdir")" \
-        version="$version" abi="$abi" >"$2"
+# The loader looks into these folders anyway, once ldconfig has; into any other a program has to name it.
+case $prefix in
+/usr | /usr/local) rpath='' ;;
+# shellcheck disable=SC2016
+*) rpath=' -Wl,-rpath,${libdir}' ;;
+esac
+fill_in() { # template, file, prefix
+    "$here/fill_in" "$1" prefix="$3" libdir="$libdir" up="$(sed -E 's|[^/]+|..|g' <<<"$libdir")" \
+        version="$version" number="${version%-dev}" abi="$abi" rpath="$rpath" >"$2"
 }
 install -d -- "$to/$libdir/pkgconfig" "$to/$libdir/cmake/rtp_wire" "$to/include"
 install -m 644 -- "$work/librtp_wire.a" "$to/$libdir"
@@ -160,10 +166,11 @@ install -m 755 -- "$work/librtp_wire.so" "$to/$libdir/librtp_wire.so.$version"
 ln -sf "librtp_wire.so.$version" "$to/$libdir/librtp_wire.so.$abi"
 ln -sf "librtp_wire.so.$abi" "$to/$libdir/librtp_wire.so"
 install -m 644 -- "$here"/c/rtp_wire{.h,.hpp,_sanitized.h} "$to/include"
-fill_in "$here/rtp_wire.pc.in" "$work/rtp_wire.pc"
+# There a space ends a word, unless a backslash is before it.
+fill_in "$here/rtp_wire.pc.in" "$work/rtp_wire.pc" "${prefix// /\\ }"
 install -m 644 -- "$work/rtp_wire.pc" "$to/$libdir/pkgconfig"
 for it in rtp_wire-config.cmake rtp_wire-config-version.cmake; do
-    fill_in "$here/cmake/$it.in" "$work/$it"
+    fill_in "$here/cmake/$it.in" "$work/$it" "$prefix"
     install -m 644 -- "$work/$it" "$to/$libdir/cmake/rtp_wire"
 done
 say "installed $what, into $to: $(stat -c %s "$work/librtp_wire.a") bytes of librtp_wire.a"

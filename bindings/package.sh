@@ -1,7 +1,8 @@
 #!/usr/bin/env bash
 # Packs the library for C for a release: a source archive, which has no Rattle and needs a C compiler alone, and for
-# each processor a Debian package of what bindings/install.sh installs. Their bytes are the same on each run: all times
-# are the date of the release in CHANGELOG.md, or $SOURCE_DATE_EPOCH.
+# each processor two Debian packages of what bindings/install.sh installs, the shared library and what programs are
+# built with. Their bytes are the same on each run: all times are the date of the last release in CHANGELOG.md, or
+# $SOURCE_DATE_EPOCH.
 #
 # usage: bindings/package.sh [FOLDER]      without FOLDER into bindings/out/packages
 #
@@ -22,8 +23,9 @@ give_up() {
 
 generated/make --digest || give_up 'the texts are not those of the sources'
 version=$(sed -n 's/^#define RTPW_VERSION "\(.*\)"$/\1/p' bindings/c/rtp_wire.h)
-date=$(sed -n "s/^## \[$version\] - //p" CHANGELOG.md)
-[ -n "$date" ] || give_up "CHANGELOG.md has no date of $version"
+abi=${version%%.*}
+date=$(sed -n 's/^## \[.*\] - //p' CHANGELOG.md | sed -n 1p)
+[ -n "$date" ] || give_up 'CHANGELOG.md has no date of a release'
 SOURCE_DATE_EPOCH=${SOURCE_DATE_EPOCH:-$(date -d "$date" +%s)}
 export SOURCE_DATE_EPOCH
 mkdir -p -- "$to"
@@ -46,25 +48,38 @@ paragraphs() {
     sed 's/^$/./; s/^/ /' "$1"
 }
 
-pack_for_debian() { # architecture, processor
-    local root=$scratch/$1 name=librtp-wire-dev_${version}_$1.deb kilobytes documents
-    documents=$root/usr/share/doc/librtp-wire-dev
-    DESTDIR=$root bindings/install.sh --target "$2-unknown-linux-gnu" --libdir "lib/$2-linux-gnu" /usr 2>"$scratch/said" ||
-        give_up "$(cat "$scratch/said")"
-    chmod 644 "$root/usr/lib/$2-linux-gnu"/*.so.*
-    install -Dm 644 -t "$documents/examples" bindings/examples/*.c bindings/examples/*.cpp bindings/examples/*.h
-    install -m 644 -t "$documents" bindings/README.md SECURITY.md
+# Debian sorts what stands behind a ~ before the release that it becomes.
+debian_version=${version/-/~}
+
+# Makes of a folder a Debian package, to which the documents that each has are added.
+pack_folder() { # package, folder, architecture, template of its control file
+    local documents=$2/usr/share/doc/$1 name=$1_${debian_version}_$3.deb kilobytes
+    mkdir -p -- "$documents" "$2/DEBIAN"
     gzip -9n <CHANGELOG.md >"$documents/changelog.gz"
     bindings/fill_in bindings/debian/copyright.in notice="$(paragraphs NOTICE)" mit="$(paragraphs LICENSE-MIT)" >"$documents/copyright"
-    kilobytes=$(find "$root/usr" -type f -printf '%s\n' | awk '{ sum += int(($1 + 1023) / 1024) } END { print sum }')
-    mkdir "$root/DEBIAN"
-    bindings/fill_in bindings/debian/control.in version="$version" architecture="$1" kilobytes="$kilobytes" >"$root/DEBIAN/control"
-    echo 'activate-noawait ldconfig' >"$root/DEBIAN/triggers"
-    (cd -- "$root" && find usr -type f -print0 | sort -z | xargs -0 md5sum) >"$root/DEBIAN/md5sums"
-    find "$root" -exec touch -hd "@$SOURCE_DATE_EPOCH" {} +
-    DPKG_DEB_THREADS_MAX=1 dpkg-deb --root-owner-group -Zxz --build "$root" "$to/$name" >"$scratch/said" 2>&1 ||
+    kilobytes=$(find "$2/usr" -type f -printf '%s\n' | awk '{ sum += int(($1 + 1023) / 1024) } END { print sum }')
+    bindings/fill_in "bindings/debian/$4" version="$debian_version" abi="$abi" architecture="$3" kilobytes="$kilobytes" >"$2/DEBIAN/control"
+    (cd -- "$2" && find usr -type f -print0 | sort -z | xargs -0 md5sum) >"$2/DEBIAN/md5sums"
+    find "$2" -exec touch -hd "@$SOURCE_DATE_EPOCH" {} +
+    DPKG_DEB_THREADS_MAX=1 dpkg-deb --root-owner-group -Zxz --build "$2" "$to/$name" >"$scratch/said" 2>&1 ||
         give_up "$(cat "$scratch/said")"
     say "packed $name"
+}
+
+pack_for_debian() { # architecture, processor
+    local shared=$scratch/$1-shared dev=$scratch/$1-dev libraries=usr/lib/$2-linux-gnu documents
+    documents=$dev/usr/share/doc/librtp-wire-dev
+    DESTDIR=$dev bindings/install.sh --target "$2-unknown-linux-gnu" --libdir "lib/$2-linux-gnu" /usr 2>"$scratch/said" ||
+        give_up "$(cat "$scratch/said")"
+    mkdir -p "$shared/$libraries" "$shared/DEBIAN"
+    chmod 644 "$dev/$libraries"/*.so.*
+    mv -- "$dev/$libraries"/librtp_wire.so.* "$shared/$libraries"
+    echo 'activate-noawait ldconfig' >"$shared/DEBIAN/triggers"
+    echo "librtp_wire $abi librtp-wire$abi (>= $debian_version)" >"$shared/DEBIAN/shlibs"
+    install -Dm 644 -t "$documents/examples" bindings/examples/*.c bindings/examples/*.cpp bindings/examples/*.h
+    install -m 644 -t "$documents" bindings/debian/README
+    pack_folder "librtp-wire$abi" "$shared" "$1" control.in
+    pack_folder librtp-wire-dev "$dev" "$1" control-dev.in
 }
 
 pack_sources
@@ -77,6 +92,6 @@ for it in 'amd64 x86_64' 'arm64 aarch64'; do
     if [ "$processor" = "$(uname -m)" ] || command -v "$processor-linux-gnu-gcc" >/dev/null; then
         pack_for_debian "$architecture" "$processor"
     else
-        say "the package for $architecture was left out: there is no $processor-linux-gnu-gcc"
+        say "the packages for $architecture were left out: there is no $processor-linux-gnu-gcc"
     fi
 done
