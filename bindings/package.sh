@@ -49,7 +49,7 @@ paragraphs() {
 }
 
 # Debian sorts what stands behind a ~ before the release that it becomes.
-debian_version=${version/-/~}
+debian_version=${version/-/"~"}
 
 # Makes of a folder a Debian package, to which the documents that each has are added.
 pack_folder() { # package, folder, architecture, template of its control file
