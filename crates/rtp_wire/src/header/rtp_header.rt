@@ -12,7 +12,9 @@ use std::alloc::{AllocError, Global};
 pub struct RtpHeader {
     /// The version of the protocol. As read it is 2, and 2 is written whatever stands here.
     pub version: u8,
-    /// Whether padding bytes end the payload, the last of which counts them.
+    /// Whether padding bytes end the payload, the last of which counts them. Clear it where a header
+    /// that was read is written for a payload without its padding: each receiver would take the
+    /// payload's last bytes for padding.
     pub has_padding: bool,
     /// Whether a block of header extensions follows the CSRC list. Where it is clear nothing of
     /// `ext_vals` is written: set it with the first value of a header that was read without X.

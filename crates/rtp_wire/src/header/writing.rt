@@ -33,7 +33,8 @@ impl RtpHeader {
     /// whatever `version` holds; `header_len` and the slots after the CSRC list are not looked at.
     /// Where `has_extension` is set a block is written, with an element for each mapped id, by
     /// rising id, whose value is there, in the form that [`ExtensionMap::form`] returns; zeros fill
-    /// its last word. Where it is clear nothing is written of the values.
+    /// its last word. Where it is clear nothing is written of the values. Where `has_padding` is set
+    /// so is P, and the padding is the caller's to put behind the payload.
     ///
     /// Requires a payload type of at most 127, at most 15 contributing sources, and room for
     /// [`wire_len`](Self::wire_len) bytes.
