@@ -223,7 +223,7 @@ block C c >"$scratch/call.c"
 block C++ cpp >"$scratch/call.cpp"
 block Rust rust >"$scratch/call.rs"
 cc -std=c99 "${strict[@]}" "${include[@]}" "$scratch/call.c" "$library" -o "$scratch/call_C"
-c++ -std=c++11 "${strict[@]}" "${include[@]}" "$scratch/call.cpp" "$library" -o "$scratch/call_C++"
+c++ -std=c++17 "${strict[@]}" "${include[@]}" "$scratch/call.cpp" "$library" -o "$scratch/call_C++"
 if has cargo; then
     rustc --edition 2021 -D warnings "$scratch/call.rs" -o "$scratch/call_Rust" \
         --extern "rtp_wire=$CARGO_TARGET_DIR/debug/librtp_wire.rlib"
