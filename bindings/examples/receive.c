@@ -4,23 +4,19 @@
 #include <stdio.h>
 
 static void receive(rtpw_receiver *receiver, const rtpw_map *map, const uint8_t *datagram, size_t len) {
-    rtpw_packet packet;
     rtpw_header header;
     uint64_t number;
-    if (rtpw_is_rtcp(datagram, len) || rtpw_packet_parse(datagram, len, &packet) != RTPW_OK || !packet.padding_fits ||
-        rtpw_parse(datagram, len, map, &header) != RTPW_OK) {
+    if (rtpw_is_rtcp(datagram, len) || rtpw_parse(datagram, len, map, &header) != RTPW_OK) {
         puts("no RTP packet");
-    } else if (rtpw_receiver_receive(receiver, packet.sequence_number, &number) != RTPW_OK) {
+    } else if (rtpw_receiver_receive(receiver, header.sequence_number, &number) != RTPW_OK) {
         puts("a replay, or too old");
     } else if (header.values.has_audio_level) {
-        printf("%" PRIu64 ": %d dB, %zu bytes\n", number, header.values.audio_level, packet.unpadded_len);
+        printf("%" PRIu64 ": %d dB, %zu bytes\n", number, header.values.audio_level, len - header.header_len);
     }
 }
 
 int main(void) {
     static const uint8_t packet[] = {0x90, 111, 0, 5, 0, 0, 0, 160, 0, 0, 0, 7, 0xBE, 0xDE, 0, 1, 0x10, 0x8A, 0, 0, 1, 2};
-    static const uint8_t padded[] = {0xB0, 111, 0,    6,    0, 0, 3, 96, 0, 0, 0, 7, 0xBE,
-                                     0xDE, 0,   1,    0x10, 20, 0, 0, 3, 4, 5, 0, 0, 0, 4}; /* four bytes of padding */
     static const uint8_t report[] = {0x80, 204, 0, 2, 0, 0, 0, 7, 'R', 'T', 'C', 'P'}; /* at the same port */
     rtpw_map map; /* of the ids that SDP negotiated; here the usual ones */
     rtpw_map_standard(&map);
@@ -30,7 +26,6 @@ int main(void) {
     }
     receive(&receiver, &map, packet, sizeof packet);
     receive(&receiver, &map, packet, sizeof packet);
-    receive(&receiver, &map, padded, sizeof padded);
     receive(&receiver, &map, packet, 11);
     receive(&receiver, &map, report, sizeof report);
 }
