@@ -78,6 +78,28 @@ pub record Gets (header : List ℕ) (slots : List Slot) (bytes : List ℕ) (rece
   pub unpadded : receiver.is_retransmission ≡ 0 → 0 < receiver.clears_padding → IsReceiversUnpadded header slots (fields_given receiver.fields) (data_of slots bytes receiver) own
   pub retransmission : 0 < receiver.is_retransmission → IsReceiversAgain header slots (fields_given receiver.fields) receiver.original_number (data_of slots bytes receiver) own
 
+-- a retransmission with these data, of so many bytes, stands at this place in the buffer, and all other bytes are as they were
+pub record IsWrittenAgain (header : List ℕ) (slots : List Slot) (contents : List ℕ) (receiver : RoutedHeader) (at len : ℕ) (buf after : List ℕ) : Type 0 where
+  pub len_is : len ≡ length header + 2
+  pub within : at + len ≤ length buf
+  pub own : List ℕ
+  pub again : IsReceiversAgain header slots (fields_given receiver.fields) receiver.original_number (pieces (slot_lengths slots) contents) own
+  pub after_is : after ≡ overwritten buf at own
+
+-- what a receiver gets, of so many bytes, stands at this place in the buffer, and all other bytes are as they were
+pub record IsWrittenAt (header : List ℕ) (slots : List Slot) (bytes : List ℕ) (receiver : RoutedHeader) (at len : ℕ) (buf after : List ℕ) : Type 0 where
+  pub served : IsServed slots bytes receiver
+  pub len_is : len ≡ len_for header receiver
+  pub within : at + len ≤ length buf
+  pub own : List ℕ
+  pub gets : Gets header slots bytes receiver own
+  pub after_is : after ≡ overwritten buf at own
+
+-- why a receiver gets nothing at this place of a buffer of so many bytes
+pub record IsRefusedAt (header : List ℕ) (slots : List Slot) (bytes : List ℕ) (receiver : RoutedHeader) (at size : ℕ) (status : ℤ) : Type 0 where
+  pub served : IsServed slots bytes receiver → (status ≡ short_buffer) × (size < at + len_for header receiver)
+  pub bad : (IsServed slots bytes receiver → ⊥) → status ≡ bad_field
+
 -- what a receiver gets stands at this place in the buffer, and all other bytes are as they were; where it has no room there, or can't be served, all are, and it takes none
 pub record IsHeaderWritten (header : List ℕ) (slots : List Slot) (bytes : List ℕ) (at : ℕ) (old new : RoutedHeader) (buf after : List ℕ) : Type 0 where
   pub given_is : new ≡ record old { at = at; status = new.status; len = new.len }
@@ -102,10 +124,3 @@ AreApart (one ∷ others) = All (λ other. one.at + one.len ≤ other.at) others
 -- this header ends within so many bytes
 abbrev pub EndsWithin : ℕ → RoutedHeader → Type 0
 EndsWithin size receiver = receiver.at + receiver.len ≤ size
-
--- a retransmission with these data stands at this place in the buffer, and all other bytes are as they were
-pub record IsWrittenAgain (header : List ℕ) (slots : List Slot) (contents : List ℕ) (at : ℕ) (old new : RoutedHeader) (buf after : List ℕ) : Type 0 where
-  pub told : new ≡ record old { at = at; status = ok; len = length header + 2 }
-  pub own : List ℕ
-  pub again : IsReceiversAgain header slots (fields_given old.fields) old.original_number (pieces (slot_lengths slots) contents) own
-  pub after_is : after ≡ overwritten buf at own

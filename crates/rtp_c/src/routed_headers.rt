@@ -1,14 +1,15 @@
 //! One packet to all its receivers: a header for each, in one call.
 
-ghost use Rattle.std.specs.Prelude.{◌≡◌, ◌≢◌, ◌↔◌, ◌+◌, ◌^◌, ◌<◌, ◌≤◌, length, All, IsOk, IfOk, IfErr};
+ghost use Rattle.std.specs.Prelude.{◌≡◌, ◌≢◌, ◌↔◌, ◌+◌, ◌<◌, ◌≤◌, length, All, IsOk, IfOk, IfErr, OnErr};
 ghost use Rattle.rtp_wire.specs.ChangedPacket.{ChangesOnly};
 ghost use Rattle.rtp_wire.specs.GivenFields.{with_header_fields};
 ghost use Rattle.rtp_wire.specs.Packet.{PacketParts, IsPacket, header_len_of};
 ghost use Rattle.rtp_wire.specs.PartsAt.{HasLayout};
 ghost use Rattle.rtp_wire.specs.PartsOf.{parts_of};
 ghost use Rattle.rtp_route.specs.Calls as calls;
+ghost use Rattle.rtp_route.specs.Retransmitted.{without_padding};
 ghost use Rattle.rtp_route.specs.Template.{total_of, LiesInHeader};
-ghost use Rattle.rtp_c.specs.RoutedHeaders.{header_in, IsWholeTemplate, IsTemplateStatus, IsWrittenAgain, IsHeaderWritten, AreHeadersWritten, AreApart, EndsWithin};
+ghost use Rattle.rtp_c.specs.RoutedHeaders.{header_in, IsWholeTemplate, IsTemplateStatus, IsWrittenAgain, IsWrittenAt, IsRefusedAt, IsHeaderWritten, AreHeadersWritten, AreApart, EndsWithin};
 ghost use Rattle.rtp_c.specs.SetFields.{fields_given, CanBeSet};
 ghost use Rattle.rtp_c.specs.Status.{ok, short_buffer};
 ghost use Rattle.rtp_c.specs.StoredTemplate.{slots_of, IsInRange};
@@ -72,21 +73,8 @@ fn header_of<'a>(made: &StoredTemplate, bytes: &'a [u8]) -> Result<RtpPacket<'a>
     Ok(header)
 }
 
-// Tells where the header of a receiver lies, and returns where the next one begins.
-#[inline(always)]
-fn lay_out(receiver: &mut RoutedHeader, at: usize, len: usize) -> usize
-    requires short { len ≤ 262218 }
-    requires place { at + len < 2 ^ 64 }
-    ensures told { receiver.new ≡ record receiver.old { at = at; len = len } }
-    ensures next { result ≡ at + len }
-{
-    receiver.at = at;
-    receiver.len = len as u32;
-    at + len
-}
-
 // Writes the header of a retransmission at this place for a receiver that can be served, where the
-// number behind it has room too, and returns where the next one begins. It stays out of line, since
+// number behind it has room too, and returns how many bytes they have. It stays out of line, since
 // few packets are sent again.
 #[cold]
 #[inline(never)]
@@ -94,33 +82,28 @@ fn write_again(
     header: RtpPacket<'_>,
     slots: StoredSlots<'_>,
     own: &[u8],
-    receiver: &mut RoutedHeader,
+    receiver: &RoutedHeader,
     at: usize,
     buf: &mut [u8],
-) -> usize
-    requires payload_type { CanBeSet receiver.old.fields }
+) -> Result<usize, i32>
+    requires payload_type { CanBeSet receiver.now.fields }
     requires lengths { length own.now ≡ total_of (slots_of slots.made.now) }
     requires within { All (LiesInHeader (parts_of header)) (slots_of slots.made.now) }
     requires place { at ≤ length buf.old }
-    ensures written { at + header_len_of (parts_of header.entry) + 2 ≤ length buf.old →
-        IsWrittenAgain (calls.header_in header.entry) (slots_of slots.entry.made.now) own.now at
-        receiver.old receiver.new buf.old buf.new }
-    ensures short { length buf.old < at + header_len_of (parts_of header.entry) + 2 →
-        (receiver.new ≡ record receiver.old { at = at; status = short_buffer; len = 0 })
-        × (buf.new ≡ buf.old) }
-    ensures next { result ≡ at + receiver.new.len }
-    ensures place { result ≤ length buf.new }
+    ensures written { IfOk result (λ len. IsWrittenAgain (calls.header_in header.entry)
+        (slots_of slots.entry.made.now) own.now receiver.now at len buf.old buf.new) }
+    ensures short { IfErr result (λ status. (status ≡ short_buffer)
+        × (length buf.old < at + header_len_of (parts_of header.entry) + 2)) }
+    ensures unchanged { OnErr result (buf.new ≡ buf.old) }
 {
     let len = header.header_len() + 2;
     if len > buf.len() - at {
-        receiver.status = SHORT_BUFFER;
-        return lay_out(receiver, at, 0);
+        return Err(SHORT_BUFFER);
     }
     let fields = given_fields(&receiver.fields);
     let number = receiver.original_number;
     write_retransmission(&header, slots, &fields, number, own, &mut buf[at..at + len]);
-    receiver.status = OK;
-    lay_out(receiver, at, len)
+    Ok(len)
 }
 
 // Copies a header. It stays out of line, so that the loop over the receivers keeps its registers.
@@ -167,8 +150,62 @@ fn set_given(buf: &mut [u8], form: Option<ExtensionsForm>, view: &FieldsView)
     });
 }
 
-// Writes what a receiver gets at this place, where it can be served and there is room, and returns
-// where the next one begins.
+// Clears P of a header where its receiver asks for that.
+#[inline(always)]
+fn clear_where_asked(buf: &mut [u8], clears_padding: u8)
+    requires { 1 ≤ length buf.old }
+    ensures unpadded { 0 < clears_padding → buf.new ≡ without_padding buf.old }
+    ensures packets { clears_padding ≡ 0 → buf.new ≡ buf.old }
+{
+    if clears_padding != 0 {
+        clear_padding(buf);
+    }
+}
+
+// Writes what a receiver gets at this place, and returns how many bytes it has, or the status of why
+// it gets none.
+#[inline(always)]
+fn write_at(
+    header: &RtpPacket<'_>,
+    slots: StoredSlots<'_>,
+    data_len: usize,
+    bytes: &[u8],
+    receiver: &RoutedHeader,
+    at: usize,
+    buf: &mut [u8],
+) -> Result<usize, i32>
+    requires total { data_len ≡ total_of (slots_of slots.made.now) }
+    requires within { All (LiesInHeader (parts_of header.now)) (slots_of slots.made.now) }
+    requires place { at ≤ length buf.old }
+    ensures written { IfOk result (λ len. IsWrittenAt (calls.header_in header.now)
+        (slots_of slots.entry.made.now) bytes.now receiver.now at len buf.old buf.new) }
+    ensures refused { IfErr result (IsRefusedAt (calls.header_in header.now)
+        (slots_of slots.entry.made.now) bytes.now receiver.now at (length buf.old)) }
+    ensures unchanged { OnErr result (buf.new ≡ buf.old) }
+{
+    if receiver.fields.has_payload_type != 0 && receiver.fields.payload_type > 127 {
+        return Err(BAD_FIELD);
+    }
+    let Some(own) = slice_in(bytes, receiver.data_at, data_len) else {
+        return Err(BAD_FIELD);
+    };
+    if receiver.is_retransmission != 0 {
+        return write_again(*header, slots, own, receiver, at, buf);
+    }
+    let len = header.header_len();
+    if len > buf.len() - at {
+        return Err(SHORT_BUFFER);
+    }
+    let copy = &mut buf[at..at + len];
+    copy_header(copy, header.header_bytes());
+    set_given(copy, header.form(), &receiver.fields);
+    fill_joined(copy, slots, own);
+    clear_where_asked(copy, receiver.clears_padding);
+    Ok(len)
+}
+
+// Writes what a receiver gets at this place and tells of it, and returns where the next one begins.
+#[inline(always)]
 fn write_one(
     header: &RtpPacket<'_>,
     slots: StoredSlots<'_>,
@@ -186,31 +223,20 @@ fn write_one(
     ensures next { result ≡ at + receiver.new.len }
     ensures place { result ≤ length buf.new }
 {
-    if receiver.fields.has_payload_type != 0 && receiver.fields.payload_type > 127 {
-        receiver.status = BAD_FIELD;
-        return lay_out(receiver, at, 0);
+    match write_at(header, slots, data_len, bytes, receiver, at, buf) {
+        Ok(len) => {
+            receiver.at = at;
+            receiver.status = OK;
+            receiver.len = len as u32;
+            at + len
+        }
+        Err(status) => {
+            receiver.at = at;
+            receiver.status = status;
+            receiver.len = 0;
+            at
+        }
     }
-    let Some(own) = slice_in(bytes, receiver.data_at, data_len) else {
-        receiver.status = BAD_FIELD;
-        return lay_out(receiver, at, 0);
-    };
-    let len = header.header_len();
-    if len > buf.len() - at {
-        receiver.status = SHORT_BUFFER;
-        return lay_out(receiver, at, 0);
-    }
-    if receiver.is_retransmission != 0 {
-        return write_again(*header, slots, own, receiver, at, buf);
-    }
-    let copy = &mut buf[at..at + len];
-    copy_header(copy, header.header_bytes());
-    set_given(copy, header.form(), &receiver.fields);
-    fill_joined(copy, slots, own);
-    if receiver.clears_padding != 0 {
-        clear_padding(copy);
-    }
-    receiver.status = OK;
-    lay_out(receiver, at, len)
 }
 
 /// Writes the header of each of these receivers of a group, one after another from the buffer's

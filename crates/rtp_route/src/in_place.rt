@@ -72,8 +72,8 @@ pub(super) fn renumber(header: &mut [u8], form: Option<ExtensionsForm>, ids: &Ne
     packet.renumber(ids)
 }
 
-/// Clears P of a header, and no other bit (RFC 3550, 5.1). The payload behind it is then sent without
-/// its padding.
+/// Clears P of a header, and no other bit, for a payload that is sent without its padding (RFC 3550,
+/// 5.1). Requires a first byte.
 #[inline(always)]
 pub fn clear_padding(header: &mut [u8])
     requires { 1 ≤ length header.old }
