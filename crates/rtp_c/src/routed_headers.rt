@@ -97,7 +97,7 @@ fn write_again(
     ensures unchanged { OnErr result (buf.new ≡ buf.old) }
 {
     let len = header.header_len() + 2;
-    if len > buf.len() - at {
+    if buf.len() - at < len {
         return Err(SHORT_BUFFER);
     }
     let fields = given_fields(&receiver.fields);
