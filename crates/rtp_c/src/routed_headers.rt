@@ -155,7 +155,7 @@ fn set_given(buf: &mut [u8], form: Option<ExtensionsForm>, view: &FieldsView)
 fn clear_where_asked(buf: &mut [u8], clears_padding: u8)
     requires { 1 ≤ length buf.old }
     ensures unpadded { 0 < clears_padding → buf.new ≡ without_padding buf.old }
-    ensures packets { clears_padding ≡ 0 → buf.new ≡ buf.old }
+    ensures unchanged { clears_padding ≡ 0 → buf.new ≡ buf.old }
 {
     if clears_padding != 0 {
         clear_padding(buf);

@@ -115,7 +115,7 @@ returns-clause-written c =
       within = omega (arith, c.if-len-buf.false, c.requires.place);
       own = own;
       gets = record {
-        packet = λ _ stays. subst (λ (b : List ℕ). IsReceivers header slots fields contents b) (sym (c.clear_where_asked.ensures.packets stays)) is;
+        packet = λ _ stays. subst (λ (b : List ℕ). IsReceivers header slots fields contents b) (sym (c.clear_where_asked.ensures.unchanged stays)) is;
         unpadded = λ _ clear. receivers-unpadded header slots fields contents filled own is (c.clear_where_asked.ensures.unpadded clear);
         retransmission = λ some. absurd (omega (arith, some, none));
       };
