@@ -7,8 +7,8 @@ use Rattle.rtp_c.proofs.routed_headers.rtpw_write_headers.Goals as goal
 pub loop-receiver-preserved : goal.loop-receiver-preserved
 loop-receiver-preserved c =
     let at = c.loop-receiver in
-    AreHeadersWrittenTo-next (calls.header_in c.in-Ok.template) _ c.args.bytes.now c.args.receivers.now at.receiver-items c.args.buf.now at.buf at.receiver-index at.at c.write_one.result _
-    c.write_one.new.receiver c.write_one.new.buf at.invariant (omega (arith, c.loop-receiver-test.true, at.auto.receiver-items)) c.write_one.ensures.written c.write_one.ensures.next c.write_one.ensures.place
+    AreHeadersWrittenTo-next (calls.header_in c.in-Ok.template) _ c.args.bytes.now c.args.receivers.now at.receiver-items c.args.buf.now at.buf at.receiver-index at.at c.write_one-at.result _
+    c.write_one-at.new.receiver c.write_one-at.new.buf at.invariant (omega (arith, c.loop-receiver-test.true, at.auto.receiver-items)) c.write_one-at.ensures.written c.write_one-at.ensures.next c.write_one-at.ensures.place
 
 pub returns-clause-apart : goal.returns-clause-apart
 returns-clause-apart c is_ok =

@@ -100,15 +100,15 @@ returns-clause-written c =
     let copied : c.copy_header.new.buf ≡ header = c.copy_header.ensures ∙ header-is c.args.header.now c.header_bytes.result.now c.header_bytes.ensures.front c.header_bytes.ensures.alone in
     let alone : len_for header receiver ≡ length header = len-packet header receiver none in
     let own_len : len ≡ length own =
-        omega (arith, c.clear_where_asked.auto.buf, c.fill_joined.auto.buf, c.set_given.auto.buf, c.copy_header.auto.buf, c.if-len-buf.false, c.requires.place, length-take (at + len - at) (drop at buf), length-drop at buf) in
+    omega (arith, c.clear_where_asked.auto.buf, c.fill_joined.auto.buf, c.set_given.auto.buf, c.copy_header.auto.buf, c.if-len-buf.false, c.requires.place, length-take (at + len - at) (drop at buf), length-drop at buf) in
     let is : IsReceivers header slots fields contents filled =
     receivers-header header slots fields fields bytes c.in-Some.own.now receiver.data_at c.args.data_len filled refl c.in-Some.ensures.found.1 c.requires.total
-        c.in-Some.ensures.found.0 (record {
-          set = c.set_given.new.buf;
-          is_packet = λ parts is. c.set_given.ensures.set parts (subst (λ (b : List ℕ). IsPacket b parts) (sym copied) is);
-          only = subst (λ (b : List ℕ). ChangesOnly 1 12 b c.set_given.new.buf) copied c.set_given.ensures.fixed;
-          filled = c.fill_joined.ensures;
-        }) in
+    c.in-Some.ensures.found.0 (record {
+      set = c.set_given.new.buf;
+      is_packet = λ parts is. c.set_given.ensures.set parts (subst (λ (b : List ℕ). IsPacket b parts) (sym copied) is);
+      only = subst (λ (b : List ℕ). ChangesOnly 1 12 b c.set_given.new.buf) copied c.set_given.ensures.fixed;
+      filled = c.fill_joined.ensures;
+    }) in
     record {
       served = record { fields = can; within = omega (arith, c.in-Some.ensures.found.0, c.requires.total) };
       len_is = omega (arith, alone, long, c.header_len-len.ensures);
