@@ -1,11 +1,13 @@
 -- Lists whose elements are changed in turn, from the first one on.
 use Rattle.rtp_c.proofs.Common.{◌≡◌, ℕ, ◌+◌, ◌-◌, ◌<◌, ◌≤◌, List, [], ◌∷◌, ◌++◌, length, take, drop, get_or, set, refl, sym, ap, ◌∙◌, subst, add-zero, arith, AllZip, take_more, take_more_set, drop-set-lt, drop-drop, get_or-drop, length-drop, AllZip-push, StoredReceiver}
+use Rattle.std.proofs.Common.{zero, suc, take_all}
+use Rattle.std.specs.List.{All}
 use Rattle.std.proofs.ResultArms.{subst_both}
 use Rattle.rtp_c.specs.declared.arrivals.Arrival.{Arrival}
 use Rattle.rtp_c.specs.Arrivals.{IsReceived, AreReceived}
 use Rattle.rtp_route.specs.declared.slots.Slot.{Slot}
 use Rattle.rtp_c.specs.declared.routed_headers.RoutedHeader.{RoutedHeader}
-use Rattle.rtp_c.specs.RoutedHeaders.{IsHeaderWritten, AreHeadersWritten}
+use Rattle.rtp_c.specs.RoutedHeaders.{IsHeaderWritten, AreHeadersWritten, AreApart, EndsWithin}
 
 -- from this index on the elements are as they were
 abbrev pub AreLeft : {X : Type 0} → List X → List X → ℕ → Type 0
@@ -72,30 +74,82 @@ AreReceivedTo-next receivers olds news between index d new after so_far within i
       left = AreLeft-next olds news index new so_far.left;
     }
 
--- ---- headers, each written into the buffer as the one before it left that
+-- ---- headers, each written into the buffer as the one before it left that, behind it
 
-AreHeadersWritten-push : (header : List ℕ) (slots : List Slot) (bytes : List ℕ) (olds news : List RoutedHeader) (buf between : List ℕ) (old new : RoutedHeader) (after : List ℕ)
-    → AreHeadersWritten header slots bytes olds news buf between → IsHeaderWritten header slots bytes old new between after
-    → AreHeadersWritten header slots bytes (olds ++ old ∷ []) (news ++ new ∷ []) buf after
-AreHeadersWritten-push header slots bytes [] [] buf between old new after so_far is = (after, subst (λ b. IsHeaderWritten header slots bytes old new b after) so_far is, refl)
-AreHeadersWritten-push header slots bytes [] (n ∷ ns) buf between old new after so_far is = absurd so_far
-AreHeadersWritten-push header slots bytes (o ∷ os) [] buf between old new after so_far is = absurd so_far
-AreHeadersWritten-push header slots bytes (o ∷ os) (n ∷ ns) buf between old new after so_far is =
-    (so_far.0, so_far.1, AreHeadersWritten-push header slots bytes os ns so_far.0 between old new after so_far.2 is)
+-- where the last of these ends, of which the first begins at this place
+abbrev pub end_of : ℕ → List RoutedHeader → ℕ
+end_of at [] = at
+end_of at (receiver ∷ receivers) = end_of (at + receiver.len) receivers
 
--- before this index the headers are written, and the receivers from it on are as they were
-pub record AreHeadersWrittenTo (header : List ℕ) (slots : List Slot) (bytes : List ℕ) (olds news : List RoutedHeader) (buf after : List ℕ) (index : ℕ) : Type 0 where
-  pub written : AreHeadersWritten header slots bytes (take index olds) (take index news) buf after
-  pub left : AreLeft olds news index
+end_of-push : (at : ℕ) (receivers : List RoutedHeader) (last : RoutedHeader) → end_of at (receivers ++ last ∷ []) ≡ end_of at receivers + last.len
+end_of-push at [] last = refl
+end_of-push at (receiver ∷ receivers) last = end_of-push (at + receiver.len) receivers last
 
-pub AreHeadersWrittenTo-next : (header : List ℕ) (slots : List Slot) (bytes : List ℕ) (olds news : List RoutedHeader) (buf between : List ℕ) (index : ℕ) (d new : RoutedHeader) (after : List ℕ)
-    → AreHeadersWrittenTo header slots bytes olds news buf between index → index < length news → IsHeaderWritten header slots bytes (get_or news index d) new between after
-    → AreHeadersWrittenTo header slots bytes olds (set news index new) buf after (index + 1)
-AreHeadersWrittenTo-next header slots bytes olds news buf between index d new after so_far within is =
-    record {
-      written = subst_both (λ os ns. AreHeadersWritten header slots bytes os ns buf after) (sym (take_more olds index d (AreLeft-within olds news index so_far.left within)))
-          (sym (take_more_set news index new within))
-          (AreHeadersWritten-push header slots bytes (take index olds) (take index news) buf between (get_or olds index d) new after so_far.written
-          (subst (λ old. IsHeaderWritten header slots bytes old new between after) (AreLeft-at olds news index d so_far.left) is));
-      left = AreLeft-next olds news index new so_far.left;
-    }
+end_of-behind : (at : ℕ) (receivers : List RoutedHeader) → at ≤ end_of at receivers
+end_of-behind at [] = omega arith
+end_of-behind at (receiver ∷ receivers) = omega (arith, end_of-behind (at + receiver.len) receivers)
+
+module _ (header : List ℕ) (slots : List Slot) (bytes : List ℕ) where
+  AreHeadersWritten-push : (at : ℕ) (olds news : List RoutedHeader) (buf between : List ℕ) (old new : RoutedHeader) (after : List ℕ)
+      → AreHeadersWritten header slots bytes at olds news buf between → IsHeaderWritten header slots bytes (end_of at news) old new between after
+      → AreHeadersWritten header slots bytes at (olds ++ old ∷ []) (news ++ new ∷ []) buf after
+  AreHeadersWritten-push at [] [] buf between old new after so_far is = (after, subst (λ b. IsHeaderWritten header slots bytes at old new b after) so_far is, refl)
+  AreHeadersWritten-push at [] (n ∷ ns) buf between old new after so_far is = absurd so_far
+  AreHeadersWritten-push at (o ∷ os) [] buf between old new after so_far is = absurd so_far
+  AreHeadersWritten-push at (o ∷ os) (n ∷ ns) buf between old new after so_far is =
+      (so_far.0, so_far.1, AreHeadersWritten-push (at + n.len) os ns so_far.0 between old new after so_far.2 is)
+
+  -- none begins before the place of the first
+  all-behind : (at : ℕ) (olds news : List RoutedHeader) (buf after : List ℕ) → AreHeadersWritten header slots bytes at olds news buf after → All (λ (r : RoutedHeader). at ≤ r.at) news
+  all-behind at olds [] buf after are k d there = absurd (omega (arith, there))
+  all-behind at [] (n ∷ ns) buf after are k d there = absurd are
+  all-behind at (o ∷ os) (n ∷ ns) buf after are zero d there = let place : n.at ≡ at = ap (λ (r : RoutedHeader). r.at) are.1.given_is in omega (arith, place)
+  all-behind at (o ∷ os) (n ∷ ns) buf after are (suc k) d there = omega (arith, all-behind (at + n.len) os ns are.0 after are.2 k d (omega (arith, there)))
+
+  -- no two overlap
+  pub are-apart : (at : ℕ) (olds news : List RoutedHeader) (buf after : List ℕ) → AreHeadersWritten header slots bytes at olds news buf after → AreApart news
+  are-apart at olds [] buf after are = tt
+  are-apart at [] (n ∷ ns) buf after are = absurd are
+  are-apart at (o ∷ os) (n ∷ ns) buf after are =
+      let place : n.at ≡ at = ap (λ (r : RoutedHeader). r.at) are.1.given_is in (
+        λ k d there. omega (arith, place, all-behind (at + n.len) os ns are.0 after are.2 k d there),
+        are-apart (at + n.len) os ns are.0 after are.2,
+      )
+
+  -- each ends where the last one does, or before
+  pub end-within : (at : ℕ) (olds news : List RoutedHeader) (buf after : List ℕ) (size : ℕ) → AreHeadersWritten header slots bytes at olds news buf after → end_of at news ≤ size → All (EndsWithin size) news
+  end-within at olds [] buf after size are last k d there = absurd (omega (arith, there))
+  end-within at [] (n ∷ ns) buf after size are last k d there = absurd are
+  end-within at (o ∷ os) (n ∷ ns) buf after size are last zero d there =
+      let place : n.at ≡ at = ap (λ (r : RoutedHeader). r.at) are.1.given_is in omega (arith, place, last, end_of-behind (at + n.len) ns)
+  end-within at (o ∷ os) (n ∷ ns) buf after size are last (suc k) d there = end-within (at + n.len) os ns are.0 after size are.2 last k d (omega (arith, there))
+
+  -- before this index the headers are written, up to this place, and the receivers from it on are as they were
+  pub record AreHeadersWrittenTo (olds news : List RoutedHeader) (buf after : List ℕ) (index at : ℕ) : Type 0 where
+    pub written : AreHeadersWritten header slots bytes 0 (take index olds) (take index news) buf after
+    pub left : AreLeft olds news index
+    pub place_is : at ≡ end_of 0 (take index news)
+    pub within : at ≤ length after
+
+  pub AreHeadersWrittenTo-next : (olds news : List RoutedHeader) (buf between : List ℕ) (index at next : ℕ) (d new : RoutedHeader) (after : List ℕ)
+      → AreHeadersWrittenTo olds news buf between index at → index < length news → IsHeaderWritten header slots bytes at (get_or news index d) new between after → next ≡ at + new.len → next ≤ length after
+      → AreHeadersWrittenTo olds (set news index new) buf after (index + 1) next
+  AreHeadersWrittenTo-next olds news buf between index at next d new after so_far within is next_is room =
+      record {
+        written = subst_both (λ os ns. AreHeadersWritten header slots bytes 0 os ns buf after) (sym (take_more olds index d (AreLeft-within olds news index so_far.left within)))
+            (sym (take_more_set news index new within))
+            (AreHeadersWritten-push 0 (take index olds) (take index news) buf between (get_or olds index d) new after so_far.written
+            (subst_both (λ place old. IsHeaderWritten header slots bytes place old new between after) so_far.place_is (AreLeft-at olds news index d so_far.left) is));
+        left = AreLeft-next olds news index new so_far.left;
+        place_is = next_is ∙ ap (λ (n : ℕ). n + new.len) so_far.place_is ∙ sym (end_of-push 0 (take index news) new) ∙ sym (ap (end_of 0) (take_more_set news index new within));
+        within = room;
+      }
+
+  pub AreHeadersWrittenTo-end : (olds news : List RoutedHeader) (buf after : List ℕ) (index at : ℕ) → AreHeadersWrittenTo olds news buf after index at → length news ≤ index
+      → AreHeadersWritten header slots bytes 0 olds news buf after × (end_of 0 news ≤ length after)
+  AreHeadersWrittenTo-end olds news buf after index at all past =
+      let news_are : take index news ≡ news = take_all index news past in
+      let olds_are : take index olds ≡ olds = take_all index olds (AreLeft-past olds news index all.left past) in (
+        subst_both (λ os ns. AreHeadersWritten header slots bytes 0 os ns buf after) olds_are news_are all.written,
+        (let last : end_of 0 (take index news) ≡ end_of 0 news = ap (end_of 0) news_are in omega (arith, last, all.place_is, all.within)),
+      )

@@ -1,20 +1,20 @@
 -- A header that is written for a receiver, and the template that it is written from.
-use Rattle.rtp_c.proofs.Common.{◌≡◌, ℕ, Bool, true, false, if◌then◌else◌, ◌<◌, ◌+◌, ◌-◌, ◌≤◌, List, [], ◌∷◌, length, take, drop, refl, ap, subst, ◌∙◌, arith, length-take, length-drop}
+use Rattle.rtp_c.proofs.Common.{◌≡◌, ℕ, Bool, true, false, if◌then◌else◌, ◌<◌, ◌+◌, ◌-◌, ◌≤◌, List, [], ◌∷◌, length, take, drop, refl, sym, ap, subst, ◌∙◌, arith, length-take, length-drop}
 use Rattle.std.proofs.lemmas.Bool.{lt-ltb}
 use Rattle.rtp_wire.specs.declared.packet.fields.Fields.{Fields}
 use Rattle.rtp_wire.specs.Packet.{PacketParts, IsPacket, header_len_of}
 use Rattle.rtp_wire.proofs.PartsLemmas.{length-packet}
 use Rattle.rtp_route.specs.declared.slots.Slot.{Slot}
 use Rattle.rtp_route.specs.GroupHeader.{IsFilledIn}
-use Rattle.rtp_route.specs.Retransmitted.{IsFilledInAgain}
+use Rattle.rtp_route.specs.Retransmitted.{without_padding, IsFilledInAgain}
 use Rattle.rtp_route.specs.Template.{slot_lengths, total_of, pieces}
 use Rattle.rtp_route.proofs.LengthLemmas.{pieces-lengths}
-use Rattle.rtp_route.proofs.RetransmittedLemmas.{routed-again}
+use Rattle.rtp_route.proofs.RetransmittedLemmas.{packet-cleared, routed-again}
 use Rattle.rtp_route.proofs.TemplateLemmas.{routed-filled}
 use Rattle.rtp_c.specs.PacketView.{slice_at}
 use Rattle.rtp_c.specs.Given.{is_nonzero}
 use Rattle.rtp_c.specs.declared.routed_headers.RoutedHeader.{RoutedHeader}
-use Rattle.rtp_c.specs.RoutedHeaders.{IsReceivers, IsReceiversAgain, len_for}
+use Rattle.rtp_c.specs.RoutedHeaders.{IsReceivers, IsReceiversUnpadded, IsReceiversAgain, len_for}
 
 pub no-bytes : (xs : List ℕ) → length xs ≡ 0 → xs ≡ []
 no-bytes [] none = refl
@@ -53,6 +53,16 @@ receivers-again header slots fields given number own new fields_are long filled 
       routed = λ old ids news allowed is. routed-again old ids news allowed header slots fields number _ new is (pieces-lengths slots own long) now;
     }
 
+-- the same with P clear
+pub receivers-unpadded : (header : List ℕ) (slots : List Slot) (fields : Fields) (contents : List (List ℕ)) (own new : List ℕ) → IsReceivers header slots fields contents own → new ≡ without_padding own
+    → IsReceiversUnpadded header slots fields contents new
+receivers-unpadded header slots fields contents own new is bytes = record {
+  own = own;
+  receivers = is;
+  bytes_are = bytes;
+  is_packet = λ parts packet. subst (λ (b : List ℕ). IsPacket b (record parts { has_padding = false })) (sym bytes) (packet-cleared own parts packet);
+}
+
 -- ---- how many bytes a receiver gets
 
 pub len-packet : (header : List ℕ) (receiver : RoutedHeader) → receiver.is_retransmission ≡ 0 → len_for header receiver ≡ length header
@@ -61,9 +71,9 @@ len-packet header receiver none = let same : len_for header receiver ≡ length 
 pub len-again : (header : List ℕ) (receiver : RoutedHeader) → 0 < receiver.is_retransmission → len_for header receiver ≡ length header + 2
 len-again header receiver some = ap (λ (b : Bool). length header + (if b then 2 else 0)) (lt-ltb 0 receiver.is_retransmission some)
 
-pub len-least : (header : List ℕ) (receiver : RoutedHeader) → length header ≤ len_for header receiver
-len-least header receiver = by_flag (is_nonzero receiver.is_retransmission)
+pub len-most : (header : List ℕ) (receiver : RoutedHeader) → len_for header receiver ≤ length header + 2
+len-most header receiver = by_flag (is_nonzero receiver.is_retransmission)
   where
-    by_flag : (b : Bool) → length header ≤ length header + (if b then 2 else 0)
+    by_flag : (b : Bool) → length header + (if b then 2 else 0) ≤ length header + 2
     by_flag true = omega arith
     by_flag false = omega arith

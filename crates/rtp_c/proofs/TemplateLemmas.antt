@@ -1,7 +1,7 @@
 -- The places of a template as C keeps them.
-use Rattle.rtp_c.proofs.Common.{ℤ, w32, to_z, of_z}
-use Rattle.std.proofs.Common.{Option, Some, ◌≡◌, ℕ, zero, suc, ◌+◌, ◌<◌, ◌≤◌, slice_get, length-take, List, [], ◌∷◌, ◌++◌, length, take, get_or, set, refl, sym, ap, subst, ◌∙◌, arith}
-use Rattle.std.proofs.lemmas.List.{take_more, take_more_set, get_or-take}
+use Rattle.rtp_c.proofs.Common.{ℤ, w32, to_z, of_z, inl, inr, get_or_past, cases_lt}
+use Rattle.std.proofs.Common.{replicate, get_or-set_other, ◌≢◌, Option, Some, ◌≡◌, ℕ, zero, suc, ◌+◌, ◌<◌, ◌≤◌, slice_get, length-take, List, [], ◌∷◌, ◌++◌, length, take, get_or, set, refl, sym, ap, subst, ◌∙◌, arith}
+use Rattle.std.proofs.lemmas.List.{take_more, take_more_set, get_or-take, get_or-replicate, length-replicate}
 use Rattle.std.proofs.lemmas.Option.{slice_get-get_or}
 use Rattle.rtp_route.specs.declared.slots.Slot.{Slot}
 use Rattle.rtp_ext.specs.declared.form.ExtensionsForm.{ExtensionsForm}
@@ -17,7 +17,7 @@ use Rattle.rtp_wire.specs.Packet.{PacketParts, header_len_of}
 use Rattle.rtp_wire.specs.PartsOf.{parts_of, datagram_of}
 use Rattle.rtp_c.specs.RoutedStatus.{not_routed_status}
 use Rattle.rtp_c.specs.Status.{ok, bad_field, long_id}
-use Rattle.rtp_c.specs.StoredTemplate.{slots_at}
+use Rattle.rtp_c.specs.StoredTemplate.{slots_at, AreZeros}
 use Rattle.rtp_c.proofs.PutLemmas.{status_is, status≢ok}
 
 pub slots_at-length : (starts lens : List ℕ) → length starts ≡ length lens → length (slots_at starts lens) ≡ length starts
@@ -61,6 +61,20 @@ stored-more slots starts lens index d same within there so_far =
     ∙ take_more_set (slots_at starts lens) index (get_or slots index d) (omega (arith, within, slots_at-length starts lens same))
     ∙ ap (λ (ss : List Slot). ss ++ get_or slots index d ∷ []) so_far
     ∙ sym (take_more slots index d there)
+
+-- ---- zeros behind the last place
+
+abbrev pub zeros : ℕ → List ℕ
+zeros n = replicate n 0
+
+pub zeros-alone : (n k : ℕ) → get_or (zeros n) k 0 ≡ 0
+zeros-alone n k = elim (cases_lt k n) [
+  | inl here ↦ get_or-replicate {A = ℕ} n k 0 0 here
+  | inr past ↦ get_or_past (zeros n) k 0 (let long : length (zeros n) ≡ n = length-replicate {A = ℕ} n 0 in omega (arith, long, past))
+]
+
+pub zeros-behind : (xs : List ℕ) (index x : ℕ) → AreZeros xs index → AreZeros (set xs index x) (index + 1)
+zeros-behind xs index x zeros k past = let other : k ≢ index = omega arith in get_or-set_other xs index k x 0 other ∙ zeros k (omega (arith, past))
 
 -- ---- what is made for a group
 

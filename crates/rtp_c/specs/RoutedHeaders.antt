@@ -1,5 +1,6 @@
 -- The headers that receivers of a packet get, one after another, in a buffer of C's (RFC 7667, 3.7; RFC 8285, 5), also those of retransmissions (RFC 4588, 4).
-use Rattle.std.specs.Prelude.{◌≡◌, ◌≢◌, ℕ, ◌+◌, ◌≤◌, ◌<◌, List, [], ◌∷◌, length, take, if◌then◌else◌, Option, ℤ}
+use Rattle.std.specs.Prelude.{◌≡◌, ◌≢◌, ℕ, ◌+◌, ◌≤◌, ◌<◌, List, [], ◌∷◌, length, take, if◌then◌else◌, false, Option, ℤ}
+use Rattle.std.specs.List.{All}
 use Rattle.rtp_base.specs.Overwriting.{overwritten}
 use Rattle.rtp_ext.specs.declared.form.ExtensionsForm.{ExtensionsForm}
 use Rattle.rtp_ext.specs.Elements.{Element}
@@ -7,7 +8,7 @@ use Rattle.rtp_wire.specs.declared.packet.fields.Fields.{Fields}
 use Rattle.rtp_wire.specs.Packet.{PacketParts, IsPacket}
 use Rattle.rtp_route.specs.declared.slots.Slot.{Slot}
 use Rattle.rtp_route.specs.GroupHeader.{IsGroupHeader, IsFilledIn}
-use Rattle.rtp_route.specs.Retransmitted.{IsRoutedAgain, IsFilledInAgain}
+use Rattle.rtp_route.specs.Retransmitted.{without_padding, IsRoutedAgain, IsFilledInAgain}
 use Rattle.rtp_route.specs.Routing.{IsRouted}
 use Rattle.rtp_route.specs.Template.{slot_lengths, total_of, pieces, with_data}
 use Rattle.rtp_c.specs.declared.template.StoredTemplate.{StoredTemplate}
@@ -51,6 +52,13 @@ pub record IsReceiversAgain (header : List ℕ) (slots : List Slot) (fields : Fi
   pub routed : (old : List ℕ) (ids : ℕ → Option ℕ) (news : List Element) (allowed : Option ExtensionsForm)
       → IsGroupHeader old ids news allowed header slots → IsRoutedAgain old fields number ids (with_data news contents) allowed new
 
+-- the same with P clear, of a payload that is sent without its padding: where it is a packet, no other of its parts is another
+pub record IsReceiversUnpadded (header : List ℕ) (slots : List Slot) (fields : Fields) (contents : List (List ℕ)) (new : List ℕ) : Type 0 where
+  pub own : List ℕ
+  pub receivers : IsReceivers header slots fields contents own
+  pub bytes_are : new ≡ without_padding own
+  pub is_packet : (parts : PacketParts) → IsPacket own parts → IsPacket new (record parts { has_padding = false })
+
 -- the fields of a receiver can be set, and its data lie within these bytes
 pub record IsServed (slots : List Slot) (bytes : List ℕ) (receiver : RoutedHeader) : Type 0 where
   pub fields : CanBeSet receiver.fields
@@ -64,23 +72,55 @@ data_of slots bytes receiver = pieces (slot_lengths slots) (slice_at bytes recei
 abbrev pub len_for : List ℕ → RoutedHeader → ℕ
 len_for header receiver = length header + (if is_nonzero receiver.is_retransmission then 2 else 0)
 
--- what a receiver gets: its header, or that of its retransmission
+-- what a receiver gets: its header, that with P clear, or that of its retransmission
 pub record Gets (header : List ℕ) (slots : List Slot) (bytes : List ℕ) (receiver : RoutedHeader) (own : List ℕ) : Type 0 where
-  pub packet : receiver.is_retransmission ≡ 0 → IsReceivers header slots (fields_given receiver.fields) (data_of slots bytes receiver) own
+  pub packet : receiver.is_retransmission ≡ 0 → receiver.clears_padding ≡ 0 → IsReceivers header slots (fields_given receiver.fields) (data_of slots bytes receiver) own
+  pub unpadded : receiver.is_retransmission ≡ 0 → 0 < receiver.clears_padding → IsReceiversUnpadded header slots (fields_given receiver.fields) (data_of slots bytes receiver) own
   pub retransmission : 0 < receiver.is_retransmission → IsReceiversAgain header slots (fields_given receiver.fields) receiver.original_number (data_of slots bytes receiver) own
 
--- what a receiver gets stands at its place in the buffer, and all other bytes are as they were; without room there, or where it can't be served, all are
-pub record IsHeaderWritten (header : List ℕ) (slots : List Slot) (bytes : List ℕ) (old new : RoutedHeader) (buf after : List ℕ) : Type 0 where
-  pub given_is : new ≡ record old { status = new.status }
-  pub written : IsServed slots bytes old → old.at + len_for header old ≤ length buf →
-      (new.status ≡ ok) × ((own : List ℕ) × Gets header slots bytes old own × (after ≡ overwritten buf old.at own))
-  pub short : IsServed slots bytes old → length buf < old.at + len_for header old → new.status ≡ short_buffer
-  pub refused : (IsServed slots bytes old → ⊥) → new.status ≡ bad_field
-  pub unchanged : new.status ≢ ok → after ≡ buf
+-- a retransmission with these data, of so many bytes, stands at this place in the buffer, and all other bytes are as they were
+pub record IsWrittenAgain (header : List ℕ) (slots : List Slot) (contents : List ℕ) (receiver : RoutedHeader) (at len : ℕ) (buf after : List ℕ) : Type 0 where
+  pub len_is : len ≡ length header + 2
+  pub within : at + len ≤ length buf
+  pub own : List ℕ
+  pub again : IsReceiversAgain header slots (fields_given receiver.fields) receiver.original_number (pieces (slot_lengths slots) contents) own
+  pub after_is : after ≡ overwritten buf at own
 
--- so for each of the receivers, one after another
-abbrev pub AreHeadersWritten : List ℕ → List Slot → List ℕ → List RoutedHeader → List RoutedHeader → List ℕ → List ℕ → Type 0
-AreHeadersWritten header slots bytes [] [] buf after = after ≡ buf
-AreHeadersWritten header slots bytes (old ∷ olds) (new ∷ news) buf after =
-    (next : List ℕ) × IsHeaderWritten header slots bytes old new buf next × AreHeadersWritten header slots bytes olds news next after
-AreHeadersWritten header slots bytes _ _ buf after = ⊥
+-- what a receiver gets, of so many bytes, stands at this place in the buffer, and all other bytes are as they were
+pub record IsWrittenAt (header : List ℕ) (slots : List Slot) (bytes : List ℕ) (receiver : RoutedHeader) (at len : ℕ) (buf after : List ℕ) : Type 0 where
+  pub served : IsServed slots bytes receiver
+  pub len_is : len ≡ len_for header receiver
+  pub within : at + len ≤ length buf
+  pub own : List ℕ
+  pub gets : Gets header slots bytes receiver own
+  pub after_is : after ≡ overwritten buf at own
+
+-- why a receiver gets nothing at this place of a buffer of so many bytes
+pub record IsRefusedAt (header : List ℕ) (slots : List Slot) (bytes : List ℕ) (receiver : RoutedHeader) (at size : ℕ) (status : ℤ) : Type 0 where
+  pub served : IsServed slots bytes receiver → (status ≡ short_buffer) × (size < at + len_for header receiver)
+  pub bad : (IsServed slots bytes receiver → ⊥) → status ≡ bad_field
+
+-- what a receiver gets stands at this place in the buffer, and all other bytes are as they were; where it has no room there, or can't be served, all are, and it takes none
+pub record IsHeaderWritten (header : List ℕ) (slots : List Slot) (bytes : List ℕ) (at : ℕ) (old new : RoutedHeader) (buf after : List ℕ) : Type 0 where
+  pub given_is : new ≡ record old { at = at; status = new.status; len = new.len }
+  pub written : IsServed slots bytes old → at + len_for header old ≤ length buf →
+      (new.status ≡ ok) × (new.len ≡ len_for header old) × ((own : List ℕ) × Gets header slots bytes old own × (after ≡ overwritten buf at own))
+  pub short : IsServed slots bytes old → length buf < at + len_for header old → new.status ≡ short_buffer
+  pub refused : (IsServed slots bytes old → ⊥) → new.status ≡ bad_field
+  pub unchanged : new.status ≢ ok → (new.len ≡ 0) × (after ≡ buf)
+
+-- so for each of the receivers, from this place on: each begins where the one before it ends
+abbrev pub AreHeadersWritten : List ℕ → List Slot → List ℕ → ℕ → List RoutedHeader → List RoutedHeader → List ℕ → List ℕ → Type 0
+AreHeadersWritten header slots bytes at [] [] buf after = after ≡ buf
+AreHeadersWritten header slots bytes at (old ∷ olds) (new ∷ news) buf after =
+    (next : List ℕ) × IsHeaderWritten header slots bytes at old new buf next × AreHeadersWritten header slots bytes (at + new.len) olds news next after
+AreHeadersWritten header slots bytes at _ _ buf after = ⊥
+
+-- no two of these headers overlap: none begins before one ahead of it ends
+abbrev pub AreApart : List RoutedHeader → Type 0
+AreApart [] = Unit {0}
+AreApart (one ∷ others) = All (λ other. one.at + one.len ≤ other.at) others × AreApart others
+
+-- this header ends within so many bytes
+abbrev pub EndsWithin : ℕ → RoutedHeader → Type 0
+EndsWithin size receiver = receiver.at + receiver.len ≤ size

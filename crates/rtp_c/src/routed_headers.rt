@@ -1,15 +1,15 @@
 //! One packet to all its receivers: a header for each, in one call.
 
-ghost use Rattle.std.specs.Prelude.{◌≡◌, ◌≢◌, ◌↔◌, ◌+◌, ◌<◌, ◌≤◌, ℕ, List, length, All, IsOk, IfOk, IfErr};
-ghost use Rattle.rtp_base.specs.Overwriting.{overwritten};
+ghost use Rattle.std.specs.Prelude.{◌≡◌, ◌≢◌, ◌↔◌, ◌+◌, ◌<◌, ◌≤◌, length, All, IsOk, IfOk, IfErr, OnErr};
 ghost use Rattle.rtp_wire.specs.ChangedPacket.{ChangesOnly};
 ghost use Rattle.rtp_wire.specs.GivenFields.{with_header_fields};
 ghost use Rattle.rtp_wire.specs.Packet.{PacketParts, IsPacket, header_len_of};
 ghost use Rattle.rtp_wire.specs.PartsAt.{HasLayout};
 ghost use Rattle.rtp_wire.specs.PartsOf.{parts_of};
 ghost use Rattle.rtp_route.specs.Calls as calls;
-ghost use Rattle.rtp_route.specs.Template.{slot_lengths, total_of, pieces, LiesInHeader};
-ghost use Rattle.rtp_c.specs.RoutedHeaders.{header_in, IsWholeTemplate, IsTemplateStatus, IsReceiversAgain, IsHeaderWritten, AreHeadersWritten};
+ghost use Rattle.rtp_route.specs.Retransmitted.{without_padding};
+ghost use Rattle.rtp_route.specs.Template.{total_of, LiesInHeader};
+ghost use Rattle.rtp_c.specs.RoutedHeaders.{header_in, IsWholeTemplate, IsTemplateStatus, IsWrittenAgain, IsWrittenAt, IsRefusedAt, IsHeaderWritten, AreHeadersWritten, AreApart, EndsWithin};
 ghost use Rattle.rtp_c.specs.SetFields.{fields_given, CanBeSet};
 ghost use Rattle.rtp_c.specs.Status.{ok, short_buffer};
 ghost use Rattle.rtp_c.specs.StoredTemplate.{slots_of, IsInRange};
@@ -22,7 +22,7 @@ use super::stored_slots::StoredSlots;
 use super::template::StoredTemplate;
 use rtp_base::{Pt, Ssrc};
 use rtp_ext::ExtensionsForm;
-use rtp_route::{fill_joined, write_retransmission};
+use rtp_route::{clear_padding, fill_joined, write_retransmission};
 use rtp_wire::{Fields, RtpPacket, RtpPacketMut};
 
 /// One of the receivers of a group, and the header that it gets: `rtpw_routed_header` in C, 48
@@ -32,7 +32,7 @@ use rtp_wire::{Fields, RtpPacket, RtpPacketMut};
 pub struct RoutedHeader {
     /// Given: where its data begin, those of the group's elements one after another.
     pub data_at: usize,
-    /// Given: where its header begins in the buffer.
+    /// Where its header begins in the buffer: behind that of the receiver before it.
     pub at: usize,
     /// Given: its fields; the others are the packet's.
     pub fields: FieldsView,
@@ -42,10 +42,15 @@ pub struct RoutedHeader {
     /// payload type and SSRC the fields are. P is clear, and two bytes behind the header are the
     /// original number.
     pub is_retransmission: u8,
+    /// Given: where it isn't 0 P is clear, for a payload that is sent without its padding.
+    pub clears_padding: u8,
     /// `OK`; `BAD_FIELD` where a payload type is given that is above 127, or its data reach past
     /// the data; `SHORT_BUFFER` where its header would reach past the buffer, with the original
     /// number where it is a retransmission.
     pub status: i32,
+    /// How many bytes its header has, with the original number where it is a retransmission; 0
+    /// where the status isn't `OK`.
+    pub len: u32,
 }
 
 // The header of the template at the front of these bytes, or the status of why it is none.
@@ -68,8 +73,9 @@ fn header_of<'a>(made: &StoredTemplate, bytes: &'a [u8]) -> Result<RtpPacket<'a>
     Ok(header)
 }
 
-// Writes the header of a retransmission for a receiver that can be served, where the number behind
-// it has room too, and returns the status. It stays out of line, since few packets are sent again.
+// Writes the header of a retransmission at this place for a receiver that can be served, where the
+// number behind it has room too, and returns how many bytes they have. It stays out of line, since
+// few packets are sent again.
 #[cold]
 #[inline(never)]
 fn write_again(
@@ -77,30 +83,27 @@ fn write_again(
     slots: StoredSlots<'_>,
     own: &[u8],
     receiver: &RoutedHeader,
+    at: usize,
     buf: &mut [u8],
-) -> i32
+) -> Result<usize, i32>
     requires payload_type { CanBeSet receiver.now.fields }
     requires lengths { length own.now ≡ total_of (slots_of slots.made.now) }
     requires within { All (LiesInHeader (parts_of header)) (slots_of slots.made.now) }
-    requires room { receiver.now.at + header_len_of (parts_of header) ≤ length buf.old }
-    ensures written { receiver.now.at + header_len_of (parts_of header.entry) + 2 ≤ length buf.old →
-        (result ≡ ok) × ((bytes : List ℕ) × IsReceiversAgain (calls.header_in header.entry)
-        (slots_of slots.entry.made.now) (fields_given receiver.now.fields)
-        receiver.now.original_number (pieces (slot_lengths (slots_of slots.entry.made.now)) own.now)
-        bytes
-        × (buf.new ≡ overwritten buf.old receiver.now.at bytes)) }
-    ensures short { length buf.old < receiver.now.at + header_len_of (parts_of header.entry) + 2 →
-        result ≡ short_buffer }
-    ensures unchanged { result ≢ ok → buf.new ≡ buf.old }
+    requires place { at ≤ length buf.old }
+    ensures written { IfOk result (λ len. IsWrittenAgain (calls.header_in header.entry)
+        (slots_of slots.entry.made.now) own.now receiver.now at len buf.old buf.new) }
+    ensures short { IfErr result (λ status. (status ≡ short_buffer)
+        × (length buf.old < at + header_len_of (parts_of header.entry) + 2)) }
+    ensures unchanged { OnErr result (buf.new ≡ buf.old) }
 {
-    let (at, len) = (receiver.at, header.header_len() + 2);
-    if len > buf.len() - at {
-        return SHORT_BUFFER;
+    let len = header.header_len() + 2;
+    if buf.len() - at < len {
+        return Err(SHORT_BUFFER);
     }
     let fields = given_fields(&receiver.fields);
     let number = receiver.original_number;
     write_retransmission(&header, slots, &fields, number, own, &mut buf[at..at + len]);
-    OK
+    Ok(len)
 }
 
 // Copies a header. It stays out of line, so that the loop over the receivers keeps its registers.
@@ -147,50 +150,102 @@ fn set_given(buf: &mut [u8], form: Option<ExtensionsForm>, view: &FieldsView)
     });
 }
 
-// Writes what a receiver gets at its place, where it can be served and there is room.
+// Clears P of a header where its receiver asks for that.
+#[inline(always)]
+fn clear_where_asked(buf: &mut [u8], clears_padding: u8)
+    requires { 1 ≤ length buf.old }
+    ensures unpadded { 0 < clears_padding → buf.new ≡ without_padding buf.old }
+    ensures unchanged { clears_padding ≡ 0 → buf.new ≡ buf.old }
+{
+    if clears_padding != 0 {
+        clear_padding(buf);
+    }
+}
+
+// Writes what a receiver gets at this place, and returns how many bytes it has, or the status of why
+// it gets none.
+#[inline(always)]
+fn write_at(
+    header: &RtpPacket<'_>,
+    slots: StoredSlots<'_>,
+    data_len: usize,
+    bytes: &[u8],
+    receiver: &RoutedHeader,
+    at: usize,
+    buf: &mut [u8],
+) -> Result<usize, i32>
+    requires total { data_len ≡ total_of (slots_of slots.made.now) }
+    requires within { All (LiesInHeader (parts_of header.now)) (slots_of slots.made.now) }
+    requires place { at ≤ length buf.old }
+    ensures written { IfOk result (λ len. IsWrittenAt (calls.header_in header.now)
+        (slots_of slots.entry.made.now) bytes.now receiver.now at len buf.old buf.new) }
+    ensures refused { IfErr result (IsRefusedAt (calls.header_in header.now)
+        (slots_of slots.entry.made.now) bytes.now receiver.now at (length buf.old)) }
+    ensures unchanged { OnErr result (buf.new ≡ buf.old) }
+{
+    if receiver.fields.has_payload_type != 0 && receiver.fields.payload_type > 127 {
+        return Err(BAD_FIELD);
+    }
+    let Some(own) = slice_in(bytes, receiver.data_at, data_len) else {
+        return Err(BAD_FIELD);
+    };
+    if receiver.is_retransmission != 0 {
+        return write_again(*header, slots, own, receiver, at, buf);
+    }
+    let len = header.header_len();
+    if len > buf.len() - at {
+        return Err(SHORT_BUFFER);
+    }
+    let copy = &mut buf[at..at + len];
+    copy_header(copy, header.header_bytes());
+    set_given(copy, header.form(), &receiver.fields);
+    fill_joined(copy, slots, own);
+    clear_where_asked(copy, receiver.clears_padding);
+    Ok(len)
+}
+
+// Writes what a receiver gets at this place and tells of it, and returns where the next one begins.
+#[inline(always)]
 fn write_one(
     header: &RtpPacket<'_>,
     slots: StoredSlots<'_>,
     data_len: usize,
     bytes: &[u8],
     receiver: &mut RoutedHeader,
+    at: usize,
     buf: &mut [u8],
-)
+) -> usize
     requires total { data_len ≡ total_of (slots_of slots.made.now) }
     requires within { All (LiesInHeader (parts_of header.now)) (slots_of slots.made.now) }
-    ensures { IsHeaderWritten (calls.header_in header.now) (slots_of slots.entry.made.now) bytes.now
-        receiver.old receiver.new buf.old buf.new }
+    requires place { at ≤ length buf.old }
+    ensures written { IsHeaderWritten (calls.header_in header.now) (slots_of slots.entry.made.now)
+        bytes.now at receiver.old receiver.new buf.old buf.new }
+    ensures next { result ≡ at + receiver.new.len }
+    ensures place { result ≤ length buf.new }
 {
-    if receiver.fields.has_payload_type != 0 && receiver.fields.payload_type > 127 {
-        receiver.status = BAD_FIELD;
-        return;
+    match write_at(header, slots, data_len, bytes, receiver, at, buf) {
+        Ok(len) => {
+            receiver.at = at;
+            receiver.status = OK;
+            receiver.len = len as u32;
+            at + len
+        }
+        Err(status) => {
+            receiver.at = at;
+            receiver.status = status;
+            receiver.len = 0;
+            at
+        }
     }
-    let Some(own) = slice_in(bytes, receiver.data_at, data_len) else {
-        receiver.status = BAD_FIELD;
-        return;
-    };
-    let (at, len) = (receiver.at, header.header_len());
-    if len > buf.len() || at > buf.len() - len {
-        receiver.status = SHORT_BUFFER;
-        return;
-    }
-    if receiver.is_retransmission != 0 {
-        receiver.status = write_again(*header, slots, own, receiver, buf);
-        return;
-    }
-    let copy = &mut buf[at..at + len];
-    copy_header(copy, header.header_bytes());
-    set_given(copy, header.form(), &receiver.fields);
-    fill_joined(copy, slots, own);
-    receiver.status = OK;
 }
 
-/// Writes the header of each of these receivers of a group at its place in the buffer (RFC 7667,
-/// 3.7; RFC 8285, 5), from what [`rtpw_make_template`](super::template::rtpw_make_template) made:
-/// the struct, and the header at the front of `header`. Each is that header with the receiver's
-/// fields, and with its data as those of the group's elements; for a retransmission (RFC 4588, 4) P
-/// is clear, and the original number stands behind it. They are written one after another, and one
-/// that can't be served has no effect on any other.
+/// Writes the header of each of these receivers of a group, one after another from the buffer's
+/// first byte on (RFC 7667, 3.7; RFC 8285, 5), from what
+/// [`rtpw_make_template`](super::template::rtpw_make_template) made: the struct, and the header at
+/// the front of `header`. Each is that header with the receiver's fields, and with its data as those
+/// of the group's elements; with P clear where that is asked for. For a retransmission (RFC 4588, 4)
+/// P is clear too, and the original number stands behind it. Each begins where the one before it
+/// ends, and one that can't be served takes no bytes and has no effect on any other.
 ///
 /// `OK`, whatever the statuses of the receivers are. `BAD_FIELD` where the struct names more than
 /// 16 elements, more bytes than `header` has, data that reach past the header, or another number of
@@ -205,7 +260,9 @@ pub extern "C" fn rtpw_write_headers(
     buf: &mut [u8],
 ) -> i32
     ensures written { result ≡ ok → AreHeadersWritten (header_in made.now header.now)
-        (slots_of made.now) bytes.now receivers.old receivers.new buf.old buf.new }
+        (slots_of made.now) bytes.now 0 receivers.old receivers.new buf.old buf.new }
+    ensures apart { result ≡ ok → AreApart receivers.new }
+    ensures within { result ≡ ok → All (EndsWithin (length buf.new)) receivers.new }
     ensures whole { (result ≡ ok) ↔ IsWholeTemplate made.now header.now }
     ensures status { result ≢ ok → IsTemplateStatus made.now header.now result }
     ensures unchanged { result ≢ ok → (receivers.new ≡ receivers.old) × (buf.new ≡ buf.old) }
@@ -218,8 +275,9 @@ pub extern "C" fn rtpw_write_headers(
         Err(status) => return status,
     };
     let data_len = made.data_total as usize;
+    let mut at = 0;
     for receiver in receivers {
-        write_one(&template, slots, data_len, bytes, receiver, buf);
+        at = write_one(&template, slots, data_len, bytes, receiver, at, buf);
     }
     OK
 }

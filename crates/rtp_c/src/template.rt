@@ -12,7 +12,7 @@ ghost use Rattle.rtp_route.specs.Template.{total_of};
 ghost use Rattle.rtp_c.specs.PacketView.{form_number};
 ghost use Rattle.rtp_c.specs.Status.{ok, bad_field, IsCauseStatus};
 ghost use Rattle.rtp_c.specs.RoutedStatus.{not_routed_status, IsNotRoutedStatus};
-ghost use Rattle.rtp_c.specs.StoredTemplate.{slots_of, IsInRange, NamesGroup};
+ghost use Rattle.rtp_c.specs.StoredTemplate.{slots_of, IsInRange, EndsInZeros, NamesGroup};
 ghost use Rattle.rtp_c.specs.WrittenElements.{elements_in};
 
 use super::growing::put_status_of;
@@ -50,6 +50,7 @@ impl StoredTemplate {
         ensures slots { slots_of self.new ≡ slots.now }
         ensures count { self.new.count ≡ length slots.now }
         ensures total { self.new.data_total ≡ total_of slots.now }
+        ensures zeros { EndsInZeros self.new }
     {
         let mut total = 0;
         self.data_at = [0; MAX_ELEMENTS];
@@ -108,6 +109,7 @@ pub extern "C" fn rtpw_make_template(
         (elements_in bytes.now elements.now) form (take made.new.header_len buf.new)
         (slots_of made.new) }
     ensures in_range { result ≡ ok → IsInRange made.new (length buf.new) }
+    ensures zeros { result ≡ ok → EndsInZeros made.new }
     ensures bad_group { ((form : Option ExtensionsForm) →
         NamesGroup bytes.now elements.now allowed form → ⊥) → result ≡ bad_field }
     ensures cause { (form : Option ExtensionsForm) →

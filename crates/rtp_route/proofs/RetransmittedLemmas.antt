@@ -20,7 +20,7 @@ use Rattle.rtp_ext.proofs.ValuesFound.{AreBytes-front}
 use Rattle.rtp_wire.specs.declared.packet.fields.Fields.{Fields}
 use Rattle.rtp_route.specs.declared.slots.Slot.{Slot}
 use Rattle.rtp_route.specs.GroupHeader.{IsGroupHeader}
-use Rattle.rtp_route.specs.Retransmitted.{without_padding_bit, with_number, IsRoutedAgain, IsFilledInAgain}
+use Rattle.rtp_route.specs.Retransmitted.{without_padding_bit, without_padding, with_number, IsRoutedAgain, IsFilledInAgain}
 use Rattle.rtp_route.specs.Routing.{IsRouted}
 use Rattle.rtp_route.specs.Template.{with_data, slot_lengths}
 use Rattle.rtp_route.proofs.OneHeaderLemmas.{one-header}
@@ -35,8 +35,8 @@ padding-bit byte fits =
     let one : bit_and byte 32 ≡ (byte / 32 % 2) * 32 = and_pow byte 5 in
     omega (arith, both, one, and_comm byte 223, and_comm byte 32)
 
-pub first-cleared : (buf : List ℕ) (len : ℕ) → 1 ≤ len → slice_index buf 0 < 256 → bit_and (slice_index buf 0) 223 ≡ without_padding_bit (slice_index (take len buf) 0)
-first-cleared buf len some fits = padding-bit (slice_index buf 0) fits ∙ ap without_padding_bit (sym (get_or-take len buf 0 0 some))
+pub first-of_front : (buf : List ℕ) (len : ℕ) → 1 ≤ len → without_padding_bit (slice_index buf 0) ≡ without_padding_bit (slice_index (take len buf) 0)
+first-of_front buf len some = ap without_padding_bit (sym (get_or-take len buf 0 0 some))
 
 -- the first byte of the front of a buffer is put
 first-put : (buf : List ℕ) (len byte : ℕ) → 1 ≤ len → take len (overwritten buf 0 (byte ∷ [])) ≡ overwritten (take len buf) 0 (byte ∷ [])
@@ -80,17 +80,20 @@ cleared old new parts put is =
     let whole_new = IsWhole-header new (header_end old) (form_in old) (HasHeader-padding old new false only has (header_end old) (form_in old) header) in
     subst (IsPacket new) (parts-padding old new false only has ∙ ap (λ (p : PacketParts). record p { has_padding = false }) (sym whole.1)) (IsPacket-whole new second whole_new)
 
--- a header with a number behind it is a packet
-pub packet-again : (header : List ℕ) (number : ℕ) (parts : PacketParts) → parts.payload ≡ [] → IsPacket header parts
-    → IsPacket (with_number header number) (record parts { has_padding = false; payload = to_be_bytes w16 number })
-packet-again header number parts none is =
+-- a header with P clear is a packet
+pub packet-cleared : (header : List ℕ) (parts : PacketParts) → IsPacket header parts → IsPacket (without_padding header) (record parts { has_padding = false })
+packet-cleared header parts is =
     let whole = whole_and_parts header parts is in
     let first : ℕ = slice_index header 0 in
     let byte_is : without_padding_bit first ≡ 128 + bit_and first 31 = omega (arith, whole.0.version, and_mask first 5) in
-    let clear : IsPacket (overwritten header 0 (without_padding_bit first ∷ [])) (record parts { has_padding = false }) =
-    cleared header _ parts (ap (λ (b : ℕ). overwritten header 0 (b ∷ [])) byte_is) is in
+    cleared header _ parts (ap (λ (b : ℕ). overwritten header 0 (b ∷ [])) byte_is) is
+
+-- and with a number behind it
+pub packet-again : (header : List ℕ) (number : ℕ) (parts : PacketParts) → parts.payload ≡ [] → IsPacket header parts
+    → IsPacket (with_number header number) (record parts { has_padding = false; payload = to_be_bytes w16 number })
+packet-again header number parts none is =
     subst (λ (p : List ℕ). IsPacket (with_number header number) (record parts { has_padding = false; payload = p ++ to_be_bytes w16 number })) none
-    (IsPacket-longer _ (to_be_bytes w16 number) (record parts { has_padding = false }) clear)
+    (IsPacket-longer _ (to_be_bytes w16 number) (record parts { has_padding = false }) (packet-cleared header parts is))
 
 -- a receiver's header with a number behind it
 pub again-of : (old : List ℕ) (fields : Fields) (number : ℕ) (ids : ℕ → Option ℕ) (news : List Element) (allowed : Option ExtensionsForm) (header new : List ℕ) → IsRouted old fields ids news allowed header

@@ -19,9 +19,13 @@ use Rattle.rtp_route.specs.Routing.{IsRouted}
 abbrev pub without_padding_bit : ℕ → ℕ
 without_padding_bit byte = byte / 64 * 64 + byte % 32
 
+-- the header with P clear
+abbrev pub without_padding : List ℕ → List ℕ
+without_padding header = overwritten header 0 (without_padding_bit (slice_index header 0) ∷ [])
+
 -- the header with P clear, and behind it this number in two bytes, the high one first
 abbrev pub with_number : List ℕ → ℕ → List ℕ
-with_number header number = overwritten header 0 (without_padding_bit (slice_index header 0) ∷ []) ++ to_be_bytes w16 number
+with_number header number = without_padding header ++ to_be_bytes w16 number
 
 -- the header of the packet as it goes to the receiver, with P clear and the number of the packet that is repeated behind it: the fields are those of the retransmission, and the number begins its payload
 pub record IsRoutedAgain (old : List ℕ) (fields : Fields) (number : ℕ) (ids : ℕ → Option ℕ) (news : List Element) (allowed : Option ExtensionsForm) (new : List ℕ) : Type 0 where

@@ -144,7 +144,9 @@ pub(super) fn make_header<L: ElementList>(
 /// for one packet make it, and returns how many bytes it has: each element gets its new id, and one
 /// without goes; a block of the one-byte form gets the two-byte form where a new id is above 14;
 /// each of the group's elements is put among them; and the block is as short as they allow (RFC
-/// 7667, 3.7; RFC 8285, 4.1.2 to 4.3 and 5). Requires a payload type of at most 127.
+/// 7667, 3.7; RFC 8285, 4.1.2 to 4.3 and 5). P is that of the packet, as in
+/// [`HeaderTemplate::write_header`](super::HeaderTemplate::write_header). The buffer behind the
+/// header may then have any bytes. Requires a payload type of at most 127.
 ///
 /// The cause is the first of these, and the buffer then has any bytes:
 /// - [`NotRouted::NotPut`] of [`NotPut::NoRoom`], where the buffer is shorter than the packet's own

@@ -16,7 +16,7 @@ ghost use Rattle.rtp_wire.specs.PutIntoPacket.{form_of_block, IsFirstNotPut};
 ghost use Rattle.rtp_wire.specs.RemadeBlock.{RemakesBlock, KeepsFromForm};
 ghost use Rattle.rtp_route.specs.Calls.{IsUnderNewIds, header_in};
 ghost use Rattle.rtp_route.specs.NotRouted.{HasLongId};
-ghost use Rattle.rtp_route.specs.Retransmitted.{with_number};
+ghost use Rattle.rtp_route.specs.Retransmitted.{without_padding, with_number};
 ghost use Rattle.rtp_route.specs.Routing.{CarriesIds};
 
 use rtp_base::put;
@@ -72,6 +72,17 @@ pub(super) fn renumber(header: &mut [u8], form: Option<ExtensionsForm>, ids: &Ne
     packet.renumber(ids)
 }
 
+/// Clears P of a header, and no other bit, for a payload that is sent without its padding (RFC 3550,
+/// 5.1). Requires a first byte.
+#[inline(always)]
+pub fn clear_padding(header: &mut [u8])
+    requires { 1 ≤ length header.old }
+    ensures { header.new ≡ without_padding header.old }
+{
+    let first = header[0] & 0xDF;
+    put(header, 0, &[first]);
+}
+
 // Clears P of the header at the front of the buffer, and puts the number into the two bytes behind
 // it.
 #[inline(always)]
@@ -80,8 +91,7 @@ pub(super) fn send_again(buf: &mut [u8], header_len: usize, original_number: u16
     requires room { length buf.old ≡ header_len + 2 }
     ensures { buf.new ≡ with_number (take header_len buf.old) original_number }
 {
-    let first = buf[0] & 0xDF;
-    put(buf, 0, &[first]);
+    clear_padding(buf);
     put(buf, header_len, &original_number.to_be_bytes());
 }
 

@@ -31,6 +31,7 @@ mod template;
 mod walk;
 
 pub use by_calls::{Group, GroupOf, route_header, routes_as_the_calls_do};
+pub use in_place::clear_padding;
 pub use making::make_template;
 pub use not_routed::NotRouted;
 pub use not_written::NotWritten;

@@ -79,8 +79,10 @@ impl<'a> HeaderTemplate<'a> {
 
     /// Writes the header with these fields, and with these data of the group's elements in their
     /// order, each as long as the data in the group, and returns how many bytes it has. With the
-    /// payload behind it, it is the packet that goes to the receiver. Where it is refused nothing
-    /// changes. Requires a payload type of at most 127.
+    /// payload behind it, it is the packet that goes to the receiver. P is that of the packet: call
+    /// [`clear_padding`](super::clear_padding) on the header where the payload is sent without its
+    /// padding, which a receiver else takes off a second time. Where it is refused nothing changes.
+    /// Requires a payload type of at most 127.
     pub fn write_header(
         &self,
         fields: &Fields,
@@ -192,8 +194,9 @@ impl<'a> HeaderTemplate<'a> {
 
 /// Writes a header that [`make_template`](super::make_template) made, as a packet without a
 /// payload, with these fields, and with these data of the group's elements, one after another in
-/// their order, at the places, into a buffer of the header's length. Requires as many data as the
-/// places have, places that lie in the header, and a payload type of at most 127.
+/// their order, at the places, into a buffer of the header's length. P is that of the packet, as in
+/// [`HeaderTemplate::write_header`]. Requires as many data as the places have, places that lie in
+/// the header, and a payload type of at most 127.
 #[inline(always)]
 pub fn write_joined<S: SlotList>(
     header: &RtpPacket<'_>,

@@ -5,4 +5,4 @@ use Rattle.rtp_c.proofs.routed_headers.rtpw_write_headers.Given as goal
 
 abbrev pub invariant-loop-receiver : goal.invariant-loop-receiver
 invariant-loop-receiver l =
-    AreHeadersWrittenTo (calls.header_in l.template) (slots_of l.slots.made.now) l.bytes l.initial.receiver-items l.receiver-items l.initial.buf l.buf l.receiver-index
+    AreHeadersWrittenTo (calls.header_in l.template) (slots_of l.slots.made.now) l.bytes l.initial.receiver-items l.receiver-items l.initial.buf l.buf l.receiver-index l.at

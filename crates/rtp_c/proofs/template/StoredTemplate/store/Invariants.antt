@@ -1,9 +1,9 @@
 use Rattle.std.proofs.Common.{◌≡◌, ◌≤◌, ◌*◌, length, take}
 use Rattle.rtp_route.specs.Template.{total_of}
-use Rattle.rtp_c.specs.StoredTemplate.{slots_at}
+use Rattle.rtp_c.specs.StoredTemplate.{slots_at, AreZeros}
 use Rattle.rtp_c.proofs.template.StoredTemplate.store.Given as goal
 
--- the places before the index are stored
+-- the places before the index are stored, and from it on there are zeros
 abbrev pub invariant-loop-index : goal.invariant-loop-index
 invariant-loop-index l =
     (take l.index (slots_at l.self.data_at l.self.data_len) ≡ take l.index l.slots)
@@ -11,3 +11,5 @@ invariant-loop-index l =
     × (length l.self.data_len ≡ 16)
     × (l.total ≡ total_of (take l.index l.slots))
     × (l.total ≤ 255 * l.index)
+    × AreZeros l.self.data_at l.index
+    × AreZeros l.self.data_len l.index
