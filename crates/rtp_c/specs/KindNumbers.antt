@@ -1,5 +1,5 @@
 -- The numbers by which C names the kinds of extension (RFC 8285, 5).
-use Rattle.std.specs.Prelude.{◌≡◌, ◌≢◌, ◌≤◌, ◌⊎◌, inl, inr, ℕ, List, [], ◌∷◌, codes, Option, Some, None, slice_index_or}
+use Rattle.std.specs.Prelude.{◌≡◌, ◌≢◌, ◌≤◌, ◌⊎◌, ℕ, List, [], ◌∷◌, codes, Option, Some, None, slice_index_or}
 use Rattle.rtp_values.specs.Kind.{kind_of}
 use Rattle.rtp_values.specs.KnownKind.{extension_of_kind}
 use Rattle.rtp_values.specs.declared.known_kind.KnownKind.{KnownKind}
@@ -72,15 +72,16 @@ bare_uri Ntp64 = codes "urn:ietf:params:rtp-hdrext:ntp-64"
 bare_uri Ntp56 = codes "urn:ietf:params:rtp-hdrext:ntp-56"
 
 -- a kind that has a number: a known one, or one without a field
-abbrev pub NumberedKind : Type 0
-NumberedKind = KnownKind ⊎ BareKind
+pub data NumberedKind : Type 0 where
+  Known : KnownKind → NumberedKind
+  Bare : BareKind → NumberedKind
 
 -- its number
 abbrev pub number_of : NumberedKind → ℕ
-number_of (inl kind) = kind_number kind
-number_of (inr kind) = bare_number kind
+number_of (Known kind) = kind_number kind
+number_of (Bare kind) = bare_number kind
 
 -- the URI that names it in SDP
 abbrev pub uri_of : NumberedKind → List ℕ
-uri_of (inl kind) = (kind_of (extension_of_kind kind)).uri
-uri_of (inr kind) = bare_uri kind
+uri_of (Known kind) = (kind_of (extension_of_kind kind)).uri
+uri_of (Bare kind) = bare_uri kind

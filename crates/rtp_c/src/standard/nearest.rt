@@ -1,16 +1,15 @@
 //! Times of which an element has the low bits.
 
-ghost use Rattle.std.specs.Prelude.{◌≡◌, ◌⊎◌};
-ghost use Rattle.rtp_c.specs.StandardTimes.{IsNearest};
+ghost use Rattle.std.specs.Prelude.{◌≡◌, ◌⊎◌, ◌^◌};
+ghost use Rattle.rtp_c.specs.StandardTimes.{IsNearestTime};
 
-// The number of 64 bits that ends in so many low bits of `low` and is nearest to `near`, modulo
-// 2^64; of two that are equally near, the later one.
+// The number of 64 bits that is `low` modulo the rollover and is nearest to `near`, modulo 2^64; of
+// two that are equally near, the later one.
 #[inline(always)]
-pub(super) fn nearest(near: u64, low: u64, bits: u32) -> u64
-    requires { (bits ≡ 38) ⊎ (bits ≡ 56) }
-    ensures { IsNearest bits near low result }
+pub(super) fn nearest(near: u64, low: u64, rollover: u64) -> u64
+    requires { (rollover ≡ 2 ^ 38) ⊎ (rollover ≡ 2 ^ 56) }
+    ensures { IsNearestTime rollover near low result }
 {
-    let rollover = 1u64 << bits;
     let ahead = low.wrapping_sub(near) % rollover;
     let later = near.wrapping_add(ahead);
     if ahead <= rollover / 2 {

@@ -1,11 +1,11 @@
 //! NTP timestamps in header extensions (RFC 6051, 3.3): of 64 bits, and of the low 56.
 
-ghost use Rattle.std.specs.Prelude.{◌≡◌, ◌≢◌, ◌↔◌, ◌⊎◌, ◌<◌, length};
+ghost use Rattle.std.specs.Prelude.{◌≡◌, ◌≢◌, ◌↔◌, ◌⊎◌, ◌<◌, ◌^◌, length};
 ghost use Rattle.rtp_values.specs.Values.{big_endian};
 ghost use Rattle.rtp_values.specs.Spelling.{bytes_of_number};
 ghost use Rattle.rtp_c.specs.Status.{ok, bad_field, short_buffer};
 ghost use Rattle.rtp_c.specs.StandardData.{StandAtFront};
-ghost use Rattle.rtp_c.specs.StandardTimes.{IsNearest};
+ghost use Rattle.rtp_c.specs.StandardTimes.{IsNearestTime};
 
 use super::nearest::nearest;
 use super::putting::put_data;
@@ -76,7 +76,7 @@ pub extern "C" fn rtpw_write_ntp_56(time: u64, buf: &mut [u8], len: &mut usize) 
 /// modulo 2^64; of two that are equally near, the later one.
 #[unsafe(no_mangle)]
 pub extern "C" fn rtpw_extend_ntp_56(near: u64, low: u64) -> u64
-    ensures { IsNearest 56 near low result }
+    ensures { IsNearestTime (2 ^ 56) near low result }
 {
-    nearest(near, low, 56)
+    nearest(near, low, 1 << 56)
 }

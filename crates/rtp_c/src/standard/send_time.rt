@@ -4,7 +4,7 @@ ghost use Rattle.std.specs.Prelude.{◌≡◌, ◌≢◌, ◌↔◌, ◌⊎◌, 
 ghost use Rattle.rtp_values.specs.Values.{big_endian};
 ghost use Rattle.rtp_c.specs.Status.{ok, bad_field, short_buffer};
 ghost use Rattle.rtp_c.specs.StandardData.{AreWritten, AreTooLong, AreNone};
-ghost use Rattle.rtp_c.specs.StandardTimes.{AreSendTimeData, IsNearest};
+ghost use Rattle.rtp_c.specs.StandardTimes.{AreSendTimeData, IsNearestTime};
 
 use super::nearest::nearest;
 use super::putting::put_data;
@@ -54,7 +54,7 @@ pub extern "C" fn rtpw_write_send_time(units: u32, buf: &mut [u8], len: &mut usi
 /// than 32 seconds off, as the time at which the packet arrives, it is the time that the sender meant.
 #[unsafe(no_mangle)]
 pub extern "C" fn rtpw_extend_send_time(near: u64, units: u32) -> u64
-    ensures { IsNearest 38 near (units * 2 ^ 14) result }
+    ensures { IsNearestTime (2 ^ 38) near (units * 2 ^ 14) result }
 {
-    nearest(near, u64::from(units) << 14, 38)
+    nearest(near, u64::from(units) << 14, 1 << 38)
 }
