@@ -76,6 +76,7 @@ text_of size bytes one = IsTextIn-in bytes one.1.text one.1.is_text
 
 pub CanBeGiven-values : (view : ValuesView) (values : ExtensionValues) → AreGivenValues view values → CanBeGiven view
 CanBeGiven-values view values are = record {
+  level = are.audio_level_fits;
   turn = λ there. let one = given-one view.has_video_orientation _ values.video_orientation are.video_orientation_is there in degrees-turn_of one.0 view.video_orientation one.1;
   min = λ there. (given-one view.has_playout_delay_min _ values.play_delay_min are.playout_delay_min_is there).1.0;
   max = λ there. (given-one view.has_playout_delay_max _ values.play_delay_max are.playout_delay_max_is there).1.0;

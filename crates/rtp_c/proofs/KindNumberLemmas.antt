@@ -1,7 +1,9 @@
 -- The numbers of the known kinds, and their URIs.
-use Rattle.rtp_c.proofs.Common.{◌≡◌, ◌≢◌, ℕ, zero, suc, ◌+◌, ◌≤◌, List, [], ◌∷◌, Bool, true, ◌&&◌, nat_le, get_or, Option, None, Some, arith, refl, sym, ap, ◌∙◌, subst, nat_eq, IsUtf8, IsAscii, and_parts, leb-true, eqb-true, KnownKind, AbsoluteSendTime, AbsoluteCaptureTime, AudioLevel, TransmissionTimeOffset, VideoOrientation, TransportSequenceNumber, PlayoutDelay, VideoContentType, VideoTiming, RtpStreamId, RepairedRtpStreamId, RtpMid, FrameMarking, ColorSpace, VideoLayersAllocation}
+use Rattle.rtp_c.proofs.Common.{◌≡◌, ◌≢◌, ◌↔◌, ℕ, zero, suc, ◌+◌, ◌-◌, ◌≤◌, List, [], ◌∷◌, Bool, true, false, ◌&&◌, if◌then◌else◌, nat_le, get_or, Option, None, Some, arith, refl, sym, ap, ◌∙◌, subst, nat_eq, IsUtf8, IsAscii, and_parts, leb-true, eqb-true, KnownKind, AbsoluteSendTime, AbsoluteCaptureTime, AudioLevel, TransmissionTimeOffset, VideoOrientation, TransportSequenceNumber, PlayoutDelay, VideoContentType, VideoTiming, RtpStreamId, RepairedRtpStreamId, RtpMid, FrameMarking, ColorSpace, VideoLayersAllocation}
 use Rattle.std.proofs.lemmas.Str.{IsUtf8-from_ascii}
-use Rattle.rtp_c.specs.KindNumbers.{kind_number, kind_numbered, numbered_kinds, IsKindNumbered, uri_of}
+use Rattle.rtp_c.specs.declared.bare_kind.BareKind.{BareKind}
+use Rattle.rtp_c.specs.declared.bare_kind.BareKind.TheVariants.{MixerLevels, TransportNumber2, DependencyDescriptor, Ntp64, Ntp56}
+use Rattle.rtp_c.specs.KindNumbers.{kind_number, kind_numbered, numbered_kinds, IsKindNumbered, bare_number, bare_uri, NumberedKind, Known, Bare, number_of, uri_of}
 
 -- each kind stands at its number
 pub number_of_kind : (kind : KnownKind) → kind_numbered (kind_number kind) ≡ Some kind
@@ -95,9 +97,109 @@ IsAscii-all [] all i = omega arith
 IsAscii-all (byte ∷ bytes) all zero = let low = leb-true byte 127 (and_parts (nat_le byte 127) (all_ascii bytes) all).0 in omega (arith, low)
 IsAscii-all (byte ∷ bytes) all (suc i) = IsAscii-all bytes (and_parts (nat_le byte 127) (all_ascii bytes) all).1 i
 
-all_uris : all_pass (λ _ kind. all_ascii (uri_of kind)) 0 numbered_kinds ≡ true
+all_uris : all_pass (λ _ kind. all_ascii (uri_of (Known kind))) 0 numbered_kinds ≡ true
 unfolding all_pass all_ascii
 all_uris = refl
 
-pub IsUtf8-uri : (kind : KnownKind) → IsUtf8 (uri_of kind)
-IsUtf8-uri kind = IsUtf8-from_ascii (uri_of kind) (IsAscii-all (uri_of kind) (numbered_passes _ all_uris (kind_number kind) kind (number_of_kind kind)))
+bare_ascii : (kind : BareKind) → all_ascii (bare_uri kind) ≡ true
+unfolding all_ascii
+bare_ascii MixerLevels = refl
+bare_ascii TransportNumber2 = refl
+bare_ascii DependencyDescriptor = refl
+bare_ascii Ntp64 = refl
+bare_ascii Ntp56 = refl
+
+ascii_uri : (kind : NumberedKind) → all_ascii (uri_of kind) ≡ true
+ascii_uri (Known kind) = numbered_passes _ all_uris (kind_number kind) kind (number_of_kind kind)
+ascii_uri (Bare kind) = bare_ascii kind
+
+pub IsUtf8-uri : (kind : NumberedKind) → IsUtf8 (uri_of kind)
+IsUtf8-uri kind = IsUtf8-from_ascii (uri_of kind) (IsAscii-all (uri_of kind) (ascii_uri kind))
+
+-- ---- the kinds without a field beside these
+
+-- the kind of a number from 16 on
+abbrev bare_kinds : List BareKind
+bare_kinds = MixerLevels ∷ TransportNumber2 ∷ DependencyDescriptor ∷ Ntp64 ∷ Ntp56 ∷ []
+
+abbrev bare_of : ℕ → BareKind
+bare_of number = get_or bare_kinds (number - 16) MixerLevels
+
+bare_at : (kind : BareKind) → bare_of (bare_number kind) ≡ kind
+bare_at MixerLevels = refl
+bare_at TransportNumber2 = refl
+bare_at DependencyDescriptor = refl
+bare_at Ntp64 = refl
+bare_at Ntp56 = refl
+
+bare_high : (kind : BareKind) → 16 ≤ bare_number kind
+bare_high MixerLevels = omega arith
+bare_high TransportNumber2 = omega arith
+bare_high DependencyDescriptor = omega arith
+bare_high Ntp64 = omega arith
+bare_high Ntp56 = omega arith
+
+-- no two kinds have one number, and none has 0
+pub one_numbered : (a b : NumberedKind) → number_of a ≡ number_of b → a ≡ b
+one_numbered (Known a) (Known b) same = ap Known (one_kind a b same)
+one_numbered (Bare a) (Bare b) same = ap Bare (sym (bare_at a) ∙ ap bare_of same ∙ bare_at b)
+one_numbered (Known a) (Bare b) same = absurd (omega (arith, same, (kind_low (kind_number a) a (number_of_kind a)).1, bare_high b))
+one_numbered (Bare a) (Known b) same = absurd (omega (arith, same, (kind_low (kind_number b) b (number_of_kind b)).1, bare_high a))
+
+pub numbered≢0 : (kind : NumberedKind) → number_of kind ≢ 0
+numbered≢0 (Known kind) = number≢0 kind
+numbered≢0 (Bare kind) = λ is. omega (arith, is, bare_high kind)
+
+-- nor have two kinds one URI
+every_kind : List NumberedKind
+every_kind = Known AbsoluteSendTime ∷ Known AbsoluteCaptureTime ∷ Known AudioLevel ∷ Known TransmissionTimeOffset ∷ Known VideoOrientation ∷ Known TransportSequenceNumber ∷ Known PlayoutDelay ∷ Known VideoContentType ∷ Known VideoTiming ∷ Known RtpStreamId ∷ Known RepairedRtpStreamId ∷ Known RtpMid ∷ Known FrameMarking ∷ Known ColorSpace ∷ Known VideoLayersAllocation ∷ Bare MixerLevels ∷ Bare TransportNumber2 ∷ Bare DependencyDescriptor ∷ Bare Ntp64 ∷ Bare Ntp56 ∷ []
+
+are_same : List ℕ → List ℕ → Bool
+are_same [] [] = true
+are_same [] (byte ∷ bytes) = false
+are_same (byte ∷ bytes) [] = false
+are_same (byte ∷ bytes) (other ∷ others) = nat_eq byte other && are_same bytes others
+
+-- the number of the first of the kinds that has the URI
+number_with : List NumberedKind → List ℕ → ℕ
+number_with [] uri = 0
+number_with (kind ∷ kinds) uri = if are_same (uri_of kind) uri then number_of kind else number_with kinds uri
+
+number_by_uri : (kind : NumberedKind) → number_with every_kind (uri_of kind) ≡ number_of kind
+unfolding every_kind are_same number_with
+number_by_uri (Known AbsoluteSendTime) = refl
+number_by_uri (Known AbsoluteCaptureTime) = refl
+number_by_uri (Known AudioLevel) = refl
+number_by_uri (Known TransmissionTimeOffset) = refl
+number_by_uri (Known VideoOrientation) = refl
+number_by_uri (Known TransportSequenceNumber) = refl
+number_by_uri (Known PlayoutDelay) = refl
+number_by_uri (Known VideoContentType) = refl
+number_by_uri (Known VideoTiming) = refl
+number_by_uri (Known RtpStreamId) = refl
+number_by_uri (Known RepairedRtpStreamId) = refl
+number_by_uri (Known RtpMid) = refl
+number_by_uri (Known FrameMarking) = refl
+number_by_uri (Known ColorSpace) = refl
+number_by_uri (Known VideoLayersAllocation) = refl
+number_by_uri (Bare MixerLevels) = refl
+number_by_uri (Bare TransportNumber2) = refl
+number_by_uri (Bare DependencyDescriptor) = refl
+number_by_uri (Bare Ntp64) = refl
+number_by_uri (Bare Ntp56) = refl
+
+one_uri : (a b : NumberedKind) → uri_of a ≡ uri_of b → a ≡ b
+one_uri a b same = one_numbered a b (sym (number_by_uri a) ∙ ap (number_with every_kind) same ∙ number_by_uri b)
+
+-- so a kind is found by the URI where its number is
+pub found_by_uri : (found : NumberedKind) (number : ℕ) (uri : List ℕ) → uri_of found ≡ uri → number ≡ number_of found
+    → (kind : NumberedKind) → (number ≡ number_of kind) ↔ (uri_of kind ≡ uri)
+found_by_uri found number uri has is kind = (
+  λ same. ap uri_of (one_numbered kind found (sym same ∙ is)) ∙ has,
+  λ same. is ∙ ap number_of (one_uri found kind (has ∙ sym same)),
+)
+
+-- and 0 where there is none
+pub some_by_uri : (found : NumberedKind) (number : ℕ) (uri : List ℕ) → uri_of found ≡ uri → number ≡ number_of found
+    → (number ≡ 0) ↔ ((kind : NumberedKind) → uri_of kind ≢ uri)
+some_by_uri found number uri has is = (λ none. absurd (numbered≢0 found (sym is ∙ none)), λ none. absurd (none found has))

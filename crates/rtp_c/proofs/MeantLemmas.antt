@@ -141,7 +141,7 @@ all_low = refl
 named_kind : (kind : KnownKind) → IsNamed (kind_number kind)
 named_kind kind =
     let low = leb-true (kind_number kind) 15 (numbered_passes _ all_low (kind_number kind) kind (number_of_kind kind)) in
-    inl (omega (arith, number≢0 kind), low)
+    inl (omega (arith, number≢0 kind), omega (arith, low))
 
 -- the number of a kind stands where its extension does
 means_kind : (numbers : List ℕ) (id : ℕ) (kind : KnownKind) → extension_at (numbered_slots numbers) id ≡ Some (extension_of_kind kind)
@@ -193,7 +193,7 @@ IsNewId-kind from to id (suc k) kind is found = (
 -- whether a number is named
 named_or_not : (number : ℕ) → IsNamed number ⊎ (IsNamed number → ⊥)
 named_or_not number = elim (cases_lt number 128) [
-  | inl low ↦ elim (cases_lt number 16) [
+  | inl low ↦ elim (cases_lt number 21) [
     | inl lower ↦ elim (cases_lt 0 number) [
       | inl above ↦ inl (inl (omega (arith, above), omega (arith, lower)))
       | inr none ↦ inr (λ named. elim named [ inl kind ↦ omega (arith, none, kind.0) | inr own ↦ omega (arith, low, own) ])

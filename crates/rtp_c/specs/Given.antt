@@ -7,6 +7,7 @@ use Rattle.rtp_values.specs.declared.value.values.ExtensionValues.{ExtensionValu
 use Rattle.rtp_values.specs.declared.value.video_orientation.VideoOrientation.{VideoOrientation}
 use Rattle.rtp_values.specs.declared.value.video_orientation.VideoOrientation.TheVariants.{Deg0, Deg90, Deg180, Deg270}
 use Rattle.rtp_values.specs.Values.{no_values}
+use Rattle.rtp_values.specs.StandardLevels.{IsLevel}
 use Rattle.rtp_wire.specs.declared.header.rtp_header.RtpHeader.{RtpHeader}
 use Rattle.rtp_c.specs.declared.values.Time.{Time}
 use Rattle.rtp_c.specs.declared.values.ValuesView.{ValuesView}
@@ -43,7 +44,7 @@ pub record IsIdIn (size : ℕ) (bytes id : List ℕ) : Type 0 where
 abbrev pub IsTimeOf : Time → Fraction → Type 0
 IsTimeOf time fraction = (0 < time.hertz) × (fraction ≡ record { numer = time.ticks; denom = time.hertz })
 
--- the values that are given, and no layer allocation
+-- the values that are given, each of them one, and no layer allocation; a level is one of RFC 6464's
 pub record AreGivenValues (view : ValuesView) (values : ExtensionValues) : Type 0 where
   pub send_time_is : values.abs_send_time ≡ given view.has_send_time view.send_time
   pub capture_time_is : values.abs_capture_time ≡ given view.has_capture_time (record {
@@ -56,6 +57,7 @@ pub record AreGivenValues (view : ValuesView) (values : ExtensionValues) : Type 
   pub video_orientation_is : IsGiven view.has_video_orientation (λ turn. degrees_of turn ≡ view.video_orientation) values.video_orientation
   pub video_content_type_is : values.video_content_type ≡ given view.has_video_content_type view.video_content_type
   pub audio_level_is : values.audio_level ≡ given view.has_audio_level view.audio_level
+  pub audio_level_fits : 0 < view.has_audio_level → IsLevel view.audio_level
   pub voice_activity_is : values.voice_activity ≡ given view.has_voice_activity (is_nonzero view.voice_activity)
   pub playout_delay_min_is : IsGiven view.has_playout_delay_min (IsTimeOf view.playout_delay_min) values.play_delay_min
   pub playout_delay_max_is : IsGiven view.has_playout_delay_max (IsTimeOf view.playout_delay_max) values.play_delay_max
@@ -99,7 +101,7 @@ turn_of degrees =
 abbrev pub text_in : List ℕ → List ℕ
 text_in bytes = before_first (λ b. b == 0) bytes
 
--- the values as they lie in C's struct: those that are given, where each text, orientation and time is one
+-- the values as they lie in C's struct: those that are given, where each level, orientation, time and text is one
 abbrev pub values_in : ValuesView → ExtensionValues
 values_in view = record {
   audio_level = given view.has_audio_level view.audio_level;
@@ -145,8 +147,9 @@ pub record CanBeHeader (view : HeaderView) : Type 0 where
   pub payload_type : view.payload_type ≤ 127
   pub sources : view.csrc_count ≤ 15
 
--- each text, orientation and time that is there is one
+-- each audio level, orientation, time and text that is there is one
 pub record CanBeGiven (view : ValuesView) : Type 0 where
+  pub level : 0 < view.has_audio_level → IsLevel view.audio_level
   pub turn : 0 < view.has_video_orientation → degrees_of (turn_of view.video_orientation) ≡ view.video_orientation
   pub min : 0 < view.has_playout_delay_min → 0 < view.playout_delay_min.hertz
   pub max : 0 < view.has_playout_delay_max → 0 < view.playout_delay_max.hertz

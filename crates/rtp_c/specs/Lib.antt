@@ -29,6 +29,8 @@ pub mod SetFields
 pub mod WrittenElements
 pub mod WrittenHeader
 pub mod StandardData
+pub mod StandardTimes
+pub mod StandardStreamId
 pub mod StandardOffset
 pub mod StandardMarking
 pub mod StandardOrientation

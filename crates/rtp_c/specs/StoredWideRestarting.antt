@@ -24,6 +24,12 @@ bounds_with stored words = record {
   min_sequential = stored.min_sequential;
 }
 
+-- what its caller chose is stored as it was
+pub record HasTheSameBounds (old new : StoredWideRestarting) : Type 0 where
+  pub max_dropout : new.max_dropout ≡ old.max_dropout
+  pub max_misorder : new.max_misorder ≡ old.max_misorder
+  pub min_sequential : new.min_sequential ≡ old.min_sequential
+
 -- these numbers were taken in the epoch: none yet, or those that the window in the words keeps
 abbrev pub HoldsWith : StoredWideRestarting → List ℕ → Numbers → Type 0
 HoldsWith stored words taken =

@@ -5,6 +5,7 @@ ghost use Rattle.std.specs.List.{All};
 ghost use Rattle.std.specs.Int.{w64, trailing_zeros};
 ghost use Rattle.rtp_base.specs.Id.{IsIdByte};
 ghost use Rattle.rtp_values.specs.declared.value.video_orientation.VideoOrientation.{VideoOrientation as Orientation};
+ghost use Rattle.rtp_values.specs.StandardLevels.{IsLevel};
 ghost use Rattle.rtp_c.specs.Told.{degrees_of};
 ghost use Rattle.rtp_c.specs.Given.{given, text_in, turn_of, is_nonzero, IsTextIn, CanBeGiven};
 
@@ -134,6 +135,17 @@ fn can_be_orientation(has: u8, degrees: u16) -> bool
     orientation_of(degrees).is_some()
 }
 
+// Whether an audio level that is there is one (RFC 6464, 3).
+#[inline(always)]
+fn can_be_level(has: u8, level: i8) -> bool
+    ensures { IsTrue result ↔ (0 < has → IsLevel level) }
+{
+    if has == 0 {
+        return true;
+    }
+    (-127..=0).contains(&level)
+}
+
 // Whether a time that is there is one: of a clock that has ticks.
 #[inline(always)]
 fn can_be_time(has: u8, time: &Time) -> bool
@@ -169,12 +181,13 @@ fn can_be_texts(view: &ValuesView) -> bool
         && can_be_text(view.has_repaired_rid, &view.repaired_rid)
 }
 
-// Whether each text, orientation and time that is there is one.
+// Whether each audio level, orientation, time and text that is there is one.
 #[inline(always)]
 pub fn can_be_given(view: &ValuesView) -> bool
     ensures { IsTrue result ↔ CanBeGiven view.now }
 {
-    can_be_orientation(view.has_video_orientation, view.video_orientation)
+    can_be_level(view.has_audio_level, view.audio_level)
+        && can_be_orientation(view.has_video_orientation, view.video_orientation)
         && can_be_time(view.has_playout_delay_min, &view.playout_delay_min)
         && can_be_time(view.has_playout_delay_max, &view.playout_delay_max)
         && can_be_texts(view)

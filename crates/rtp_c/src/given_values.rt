@@ -40,7 +40,8 @@ impl<'a> Model for GivenValues<'a> {
 }
 
 impl<'a> GivenValues<'a> {
-    /// Those of the struct; `None` where a text, an orientation or a time that is there is none.
+    /// Those of the struct; `None` where an audio level, an orientation, a time or a text that is
+    /// there is none.
     #[inline(always)]
     pub fn of(view: &'a ValuesView) -> Option<Self>
         ensures found { IfSome result (AreGivenValues view.now) }

@@ -7,6 +7,7 @@
 ghost use Rattle.std.specs.Prelude.{◌≡◌};
 
 mod arrivals;
+mod bare_kind;
 mod blocks;
 mod changing;
 mod data;

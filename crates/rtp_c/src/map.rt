@@ -2,7 +2,6 @@
 //! another.
 
 ghost use Rattle.std.specs.Prelude.{◌≡◌, ◌≢◌, ◌↔◌, ◌⊎◌, ℕ, ◌<◌, ◌≤◌, ◌++◌, List, length, drop, All, IfSome, IfNone, slice_index, slice_set};
-ghost use Rattle.rtp_values.specs.declared.known_kind.KnownKind.{KnownKind};
 ghost use Rattle.rtp_values.specs.declared.value.values.ExtensionValues.{ExtensionValues};
 ghost use Rattle.rtp_ext.specs.Elements.{Element};
 ghost use Rattle.rtp_ext.specs.ElementsInPlace.{ChangesIds, CanRenumber};
@@ -14,42 +13,52 @@ ghost use Rattle.rtp_wire.specs.ChangedPacket.{ChangesOnlyBody};
 ghost use Rattle.rtp_wire.specs.NotAHeader.{IsNoPacket};
 ghost use Rattle.rtp_wire.specs.PacketElements.{AreElementsOf, HasValues};
 ghost use Rattle.rtp_c.specs.ChangedElements.{BecomesPacket, GivesValues};
-ghost use Rattle.rtp_c.specs.KindNumbers.{kind_number, last_number, first_own, IsNamed, uri_of};
+ghost use Rattle.rtp_c.specs.KindNumbers.{NumberedKind, number_of, uri_of, last_known, last_number, first_own, IsNamed};
 ghost use Rattle.rtp_c.specs.StoredMap.{AreStandardNumbers, IsNumberAt, IsIdOf, AreNewIdsOf, CarryKinds};
 ghost use Rattle.rtp_c.specs.Status.{ok, short_buffer, none, bad_field, long_id, IsCauseStatus};
 
+use super::bare_kind::BareKind;
 use super::changing::layout_of;
 use super::kinds::StoredMap;
 use super::numbers::{is_named, kind_numbered, number_of};
-use super::status::{BAD_FIELD, LONG_ID, NONE, OK, SHORT_BUFFER};
-use rtp_base::put;
+use super::standard::put_data;
+use super::status::{BAD_FIELD, LONG_ID, NONE, OK};
 use rtp_ext::NewIds;
 use rtp_values::{Extension, KnownKind};
 use rtp_wire::RtpPacketMut;
 use std::mem::ManuallyDrop;
 use std::str;
 
-/// Maps the id to the kind of this number, to an extension of the caller's own that it numbers so,
-/// from 128 to 255, or to nothing where the number is 0, instead of what it was mapped to (RFC
-/// 8285, 5). `OK`; `BAD_FIELD` where the id is 0, which is that of padding, or the number is one of
-/// 16 to 127: then nothing changes.
+/// Maps the id to the kind of this number, or to an extension of the caller's own that it numbers
+/// so, from 128 to 255, instead of what it was mapped to (RFC 8285, 5). `OK`; `BAD_FIELD` where the
+/// id is 0, which is that of padding, or the number is that of nothing, 0 or one of 21 to 127: then
+/// nothing changes.
 #[unsafe(no_mangle)]
 pub extern "C" fn rtpw_map_set(map: &mut StoredMap, id: u8, kind: u8) -> i32
-    ensures set { 1 ≤ id → (kind ≡ 0) ⊎ IsNamed kind →
+    ensures set { 1 ≤ id → IsNamed kind →
         (result ≡ ok) × (map.new.kind ≡ slice_set map.old.kind id kind) }
-    ensures refused { (id ≡ 0) ⊎ ((last_number < kind) × (kind < first_own)) →
+    ensures refused { (id ≡ 0) ⊎ ((kind ≡ 0) ⊎ ((last_number < kind) × (kind < first_own))) →
         result ≡ bad_field }
     ensures unchanged { result ≢ ok → map.new ≡ map.old }
 {
-    if id == 0 || (kind != 0 && !is_named(kind)) {
+    if id == 0 || !is_named(kind) {
         return BAD_FIELD;
     }
     map.kind[usize::from(id)] = kind;
     OK
 }
 
+/// Maps the id to nothing, instead of what it was mapped to: the number there becomes 0. That at
+/// index 0 does too, which is that of no id.
+#[unsafe(no_mangle)]
+pub extern "C" fn rtpw_map_remove(map: &mut StoredMap, id: u8)
+    ensures { map.new.kind ≡ slice_set map.old.kind id 0 }
+{
+    map.kind[usize::from(id)] = 0;
+}
+
 /// The number of the kind that the id is mapped to, or the caller's own number that it has; 0 where
-/// it is mapped to nothing: where its number is one of 16 to 127, and always for the id 0.
+/// it is mapped to nothing: where its number is one of 21 to 127, and always for the id 0.
 #[unsafe(no_mangle)]
 pub extern "C" fn rtpw_map_get(map: &StoredMap, id: u8) -> u8
     ensures { IsNumberAt map.now.kind id result }
@@ -72,7 +81,7 @@ pub extern "C" fn rtpw_id_of(map: &StoredMap, kind: u8) -> u8
 #[unsafe(no_mangle)]
 pub extern "C" fn rtpw_map_standard(map: &mut StoredMap)
     ensures standard { AreStandardNumbers map.new.kind }
-    ensures kinds { (id : ℕ) → slice_index map.new.kind id ≤ last_number }
+    ensures kinds { (id : ℕ) → slice_index map.new.kind id ≤ last_known }
     ensures first { slice_index map.new.kind 0 ≡ 0 }
 {
     let mut numbers = [0; 256];
@@ -86,48 +95,57 @@ pub extern "C" fn rtpw_map_standard(map: &mut StoredMap)
     map.kind = numbers;
 }
 
+// The number of the kind that this URI names, and 0 where it names none.
+fn number_of_uri(uri: &str) -> u8
+    ensures kind { (kind : NumberedKind) → (result ≡ number_of kind) ↔ (uri_of kind ≡ uri.now) }
+    ensures none { (result ≡ 0) ↔ ((kind : NumberedKind) → uri_of kind ≢ uri.now) }
+{
+    if let Some(kind) = KnownKind::from_uri(uri) {
+        return number_of(kind);
+    }
+    match BareKind::from_uri(uri) {
+        Some(kind) => kind.number(),
+        None => 0,
+    }
+}
+
 /// The number of the kind that this URI names in SDP (`a=extmap`; RFC 8285, 5), and 0 where it
 /// names none that this library knows. Takes no memory.
 #[unsafe(no_mangle)]
 pub extern "C" fn rtpw_kind_of_uri(uri: &[u8]) -> u8
-    ensures kind { (kind : KnownKind) → (result ≡ kind_number kind) ↔ (uri_of kind ≡ uri.now) }
-    ensures none { (result ≡ 0) ↔ ((kind : KnownKind) → uri_of kind ≢ uri.now) }
+    ensures kind { (kind : NumberedKind) → (result ≡ number_of kind) ↔ (uri_of kind ≡ uri.now) }
+    ensures none { (result ≡ 0) ↔ ((kind : NumberedKind) → uri_of kind ≢ uri.now) }
 {
     match str::from_utf8(uri) {
-        Ok(text) => match KnownKind::from_uri(text) {
-            Some(kind) => number_of(kind),
-            None => 0,
-        },
+        Ok(text) => number_of_uri(text),
         Err(_) => 0,
     }
 }
 
 /// Writes the URI that names the kind of this number in SDP (`a=extmap`; RFC 8285, 5) to the front
-/// of the buffer: at most 73 bytes, and no zero behind them. `OK`, and its length is written too;
+/// of the buffer: at most 87 bytes, and no zero behind them. `OK`, and its length is written too;
 /// `NONE` where the number is that of no kind, as one of the caller's own; or `SHORT_BUFFER`. Where
 /// it isn't `OK` nothing is written.
 #[unsafe(no_mangle)]
 pub extern "C" fn rtpw_uri_of_kind(kind: u8, buf: &mut [u8], len: &mut usize) -> i32
-    ensures written { (k : KnownKind) → kind_number k ≡ kind → result ≡ ok →
+    ensures written { (k : NumberedKind) → number_of k ≡ kind → result ≡ ok →
         (buf.new ≡ uri_of k ++ drop len.new buf.old) × (len.new ≡ length (uri_of k)) }
     ensures within { result ≡ ok → len.new ≤ length buf.new }
-    ensures short { (k : KnownKind) → kind_number k ≡ kind →
+    ensures short { (k : NumberedKind) → number_of k ≡ kind →
         (result ≡ short_buffer) ↔ (length buf.old < length (uri_of k)) }
-    ensures none { (result ≡ none) ↔ ((k : KnownKind) → kind_number k ≢ kind) }
+    ensures none { (result ≡ none) ↔ ((k : NumberedKind) → number_of k ≢ kind) }
     ensures statuses { (result ≡ ok) ⊎ ((result ≡ short_buffer) ⊎ (result ≡ none)) }
     ensures unchanged { result ≢ ok → (buf.new ≡ buf.old) × (len.new ≡ len.old) }
 {
     let Some(known) = kind_numbered(kind) else {
-        return NONE;
+        return match BareKind::numbered(kind) {
+            Some(bare) => put_data(bare.uri().as_bytes(), buf, len),
+            None => NONE,
+        };
     };
     // A known kind has no text of its own, and so nothing to free.
     let extension = ManuallyDrop::new(Extension::from(known));
-    let uri = extension.as_uri().as_bytes();
-    if buf.len() < uri.len() {
-        return SHORT_BUFFER;
-    }
-    *len = put(buf, 0, uri);
-    OK
+    put_data(extension.as_uri().as_bytes(), buf, len)
 }
 
 /// The ids that elements get where packets go from one map to another (RFC 8285, 5): `rtpw_new_ids`

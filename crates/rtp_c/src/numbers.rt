@@ -10,8 +10,11 @@ use std::simd::prelude::*;
 // The number of the kind that may have long data.
 pub(super) const LAYERS: u8 = 15;
 
+// The greatest number of a kind of which values are read and written.
+const LAST_KNOWN: u8 = 15;
+
 // The greatest number of a kind.
-pub(super) const LAST_NUMBER: u8 = 15;
+const LAST_NUMBER: u8 = 20;
 
 // The least number of the caller's own.
 const FIRST_OWN: u8 = 128;
@@ -24,7 +27,7 @@ pub fn is_named(number: u8) -> bool
     (1..=LAST_NUMBER).contains(&number) || number >= FIRST_OWN
 }
 
-// The kind of this number.
+// The known kind of this number.
 #[inline(always)]
 #[tactic(auto, unfolding(crate::specs::KindNumbers::kind_numbered))]
 pub fn kind_numbered(number: u8) -> Option<KnownKind>
@@ -50,8 +53,8 @@ pub fn kind_numbered(number: u8) -> Option<KnownKind>
     }
 }
 
-// The kind that the number names, `Some(None)` where it is one of the caller's own, and `None`
-// where it names nothing.
+// The known kind that the number names, `Some(None)` where it names a bare kind or is one of the
+// caller's own, and `None` where it names nothing.
 #[inline(always)]
 #[tactic(auto, using(crate::proofs::KindNumberLemmas::kind_low))]
 pub fn named(number: u8) -> Option<Option<KnownKind>>
@@ -141,7 +144,7 @@ pub(super) fn has_number(numbers: &[u8], wanted: u8) -> bool
     are_wanted.to_bitmask() != 0
 }
 
-// Whether one of the numbers is that of a kind. Each is looked at, so that many are at once.
+// Whether one of the numbers is that of a known kind. Each is looked at, so that many are at once.
 #[inline(always)]
 pub(super) fn has_kind(numbers: &[u8]) -> bool
     ensures { (result ≡ false) ↔ ((i : ℕ) → i < length numbers.now →
@@ -149,7 +152,7 @@ pub(super) fn has_kind(numbers: &[u8]) -> bool
 {
     let mut any = false;
     for number in numbers {
-        any |= number.wrapping_sub(1) < LAST_NUMBER;
+        any |= number.wrapping_sub(1) < LAST_KNOWN;
     }
     any
 }

@@ -100,7 +100,9 @@ pub extern "C" fn rtpw_restarting_receive(
     // Each value of the struct holds some set, so the clauses here always speak of something.
     ensures some { (taken : Numbers) × HoldsIn receiver.old taken }
     ensures started { 0 < receiver.new.started → IsStartedIn receiver.new }
-    ensures bounds { bounds_in receiver.new ≡ bounds_in receiver.old }
+    // What the caller chose stays as it is stored, a 0 too.
+    ensures chosen { (receiver.new.max_dropout ≡ receiver.old.max_dropout)
+        × (receiver.new.min_sequential ≡ receiver.old.min_sequential) }
     ensures unchanged { result ≡ refused → number.new ≡ number.old }
 {
     let mut changed = receiver_of(receiver);

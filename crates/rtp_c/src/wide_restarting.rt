@@ -7,7 +7,7 @@ ghost use Rattle.rtp_receive.specs.Receiver.{IsNothing, IsHighest, IsNumberOf};
 ghost use Rattle.rtp_receive.specs.Restarting.{IsOfStream, IsOutside};
 ghost use Rattle.rtp_c.specs.Status.{ok, bad_field, refused, restarted};
 ghost use Rattle.rtp_c.specs.StoredWideReceiver.{IsWindowLen, MovesBelowZeroIn, unstarted, IsReceivedAs};
-ghost use Rattle.rtp_c.specs.StoredWideRestarting.{bounds_with, HoldsWith, IsStartedWith, epoch_in, IsAnsweredWith};
+ghost use Rattle.rtp_c.specs.StoredWideRestarting.{bounds_with, HoldsWith, IsStartedWith, epoch_in, HasTheSameBounds, IsAnsweredWith};
 
 use super::restarting::MAX_DROPOUT;
 use super::status::{BAD_FIELD, OK, REFUSED, RESTARTED};
@@ -118,8 +118,7 @@ fn receive_in_stream(
     ensures started { result ≡ ok → IsStartedWith receiver.new words.new }
     ensures below_zero { result ≡ ok →
         MovesBelowZeroIn (epoch_in receiver.old) words.old (epoch_in receiver.new) words.new }
-    ensures bounds { (words : List ℕ) →
-        bounds_with receiver.new words ≡ bounds_with receiver.old words }
+    ensures chosen { HasTheSameBounds receiver.old receiver.new }
 {
     let mut epoch = StoredWideReceiver {
         highest: receiver.highest,
@@ -178,8 +177,7 @@ fn receive_outside(
     ensures below_zero { result ≢ refused →
         MovesBelowZeroIn (unstarted 1) words.old (epoch_in receiver.new) words.new }
     ensures first { result ≡ ok → receiver.old.started ≡ 0 }
-    ensures bounds { (words : List ℕ) →
-        bounds_with receiver.new words ≡ bounds_with receiver.old words }
+    ensures chosen { HasTheSameBounds receiver.old receiver.new }
 {
     let mut row = RestartingRow {
         len: receiver.in_row,
@@ -226,8 +224,9 @@ pub extern "C" fn rtpw_wide_restarting_receive(
         MovesBelowZeroIn (epoch_in receiver.old) words.old (epoch_in receiver.new) words.new }
     ensures again { result ≡ restarted →
         MovesBelowZeroIn (unstarted 1) words.old (epoch_in receiver.new) words.new }
-    ensures bounds { (words : List ℕ) →
-        bounds_with receiver.new words ≡ bounds_with receiver.old words }
+
+    // What the caller chose stays as it is stored, a 0 too.
+    ensures chosen { HasTheSameBounds receiver.old receiver.new }
 {
     if !is_window(words) {
         return BAD_FIELD;

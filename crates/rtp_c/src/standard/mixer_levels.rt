@@ -31,6 +31,9 @@ pub extern "C" fn rtpw_read_mixer_level(
     OK
 }
 
+// How many CSRCs a packet has at most (RFC 3550, 5.1).
+const MOST_SOURCES: usize = 15;
+
 // Whether each level can be written.
 fn are_levels(levels: &[i8]) -> bool
     ensures { IsTrue result ↔ All IsLevel levels.now }
@@ -39,9 +42,9 @@ fn are_levels(levels: &[i8]) -> bool
 }
 
 /// Writes the audio levels of a packet's CSRCs, in their order, to the front of the buffer, a byte
-/// for each (RFC 6465, 4). `OK`, and how many they are is written too; `BAD_FIELD` where a level is
-/// above 0 or below -127; `SHORT_BUFFER` where only the room is short. Where it isn't `OK` nothing
-/// is written.
+/// for each (RFC 6465, 4). `OK`, and how many they are is written too; `BAD_FIELD` where there
+/// are more than 15, or a level is above 0 or below -127; `SHORT_BUFFER` where only the room is
+/// short. Where it isn't `OK` nothing is written.
 #[unsafe(no_mangle)]
 pub extern "C" fn rtpw_write_mixer_levels(levels: &[i8], buf: &mut [u8], len: &mut usize) -> i32
     ensures written { result ≡ ok →
@@ -52,6 +55,9 @@ pub extern "C" fn rtpw_write_mixer_levels(levels: &[i8], buf: &mut [u8], len: &m
     ensures statuses { (result ≡ ok) ⊎ ((result ≡ short_buffer) ⊎ (result ≡ bad_field)) }
     ensures unchanged { result ≢ ok → (buf.new ≡ buf.old) × (len.new ≡ len.old) }
 {
+    if levels.len() > MOST_SOURCES {
+        return BAD_FIELD;
+    }
     if buf.len() < levels.len() {
         return if are_levels(levels) {
             SHORT_BUFFER

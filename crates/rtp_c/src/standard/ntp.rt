@@ -1,15 +1,16 @@
 //! NTP timestamps in header extensions (RFC 6051, 3.3): of 64 bits, and of the low 56.
 
-ghost use Rattle.std.specs.Prelude.{◌≡◌, ◌≢◌, ◌↔◌, ◌⊎◌, ℕ, ◌+◌, ◌^◌, ◌%◌, ◌<◌, ◌≤◌, length};
+ghost use Rattle.std.specs.Prelude.{◌≡◌, ◌≢◌, ◌↔◌, ◌⊎◌, ◌<◌, ◌^◌, length};
 ghost use Rattle.rtp_values.specs.Values.{big_endian};
 ghost use Rattle.rtp_values.specs.Spelling.{bytes_of_number};
-ghost use Rattle.rtp_values.specs.StandardNtp.{apart};
 ghost use Rattle.rtp_c.specs.Status.{ok, bad_field, short_buffer};
 ghost use Rattle.rtp_c.specs.StandardData.{StandAtFront};
+ghost use Rattle.rtp_c.specs.StandardTimes.{IsNearestTime};
 
+use super::nearest::nearest;
 use super::putting::put_data;
 use crate::status::{BAD_FIELD, OK};
-use rtp_values::standard::{extend_ntp_56, ntp_56_bytes, ntp_64_bytes, parse_ntp_56, parse_ntp_64};
+use rtp_values::standard::{ntp_56_bytes, ntp_64_bytes, parse_ntp_56, parse_ntp_64};
 
 /// Reads an NTP timestamp of 64 bits (RFC 6051, 3.3). `OK`, or `BAD_FIELD` where there aren't eight
 /// bytes, and then nothing is written.
@@ -75,15 +76,7 @@ pub extern "C" fn rtpw_write_ntp_56(time: u64, buf: &mut [u8], len: &mut usize) 
 /// modulo 2^64; of two that are equally near, the later one.
 #[unsafe(no_mangle)]
 pub extern "C" fn rtpw_extend_ntp_56(near: u64, low: u64) -> u64
-    ensures ends { result % 2 ^ 56 ≡ low % 2 ^ 56 }
-    ensures near { apart near result ≤ 2 ^ 55 }
-
-    // Where two times are equally near, it is the later one.
-    ensures later { apart near result ≡ 2 ^ 55 → result ≡ (near + 2 ^ 55) % 2 ^ 64 }
-
-    // Any other time with these low bits is as far away, or farther.
-    ensures only { (time : ℕ) → time < 2 ^ 64 → time % 2 ^ 56 ≡ low % 2 ^ 56 →
-        apart near time < 2 ^ 55 → result ≡ time }
+    ensures { IsNearestTime (2 ^ 56) near low result }
 {
-    extend_ntp_56(near, low)
+    nearest(near, low, 1 << 56)
 }

@@ -1,0 +1,83 @@
+//! The kinds of which no value is read or written, known by their URIs (RFC 8285, 5).
+
+ghost use Rattle.std.specs.Prelude.{◌≡◌, ◌≢◌, ◌↔◌, IsTrue, IfSome, IfNone};
+ghost use Rattle.rtp_c.specs.declared.bare_kind.BareKind.{BareKind as Kind};
+ghost use Rattle.rtp_c.specs.KindNumbers.{bare_number, bare_uri};
+
+/// A kind of header extension that has a number and a URI, and no field among the values: its data
+/// are read and written by themselves.
+#[derive(Clone, Copy)]
+pub enum BareKind {
+    /// The audio levels of the contributing sources (RFC 6465).
+    MixerLevels,
+    /// The transport-wide number with a request for feedback.
+    TransportNumber2,
+    /// The dependency descriptor of AV1.
+    DependencyDescriptor,
+    /// An NTP timestamp of 64 bits (RFC 6051).
+    Ntp64,
+    /// The low 56 bits of an NTP timestamp (RFC 6051).
+    Ntp56,
+}
+
+impl BareKind {
+    // The number by which C names the kind.
+    pub fn number(self) -> u8
+        ensures { result ≡ bare_number self }
+    {
+        match self {
+            BareKind::MixerLevels => 16,
+            BareKind::TransportNumber2 => 17,
+            BareKind::DependencyDescriptor => 18,
+            BareKind::Ntp64 => 19,
+            BareKind::Ntp56 => 20,
+        }
+    }
+
+    // The kind of this number.
+    pub fn numbered(number: u8) -> Option<Self>
+        ensures found { IfSome result (λ kind. bare_number kind ≡ number) }
+        ensures none { IfNone result ((kind : Kind) → bare_number kind ≢ number) }
+    {
+        match number {
+            16 => Some(BareKind::MixerLevels),
+            17 => Some(BareKind::TransportNumber2),
+            18 => Some(BareKind::DependencyDescriptor),
+            19 => Some(BareKind::Ntp64),
+            20 => Some(BareKind::Ntp56),
+            _ => None,
+        }
+    }
+
+    // The URI that names the kind in SDP.
+    pub fn uri(self) -> &'static str
+        ensures { result.now ≡ bare_uri self }
+    {
+        match self {
+            BareKind::MixerLevels => "urn:ietf:params:rtp-hdrext:csrc-audio-level",
+            BareKind::TransportNumber2 => {
+                "http://www.webrtc.org/experiments/rtp-hdrext/transport-wide-cc-02"
+            }
+            BareKind::DependencyDescriptor => {
+                "https://aomediacodec.github.io/av1-rtp-spec/#dependency-descriptor-rtp-header-extension"
+            }
+            BareKind::Ntp64 => "urn:ietf:params:rtp-hdrext:ntp-64",
+            BareKind::Ntp56 => "urn:ietf:params:rtp-hdrext:ntp-56",
+        }
+    }
+
+    // The kind that this URI names.
+    pub fn from_uri(uri: &str) -> Option<Self>
+        ensures found { IfSome result (λ kind. bare_uri kind ≡ uri.now) }
+        ensures none { IfNone result ((kind : Kind) → bare_uri kind ≢ uri.now) }
+    {
+        let kinds = [
+            BareKind::MixerLevels,
+            BareKind::TransportNumber2,
+            BareKind::DependencyDescriptor,
+            BareKind::Ntp64,
+            BareKind::Ntp56,
+        ];
+        kinds.into_iter().find(|kind| kind.uri() == uri)
+    }
+}

@@ -1,0 +1,60 @@
+//! The absolute send time, as it lies: 24 bits, in units of 2^-18 seconds.
+
+ghost use Rattle.std.specs.Prelude.{◌≡◌, ◌≢◌, ◌↔◌, ◌⊎◌, ◌*◌, ◌^◌, length};
+ghost use Rattle.rtp_values.specs.Values.{big_endian};
+ghost use Rattle.rtp_c.specs.Status.{ok, bad_field, short_buffer};
+ghost use Rattle.rtp_c.specs.StandardData.{AreWritten, AreTooLong, AreNone};
+ghost use Rattle.rtp_c.specs.StandardTimes.{AreSendTimeData, IsNearestTime};
+
+use super::nearest::nearest;
+use super::putting::put_data;
+use crate::status::{BAD_FIELD, OK};
+
+// How many times 24 bits tell apart: 64 seconds of units.
+const ROLLOVER: u32 = 1 << 24;
+
+/// Reads an absolute send time, in units of 2^-18 seconds modulo 64 seconds; [`rtpw_extend_send_time`]
+/// finds the whole time. `OK`, or `BAD_FIELD` where there aren't three bytes, and then nothing is
+/// written.
+#[unsafe(no_mangle)]
+pub extern "C" fn rtpw_read_send_time(bytes: &[u8], units: &mut u32) -> i32
+    ensures read { result ≡ ok → units.new ≡ big_endian bytes.now }
+    ensures ok { (result ≡ ok) ↔ (length bytes.now ≡ 3) }
+    ensures statuses { (result ≡ ok) ⊎ (result ≡ bad_field) }
+    ensures unchanged { result ≢ ok → units.new ≡ units.old }
+{
+    let [a, b, c] = *bytes else {
+        return BAD_FIELD;
+    };
+    *units = u32::from_be_bytes([0, a, b, c]);
+    OK
+}
+
+/// Writes the three bytes of an absolute send time, in units of 2^-18 seconds, to the front of the
+/// buffer. `OK`, and how many bytes they are is written too; `BAD_FIELD` where the units don't fit
+/// into 24 bits; `SHORT_BUFFER` where only the room is short. Where it isn't `OK` nothing is
+/// written.
+#[unsafe(no_mangle)]
+pub extern "C" fn rtpw_write_send_time(units: u32, buf: &mut [u8], len: &mut usize) -> i32
+    ensures written { result ≡ ok → AreWritten (AreSendTimeData units) buf.old buf.new len.new }
+    ensures short { result ≡ short_buffer → AreTooLong (AreSendTimeData units) (length buf.old) }
+    ensures bad_field { (result ≡ bad_field) ↔ AreNone (AreSendTimeData units) }
+    ensures statuses { (result ≡ ok) ⊎ ((result ≡ short_buffer) ⊎ (result ≡ bad_field)) }
+    ensures unchanged { result ≢ ok → (buf.new ≡ buf.old) × (len.new ≡ len.old) }
+{
+    if units >= ROLLOVER {
+        return BAD_FIELD;
+    }
+    let [_, a, b, c] = units.to_be_bytes();
+    put_data(&[a, b, c], buf, len)
+}
+
+/// The time in units of 2^-32 seconds that ends in the low 24 bits of `units` and 14 zeros, and is
+/// nearest to `near`, modulo 2^64; of two that are equally near, the later one. Where `near` is less
+/// than 32 seconds off, as the time at which the packet arrives, it is the time that the sender meant.
+#[unsafe(no_mangle)]
+pub extern "C" fn rtpw_extend_send_time(near: u64, units: u32) -> u64
+    ensures { IsNearestTime (2 ^ 38) near (units * 2 ^ 14) result }
+{
+    nearest(near, u64::from(units) << 14, 1 << 38)
+}
