@@ -82,6 +82,10 @@ def put_fields(fields: _library.RawFields, *given: Optional[int]) -> None:
 class Packet:
     """A packet where it lies. `parse` looks at it once; no byte of it is copied.
 
+    >>> packet = Packet.parse(bytes.fromhex("A0600005 00000064 0000002C 6869 0002"))
+    >>> packet.ssrc, packet.unpadded_payload.hex(), packet.payload.hex()
+    (44, '6869', '68690002')
+
     The datagram is `bytes`, or another object with the buffer protocol, whose size then can't change while there is a
     packet of it. One that can be written, as a `bytearray`, is changed in place: by setting an attribute of the packet,
     or by its methods. Of one that can't be written that is a TypeError.
@@ -103,11 +107,15 @@ class Packet:
         """Reads the packet that the datagram is, and what its elements say under the map, which is looked at again
         when the packet is changed. NotAPacket, with the first cause for which it is none."""
         packet = cls.__new__(cls)
-        packet._map = map
-        packet._data, at = place_of(datagram)
-        packet._len = len(packet._data)
-        packet._read(at)
+        packet._lies(datagram, map)
         return packet
+
+    def _lies(self, datagram: Buffer, map: Optional[Map]) -> None:
+        """Reads the packet where it lies."""
+        self._map = map
+        self._data, at = place_of(datagram)
+        self._len = len(self._data)
+        self._read(at)
 
     def _read(self, at: Address) -> None:
         """Reads the packet as it is now."""
@@ -120,6 +128,13 @@ class Packet:
         if raw.has_layers and map is not None:
             self._values = values_of(raw.values)
             self._values.layers = read_layers(at, self._len, map)
+
+    def __getstate__(self) -> Tuple[object, ...]:
+        return self._data, self._map
+
+    def __setstate__(self, state: Tuple[Buffer, Optional[Map]]) -> None:
+        """Reads the packet that was stored; NotAPacket where it is none."""
+        self._lies(*state)
 
     def __bytes__(self) -> bytes:
         """A copy of the whole packet."""
@@ -186,7 +201,8 @@ class Packet:
 
     @property
     def has_padding(self) -> bool:
-        """P. To set or clear it changes no other bit."""
+        """P: the payload ends with padding, which its last byte counts. To set or clear it changes no other bit:
+        `remove_padding` clears it and tells where the packet then ends, and `pad` writes padding."""
         return self._raw.has_padding != 0
 
     @has_padding.setter
@@ -239,12 +255,13 @@ class Packet:
 
     @property
     def header_bytes(self) -> memoryview:
-        """The header where it lies: a packet without a payload."""
+        """The header where it lies: a packet without a payload. P of it is the packet's: `payload` belongs behind it, with
+        the padding."""
         return self._view()[: self._raw.payload_at]
 
     @property
     def payload(self) -> memoryview:
-        """The payload where it lies, with any padding."""
+        """The payload where it lies, with any padding: what is passed on. `unpadded_payload` is what is heard and seen."""
         return self._view()[self._raw.payload_at :]
 
     @property
