@@ -219,7 +219,7 @@ class Columns:
         """How far the number of each packet that is taken is above that of the packet of its source that was taken before
         it, with a sign and modulo 2^64: 1 of the next one, 3 where two are missing between them, and -2 of one that comes
         late. 0 of the first one of a source, and of all that aren't taken. (`numpy.diff` of the numbers themselves, which
-        have no sign, is 2^64 - 2 for -2.)
+        have no sign, is 2^64 - 2 for -2.) BadField where the verdicts are of other datagrams.
 
         >>> import rtp_wire
         >>> datagrams = [bytes([0x80, 96, 0, number]) + bytes(8) for number in (5, 6, 9, 7, 7)]
@@ -227,6 +227,9 @@ class Columns:
         >>> list(columns.differences(columns.receive({})))
         [0, 1, 3, -2, 0]
         """
+        if len(verdicts.verdict) != len(self):
+            told = f"there are {len(verdicts.verdict)} verdicts and {len(self)} datagrams"
+            raise BadField(Status.BAD_FIELD, told)
         found = _zeros("q", len(self))
         before: Dict[int, int] = {}
         for row, (ssrc, number, verdict) in enumerate(zip(self.ssrc, *verdicts)):
