@@ -207,6 +207,14 @@ class Build(unittest.TestCase):
             self.assertEqual(read[f"{folder}/texts/{name}"], place.read_bytes())
         self.assertEqual(read[f"{folder}/PKG-INFO"], self.backend.metadata())
 
+    def test_the_version_is_one_of_pip(self) -> None:
+        # PEP 440: a development release has a number, and sorts before the release that it becomes
+        header = self.folder / "rtp_wire.h"
+        for said, version in (("1.2.3", "1.2.3"), ("1.2.3-dev", "1.2.3.dev0"), ("10.0.20-dev", "10.0.20.dev0")):
+            header.write_text(f'#define RTPW_VERSION "{said}"\n', "utf-8")
+            with unittest.mock.patch.object(self.backend, "texts", lambda: {"rtp_wire.h": header}):
+                self.assertEqual(self.backend.version(), version)
+
     def test_metadata(self) -> None:
         folder = self.backend.prepare_metadata_for_build_wheel(str(self.folder))
         said = email.message_from_bytes((self.folder / folder / "METADATA").read_bytes())
