@@ -241,6 +241,21 @@ class StoredStates(unittest.TestCase):
                 states += [(*good[:at], number, *good[at + 1 :]) for number in (-1, end + 1, "1", None)]
             self.are_refused(made, states)
 
+    def test_templates(self) -> None:
+        made = HeaderTemplate(PACKET, NewIds({1: 3}))
+        header, raw = made.__getstate__()
+
+        class Stored(bytes):
+            def __bytes__(self) -> bytes:
+                return Longer(memoryview(self))
+
+        other = HeaderTemplate.__new__(HeaderTemplate)
+        for kind in (Stored, Longer, bytearray):
+            other.__setstate__((kind(header), raw))
+            self.assertEqual((other, other.header_len, type(other.header)), (made, 20, bytes))
+        for wrong in ((Stored(header[:12]), raw), (header, Longer(raw[:-1])), (20, raw)):
+            self.assertRaises((ValueError, TypeError), other.__setstate__, wrong)
+
     def test_packets(self) -> None:
         packet = Packet.parse(PACKET, Map({1: Kind.AUDIO_LEVEL}))
         for made in (copy.copy(packet), copy.deepcopy(packet), pickle.loads(pickle.dumps(packet))):
@@ -249,11 +264,11 @@ class StoredStates(unittest.TestCase):
         lying = copy.copy(Packet.parse(buffer := bytearray(PACKET)))
         lying.ssrc = 45
         self.assertEqual(buffer[11], 45)
-        # what is stored is read again
-        for state in ((b"", None), (PACKET[:19], None), (Longer(PACKET[:11]), None)):
-            self.assertRaises(NotAPacket, Packet.__new__(Packet).__setstate__, state)
-        for other in ((None, {"_data": b"", "_len": 1 << 20}), (PACKET, {1: Kind.MID}), (PACKET,)):
-            self.assertRaises(TypeError, Packet.__new__(Packet).__setstate__, other)
+        # what is stored is read again: here with a block of 65,535 words, which aren't there
+        stored = pickle.dumps(packet)
+        self.assertEqual(stored.count(PACKET), 1)
+        forged = stored.replace(PACKET, PACKET[:14] + b"\xFF\xFF" + PACKET[16:])
+        self.assertRaises(NotAPacket, pickle.loads, forged)
 
 
 class Keys(unittest.TestCase):

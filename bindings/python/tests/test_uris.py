@@ -58,6 +58,15 @@ class Passing(unittest.TestCase):
         self.assertEqual(map.unknown, {6: "urn:x:b", 7: MID + "s"})
         self.assertEqual(Map.standard().unknown, {})
 
+    def test_the_uris_of_an_answer(self) -> None:
+        offer = {4: MID, 200: "urn:x:b", 5: "urn:x:a", 6: "urn:x:b", 7: DESCRIPTOR}
+        map = Map.from_uris(offer)
+        self.assertEqual((map.uris, Map.from_uris(map.uris)), (offer, map))
+        map[8], map[5] = Kind(200), Kind.RID
+        del map[6]
+        rid = "urn:ietf:params:rtp-hdrext:sdes:rtp-stream-id"
+        self.assertEqual(map.uris, {4: MID, 5: rid, 7: DESCRIPTOR, 200: "urn:x:b"})
+
     def test_kinds_by_hand(self) -> None:
         map = Map({1: Kind.MID, 2: Kind.NTP_56})
         for kind in (Kind.NONE, Kind.from_uri(MID + "s"), 21, 127, 256, -1):

@@ -70,7 +70,7 @@ class Kind(IntEnum):
 
     @property
     def uri(self) -> Optional[str]:
-        """The URI that names the kind in SDP, as an answer says it; None of NONE, and of your own kinds.
+        """The URI that names the kind in SDP, as an answer says it; None of NONE, and of your own kinds (`Map.uris`).
 
         >>> Kind.MID.uri
         'urn:ietf:params:rtp-hdrext:sdes:mid'

@@ -110,6 +110,17 @@ class Map(_Table[Kind]):
             warn("all numbers for URIs that aren't known are given: ids have no entry (Map.left_out)", RuntimeWarning, 3)
 
     @property
+    def uris(self) -> Dict[int, str]:
+        """The URI of each id, known or not, as an answer in SDP says it and `from_uris` takes it; a number of your own that
+        was set by hand has none.
+
+        >>> Map.from_uris({3: "urn:3gpp:video-orientation", 5: "urn:x"}).uris
+        {3: 'urn:3gpp:video-orientation', 5: 'urn:x'}
+        """
+        named = ((id, self._unknown.get(id) or kind.uri) for id, kind in self.items())
+        return {id: uri for id, uri in named if uri}
+
+    @property
     def unknown(self) -> Dict[int, str]:
         """By its id each URI of `from_uris` that the library doesn't know: an extension whose elements are yours to read
         and write, or a URI that is misspelled."""

@@ -46,8 +46,9 @@ def is_rtcp(datagram: Buffer) -> bool:
 
 
 def elements(body: Buffer, form: int) -> Iterator[Element]:
-    """The elements of a block's body in order, up to one that is cut short, or in the one-byte form has the id 15.
-    BadField where the form is none of the two."""
+    """The elements of a block's body in order, up to one that is cut short, or in the one-byte form has the id 15. One of
+    the id 0 with length bits, behind which a receiver that follows RFC 8285, 4.2, reads nothing, is passed over. BadField
+    where the form is none of the two."""
     view, raw = view_of(body), _library.RawElement()
     at, length, form = address_of(view), len(view), within("a form", form, 1, 2)
     while True:
@@ -107,15 +108,11 @@ class Packet:
         """Reads the packet that the datagram is, and what its elements say under the map, which is looked at again
         when the packet is changed. NotAPacket, with the first cause for which it is none."""
         packet = cls.__new__(cls)
-        packet._lies(datagram, map)
+        packet._map = map
+        packet._data, at = place_of(datagram)
+        packet._len = len(packet._data)
+        packet._read(at)
         return packet
-
-    def _lies(self, datagram: Buffer, map: Optional[Map]) -> None:
-        """Reads the packet where it lies."""
-        self._map = map
-        self._data, at = place_of(datagram)
-        self._len = len(self._data)
-        self._read(at)
 
     def _read(self, at: Address) -> None:
         """Reads the packet as it is now."""
@@ -129,12 +126,9 @@ class Packet:
             self._values = values_of(raw.values)
             self._values.layers = read_layers(at, self._len, map)
 
-    def __getstate__(self) -> Tuple[object, ...]:
-        return self._data, self._map
-
-    def __setstate__(self, state: Tuple[Buffer, Optional[Map]]) -> None:
-        """Reads the packet that was stored; NotAPacket where it is none."""
-        self._lies(*state)
+    def __reduce__(self) -> Tuple[object, ...]:
+        """Its datagram and map: what is stored is read again."""
+        return type(self).parse, (self._data, self._map)
 
     def __bytes__(self) -> bytes:
         """A copy of the whole packet."""

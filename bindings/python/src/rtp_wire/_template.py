@@ -5,7 +5,7 @@ from __future__ import annotations
 from typing import TYPE_CHECKING, Iterable, List, NamedTuple, Optional, Tuple, Union
 
 from . import _library
-from ._buffers import address_of, place_of, view_of, writable_view_of
+from ._buffers import address_of, copy_of, place_of, view_of, writable_view_of
 from ._errors import BadField, RtpError, Status, check, checked, element_id, error_of, unsigned, within
 from ._growing import allowed_forms
 from ._map import NewIds, raw_new_ids
@@ -205,7 +205,7 @@ class HeaderTemplate:
     def __setstate__(self, state: Tuple[bytes, bytes]) -> None:
         """BadField where what was stored is no template."""
         header, raw = state
-        self._header, self._raw = bytes(header), _library.RawTemplate.from_buffer_copy(raw)
+        self._header, self._raw = copy_of(header), _library.RawTemplate.from_buffer_copy(raw)
         self._call(b"", (_library.RawRoutedHeader * 0)(), memoryview(b""))
 
 
