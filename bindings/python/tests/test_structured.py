@@ -53,7 +53,8 @@ class Structured(unittest.TestCase):
         self.assertEqual(table.tolist(), wanted)
         # what is masked is 0, but of RTCP what it would be as a packet
         self.assertEqual([tuple(it)[-3:] for it in table.data], [(-10, 258, b"ab")] + [(0, 0, b"")] * 4)
-        self.assertEqual((table.data["ssrc"].tolist(), table.data["timestamp"].tolist()), ([7, 8, 7, 0, 0], [160, 161, 9, 0, 0]))
+        told = [table.data[name].tolist() for name in ("ssrc", "timestamp")]
+        self.assertEqual(told, [[7, 8, 7, 0, 0], [160, 161, 9, 0, 0]])
         self.assertEqual(float(table["audio_level"].mean()), -10.0)
         self.assertEqual(table["mid"].dtype, "S17")
         self.assertEqual((Status(table["status"][4]), table["status"].dtype), (Status.BAD_FIELD, "i4"))

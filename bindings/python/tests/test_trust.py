@@ -1,5 +1,5 @@
-"""What C is told of memory is so, whatever class an object has and whatever was done with a column or a stored state: how
-many bytes there are, how many numbers a column has, and how many words a window."""
+"""What C is told of memory is so, whatever class an object has and whatever was done with a column or a stored state:
+how many bytes there are, how many numbers a column has, and how many words a window."""
 
 import copy
 import pickle

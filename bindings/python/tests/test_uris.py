@@ -97,9 +97,14 @@ class Tables(unittest.TestCase):
             map = Map.from_uris({1: "urn:y", 2: MID, 3: "urn:z", 4: "urn:x:5", 5: "urn:y"}, own)
         self.assertEqual(warned.filename, __file__)
         self.assertEqual(dict(map), {1: 255, 2: Kind.MID, 4: 133, 5: 255})
-        self.assertEqual((map.left_out, len(map.unknown)), ({3: "urn:z"}, 4))
+        wanted = {1: "urn:y", 4: "urn:x:5", 5: "urn:y"}
+        with self.assertWarns(RuntimeWarning):
+            copied = copy.copy(map)
+        for made in (map, copied, Map(map)):
+            self.assertEqual((made.left_out, made.unknown), ({3: "urn:z"}, wanted))
+        self.assertEqual(NewIds.between(map, map), NewIds({1: 1, 2: 2, 4: 4, 5: 1}))
         map[3] = Kind.RID
-        self.assertEqual(map.left_out, {})
+        self.assertEqual((map.left_out, map.unknown), ({}, wanted))
         with warnings.catch_warnings():
             warnings.simplefilter("error")
             self.assertEqual(Map.from_uris({9: "urn:y"}, own)[9], 255)
@@ -113,6 +118,19 @@ class Tables(unittest.TestCase):
                 self.assertEqual((NewIds.between(sender, receiver), sender[1]), (NewIds({1: 3}), Kind.OWN))
             with self.assertWarns(RuntimeWarning):
                 self.assertEqual(Map.from_uris({1: "urn:y"}), Map())
+
+    def test_numbers_of_two_tables(self) -> None:
+        # the same number stands for one URI in one of them, and for another one in the other
+        one, other = OwnUris(["urn:x", "urn:y"]), OwnUris(["urn:y", "urn:x", "urn:z"])
+        offer = {1: "urn:x", 2: "urn:y", 3: MID, 4: "urn:w"}
+        answer = {7: "urn:y", 8: "urn:x", 6: "urn:x", 9: MID, 5: "urn:z"}
+        wanted = NewIds({1: 6, 2: 7, 3: 9})
+        maps = [Map.from_uris(answer, it) for it in (one, other, None)]
+        maps += [copy.deepcopy(maps[1]), pickle.loads(pickle.dumps(maps[1]))]
+        for receiver in maps:
+            self.assertEqual(NewIds.between(Map.from_uris(offer, one), receiver), wanted)
+        # a number by hand is that of whoever sets it
+        self.assertEqual(NewIds.between(Map.from_uris(offer, one), Map({5: one.kind_of("urn:y")})), NewIds({2: 5}))
 
     def test_what_is_refused_takes_no_number(self) -> None:
         own: Any = OwnUris()

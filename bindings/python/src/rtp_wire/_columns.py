@@ -52,10 +52,10 @@ class Verdicts(NamedTuple):
 
 
 class Columns:
-    """What many datagrams of one buffer are, read in one call of C: a column for each field, and for each kind of value
-    that is asked for. A column has an item for each datagram, in the order in which their places were given: `mask` tells
-    which of them are packets of RTP. RTCP is told as if it were RTP; one that is no packet has a status, and 0 in all
-    other columns but is_rtcp: it spoils no other.
+    """What many datagrams of one buffer are, read in one call of C: a column for each field, and for each kind of
+    value that is asked for. A column has an item for each datagram, in the order in which their places were given:
+    `mask` tells which of them are packets of RTP. RTCP is told as if it were RTP; one that is no packet has a status,
+    and 0 in all other columns but is_rtcp: it spoils no other.
 
     >>> import rtp_wire
     >>> level = "90E00005 000000A0 00000007 BEDE0001 108A0000 6869"
@@ -83,8 +83,8 @@ class Columns:
     is_rtcp: array[int]
     """1 where the datagram is RTCP, as `is_rtcp` says; also where its bytes would be a packet of RTP too."""
     is_rtp: array[int]
-    """1 where the datagram is a packet and not RTCP: where status and is_rtcp are 0. numpy takes these for the numbers of
-    rows, and `mask` for a mask."""
+    """1 where the datagram is a packet and not RTCP: where status and is_rtcp are 0. numpy takes these for the numbers
+    of rows, and `mask` for a mask."""
     sequence_number: array[int]
     """The low 16 bits of the packet's number. `receive` extends them."""
     timestamp: array[int]
@@ -179,14 +179,14 @@ class Columns:
         return None if self.status[row] else memoryview(self._data)[at : at + length]
 
     def unpadded_payload(self, row: int) -> Optional[memoryview]:
-        """The payload of a packet without its padding; None also where the padding is longer than the payload. With SRTP
-        the padding is known only once the payload is decrypted."""
+        """The payload of a packet without its padding; None also where the padding is longer than the payload. With
+        SRTP the padding is known only once the payload is decrypted."""
         at, length = self.payload_at[row], self.unpadded_len[row]
         return memoryview(self._data)[at : at + length] if self.padding_fits[row] else None
 
     def _held(self, name: str, code: str) -> memoryview:
-        """A column, which can't change its size while it is held. BadField where it hasn't a number of this type for each
-        datagram: whoever has the columns may have changed it."""
+        """A column, which can't change its size while it is held. BadField where it hasn't a number of this type for
+        each datagram: whoever has the columns may have changed it."""
         view = memoryview(getattr(self, name))
         if view.format != code or view.shape != (len(self),) or not view.c_contiguous:
             raise BadField(Status.BAD_FIELD, f"the column {name} isn't {len(self)} numbers of the type {code!r}")
@@ -205,8 +205,8 @@ class Columns:
         >>> list(verdicts.number), list(verdicts.verdict), receivers[44].highest
         ([131071, 131072, 0], [1, 1, 2], 131072)
         """
-        sources, numbers, is_rtp = self._held("ssrc", "I"), self._held("sequence_number", "H"), self._held("is_rtp", "B")
-        count = len(self)
+        sources, numbers = self._held("ssrc", "I"), self._held("sequence_number", "H")
+        is_rtp, count = self._held("is_rtp", "B"), len(self)
         verdicts = Verdicts(_zeros("Q", count), _zeros("B", count))
         judges = Judges(receivers, rollover_count, set(compress(sources, is_rtp)))
         indices = array("Q", map(judges.index_of.__getitem__, sources))
@@ -216,10 +216,10 @@ class Columns:
         return verdicts
 
     def differences(self, verdicts: Verdicts) -> array[int]:
-        """How far the number of each packet that is taken is above that of the packet of its source that was taken before
-        it, with a sign and modulo 2^64: 1 of the next one, 3 where two are missing between them, and -2 of one that comes
-        late. 0 of the first one of a source, and of all that aren't taken. (`numpy.diff` of the numbers themselves, which
-        have no sign, is 2^64 - 2 for -2.) BadField where the verdicts are of other datagrams.
+        """How far the number of each packet that is taken is above that of the packet of its source that was taken
+        before it, with a sign and modulo 2^64: 1 of the next one, 3 where two are missing between them, and -2 of one
+        that comes late. 0 of the first one of a source, and of all that aren't taken. (`numpy.diff` of the numbers
+        themselves, which have no sign, is 2^64 - 2 for -2.) BadField where the verdicts are of other datagrams.
 
         >>> import rtp_wire
         >>> datagrams = [bytes([0x80, 96, 0, number]) + bytes(8) for number in (5, 6, 9, 7, 7)]

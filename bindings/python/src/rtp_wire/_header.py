@@ -191,10 +191,10 @@ class Header:
 
     def write_with(self, elements: Iterable[Tuple[int, Buffer]], form: Optional[int] = None) -> bytes:
         """The bytes of the header with a block of these elements, pairs of an id and its data, whatever has_extension
-        and the values hold: in the one-byte form where that can carry each of them, or in the form that is given alone,
-        for a peer that hasn't agreed to both in one stream. BadField where a field is out of its range, an id isn't 1
-        to 255, data have more than 255 bytes, a block can't have as many bytes, or the form can't carry an element. P is
-        has_padding, as `write` has it.
+        and the values hold: in the one-byte form where that can carry each of them, or in the form that is given
+        alone, for a peer that hasn't agreed to both in one stream. BadField where a field is out of its range, an id
+        isn't 1 to 255, data have more than 255 bytes, a block can't have as many bytes, or the form can't carry an
+        element. P is has_padding, as `write` has it.
         """
         allowed = 0 if form is None else within("a form", form, 0, 2)
         data, places = _gather(elements, allowed)

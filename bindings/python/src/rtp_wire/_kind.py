@@ -14,9 +14,9 @@ from ._errors import BadField, Status, check, whole
 
 
 class Kind(IntEnum):
-    """The kinds of header extension, by numbers of this library, and from Kind(128), which is Kind.OWN, to Kind(255) by
-    yours. Those from MIXER_LEVELS to NTP_56, and yours, have no field of `Values`: their elements are read and written by
-    their data, and go from one map to another.
+    """The kinds of header extension, by numbers of this library, and from Kind(128), which is Kind.OWN, to Kind(255)
+    by yours. Those from MIXER_LEVELS to NTP_56, and yours, have no field of `Values`: their elements are read and
+    written by their data, and go from one map to another.
     """
 
     NONE = 0

@@ -65,7 +65,7 @@ class Map(_Table[Kind]):
         self._raw, self._own, self._unknown = _library.RawMap(), OWN_URIS, {}
         self.update(kinds)
         if isinstance(kinds, Map):
-            self._own, self._unknown = kinds._own, kinds.unknown
+            self._own, self._unknown = kinds._own, dict(kinds._unknown)
 
     @classmethod
     def standard(cls) -> Map:
@@ -79,10 +79,11 @@ class Map(_Table[Kind]):
     def from_uris(
         cls, uris: Union[Mapping[int, str], Iterable[Tuple[int, str]]], own: Optional[OwnUris] = None
     ) -> Map:
-        """The map of the URIs by their ids. One that the library doesn't know gets a number of your own (`OwnUris`), the
-        same in all maps of the process or, where a table is given, in those of the table: so an extension that both peers
-        agreed on goes on from one to the other (`NewIds.between`). `unknown` tells these. Where the table is full an id
-        has no entry: that is a RuntimeWarning, and `left_out` tells which. BadField where an id isn't 1 to 255.
+        """The map of the URIs by their ids. One that the library doesn't know gets a number of your own (`OwnUris`),
+        the same in all maps of the process or, where a table is given, in those of the table: so an extension that
+        both peers agreed on goes on from one to the other (`NewIds.between`). `unknown` tells these. Where the table
+        is full an id has no entry: that is a RuntimeWarning, and `left_out` tells which. BadField where an id isn't 1
+        to 255.
 
         >>> uris = {1: "urn:ietf:params:rtp-hdrext:ssrc-audio-level", 2: "urn:x", 3: "urn:y"}
         >>> sender, receiver = Map.from_uris(uris), Map.from_uris({8: "urn:y", 9: "urn:x"})
@@ -111,8 +112,8 @@ class Map(_Table[Kind]):
 
     @property
     def uris(self) -> Dict[int, str]:
-        """The URI of each id, known or not, as an answer in SDP says it and `from_uris` takes it; a number of your own that
-        was set by hand has none.
+        """The URI of each id, known or not, as an answer in SDP says it and `from_uris` takes it; a number of your own
+        that was set by hand has none.
 
         >>> Map.from_uris({3: "urn:3gpp:video-orientation", 5: "urn:x"}).uris
         {3: 'urn:3gpp:video-orientation', 5: 'urn:x'}
@@ -122,13 +123,13 @@ class Map(_Table[Kind]):
 
     @property
     def unknown(self) -> Dict[int, str]:
-        """By its id each URI of `from_uris` that the library doesn't know: an extension whose elements are yours to read
-        and write, or a URI that is misspelled."""
-        return dict(self._unknown)
+        """By its id each URI of `from_uris` that the library doesn't know and that has a number: an extension whose
+        elements are yours to read and write, or a URI that is misspelled."""
+        return {id: uri for id, uri in self._unknown.items() if id in self}
 
     @property
     def left_out(self) -> Dict[int, str]:
-        """Those of them whose id has no entry, since all 128 numbers were given: their elements go on to nobody."""
+        """By its id each that has none, and so no entry, since all 128 were given: its elements go on to nobody."""
         return {id: uri for id, uri in self._unknown.items() if id not in self}
 
     def __getitem__(self, id: int) -> Kind:
@@ -142,8 +143,8 @@ class Map(_Table[Kind]):
         return _library.id_of(self._raw, unsigned("a kind", kind, 8)) or None
 
     def __setitem__(self, id: int, kind: Kind) -> None:
-        """The id means the kind from now on. BadField where the id isn't 1 to 255, or the kind is none: Kind.NONE, which
-        `Kind.from_uri` gives of a URI that it doesn't know, or one of 21 to 127."""
+        """The id means the kind from now on. BadField where the id isn't 1 to 255, or the kind is none: Kind.NONE,
+        which `Kind.from_uri` gives of a URI that it doesn't know, or one of 21 to 127."""
         number = within("an id", id, 1, 255)
         check(_library.map_set(self._raw, number, kind_number(kind)))
         self._unknown.pop(number, None)
@@ -157,7 +158,7 @@ class Map(_Table[Kind]):
         if not self._unknown:
             return super().__reduce__()
         by_number = {id: kind for id, kind in self.items() if id not in self._unknown}
-        return type(self)._stored, (by_number, self.unknown, self._own)
+        return type(self)._stored, (by_number, dict(self._unknown), self._own)
 
     @classmethod
     def _stored(cls, kinds: Dict[int, Kind], unknown: Dict[int, str], own: OwnUris) -> Map:
@@ -188,11 +189,21 @@ class NewIds(_Table[int]):
     @classmethod
     def between(cls, sender: Map, receiver: Map) -> NewIds:
         """For each id of a kind in the sender's map, your own kinds too, its lowest id in the receiver's. An extension
-        whose URI the library doesn't know goes on where both maps have one number for it, as `Map.from_uris` gives it.
+        whose URI the library doesn't know goes on where both maps have a number for it, as `Map.from_uris` gives it,
+        of one table or of two.
         """
         made = cls()
         _library.new_ids_between(raw_map(sender), raw_map(receiver), made._raw)
+        if sender._own is not receiver._own:
+            made._compare(sender.unknown, receiver.unknown)
         return made
+
+    def _compare(self, sender: Dict[int, str], receiver: Dict[int, str]) -> None:
+        """Of ids whose numbers are of two tables, and so say nothing of each other, the URIs tell which go on."""
+        ids = {uri: id for id, uri in sorted(receiver.items(), reverse=True)}
+        for id, uri in sender.items():
+            if not self._raw.id[id] or self._raw.id[id] in receiver:
+                self._raw.id[id] = ids.get(uri, 0)
 
     @classmethod
     def to_retransmission(cls, map: Map) -> NewIds:

@@ -1,4 +1,5 @@
-"""Elements that are numbers, as their standards have them: send times, offsets, the levels of a mixer, and NTP times."""
+"""Elements that are numbers, as their standards have them: send times, offsets, the levels of a mixer, and NTP
+times."""
 
 from __future__ import annotations
 
@@ -20,8 +21,8 @@ MOST_SOURCES = 15
 
 def read_send_time(data: Buffer) -> int:
     """The send time of Kind.ABS_SEND_TIME as it lies: 24 bits, in units of 2^-18 seconds, modulo 64 seconds. BadField
-    where there are not three bytes. `Values` have whole microseconds, and nearly all of the 2^24 times lose a unit there:
-    to send a time on as it came, or to reckon with it, take this one.
+    where there are not three bytes. `Values` have whole microseconds, and nearly all of the 2^24 times lose a unit
+    there: to send a time on as it came, or to reckon with it, take this one.
 
     >>> read_send_time(bytes.fromhex("060000")) / 2**18
     1.5
@@ -41,9 +42,9 @@ def send_time_data(units: int) -> bytes:
 
 def extend_send_time(near: int, units: int) -> int:
     """The time, in units of 2^-32 seconds, whose low 38 bits are these 24 and then 14 zeros, and that is nearest to
-    `near`, modulo 2^64; of two that are equally near the later one. Where `near` is the time at which the packet arrived,
-    of a clock that is less than 32 seconds off the sender's, it is the time at which that sent it. BadField where `near`
-    has more than 64 bits, or the units more than 24.
+    `near`, modulo 2^64; of two that are equally near the later one. Where `near` is the time at which the packet
+    arrived, of a clock that is less than 32 seconds off the sender's, it is the time at which that sent it. BadField
+    where `near` has more than 64 bits, or the units more than 24.
 
     >>> arrived = 1_000_000_001 << 32  # a quarter of a second after it was sent
     >>> extend_send_time(arrived, 0x030000) / 2**32
@@ -75,7 +76,8 @@ def transmission_offset_data(ticks: int) -> bytes:
 
 def read_mixer_level(data: Buffer, csrc_count: int, index: int) -> int:
     """The audio level of the contributing source at this index of the `csrc_count` that the packet has
-    (Kind.MIXER_LEVELS; RFC 6465, 4), in decibels relative to the overload point, -127 (silence) to 0. BadField where the packet doesn't have that source, or the data no byte for it.
+    (Kind.MIXER_LEVELS; RFC 6465, 4), in decibels relative to the overload point, -127 (silence) to 0. BadField where
+    the packet doesn't have that source, or the data no byte for it.
 
     >>> read_mixer_level(b"\\x7F\\x0A", csrc_count=2, index=1)
     -10
@@ -102,7 +104,8 @@ def mixer_levels_data(levels: Sequence[int]) -> bytes:
 
 
 def read_ntp_64(data: Buffer) -> int:
-    """An NTP timestamp of eight bytes (Kind.NTP_64; RFC 6051, 3.3), in units of 2^-32 seconds since 1900. BadField where there are not eight bytes.
+    """An NTP timestamp of eight bytes (Kind.NTP_64; RFC 6051, 3.3), in units of 2^-32 seconds since 1900. BadField
+    where there are not eight bytes.
 
     >>> read_ntp_64(bytes.fromhex("00000001 80000000")) / 2**32
     1.5
@@ -116,7 +119,8 @@ def ntp_64_data(time: int) -> bytes:
 
 
 def read_ntp_56(data: Buffer) -> int:
-    """The low 56 bits of an NTP timestamp, in seven bytes (Kind.NTP_56; RFC 6051, 3.3): `extend_ntp_56` finds the others. BadField where there are not seven bytes."""
+    """The low 56 bits of an NTP timestamp, in seven bytes (Kind.NTP_56; RFC 6051, 3.3): `extend_ntp_56` finds the
+    others. BadField where there are not seven bytes."""
     return read_data(_library.read_ntp_56, c_uint64(), data, "NTP timestamp of 56 bits: it has 7").value
 
 

@@ -46,9 +46,9 @@ def is_rtcp(datagram: Buffer) -> bool:
 
 
 def elements(body: Buffer, form: int) -> Iterator[Element]:
-    """The elements of a block's body in order, up to one that is cut short, or in the one-byte form has the id 15. One of
-    the id 0 with length bits, behind which a receiver that follows RFC 8285, 4.2, reads nothing, is passed over. BadField
-    where the form is none of the two."""
+    """The elements of a block's body in order, up to one that is cut short, or in the one-byte form has the id 15. One
+    of the id 0 with length bits, behind which a receiver that follows RFC 8285, 4.2, reads nothing, is passed over.
+    BadField where the form is none of the two."""
     view, raw = view_of(body), _library.RawElement()
     at, length, form = address_of(view), len(view), within("a form", form, 1, 2)
     while True:
@@ -249,13 +249,14 @@ class Packet:
 
     @property
     def header_bytes(self) -> memoryview:
-        """The header where it lies: a packet without a payload. P of it is the packet's: `payload` belongs behind it, with
-        the padding."""
+        """The header where it lies: a packet without a payload. P of it is the packet's: `payload` belongs behind it,
+        with the padding."""
         return self._view()[: self._raw.payload_at]
 
     @property
     def payload(self) -> memoryview:
-        """The payload where it lies, with any padding: what is passed on. `unpadded_payload` is what is heard and seen."""
+        """The payload where it lies, with any padding: what is passed on. `unpadded_payload` is what is heard and
+        seen."""
         return self._view()[self._raw.payload_at :]
 
     @property

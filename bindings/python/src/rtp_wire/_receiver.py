@@ -263,7 +263,8 @@ class RestartingReceiver(_State):
         """How many packets outside of the stream came last in a row, each with the number after that of the one before,
         up to 255, and 0 where the last packet was of the stream or taken. So it tells why `receive` returned None just
         now: where it is 0 the packet is of the stream, and a replay or too old (`standing_of`), and counts in
-        `ReceptionStatistics`; else the packet is far from the stream, and remembered as what may lead up to a new epoch.
+        `ReceptionStatistics`; else the packet is far from the stream, and remembered as what may lead up to a new
+        epoch.
 
         >>> receiver = RestartingReceiver()
         >>> for low in (60000, 60000, 58000, 7, 8):

@@ -2,8 +2,8 @@
 str0m, or none.
 
 What is read is what `Packet.element` lends, and what is written is for `put_element`, `Packet.set_element` and
-`write_elements`. The id of each is that of its kind in the map, but for RFC 9626's frame marking, whose URI has a number
-of your own (`OwnUris`).
+`write_elements`. The id of each is that of its kind in the map, but for RFC 9626's frame marking, whose URI has a
+number of your own (`OwnUris`).
 """
 
 from __future__ import annotations
@@ -48,8 +48,8 @@ class FrameLayers:
     """Where a frame is among the layers of its stream (RFC 9626, 3.1)."""
 
     base_layer_sync: bool
-    """Whether the frame depends on the base temporal layer alone; by RFC 9626 not where it is of that, which isn't looked
-    at: it is read as it lies, and written as it is given."""
+    """Whether the frame depends on the base temporal layer alone; by RFC 9626 not where it is of that, which isn't
+    looked at: it is read as it lies, and written as it is given."""
     temporal_id: int
     """The temporal layer, 0 to 7; 0 is the base layer."""
     layer_id: int
@@ -61,7 +61,8 @@ class FrameLayers:
 @dataclass(frozen=True)
 class FrameMarking:
     """What a packet is to its frame, and the frame to its stream (RFC 9626, 3): one byte for a stream without layers,
-    and two or three for one with. `Values` have str0m's number of four bytes, which is none.
+    and two or three for one with. `Values` have str0m's number of four bytes, which is none. The RFC's URI is
+    urn:ietf:params:rtp-hdrext:framemarking, which has a number of your own (`OwnUris`).
 
     >>> marking = FrameMarking.from_data(bytes.fromhex("A90207"))
     >>> marking.start, marking.end, marking.independent, marking.discardable
@@ -164,7 +165,8 @@ def token_of(data: Buffer) -> Optional[str]:
 
 def read_token(data: Buffer) -> str:
     """The text of a mid or of a stream id as it lies, to be compared with the SDP's: a token of 1 to 255 characters
-    (RFC 8866, 9), as a mid is (RFC 5888, 4). A stream id that is sent has to be less: `is_stream_id`. BadField where the data are none. The data of a text are `text.encode()`.
+    (RFC 8866, 9), as a mid is (RFC 5888, 4). A stream id that is sent has to be less: `is_stream_id`. BadField where
+    the data are none. The data of a text are `text.encode()`.
 
     >>> read_token(b"cam-1")
     'cam-1'
@@ -176,9 +178,9 @@ def read_token(data: Buffer) -> str:
 
 
 def is_stream_id(text: str) -> bool:
-    """Whether a text is 1 to 255 letters and digits of ASCII, as a stream id and a repaired one have to be where they are
-    sent (RFC 8852, 3). In SDP `a=rid` also allows - and _ (RFC 8851, 10): a stream whose id has one can't be told by it,
-    so choose one without.
+    """Whether a text is 1 to 255 letters and digits of ASCII, as a stream id and a repaired one have to be where they
+    are sent (RFC 8852, 3). In SDP `a=rid` also allows - and _ (RFC 8851, 10): a stream whose id has one can't be told
+    by it, so choose one without.
 
     >>> is_stream_id("hi1"), is_stream_id("hi-1"), is_stream_id("hi_1")
     (True, False, False)
@@ -264,7 +266,8 @@ class TransportNumber:
 
     @classmethod
     def from_data(cls, data: Buffer) -> TransportNumber:
-        """Reads a number, and a request where there are four bytes. BadField where there are neither two nor four bytes."""
+        """Reads a number, and a request where there are four bytes. BadField where there are neither two nor four
+        bytes."""
         raw = _library.RawTransportNumber()
         read_data(_library.read_transport_number, raw, data, "transport number: it has 2 or 4")
         return cls(raw.number, FeedbackRequest(raw.timestamps != 0, raw.packets) if raw.has_request else None)

@@ -30,13 +30,13 @@ def structured_array(
     rollover_count: int = 1,
 ) -> Any:
     """What many datagrams of one buffer are, as a structured array of numpy with a row for each, where numpy is there;
-    else it is an ImportError. What is given, the fields and the values that are asked for are those of `Columns.parse`,
-    by the same names. The field `is_rtp` is a mask: `table[table["is_rtp"]]` are the packets of RTP. The rows are written
-    where they lie, and nothing is copied.
+    else it is an ImportError. What is given, the fields and the values that are asked for are those of
+    `Columns.parse`, by the same names. The field `is_rtp` is a mask: `table[table["is_rtp"]]` are the packets of RTP.
+    The rows are written where they lie, and nothing is copied.
 
-    It is a numpy.ma.MaskedArray, in which what isn't there is masked: a value that the packet hasn't, and each value and
-    field of a packet where the row is RTCP or no packet. So `table["audio_level"].mean()` is of those that are there,
-    `table[table["ssrc"] == 7]` are the packets of a source, and `table.data` is without masks.
+    It is a numpy.ma.MaskedArray, in which what isn't there is masked: a value that the packet hasn't, and each value
+    and field of a packet where the row is RTCP or no packet. So `table["audio_level"].mean()` is of those that are
+    there, `table[table["ssrc"] == 7]` are the packets of a source, and `table.data` is without masks.
 
     With receivers each packet is judged as by `Columns.receive`, and there are the fields `number`, masked where the
     packet isn't taken, and `verdict`, a `Verdict` as a number. The numbers have a sign, so that of those of a source
@@ -87,8 +87,8 @@ class _Rows:
         return [self.column(name, offset), self.column(name, has_at(has), masks=True)]
 
     def mask(self, values: List[str]) -> None:
-        """Masks the fields and these values where the row is no packet of RTP, and the values where the packet hasn't them:
-        so far their masks are set where it has."""
+        """Masks the fields and these values where the row is no packet of RTP, and the values where the packet hasn't
+        them: so far their masks are set where it has."""
         is_rtp = self.rows["is_rtp"]
         for name in (*OF_A_PACKET, *values):
             self.masks[name] = ~(is_rtp & self.masks[name] if name in values else is_rtp)

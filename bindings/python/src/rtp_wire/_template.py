@@ -71,13 +71,14 @@ class HeaderTemplate:
         elements: Iterable[Tuple[int, Buffer]] = (),
         allowed: Optional[Form] = None,
     ) -> None:
-        """Makes the header that the packet gets: each of its elements gets its new id, and one that gets none goes; then
-        these, pairs of an id and its data, are put into it in their order, at most 16 of ids of their own, in the forms
-        that are allowed, as in `put_element`. An id above 14 asks for the two-byte form. Its header alone is enough.
+        """Makes the header that the packet gets: each of its elements gets its new id, and one that gets none goes;
+        then these, pairs of an id and its data, are put into it in their order, at most 16 of ids of their own, in the
+        forms that are allowed, as in `put_element`. An id above 14 asks for the two-byte form. Its header alone is
+        enough.
 
         BadField where there are more elements, two have one id, or one has more than 255 bytes of data; BadId where an
-        id isn't 1 to 255; LongId where the one-byte form alone is allowed, and an element of a block of that form gets a
-        new id above 14, or one that is put has such an id; NotAPacket; OtherForm; FormNotAllowed; LongBlock."""
+        id isn't 1 to 255; LongId where the one-byte form alone is allowed, and an element of a block of that form gets
+        a new id above 14, or one that is put has such an id; NotAPacket; OtherForm; FormNotAllowed; LongBlock."""
         data, places = _gather(elements)
         forms, new_ids = allowed_forms(allowed), raw_new_ids(ids)
         packet, at = place_of(datagram)
@@ -116,8 +117,8 @@ class HeaderTemplate:
 
     def write(self, routes: Iterable[Route]) -> List[Union[bytes, RtpError]]:
         """The header of each receiver, in one call of the library for all; in its place the exception where a receiver
-        can't be served, and all others are as without it: BadField where its data aren't `data_len` bytes, or a field is
-        out of its range. TypeError where one is no `Route`, or has a value of another type.
+        can't be served, and all others are as without it: BadField where its data aren't `data_len` bytes, or a field
+        is out of its range. TypeError where one is no `Route`, or has a value of another type.
 
         >>> template = HeaderTemplate(bytes.fromhex("A0600005 00000064 0000002C 6869 0002"), NewIds())
         >>> again = Route(payload_type=97, sequence_number=9, ssrc=45, original_number=5)
@@ -129,9 +130,9 @@ class HeaderTemplate:
         return [it if isinstance(it, RtpError) else bytes(it) for it in self._write(listed, room)]
 
     def write_into(self, buffer: WritableBuffer, routes: Iterable[Route]) -> List[Union[memoryview, RtpError]]:
-        """The same in a buffer: the header of each receiver where it lies, one after another from the first byte on. One
-        that is refused takes no bytes; there is one more cause, ShortBuffer, where a header would reach past the buffer,
-        which `header_len` and 2 more for each is room enough for. The data of receivers may lie in the buffer.
+        """The same in a buffer: the header of each receiver where it lies, one after another from the first byte on.
+        One that is refused takes no bytes; there is one more cause, ShortBuffer, where a header would reach past the
+        buffer, which `header_len` and 2 more for each is room enough for. The data of receivers may lie in the buffer.
 
         >>> template = HeaderTemplate(bytes.fromhex("80600005 00000064 0000002C"), NewIds())
         >>> buffer = bytearray(20)
