@@ -51,10 +51,10 @@ class Structured(unittest.TestCase):
             (9, 0, *[None] * 9, False, None, None, None),
         ]
         self.assertEqual(table.tolist(), wanted)
-        # what is masked is 0, but of RTCP what it would be as a packet
+        # what is masked is 0
         self.assertEqual([tuple(it)[-3:] for it in table.data], [(-10, 258, b"ab")] + [(0, 0, b"")] * 4)
-        told = [table.data[name].tolist() for name in ("ssrc", "timestamp")]
-        self.assertEqual(told, [[7, 8, 7, 0, 0], [160, 161, 9, 0, 0]])
+        for name in FIELDS[2:]:
+            self.assertEqual(table.data[name][2:].tolist(), [0, 0, 0], name)
         self.assertEqual(float(table["audio_level"].mean()), -10.0)
         self.assertEqual(table["mid"].dtype, "S17")
         self.assertEqual((Status(table["status"][4]), table["status"].dtype), (Status.BAD_FIELD, "i4"))
@@ -72,6 +72,16 @@ class Structured(unittest.TestCase):
         self.assertEqual((numpy.ma.count(table["audio_level"]), int(table["audio_level"].sum())), (2, -20))
         columns = Columns.parse(b"".join(parts), at, map(len, parts), MAP, NAMES)
         self.assertEqual(numpy.asarray(columns.ssrc)[columns.mask].tolist(), [7, 8, 7])
+
+    def test_flags_are_masks(self) -> None:
+        # M of the first alone; by its second byte the report would have it too
+        parts = [FULL, REPORT, PLAIN, FULL[:11], b"\xA0" + PLAIN[1:]]
+        at = [sum(map(len, parts[:it])) for it in range(5)]
+        table = table_of(b"".join(parts), (at, list(map(len, parts))), MAP, ["voice_activity"])
+        rows = [("marker", [160]), ("padding_fits", [160, 161]), ("voice_activity", [160]), ("is_rtp", [160, 161, 161])]
+        for name, times in rows:
+            self.assertEqual(table[table[name]]["timestamp"].tolist(), times, name)
+        self.assertEqual(table[~table["is_rtcp"]]["timestamp"].tolist(), [160, 161, None, 161])
 
     def test_differences_have_a_sign(self) -> None:
         # 5, 8, and the two that come late
@@ -167,9 +177,10 @@ class Structured(unittest.TestCase):
             self.assertEqual((len(table), ours), (count, theirs))
             self.assertEqual(table["is_rtp"].tolist(), list(columns.mask))
             for name in FIELDS:
-                self.assertEqual(table.data[name].tolist(), list(getattr(columns, name)), name)
-                masks = [False] * count if name in ("status", "is_rtcp", "is_rtp") else [not it for it in columns.mask]
-                self.assertEqual(numpy.ma.getmaskarray(table[name]).tolist(), masks, name)
+                there = [True] * count if name in ("status", "is_rtcp", "is_rtp") else list(columns.mask)
+                due = [value * is_there for value, is_there in zip(getattr(columns, name), there)]
+                self.assertEqual(table.data[name].tolist(), due, name)
+                self.assertEqual((~numpy.ma.getmaskarray(table[name])).tolist(), there, name)
             for name in names:
                 found: List[Optional[object]] = table[name].tolist()
                 if name in columns.texts:

@@ -16,8 +16,9 @@ if TYPE_CHECKING:
     from ._buffers import Buffer
     from ._many import Places
 
-# The fields that only a packet has.
+# The fields that only a packet has, and those that are masks.
 OF_A_PACKET = [name for name in FIELDS if name not in ("status", "is_rtcp")]
+FLAGS = ("is_rtcp", "is_rtp", "marker", "padding_fits", "voice_activity")
 
 
 def structured_array(
@@ -32,10 +33,11 @@ def structured_array(
     """What many datagrams of one buffer are, as a structured array of numpy with a row for each, where numpy is there;
     else it is an ImportError. What is given, the fields and the values that are asked for are those of
     `Columns.parse`, by the same names. The field `is_rtp` is a mask: `table[table["is_rtp"]]` are the packets of RTP.
-    The rows are written where they lie, and nothing is copied.
+    So are `is_rtcp`, `marker`, `padding_fits` and `voice_activity`. The rows are written where they lie, and nothing is
+    copied.
 
-    It is a numpy.ma.MaskedArray, in which what isn't there is masked: a value that the packet hasn't, and each value
-    and field of a packet where the row is RTCP or no packet. So `table["audio_level"].mean()` is of those that are
+    It is a numpy.ma.MaskedArray, in which what isn't there is masked, and 0: a value that the packet hasn't, and each
+    value and field of a packet where the row is RTCP or no packet. So `table["audio_level"].mean()` is of those that are
     there, `table[table["ssrc"] == 7]` are the packets of a source, and `table.data` is without masks.
 
     With receivers each packet is judged as by `Columns.receive`, and there are the fields `number`, masked where the
@@ -46,8 +48,9 @@ def structured_array(
     begins, sizes = places_of(at, lengths)
     listed = list(dict.fromkeys(values))
     formats: Dict[str, str] = {name: code for name, (code, _) in FIELDS.items()}
-    formats.update({"is_rtp": "?"} if receivers is None else {"is_rtp": "?", "number": "q", "verdict": "B"})
+    formats.update({"is_rtp": "B"} if receivers is None else {"is_rtp": "B", "number": "q", "verdict": "B"})
     formats.update((name, _format_of(name)) for name in listed)
+    formats.update((name, "?") for name in FLAGS if name in formats)
     rows = _Rows(numpy, list(formats.items()), len(begins))
     fields = [rows.column(name, offset) for name, (_, offset) in FIELDS.items()]
     of_values = [it for name in listed for it in rows.value(name)]
@@ -89,9 +92,10 @@ class _Rows:
     def mask(self, values: List[str]) -> None:
         """Masks the fields and these values where the row is no packet of RTP, and the values where the packet hasn't
         them: so far their masks are set where it has."""
-        is_rtp = self.rows["is_rtp"]
+        missing = ~self.rows["is_rtp"]
         for name in (*OF_A_PACKET, *values):
-            self.masks[name] = ~(is_rtp & self.masks[name] if name in values else is_rtp)
+            self.rows[name][missing] = self.numpy.zeros((), self.rows.dtype[name])
+            self.masks[name] = missing | ~self.masks[name] if name in values else missing
 
     def judge(self, receivers: MutableMapping[int, Receiver], rollover_count: int) -> None:
         """Has the packets judged by the receivers of their sources."""
