@@ -177,7 +177,7 @@ class Structured(unittest.TestCase):
             self.assertEqual((len(table), ours), (count, theirs))
             self.assertEqual(table["is_rtp"].tolist(), list(columns.mask))
             for name in FIELDS:
-                there = [True] * count if name in ("status", "is_rtcp", "is_rtp") else list(columns.mask)
+                there: List[bool] = [name in ("status", "is_rtcp", "is_rtp") or bool(it) for it in columns.mask]
                 due = [value * is_there for value, is_there in zip(getattr(columns, name), there)]
                 self.assertEqual(table.data[name].tolist(), due, name)
                 self.assertEqual((~numpy.ma.getmaskarray(table[name])).tolist(), there, name)
