@@ -5,6 +5,7 @@ import re
 import shutil
 import subprocess
 import sys
+from functools import lru_cache
 from pathlib import Path
 
 TOP = Path(__file__).resolve().parent.parent
@@ -64,8 +65,8 @@ LANGUAGES = {
     "python": (
         ("python3", "cc"),
         ("bindings/python",),
-        'cd bindings/python/backend && for it in whole_packet columns; do '
-        f'[ ../src/$it.c -ot ../src/rtp_wire/librtp_wire.so ] || {{ "$PYTHON" -c "{LIBRARY}"; break; }}; done && '
+        'cd bindings/python/backend && for it in ../src/*.c; do '
+        f'[ $it -ot ../src/rtp_wire/librtp_wire.so ] || {{ "$PYTHON" -c "{LIBRARY}"; break; }}; done && '
         '"$PYTHON" -m compileall -q --invalidation-mode checked-hash .. && "$PYTHON" -c "import rtp_wire"',
         'cd bindings/python && if [ -n "$TEST" ]; then PYTHONPATH+=:$PWD/tests "$PYTHON" -m unittest "$TEST"; '
         "else of=[!b]*; [[ $EDITED != */backend/* ]] || of=build; "
@@ -119,6 +120,16 @@ def prepare(language, room):
         run('"$PYTHON" -m compileall -q --invalidation-mode checked-hash site', room)
 
 
+@lru_cache(maxsize=None)
+def python():
+    """An interpreter that has numpy, by which the tests of what is made for that are run: this one, or Debian's, for which
+    `.ci/install` gets it. Without one these tests are left out."""
+    for it in (sys.executable, "/usr/bin/python3"):
+        if shutil.which(it) and not subprocess.run([it, "-c", "import numpy, pip"], stderr=subprocess.DEVNULL).returncode:
+            return it
+    return sys.executable
+
+
 def run(command, room, edited="", test="", name=""):
     """Whether a command succeeds in the copy, where this file is edited and this test is run, and what it says. Of
     edits that were built together the one of this name is done.
@@ -127,7 +138,7 @@ def run(command, room, edited="", test="", name=""):
         **os.environ,
         "PYTHONPATH": f"{room}/bindings/python/src:{room}/site",
         "PYTHONDONTWRITEBYTECODE": "1",
-        "PYTHON": sys.executable,
+        "PYTHON": python(),
         "EDITED": edited,
         "TEST": test,
         "PLANTED": name,

@@ -79,7 +79,7 @@ def texts() -> Dict[str, Path]:
 def version() -> str:
     found = re.search(r'^#define RTPW_VERSION "(.*)"$', texts()["rtp_wire.h"].read_text("utf-8"), re.M)
     assert found, "rtp_wire.h has no version"
-    return found[1]
+    return re.sub("-dev$", ".dev0", found[1])  # as PEP 440 has it
 
 
 def metadata() -> bytes:
@@ -114,10 +114,11 @@ def library(machine: str) -> bytes:
     """The shared library for a machine. Only the functions of rtp_wire.h and those of src can be seen."""
     with tempfile.TemporaryDirectory() as folder:
         names, made = Path(folder, "names"), Path(folder, "librtp_wire.so")
-        names.write_text("{ global: rtpw_*; whole_packet_parse; columns_*; local: *; };", "utf-8")
+        names.write_text("{ global: rtpw_*; whole_packet_parse; columns_*; package_version; local: *; };", "utf-8")
         found = texts()
         command = [*compiler(), "-shared", "-fPIC", "-std=c99", "-O2", "-s", "-o", str(made)]
-        command += [f"-I{found['rtp_wire.h'].parent}", *map(str, sorted(HERE.glob("src/*.c")))]
+        command += [f'-DPACKAGE_VERSION="{version()}"', f"-I{found['rtp_wire.h'].parent}"]
+        command += [*map(str, sorted(HERE.glob("src/*.c")))]
         command += [str(found[f"rtp_wire-{machine}.s"])]
         command += [f"-Wl,--version-script={names}", "-Wl,-soname,librtp_wire.so", "-Wl,--no-undefined"]
         command += ["-Wl,-z,noexecstack", "-Wl,-z,relro", "-Wl,-z,now"]

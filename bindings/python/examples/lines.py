@@ -15,7 +15,11 @@ def is_map_line(line: str, map: Map) -> bool:
     words = re.fullmatch(r"map ([0-9]{1,3}) (.+)", line)
     if not words or not 1 <= int(words[1]) <= 255:
         return False
-    map[int(words[1])] = Kind.from_uri(words[2])
+    id, kind = int(words[1]), Kind.from_uri(words[2])
+    if kind:
+        map[id] = kind
+    else:
+        map.pop(id, None)  # of the last line of an id, whose URI isn't known
     return True
 
 

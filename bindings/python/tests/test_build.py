@@ -104,7 +104,7 @@ class Build(unittest.TestCase):
             return sorted(f"{folder}/{name}" for name in os.listdir(HERE / folder) if name.endswith(".py"))
 
         wanted = ["PKG-INFO", "pyproject.toml", "README.md", "backend/rtp_wire_backend.py"]
-        wanted += ["src/columns.c", "src/whole_packet.c"]
+        wanted += ["src/columns.c", "src/version.c", "src/whole_packet.c"]
         wanted += [*names_of("src/rtp_wire"), "src/rtp_wire/py.typed"]
         wanted += [*names_of("examples"), *names_of("tests")]
         wanted += [f"texts/{name}" for name in self.backend.TEXTS]
@@ -187,7 +187,7 @@ class Build(unittest.TestCase):
         # PEP 517: in the format of POSIX, whose magic and version these are
         self.assertEqual(gzip.decompress(packed)[257:265], b"ustar\x0000")
         parts = ["PKG-INFO", "pyproject.toml", "README.md", "backend/rtp_wire_backend.py"]
-        parts += ["src/columns.c", "src/whole_packet.c", "src/rtp_wire/py.typed"]
+        parts += ["src/columns.c", "src/version.c", "src/whole_packet.c", "src/rtp_wire/py.typed"]
         parts += ["examples/lines.py", "examples/pcap.py", "examples/pcap_dpkt.py", "examples/times.py"]
         for inner in ("src/rtp_wire", "tests"):
             parts += [str(it.relative_to(HERE)) for it in (HERE / inner).glob("*.py")]
@@ -207,6 +207,14 @@ class Build(unittest.TestCase):
             self.assertEqual(read[f"{folder}/texts/{name}"], place.read_bytes())
         self.assertEqual(read[f"{folder}/PKG-INFO"], self.backend.metadata())
 
+    def test_the_version_is_one_of_pip(self) -> None:
+        # PEP 440: a development release has a number, and sorts before the release that it becomes
+        header = self.folder / "rtp_wire.h"
+        for said, version in (("1.2.3", "1.2.3"), ("1.2.3-dev", "1.2.3.dev0"), ("10.0.20-dev", "10.0.20.dev0")):
+            header.write_text(f'#define RTPW_VERSION "{said}"\n', "utf-8")
+            with unittest.mock.patch.object(self.backend, "texts", lambda: {"rtp_wire.h": header}):
+                self.assertEqual(self.backend.version(), version)
+
     def test_metadata(self) -> None:
         folder = self.backend.prepare_metadata_for_build_wheel(str(self.folder))
         said = email.message_from_bytes((self.folder / folder / "METADATA").read_bytes())
@@ -222,7 +230,7 @@ class Build(unittest.TestCase):
             "Description-Content-Type": "text/markdown",
         }
         self.assertEqual({name: said[name] for name in told}, told)
-        self.assertRegex(said["Version"], r"\A[0-9]+\.[0-9]+\.[0-9]+\Z")
+        self.assertRegex(said["Version"], r"\A[0-9]+\.[0-9]+\.[0-9]+(\.dev0)?\Z")
         self.assertEqual(said.get_all("License-File"), ["LICENSE-APACHE", "LICENSE-MIT", "NOTICE"])
         classifiers = [
             "Development Status :: 4 - Beta",
@@ -303,7 +311,7 @@ class Build(unittest.TestCase):
         said = subprocess.run(command, stdout=subprocess.PIPE, check=True, text=True).stdout
         rows = [line.split() for line in said.splitlines()]
         seen = {row[-1] for row in rows if len(row) == 8 and row[4] in ("GLOBAL", "WEAK") and row[6] != "UND"}
-        own = {"whole_packet_parse", "columns_parse", "columns_receive"}
+        own = {"whole_packet_parse", "columns_parse", "columns_receive", "package_version"}
         self.assertEqual({it for it in seen if not it.startswith("rtpw_")}, own)
         self.assertGreater(len(seen), 40)
         self.assertIn("Library soname: [librtp_wire.so]", said)

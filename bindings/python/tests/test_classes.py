@@ -29,6 +29,7 @@ from rtp_wire import (
     NoElement,
     NotAPacket,
     OtherForm,
+    OwnUris,
     Packet,
     Receiver,
     Resolution,
@@ -72,6 +73,7 @@ FIELDS: Dict[Any, Tuple[str, ...]] = {
     Taken: ("number", "restarted"),
     rtp_wire.Route: (
         *("data", "payload_type", "sequence_number", "timestamp", "ssrc", "marker", "original_number"),
+        "clears_padding",
     ),
     rtp_wire.FrameMarking: ("start", "end", "independent", "discardable", "layers"),
     rtp_wire.FrameLayers: ("base_layer_sync", "temporal_id", "layer_id", "tl0_pic_idx"),
@@ -106,7 +108,7 @@ CALLS: Dict[Any, str] = {
     ),
     rtp_wire.HeaderTemplate: "(datagram, ids, elements=(), allowed=None)",
     rtp_wire.HeaderTemplate.write: "(self, routes)",
-    rtp_wire.HeaderTemplate.write_into: "(self, buffer, routes, at=None)",
+    rtp_wire.HeaderTemplate.write_into: "(self, buffer, routes)",
     rtp_wire.pad: "(datagram, header_len, pad_len, block_size=1)",
     rtp_wire.read_original: "(payload)",
     rtp_wire.write_original: "(payload, number)",
@@ -135,7 +137,9 @@ CALLS: Dict[Any, str] = {
     Kind.from_uri: "(uri)",
     Map: "(kinds=())",
     Map.standard: "()",
-    Map.from_uris: "(uris)",
+    Map.from_uris: "(uris, own=None)",
+    OwnUris: "(uris=())",
+    OwnUris.kind_of: "(self, uri)",
     Map.id_of: "(self, kind)",
     NewIds: "(ids=())",
     NewIds.between: "(sender, receiver)",
@@ -174,6 +178,12 @@ CALLS: Dict[Any, str] = {
     rtp_wire.read_ntp_64: "(data)",
     rtp_wire.ntp_56_data: "(time)",
     rtp_wire.extend_ntp_56: "(near, low)",
+    rtp_wire.read_send_time: "(data)",
+    rtp_wire.send_time_data: "(units)",
+    rtp_wire.extend_send_time: "(near, units)",
+    rtp_wire.is_stream_id: "(text)",
+    rtp_wire.Columns.unpadded_payload: "(self, row)",
+    rtp_wire.Columns.differences: "(self, verdicts)",
     rtp_wire.has_dependency_structure: "(data)",
     Packet.token: "(self, id)",
     Kind.keeps: "(self, text)",
@@ -364,8 +374,8 @@ class Calls(unittest.TestCase):
             Packet.parse(PLAIN[:11])
         self.assertEqual(str(cut.exception), "fewer than twelve bytes")
         with self.assertRaises(BadField) as bad:
-            Map({5: 16})  # type: ignore[arg-type]
-        self.assertEqual(str(bad.exception), "a kind is 16, and not 0 to 15 or 128 to 255")
+            Map({5: 21})  # type: ignore[arg-type]
+        self.assertEqual(str(bad.exception), "a kind is 21, and not 1 to 20 or 128 to 255")
 
     def test_what_they_are(self) -> None:
         for kind in (Map, NewIds):
@@ -405,7 +415,9 @@ class Calls(unittest.TestCase):
         for letter in ("\xE9", "\u0131", "\u200b", "\U0001F600", "\0", "?", "a"):
             for uri in (MID + letter, letter + MID, MID[:7] + letter + MID[7:], MID[:-1] + letter):
                 self.assertIs(Kind.from_uri(uri), Kind.NONE, repr(uri))
-                self.assertEqual(Map.from_uris({4: uri, 5: level}), Map({5: Kind.AUDIO_LEVEL}))
+                own = OwnUris()
+                map = Map.from_uris({4: uri, 5: level}, own)
+                self.assertEqual((map, list(own)), (Map({4: Kind.OWN, 5: Kind.AUDIO_LEVEL}), [uri]))
         self.assertIs(Kind.from_uri(MID), Kind.MID)
         self.assertIs(Kind.from_uri("urn:\u0131etf:params:rtp-hdrext:sdes:mid"), Kind.NONE)
         for other, told in ((5, "int"), (None, "NoneType"), (b"urn:x", "bytes")):

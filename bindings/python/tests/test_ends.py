@@ -52,6 +52,7 @@ from rtp_wire import (
     add_element,
     change_form,
     extend_ntp_56,
+    extend_send_time,
     mixer_levels_data,
     ntp_56_data,
     ntp_64_data,
@@ -59,6 +60,7 @@ from rtp_wire import (
     put_element,
     read_mixer_level,
     remove_block,
+    send_time_data,
     transmission_offset_data,
 )
 
@@ -197,7 +199,7 @@ class Ends(unittest.TestCase):
         self.are_the_ends(
             [of_layers("tl0_pic_idx", 8)]
             + [bits(lambda it: TransportNumber(1, FeedbackRequest(it, 5)).to_data(), "timestamps", 1)]
-            + [(lambda it: TransportNumber(1, FeedbackRequest(True, it)).to_data(), "packets", 1, 32767)]
+            + [bits(lambda it: TransportNumber(1, FeedbackRequest(True, it)).to_data(), "packets", 15)]
             + [of_hdr(name, lambda number: number, name) for name in ("luminance_max", "luminance_min")]
             + [of_hdr(name, lambda number: number, name) for name in ("max_content_light_level",)]
             + [of_hdr(name, lambda number: number, name) for name in ("max_frame_average_light_level",)]
@@ -214,13 +216,15 @@ class Ends(unittest.TestCase):
                 bits(ntp_56_data, "time", 64),
                 bits(lambda near: extend_ntp_56(near, 0), "near", 64),
                 bits(lambda low: extend_ntp_56(0, low), "low", 64),
+                bits(send_time_data, "units", 24),
+                bits(lambda near: extend_send_time(near, 0), "near", 64),
+                bits(lambda units: extend_send_time(0, units), "units", 24),
             ]
         )
-        for many in (16, 255, 1000):
-            self.assertEqual(mixer_levels_data([-1] * many), bytes([1]) * many)
+        for many in (16, 255, 1000, 65536):
             with self.assertRaises(BadField) as raised:
-                mixer_levels_data([-1] * (many - 1) + [1])
-            self.assertEqual(str(raised.exception), "a level is 1, and not -127 to 0")
+                mixer_levels_data([-1] * many)
+            self.assertEqual(str(raised.exception), f"the number of levels is {many}, and not 0 to 15")
         for count in (1 << 64, -1):
             with self.assertRaises(BadField) as raised:
                 read_mixer_level(b"\x01", count, 0)
@@ -345,7 +349,9 @@ class Zeros(unittest.TestCase):
         self.assertEqual(Timing.from_data(bytes(13)), Timing(0, 0, 0, 0, 0, 0, flags=0))
         self.assertEqual(Timing.from_data(bytes(12)), Timing(0, 0, 0, 0, 0, 0, flags=None))
         self.assertEqual(TransportNumber(0, FeedbackRequest(False, 1)).to_data().hex(), "00000001")
-        self.assertEqual(TransportNumber.from_data(bytes.fromhex("00008000")), TransportNumber(0))
+        # four bytes are a request, also for the feedback on no packet
+        none = TransportNumber(0, FeedbackRequest(True, 0))
+        self.assertEqual(TransportNumber.from_data(bytes.fromhex("00008000")), none)
 
 
 class Places(unittest.TestCase):

@@ -69,6 +69,14 @@ class Captures(unittest.TestCase):
         told = b"packet 1: pt 0 seq 1 ts 1 ssrc 44 marker no padding no extension yes csrc 0 header 20\n"
         self.assertEqual(said.stdout, told + b"verdict 1: taken 1\n")
 
+    def test_the_last_line_of_an_id_counts(self) -> None:
+        # a URI that isn't known is none of a mid, also where a line before it had that
+        mid, other = b"map 1 urn:ietf:params:rtp-hdrext:sdes:mid\n", b"map 1 urn:x\n"
+        for maps, told in ((mid + other, b""), (other + mid, b" mid A"), (other + mid + other, b"")):
+            said = self.lines(maps + b"90000001000000010000002CBEDE000110410000\n")
+            first = b"packet 1: pt 0 seq 1 ts 1 ssrc 44 marker no padding no extension yes csrc 0 header 20"
+            self.assertEqual(said.stdout, first + told + b"\nverdict 1: taken 1\n")
+
     def test_flags(self) -> None:
         # each of P, X and M with and without each of the others: a block, where there is one, has no word
         lines, told = "", ""

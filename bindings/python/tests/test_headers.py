@@ -24,6 +24,14 @@ from rtp_wire import (
 )
 
 MID = "urn:ietf:params:rtp-hdrext:sdes:mid"
+# Of the kinds from Kind.MIXER_LEVELS to Kind.NTP_56.
+URIS = [
+    "urn:ietf:params:rtp-hdrext:csrc-audio-level",
+    "http://www.webrtc.org/experiments/rtp-hdrext/transport-wide-cc-02",
+    "https://aomediacodec.github.io/av1-rtp-spec/#dependency-descriptor-rtp-header-extension",
+    "urn:ietf:params:rtp-hdrext:ntp-64",
+    "urn:ietf:params:rtp-hdrext:ntp-56",
+]
 
 
 class Headers(unittest.TestCase):
@@ -114,7 +122,7 @@ class Headers(unittest.TestCase):
         rows: list[tuple[Callable[[], object], str]] = [
             (lambda: Map({0: Kind.MID}), "an id is 0, and not 1 to 255"),
             (lambda: Map({256: Kind.MID}), "an id is 256, and not 1 to 255"),
-            (lambda: Map({1: 16}), "a kind is 16, and not 0 to 15 or 128 to 255"),  # type: ignore[arg-type]
+            (lambda: Map({1: 21}), "a kind is 21, and not 1 to 20 or 128 to 255"),  # type: ignore[arg-type]
             (lambda: write_elements([(0, b"")], 2), "an id is 0, and not 1 to 255"),
             (lambda: write_elements([], 0), "a form is 0, and not 1 to 2"),
             (lambda: put_element(packet, 28, 0, b""), "id is 0, and not 1 to 255"),
@@ -207,14 +215,16 @@ class Maps(unittest.TestCase):
             self.assertEqual(Kind.from_uri(uri), Kind.NONE)
 
     def test_maps(self) -> None:
-        map = Map.from_uris({4: MID, 200: "urn:x", 9: "urn:3gpp:video-orientation"})
+        map = Map.from_uris({4: MID, 9: "urn:3gpp:video-orientation"})
         self.assertEqual(dict(map), {4: Kind.MID, 9: Kind.VIDEO_ORIENTATION})
         self.assertEqual(map, Map([(9, Kind.VIDEO_ORIENTATION), (4, Kind.MID)]))
         self.assertEqual(Map.from_uris([(4, MID)]), Map({4: Kind.MID}))
         map[255] = Kind.LAYERS
         self.assertEqual((map[255], len(map), 200 in map, map.get(7)), (Kind.LAYERS, 3, False, None))
-        map[255] = Kind.NONE
-        del map[9]
+        with self.assertRaisesRegex(BadField, "^a kind is 0, and not 1 to 20 or 128 to 255$"):
+            map[255] = Kind.NONE
+        self.assertIs(map[255], Kind.LAYERS)
+        del map[9], map[255]
         self.assertEqual(list(map), [4])
         for id in (0, 9, 256, -1):
             with self.assertRaises(KeyError):
@@ -228,18 +238,20 @@ class Maps(unittest.TestCase):
                 with self.assertRaises(BadField):
                     Map.from_uris({id: uri})
         with self.assertRaises(BadField):
-            map[1] = 16  # type: ignore[assignment]
+            map[1] = 21  # type: ignore[assignment]
         self.assertEqual(map, Map({4: Kind.MID}))
         self.assertEqual(repr(map), "Map({4: <Kind.MID: 12>})")
 
     def test_maps_of_what_other_packages_have(self) -> None:
         # RTCRtpHeaderExtensionParameters of aiortc have these attributes
         negotiated = [SimpleNamespace(id=4, uri=MID), SimpleNamespace(id=5, uri="urn:x")]
-        self.assertEqual(Map.from_uris((it.id, it.uri) for it in negotiated), Map({4: Kind.MID}))
+        map = Map.from_uris((it.id, it.uri) for it in negotiated)
+        self.assertEqual((map[4], map[5] >= Kind.OWN, len(map)), (Kind.MID, True, 2))
 
     def test_each_kind_has_its_uri(self) -> None:
-        for kind in list(Kind)[1:16]:
+        for kind in list(Kind)[1:21]:
             self.assertEqual(Kind.from_uri(kind.uri or ""), kind)
+        self.assertEqual([kind.uri for kind in list(Kind)[16:21]], URIS)
         self.assertEqual(Kind.MID.uri, MID)
         self.assertEqual((Kind.NONE.uri, Kind.OWN.uri, Kind(255).uri), (None, None, None))
 

@@ -53,8 +53,9 @@ STRUCTS = {
     "column": _library.RawColumn,
 }
 SOURCES = [it.read_text("utf-8") for it in sorted(HERE.glob("src/*.c"))]
-# Of the receivers for a sender that may start again the package has the one with a window of any size.
-OF_C_ALONE = {"rtpw_restarting_receive"}
+# Of the receivers for a sender that may start again the package has the one with a window of any size, and its version
+# is that of its metadata.
+OF_C_ALONE = {"rtpw_restarting_receive", "rtpw_version"}
 NUMBERS: Dict[str, Any] = {
     "void": None,
     "bool": ctypes.c_bool,
@@ -128,6 +129,7 @@ class Library(unittest.TestCase):
             "-Wpedantic",
             "-Werror",
             f"-I{HEADER.parent}",
+            '-DPACKAGE_VERSION="1.2.3"',
             "-fsyntax-only",
         ]
         with tempfile.TemporaryDirectory() as folder:
@@ -179,8 +181,10 @@ class Library(unittest.TestCase):
         self.assertEqual((set(rtp_wire.__all__), len(rtp_wire.__all__)), (names, len(names)))
 
     def test_the_version(self) -> None:
-        version = re.findall(r'#define RTPW_VERSION "(.*)"', TEXT)
-        self.assertEqual([rtp_wire.__version__, metadata.version("rtp_wire")], version * 2)
+        # PEP 440 has 1.1.0.dev0 for what the header file calls 1.1.0-dev
+        (numbers, is_dev) = re.findall(r'#define RTPW_VERSION "([0-9]+\.[0-9]+\.[0-9]+)(-dev)?"', TEXT)[0]
+        version = f"{numbers}.dev0" if is_dev else numbers
+        self.assertEqual([rtp_wire.__version__, metadata.version("rtp_wire")], [version] * 2)
 
 
 if __name__ == "__main__":

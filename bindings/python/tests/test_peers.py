@@ -157,7 +157,7 @@ class Messages(unittest.TestCase):
             (lambda: Header().write_with([(1, bytes(255))] * 1021), "the elements have more bytes than a block can"),
             (lambda: next(elements(b"", Form.OTHER)), "a form is 3, and not 1 to 2"),
             (lambda: Values.read(b"", Form.NONE, Map()), "a form is 0, and not 1 to 2"),
-            (lambda: Values().data_of(Kind.NONE), "a kind is 0, and not 1 to 15 or 128 to 255"),
+            (lambda: Values().data_of(Kind.NONE), "a kind is 0, and not 1 to 20 or 128 to 255"),
             (lambda: layered(Layer((1,), Resolution(0, 1, 1))), "width is 0, and not 1 to 65535"),
             (lambda: layered(Layer((1,), Resolution(1, 0, 1))), "height is 0, and not 1 to 65535"),
             (lambda: layered(Layer((), Resolution(1, 1, 1))), "no element can carry the layers"),

@@ -165,7 +165,7 @@ class Ranges(unittest.TestCase):
                 (lambda: write_elements([(1, b"a")], 257), "a form is 257, and not 1 to 2"),
                 (lambda: Header().write_with([(257, b"a")]), "an id is 257, and not 1 to 255"),
                 (lambda: Header().write_with([(1, b"a")], 257), "a form is 257, and not 0 to 2"),
-                (lambda: Values(mid="a").data_of(268), "a kind is 268, and not 1 to 15 or 128 to 255"),
+                (lambda: Values(mid="a").data_of(268), "a kind is 268, and not 1 to 20 or 128 to 255"),
             ]
         )
         self.assertRaises(BadField, put_element, put, 1 << 32, 1, b"a")
@@ -185,7 +185,7 @@ class Ranges(unittest.TestCase):
         self.are_refused(
             [
                 (lambda: map.update({260: Kind.MID}), "an id is 260, and not 1 to 255"),
-                (lambda: map.update({5: 268}), "a kind is 268, and not 0 to 15 or 128 to 255"),
+                (lambda: map.update({5: 268}), "a kind is 268, and not 1 to 20 or 128 to 255"),
                 (lambda: map.id_of(268), past("a kind", 8, 268)),
                 (lambda: ids.update({260: 1}), "an id is 260, and not 1 to 255"),
                 (lambda: ids.update({0: 1}), "an id is 0, and not 1 to 255"),

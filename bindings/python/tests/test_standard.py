@@ -25,7 +25,9 @@ from rtp_wire import (
     Timing,
     TransportNumber,
     extend_ntp_56,
+    extend_send_time,
     has_dependency_structure,
+    is_stream_id,
     mixer_levels_data,
     ntp_56_data,
     ntp_64_data,
@@ -33,8 +35,10 @@ from rtp_wire import (
     read_mixer_level,
     read_ntp_56,
     read_ntp_64,
+    read_send_time,
     read_token,
     read_transmission_offset,
+    send_time_data,
     transmission_offset_data,
 )
 
@@ -77,6 +81,8 @@ ROWS: List[Tuple[Any, str]] = [
     (TransportNumber(0x1234, FeedbackRequest(True, 5)), "1234 8005"),
     (TransportNumber(7, FeedbackRequest(True, 32767)), "0007 FFFF"),
     (TransportNumber(7, FeedbackRequest(False, 32766)), "0007 7FFE"),
+    (TransportNumber(9, FeedbackRequest(False, 0)), "0009 0000"),
+    (TransportNumber(10, FeedbackRequest(True, 0)), "000A 8000"),
     # three code points, then two bits each of the range and the sitings
     (ColorSpace(1, 2, 3, ColorRange.FULL, ChromaSiting.COLLOCATED, ChromaSiting.UNSPECIFIED), "010203 24"),
     (ColorSpace(9, 16, 255, ColorRange.LIMITED, ChromaSiting.HALF, ChromaSiting.COLLOCATED), "0910FF 19"),
@@ -94,6 +100,7 @@ ROWS: List[Tuple[Any, str]] = [
 # Data of each length that these have, and what is said of any other length.
 LENGTHS: Dict[Callable[[bytes], Any], Tuple[Tuple[int, ...], str]] = {
     read_transmission_offset: ((3,), "transmission offset: it has 3"),
+    read_send_time: ((3,), "send time: it has 3"),
     FrameMarking.from_data: ((1, 2, 3), "frame marking: it has 1 to 3"),
     Orientation.from_data: ((1,), "orientation: it has 1"),
     Timing.from_data: ((12, 13), "timing: it has 12 or 13"),
@@ -142,8 +149,6 @@ class Standards(unittest.TestCase):
         self.assertEqual(Orientation.from_data(b"\xF6"), Orientation(Camera.FRONT, True, 180))
         space = ColorSpace(1, 2, 3, ColorRange.FULL, ChromaSiting.HALF, ChromaSiting.COLLOCATED)
         self.assertEqual(ColorSpace.from_data(b"\1\2\3\xE9"), space)
-        self.assertEqual(TransportNumber.from_data(b"\0\x09\0\0"), TransportNumber(9))
-        self.assertEqual(TransportNumber.from_data(b"\0\x09\x80\0"), TransportNumber(9))
         descriptor = DependencyDescriptor(True, False, 3, 0x0102)
         self.assertEqual(DependencyDescriptor.from_data(b"\x83\1\2\x80\5\6"), descriptor)
 
@@ -173,7 +178,7 @@ class Standards(unittest.TestCase):
             *((timing, name, 0, 65535) for name in list(vars(timing))[:6]),
             (timing, "flags", 0, 255),
             (number, "number", 0, 65535),
-            (number.request, "packets", 1, 32767),
+            (number.request, "packets", 0, 32767),
             (number.request, "timestamps", 0, 1),
             *((space, name, 0, 255) for name in ("primaries", "transfer", "matrix")),
             (space, "range", 0, 3),
@@ -260,10 +265,32 @@ class Standards(unittest.TestCase):
         self.assertEqual(mixer_levels_data([-127, -10, 0, -11]), bytes.fromhex("7F0A000B"))
         self.assertEqual(mixer_levels_data(()), b"")
         self.assertEqual(mixer_levels_data(range(-14, 1)), bytes(range(14, -1, -1)))
-        self.assertEqual(mixer_levels_data([-5] * 255), b"\5" * 255)
+        # a packet has 15 sources at most
+        self.is_refused(lambda: mixer_levels_data([-5] * 16), "the number of levels is 16, and not 0 to 15")
         for level in (1, -128, 127, 128, 256, -256, 1 << 32):
             text = f"a level is {level}, and not -127 to 0"
             self.is_refused(lambda: mixer_levels_data([0, level]), text)
+
+    def test_send_times(self) -> None:
+        # 2^-18 seconds; each of the 24 bits by itself, and times that are no whole microseconds
+        for units in (*(1 << bit for bit in range(24)), 0, 1, 3, 0x010203, 0xFEDCBA, 0xFFFFFF):
+            data = units.to_bytes(3, "big")
+            self.assertEqual((read_send_time(data), send_time_data(units)), (units, data))
+        self.is_refused(lambda: send_time_data(1 << 24), "units is 16777216, and not 0 to 16777215")
+        # 64 seconds are 2^38 units of 2^-32 seconds, and 2^14 of these one of 2^-18
+        whole, second = 1 << 38, 1 << 32
+        for near, units, found in (
+            (0xE0000000C0000000, 0xFFFFFF, 0xDFFFFFFFFFFFC000),
+            (5 * whole, 1, 5 * whole + (1 << 14)),
+            (5 * whole + 3 * second, 2 << 18, 5 * whole + 2 * second),
+            (5 * whole + second, 63 << 18, 4 * whole + 63 * second),
+            (5 * whole + 63 * second, 1 << 18, 6 * whole + second),
+            (5 * whole + 32 * second, 0, 6 * whole),  # equally near: the later one
+            (5 * whole + 32 * second - 1, 0, 5 * whole),
+            (0, 63 << 18, (1 << 64) - second),  # modulo 2^64
+            ((1 << 64) - 1, 0, 0),
+        ):
+            self.assertEqual(extend_send_time(near, units), found)
 
     def test_ntp_times(self) -> None:
         # RFC 6051, 3.3: 64 bits, and the low 56 of them
@@ -314,6 +341,18 @@ class Tokens(unittest.TestCase):
             with self.assertRaises(BadField) as raised:
                 read_token(b"x" * length)
             self.assertEqual(str(raised.exception), "the data are no token")
+
+    def test_ids_of_streams(self) -> None:
+        # RFC 8852, 3: letters and digits, and no other character of a token
+        letters = "0123456789ABCDEFGHIJKLMNOPQRSTUVWXYZabcdefghijklmnopqrstuvwxyz"
+        for number in (*range(256), 0x661, 0x20AC, 0xFF21, 0x1F600, 0xD800):
+            for text in (chr(number), "a" + chr(number), chr(number) + "9"):
+                self.assertIs(is_stream_id(text), chr(number) in letters, ascii(text))
+        for length in (0, 1, 8, 9, 255, 256, 1000):
+            self.assertIs(is_stream_id("Z" * length), 1 <= length <= 255)
+        for other in (b"a", 5, None):
+            with self.assertRaisesRegex(TypeError, f"^a stream id is {type(other).__name__}, and not str$"):
+                is_stream_id(other)  # type: ignore[arg-type]
 
     def test_texts_of_a_packet(self) -> None:
         map = Map({1: Kind.MID, 2: Kind.RID, 3: Kind.REPAIRED_RID})

@@ -13,7 +13,10 @@ THERE = importlib.util.find_spec("numpy") is not None
 # PT=96, 5, 160, 7, of the one-byte form: 1 (10 below, with voice), 3 (258), 4 ("ab"); the payload "hi"
 FULL = bytes.fromhex("90E00005 000000A0 00000007 BEDE0003 108A 310102 416162 00000000 6869")
 PLAIN = bytes.fromhex("80600006 000000A1 00000008 616263")
-REPORT = bytes.fromhex("80C90001 00000009 00000000")
+# a receiver report on the source 7, which as a packet of RTP would be one of the source 7
+REPORT = bytes.fromhex("81C90007 00000009 00000007") + bytes(20)
+# a sender's with X, whose elements, of the one-byte form, would be 1 (20 below)
+WITH_A_LEVEL = bytes.fromhex("90C80006 00000009 00000007 BEDE0001 10140000")
 MAP = Map({1: Kind.AUDIO_LEVEL, 3: Kind.TRANSPORT_NUMBER, 4: Kind.MID})
 NAMES = ["audio_level", "transport_number", "mid"]
 FIELDS = [
@@ -38,28 +41,65 @@ class Absent(unittest.TestCase):
 class Structured(unittest.TestCase):
     def test_rows_worked_out_by_hand(self) -> None:
         buffer = FULL + PLAIN + REPORT + FULL[:11]
-        table = table_of(buffer, ([0, 30, 45, 57, 57], [30, 15, 12, 11, 12]), MAP, NAMES)
+        table = table_of(buffer, ([0, 30, 45, 77, 77], [30, 15, 32, 11, 12]), MAP, NAMES)
         self.assertEqual(table.dtype.names, (*FIELDS, *NAMES))
         wanted = [
-            (0, 0, 5, 160, 7, 96, 1, 28, 2, 2, 1, 1, -10, 258, b"ab"),
-            (0, 0, 6, 161, 8, 96, 0, 42, 3, 3, 1, 1, None, None, None),
-            (0, 1, 1, 9, 0, 73, 1, 57, 0, 0, 1, 0, None, None, None),
-            (1, 0, 0, 0, 0, 0, 0, 0, 0, 0, 0, 0, None, None, None),
-            (9, 0, 0, 0, 0, 0, 0, 0, 0, 0, 0, 0, None, None, None),
+            (0, 0, 5, 160, 7, 96, 1, 28, 2, 2, 1, True, -10, 258, b"ab"),
+            (0, 0, 6, 161, 8, 96, 0, 42, 3, 3, 1, True, None, None, None),
+            (0, 1, *[None] * 9, False, None, None, None),
+            (1, 0, *[None] * 9, False, None, None, None),
+            (9, 0, *[None] * 9, False, None, None, None),
         ]
         self.assertEqual(table.tolist(), wanted)
         # what is masked is 0
         self.assertEqual([tuple(it)[-3:] for it in table.data], [(-10, 258, b"ab")] + [(0, 0, b"")] * 4)
+        for name in FIELDS[2:]:
+            self.assertEqual(table.data[name][2:].tolist(), [0, 0, 0], name)
         self.assertEqual(float(table["audio_level"].mean()), -10.0)
-        self.assertEqual(table[table["ssrc"] == 7]["timestamp"].tolist(), [160])
         self.assertEqual(table["mid"].dtype, "S17")
         self.assertEqual((Status(table["status"][4]), table["status"].dtype), (Status.BAD_FIELD, "i4"))
+
+    def test_packets_of_rtp_alone(self) -> None:
+        # a report on a source is no packet of it, and what is none isn't one of the source 0
+        numpy: Any = import_module("numpy")
+        parts = [FULL, REPORT, WITH_A_LEVEL, FULL[:11], b"", PLAIN, FULL]
+        at = [sum(map(len, parts[:it])) for it in range(7)]
+        table = table_of(b"".join(parts), (at, list(map(len, parts))), MAP, NAMES)
+        self.assertEqual(table["is_rtp"].tolist(), [True, False, False, False, False, True, True])
+        self.assertEqual(table[table["is_rtp"]]["ssrc"].tolist(), [7, 8, 7])
+        self.assertEqual(table[table["ssrc"] == 7]["timestamp"].tolist(), [160, 160])
+        self.assertEqual(table["ssrc"].compressed().tolist(), [7, 8, 7])
+        self.assertEqual((numpy.ma.count(table["audio_level"]), int(table["audio_level"].sum())), (2, -20))
+        columns = Columns.parse(b"".join(parts), at, map(len, parts), MAP, NAMES)
+        self.assertEqual(numpy.asarray(columns.ssrc)[columns.mask].tolist(), [7, 8, 7])
+
+    def test_flags_are_masks(self) -> None:
+        # M of the first alone; by its second byte the report would have it too
+        parts = [FULL, REPORT, PLAIN, FULL[:11], b"\xA0" + PLAIN[1:]]
+        at = [sum(map(len, parts[:it])) for it in range(5)]
+        table = table_of(b"".join(parts), (at, list(map(len, parts))), MAP, ["voice_activity"])
+        rows = [("marker", [160]), ("padding_fits", [160, 161]), ("voice_activity", [160]), ("is_rtp", [160, 161, 161])]
+        for name, times in rows:
+            self.assertEqual(table[table[name]]["timestamp"].tolist(), times, name)
+        self.assertEqual(table[~table["is_rtcp"]]["timestamp"].tolist(), [160, 161, None, 161])
+
+    def test_differences_have_a_sign(self) -> None:
+        # 5, 8, and the two that come late
+        numpy: Any = import_module("numpy")
+        datagrams = [Header(sequence_number=it, ssrc=9).write(Map()) for it in (5, 8, 6, 7, 9)]
+        table = table_of(b"".join(datagrams), (list(range(0, 60, 12)), [12] * 5), None, [], {})
+        self.assertEqual(numpy.diff(table["number"]).tolist(), [3, -2, 1, 2])
+        self.assertEqual(table["number"].dtype, "i8")
+        # at the rollover count 0 one from before the first has a number near 2^64
+        datagrams = [Header(sequence_number=it).write(Map()) for it in (5, 65534)]
+        table = table_of(b"".join(datagrams), ([0, 12], [12] * 2), None, [], {}, 0)
+        self.assertEqual((table["number"].tolist(), numpy.diff(table["number"]).tolist()), ([5, -2], [-7]))
 
     def test_verdicts(self) -> None:
         rows = [(5, 7), (5, 7), (4, 7), (9, 8), (6, 7), (65535, 8), (9, 8)]
         datagrams = [Header(sequence_number=number, ssrc=ssrc).write(Map()) for number, ssrc in rows]
         buffer = b"".join(datagrams) + REPORT
-        places = list(range(0, len(buffer), 12)), [12] * 8
+        places = list(range(0, 96, 12)), [*[12] * 7, 32]
         receivers = {7: Receiver(3)}
         table = table_of(buffer, places, None, ["audio_level"], receivers)
         numbers = [196613, None, 196612, 65545, 196614, 65535, None, None]
@@ -135,14 +175,19 @@ class Structured(unittest.TestCase):
             verdicts = columns.receive(ours)
             table = structured_array(buffer, numpy.array(at, "q"), numpy.array(lengths, "q"), map, names, theirs)
             self.assertEqual((len(table), ours), (count, theirs))
+            self.assertEqual(table["is_rtp"].tolist(), list(columns.mask))
             for name in FIELDS:
-                self.assertEqual(table[name].tolist(), list(getattr(columns, name)), name)
+                there: List[bool] = [name in ("status", "is_rtcp", "is_rtp") or bool(it) for it in columns.mask]
+                due = [value * is_there for value, is_there in zip(getattr(columns, name), there)]
+                self.assertEqual(table.data[name].tolist(), due, name)
+                self.assertEqual((~numpy.ma.getmaskarray(table[name])).tolist(), there, name)
             for name in names:
                 found: List[Optional[object]] = table[name].tolist()
                 if name in columns.texts:
                     found = [it if it is None else it.decode() for it in table[name].tolist()]
-                wanted: Any = columns.texts[name] if name in columns.texts else columns.values[name]
-                self.assertEqual(found, list(wanted), name)
+                column: Any = columns.texts[name] if name in columns.texts else columns.values[name]
+                wanted = [value if is_rtp else None for value, is_rtp in zip(column, columns.mask)]
+                self.assertEqual(found, wanted, name)
             self.assertEqual(table["verdict"].tolist(), list(verdicts.verdict))
             self.assertEqual(table.data["number"].tolist(), list(verdicts.number))
 

@@ -62,9 +62,11 @@ def by_calls(
     buffer = bytearray(packet[:length]) + bytes(2000)
     changed = Packet.parse(memoryview(buffer)[:length])
     got = route if route.original_number is None else route._replace(sequence_number=route.original_number)
-    data, *fields, _ = got
+    data, *fields, _, clears_padding = got
     names = ("payload_type", "sequence_number", "timestamp", "ssrc", "marker")
     changed.set_fields(**dict(zip(names, fields)))  # type: ignore[arg-type]
+    if clears_padding and route.original_number is None:
+        changed.has_padding = False
     try:
         changed.renumber(ids)
     except LongId:
@@ -214,8 +216,8 @@ class Writing(unittest.TestCase):
         self.assertEqual(template().write([first, second]), wanted)
         self.assertEqual(template().write(iter([second, first, second])), [wanted[1], *wanted])
         buffer = bytearray(b"\xEE" * 50)
-        lent = template().write_into(buffer, [first, second], at=[25, 0])
-        self.assertEqual((lent, buffer), (wanted, wanted[1] + b"\xEE" + wanted[0] + b"\xEE"))
+        lent = template().write_into(buffer, [first, second])
+        self.assertEqual((lent, buffer), (wanted, wanted[0] + wanted[1] + b"\xEE" * 2))
 
     def test_each_field_is_one_of_its_own(self) -> None:
         rows = [
@@ -229,6 +231,7 @@ class Writing(unittest.TestCase):
             (Route(b"\0\7", ssrc=0x08090A0B), 8, b"\x08\x09\x0A\x0B"),
             (Route(b"\xAB\xCD"), 19, b"\xAB\xCD"),
             (Route(b"\xAB\xCD", 127, 65535, 0xFFFFFFFF, 0, True), 1, b"\xFF" * 7 + bytes(4)),
+            (Route(b"\0\7", clears_padding=True), 0, b""),
         ]
         made = template()
         for route, at, data in rows:
@@ -252,6 +255,7 @@ class Writing(unittest.TestCase):
             (Route(two, timestamp=1 << 32), "timestamp is 4294967296, and not 0 to 4294967295"),
             (Route(two, ssrc=-1), "ssrc is -1, and not 0 to 4294967295"),
             (Route(two, marker=2), "marker is 2, and not 0 to 1"),  # type: ignore[arg-type]
+            (Route(two, clears_padding=2), "clears_padding is 2, and not 0 to 1"),  # type: ignore[arg-type]
             (Route(b"x"), "the length of data is 1, and not 2"),
             (Route(b"xyz"), "the length of data is 3, and not 2"),
             (Route(), "the length of data is 0, and not 2"),
@@ -264,61 +268,47 @@ class Writing(unittest.TestCase):
                 self.assertEqual([*headers[:8], *headers[9:]], [*wanted[:8], *wanted[9:]])
                 cause = headers[8]
                 self.assertEqual((type(cause), str(cause)), (BadField, told))
-            self.assertEqual(buffer, b"".join(wanted[:8]) + b"\xEE" * 24 + b"".join(wanted[9:]))
-        misplaced: List[Tuple[int, Any, str]] = [
-            (457, ShortBuffer, "a buffer is too short"),
-            (480, ShortBuffer, "a buffer is too short"),
-            ((1 << 64) - 1, ShortBuffer, "a buffer is too short"),
-            (1 << 32, ShortBuffer, "a buffer is too short"),
-            (-1, BadField, "a place is -1, and not 0 to 18446744073709551615"),
-            (1 << 64, BadField, "a place is 18446744073709551616, and not 0 to 18446744073709551615"),
-        ]
-        for place, kind, told in misplaced:
-            places = [24 * at for at in range(20)]
-            places[8] = place
-            buffer = bytearray(b"\xEE" * 480)
-            headers = list(made.write_into(buffer, routes, places))
-            cause = headers[8]
-            self.assertEqual((type(cause), str(cause)), (kind, told))
-            self.assertEqual([*headers[:8], *headers[9:]], [*wanted[:8], *wanted[9:]])
-            self.assertEqual(buffer, b"".join(wanted[:8]) + b"\xEE" * 24 + b"".join(wanted[9:]))
+            # it takes no bytes
+            self.assertEqual(buffer, b"".join([*wanted[:8], *wanted[9:]]) + b"\xEE" * 24)
+
+    def test_no_room_for_the_last_ones(self) -> None:
+        made = template()
+        routes = [Route(bytes([0, at]), sequence_number=1000 + at) for at in range(4)]
+        wanted = [put_in(put_in(MADE, 2, (1000 + at).to_bytes(2, "big")), 20, bytes([at])) for at in range(4)]
+        for size in range(100):
+            buffer = bytearray(b"\xEE" * size)
+            headers = made.write_into(buffer, routes)
+            fit = size // 24
+            self.assertEqual(headers[:fit], wanted[:fit])
+            self.assertEqual({type(it) for it in headers[fit:]}, {ShortBuffer} if fit < 4 else set())
+            self.assertEqual(buffer, b"".join(wanted[:fit]) + b"\xEE" * (size - 24 * fit))
 
     def test_none_are_none(self) -> None:
         made = template()
         self.assertEqual((made.write([]), made.write_into(bytearray(), [])), ([], []))
-        self.assertEqual(made.write_into(bytearray(), [], array("Q")), [])
         (short,) = made.write_into(bytearray(23), [Route(b"\0\7")])
         self.assertIsInstance(short, ShortBuffer)
         plain = HeaderTemplate(PLAIN, NewIds())
         self.assertEqual((plain.data_len, plain.write([Route(), Route(b"")])), (0, [PLAIN, PLAIN]))
 
-    def test_places_and_buffers(self) -> None:
+    def test_buffers(self) -> None:
         made, routes = template(), [Route(b"\0\1"), Route(b"\0\2"), Route(b"\0\3")]
         first, second, third = (put_in(MADE, 20, bytes([it])) for it in (1, 2, 3))
-        # where they overlap the later one stands
-        wanted = bytearray(34)
-        for header, begin in ((first, 0), (second, 10), (third, 5)):
-            wanted[begin : begin + 24] = header
         buffers: List[Callable[[], Any]] = [
-            lambda: bytearray(34),
-            lambda: memoryview(bytearray(40))[3:37],
-            lambda: array("H", bytes(34)),
+            lambda: bytearray(74),
+            lambda: memoryview(bytearray(80))[3:77],
+            lambda: array("H", bytes(74)),
         ]
         for make in buffers:
             buffer = make()
-            lent = made.write_into(buffer, routes, array("q", [0, 10, 5]))
-            self.assertEqual([len(it) for it in lent if isinstance(it, memoryview)], [24, 24, 24])
-            self.assertEqual((bytes(memoryview(buffer)), lent[2]), (wanted, third))
+            lent = made.write_into(buffer, iter(routes))
+            self.assertEqual(lent, [first, second, third])
+            self.assertEqual(bytes(memoryview(buffer)), first + second + third + bytes(2))
         # the data may lie in what is written
         buffer = bytearray(72)
         buffer[0:2], buffer[20:22], buffer[70:72] = b"\0\1", b"\0\2", b"\0\3"
         lying = [Route(memoryview(buffer)[at : at + 2]) for at in (0, 20, 70)]
         self.assertEqual(made.write_into(buffer, lying), [first, second, third])
-        others: List[Sequence[int]] = [[], [0], [0, 24, 48, 72], range(4)]
-        for places in others:
-            told = f"there are {len(places)} places and 3 receivers"
-            with self.assertRaisesRegex(BadField, told):
-                made.write_into(bytearray(96), routes, places)
         with self.assertRaisesRegex(TypeError, "read-only"):
             made.write_into(bytes(96), routes)  # type: ignore[arg-type]
         with self.assertRaisesRegex(TypeError, "don't lie together"):
@@ -332,14 +322,13 @@ class Writing(unittest.TestCase):
             (Route("ab"), "bytes-like object"),  # type: ignore[arg-type]
             (Route(b"\0\7", ssrc="5"), "ssrc is str, and no whole number"),  # type: ignore[arg-type]
             (Route(b"\0\7", timestamp=5.0), "timestamp is float"),  # type: ignore[arg-type]
+            (Route(b"\0\7", clears_padding=None), "clears_padding is NoneType"),  # type: ignore[arg-type]
         ):
             given: Any = [Route(b"\0\7"), route]
             with self.assertRaisesRegex(TypeError, told):
                 made.write(given)
             with self.assertRaisesRegex(TypeError, told):
                 made.write_into(buffer, given)
-        with self.assertRaisesRegex(TypeError, "a place is str"):
-            made.write_into(buffer, [Route(b"\0\7")], ["5"])  # type: ignore[list-item]
         self.assertEqual(buffer, bytes(96))
 
     def test_many_receivers(self) -> None:
@@ -348,6 +337,43 @@ class Writing(unittest.TestCase):
         for at, header in enumerate(made.write(routes)):
             data = at.to_bytes(2, "big")
             self.assertEqual(header, put_in(put_in(MADE, 10, data), 19, data))
+
+
+    def test_headers_of_more_than_264_bytes(self) -> None:
+        # 40 mids of six letters each are 280 bytes in the one-byte form, and two bytes for each receiver of the id 14
+        mids = b"".join(b"\x15mid_%02d" % at for at in range(40))
+        packet = bytes.fromhex("90600005 00000064 0000002C BEDE0046") + mids
+        made = HeaderTemplate(packet, OWN, [(14, bytes(2))])
+        body = packet[16:] + b"\xE1"
+        routes = [Route(bytes([it, 0xFF]), sequence_number=1000 + it) for it in range(20)]
+        routes[7] = routes[7]._replace(payload_type=128)
+        front = [b"\x90\x60" + (1000 + it).to_bytes(2, "big") + packet[4:14] + b"\0\x47" for it in range(20)]
+        wanted = [it + body + bytes([at, 0xFF, 0]) for at, it in enumerate(front) if at != 7]
+        self.assertEqual({len(it) for it in wanted}, {300})
+        buffer = bytearray(b"\xEE" * 6000)
+        both: List[List[Any]] = [[*made.write(routes)], [*made.write_into(buffer, routes)]]
+        for headers in both:
+            self.assertEqual(str(headers.pop(7)), "payload_type is 128, and not 0 to 127")
+            self.assertEqual(headers, wanted)
+            for header in headers:
+                texts = [bytes(it.data) for it in Packet.parse(header).elements()][:40]
+                self.assertEqual(texts, [mids[at + 1 : at + 7] for at in range(0, 280, 7)])
+        self.assertEqual(buffer, b"".join(wanted) + b"\xEE" * 300)
+
+    def test_padding(self) -> None:
+        # P with the payload as it is, and clear with the payload without its padding
+        packet = bytes.fromhex("A0600005 00000064 0000002C 6869 0002")
+        made = HeaderTemplate(packet, NewIds())
+        again = Route(original_number=7)
+        headers = made.write([Route(), Route(clears_padding=True), again, again._replace(clears_padding=True)])
+        self.assertEqual(headers, [packet[:12], PLAIN, PLAIN + b"\0\7", PLAIN + b"\0\7"])
+        read = Packet.parse(packet)
+        assert read.unpadded_payload is not None
+        sent = [bytes(packet[:12] + read.payload), bytes(PLAIN + read.unpadded_payload)]
+        self.assertEqual([Packet.parse(it).unpadded_payload for it in sent], [b"hi", b"hi"])
+        # where it stays set the receiver hasn't the whole payload: its last byte, 105, counts more bytes than there are
+        self.assertIsNone(Packet.parse(packet[:12] + read.unpadded_payload).unpadded_payload)
+        self.assertEqual(HeaderTemplate(PLAIN, NewIds()).write([Route(clears_padding=True)]), [PLAIN])
 
 
 class Retransmissions(unittest.TestCase):
@@ -367,8 +393,6 @@ class Retransmissions(unittest.TestCase):
                 buffer = bytearray(b"\xEE" * 75)
                 self.assertEqual(made.write_into(buffer, routes), [plain, again, plain])
                 self.assertEqual(buffer, plain + again + plain + b"\xEE")
-                self.assertEqual(made.write_into(buffer, routes, [51, 0, 27]), [plain, again, plain])
-                self.assertEqual(buffer, again + again[2:3] + plain + plain)
 
     def test_rows_without_one_that_is_refused(self) -> None:
         made, again = template(), self.again._replace(original_number=7)
@@ -386,7 +410,7 @@ class Retransmissions(unittest.TestCase):
                 cause = headers.pop(1)
                 self.assertEqual((type(cause), str(cause)), (BadField, told))
                 self.assertEqual(headers, [wanted, MADE, wanted])
-            self.assertEqual(buffer, wanted + b"\xEE" * 26 + MADE + wanted)
+            self.assertEqual(buffer, wanted + MADE + wanted + b"\xEE" * 26)
         others: List[Any] = ["5", 5.0]
         for other in others:
             told = f"original_number is {type(other).__name__}, and no whole number"
@@ -401,12 +425,12 @@ class Retransmissions(unittest.TestCase):
             buffer = bytearray(b"\xEE" * size)
             (short,) = made.write_into(buffer, routes)
             self.assertEqual((type(short), buffer), (ShortBuffer, b"\xEE" * size))
-        for size, place, kind in ((26, 0, memoryview), (30, 4, memoryview), (30, 5, ShortBuffer)):
-            buffer = bytearray(b"\xEE" * size)
-            (header,) = made.write_into(buffer, routes, [place])
-            self.assertIsInstance(header, kind)
-            written = self.header + b"\0\7" if kind is memoryview else b"\xEE" * 26
-            self.assertEqual(buffer, b"\xEE" * 4 * (size == 30) + written)
+        buffer = bytearray(b"\xEE" * 51)
+        plain, again = MADE, self.header + b"\0\7"
+        for given, fit in (([*routes, Route(b"\0\7")], 2), ([Route(b"\0\7"), *routes], 2), (routes * 2, 1)):
+            headers = made.write_into(buffer, given)
+            self.assertEqual([isinstance(it, memoryview) for it in headers], [it < fit for it in range(2)])
+            self.assertEqual({bytes(it) for it in headers if isinstance(it, memoryview)} - {plain, again}, set())
         refused = made.write([routes[0]._replace(payload_type=128), routes[0]._replace(data=b"")])
         self.assertEqual([type(it) for it in refused], [BadField, BadField])
 
@@ -481,7 +505,7 @@ class ByCalls(unittest.TestCase):
         kind, number, time, ssrc = (draw.choice((None, draw.randrange(1 << it))) for it in (7, 16, 32, 32))
         marker = draw.choice((None, False, True))
         original = draw.choice((None, None, 0, 65535, draw.randrange(1 << 16)))
-        return Route(draw.randbytes(length), kind, number, time, ssrc, marker, original)
+        return Route(draw.randbytes(length), kind, number, time, ssrc, marker, original, draw.random() < 0.3)
 
     def test_each_is_what_they_make(self) -> None:
         draw = Random(5)
@@ -515,31 +539,28 @@ class ByCalls(unittest.TestCase):
             self.assertEqual((made.write_into(buffer, routes), buffer), (each, b"".join(each)))
         self.assertEqual(causes, {LongId, FormNotAllowed, OtherForm})
 
-    def test_any_places_fields_and_data(self) -> None:
+    def test_any_fields_data_and_room(self) -> None:
         draw, made = Random(9), template()
         for _ in range(300):
-            routes, places, size = [], [], draw.randrange(120)
+            routes, size = [], draw.randrange(160)
             for _ in range(6):
                 length = draw.choice((2, 2, 2, 2, 0, 1, 3))
                 kind, ssrc = draw.choice((None, 5, 127, 128, -1)), draw.choice((None, 7, 1 << 32))
                 original = draw.choice((None, None, 0, 7, 65535, 65536, -1))
                 routes.append(Route(draw.randbytes(length), kind, ssrc=ssrc, original_number=original))
-                places.append(draw.choice((draw.randrange(size + 2), 0, 24, 48, -1, (1 << 64) - draw.randint(1, 9))))
-            # one after the other, each of them alone
-            wanted = bytearray(b"\xEE" * size)
-            results: List[object] = []
-            for route, place in zip(routes, places):
+            # each of them alone, one after the other
+            wanted, results = b"", []
+            for route in routes:
                 (result,) = made.write([route])
-                if isinstance(result, bytes) and place + len(result) > size:
+                if isinstance(result, bytes) and len(wanted) + len(result) > size:
                     result = ShortBuffer(Status.SHORT_BUFFER)
-                if isinstance(result, bytes) and 0 <= place:
-                    wanted[place : place + len(result)] = result
-                fails = isinstance(result, RtpError) or place < 0
-                results.append(BadField if place < 0 else type(result) if fails else None)
+                if isinstance(result, bytes):
+                    wanted += result
+                results.append(result if isinstance(result, bytes) else str(result))
             buffer = bytearray(b"\xEE" * size)
-            headers = made.write_into(buffer, routes, places)
-            self.assertEqual([type(it) if isinstance(it, RtpError) else None for it in headers], results)
-            self.assertEqual(buffer, wanted)
+            headers = made.write_into(buffer, routes)
+            self.assertEqual([str(it) if isinstance(it, RtpError) else bytes(it) for it in headers], results)
+            self.assertEqual(buffer, wanted.ljust(size, b"\xEE"))
 
     def test_values_that_are_put(self) -> None:
         # a transport number of each receiver, as its data say it

@@ -27,17 +27,21 @@ from ._errors import (
 )
 from ._growing import add_element, change_form, compact, put_block, put_element, remove_block
 from ._header import Header, write_elements
+from ._kind import OWN_URIS, Kind, OwnUris
 from ._layers import Layer, Layers, Resolution
-from ._map import Kind, Map, NewIds
+from ._map import Map, NewIds
 from ._numbers import (
     extend_ntp_56,
+    extend_send_time,
     mixer_levels_data,
     ntp_56_data,
     ntp_64_data,
     read_mixer_level,
     read_ntp_56,
     read_ntp_64,
+    read_send_time,
     read_transmission_offset,
+    send_time_data,
     transmission_offset_data,
 )
 from ._packet import Element, Form, Packet, elements, is_rtcp
@@ -64,6 +68,7 @@ from ._standard import (
     Timing,
     TransportNumber,
     has_dependency_structure,
+    is_stream_id,
     read_token,
 )
 from ._structured import structured_array
@@ -101,8 +106,10 @@ __all__ = [
     "NewIds",
     "NoElement",
     "NotAPacket",
+    "OWN_URIS",
     "Orientation",
     "OtherForm",
+    "OwnUris",
     "Packet",
     "Receiver",
     "ReceptionReport",
@@ -129,6 +136,7 @@ __all__ = [
     "compact",
     "elements",
     "extend_ntp_56",
+    "extend_send_time",
     "extend_u15",
     "extend_u16",
     "extend_u32",
@@ -136,6 +144,7 @@ __all__ = [
     "from_retransmission",
     "has_dependency_structure",
     "is_rtcp",
+    "is_stream_id",
     "mixer_levels_data",
     "ntp_56_data",
     "ntp_64_data",
@@ -146,9 +155,11 @@ __all__ = [
     "read_ntp_56",
     "read_ntp_64",
     "read_original",
+    "read_send_time",
     "read_token",
     "read_transmission_offset",
     "remove_block",
+    "send_time_data",
     "structured_array",
     "to_retransmission",
     "transmission_offset_data",
@@ -156,6 +167,5 @@ __all__ = [
     "write_original",
 ]
 
-_version: int = _library.version()
-__version__ = f"{_version >> 16}.{_version >> 8 & 0xFF}.{_version & 0xFF}"
-"""The version of the library."""
+__version__: str = _library.package_version().decode()
+"""The version of the package and of its library, as pip has it."""

@@ -67,7 +67,7 @@ def writable_view_of(data: WritableBuffer) -> memoryview:
 
 def copy_of(data: Buffer) -> bytes:
     """The bytes, where they may lie in what is written: the library mustn't see them twice."""
-    return data if isinstance(data, bytes) else bytes(view_of(data))
+    return data if type(data) is bytes else bytes(view_of(data))
 
 
 def address_of(view: memoryview) -> Optional[int]:
@@ -86,7 +86,7 @@ def address_of(view: memoryview) -> Optional[int]:
 
 def place_of(data: Buffer) -> Tuple[Union[bytes, memoryview], Address]:
     """The bytes as they lie, and what ctypes passes as a pointer to them, for as long as the first of the two lives."""
-    if isinstance(data, bytes):
+    if type(data) is bytes:  # of another class len() may be anything
         return data, data
-    view = memoryview(data) if isinstance(data, bytearray) else view_of(data)
+    view = memoryview(data) if type(data) is bytearray else view_of(data)
     return view, address_of(view)

@@ -85,7 +85,9 @@ def _put_hdr(raw: _library.RawHdrMetadata, hdr: HdrMetadata) -> None:
 @dataclass(frozen=True)
 class ColorSpace:
     """The color space of a video, as WebRTC's color-space has it: four bytes, or 28 with HDR metadata, for which an
-    element needs the two-byte form. `Values` have none, though Kind.COLOR_SPACE can be mapped.
+    element needs the two-byte form. `Values` have none, though Kind.COLOR_SPACE can be mapped. All numbers are read
+    and written; libwebrtc passes over an element with a code point that H.273 reserves, as the primaries 0 or 3, or
+    with HDR metadata beyond 20,000 cd/m^2 (luminance_min beyond 5), or with a chromaticity above 1.
 
     >>> space = ColorSpace.from_data(bytes.fromhex("01 01 01 24"))  # BT.709
     >>> space.primaries, space.range.name, space.horizontal.name, space.vertical.name, space.hdr

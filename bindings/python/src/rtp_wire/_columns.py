@@ -5,91 +5,20 @@ from __future__ import annotations
 from array import array
 from enum import IntEnum
 from itertools import compress
-from typing import (
-    TYPE_CHECKING,
-    Dict,
-    Iterable,
-    Iterator,
-    List,
-    MutableMapping,
-    NamedTuple,
-    Optional,
-    Tuple,
-    Union,
-)
+from typing import TYPE_CHECKING, Dict, Iterable, Iterator, MutableMapping, NamedTuple, Optional, Union
 
 from . import _library
 from ._buffers import address_of, place_of
 from ._column import Column, TextColumn
 from ._errors import BadField, Status
 from ._judges import Judges
-from ._map import Map, raw_map
+from ._many import FIELDS, NUMBERS, TEXTS, has_at, no_column, places_of, read
+from ._map import Map
 from ._receiver import Receiver
 
 if TYPE_CHECKING:
     from ._buffers import Buffer
-
-    Places = Union[Buffer, Iterable[int]]
-
-_PACKET_AT = _library.RawDatagram.packet.offset
-_VALUES_AT = _library.RawDatagramHeader.header.offset + _library.RawHeader.values.offset
-_HAS_AT = _VALUES_AT + _library.RawValues.has.offset
-
-# The columns of fields: what `array` calls the type of each, and where it stands in the struct.
-FIELDS: Dict[str, Tuple[str, int]] = {
-    "status": ("i", _library.RawDatagram.status.offset),
-    "is_rtcp": ("B", _library.RawDatagram.is_rtcp.offset),
-    **{
-        name: (code, _PACKET_AT + getattr(_library.RawPacket, name).offset)
-        for name, code in {
-            "sequence_number": "H",
-            "timestamp": "I",
-            "ssrc": "I",
-            "payload_type": "B",
-            "marker": "B",
-            "payload_at": "Q",
-            "payload_len": "Q",
-            "unpadded_len": "Q",
-            "padding_fits": "B",
-        }.items()
-    },
-}
-# The columns of values: the type of each, where it stands in the struct, and what says that it is there.
-NUMBERS: Dict[str, Tuple[str, int, str]] = {
-    **{
-        name: (code, _VALUES_AT + getattr(_library.RawValues, name).offset, name)
-        for name, code in {
-            "send_time": "Q",
-            "capture_time": "Q",
-            "capture_offset": "q",
-            "playout_delay_min": "Q",
-            "playout_delay_max": "Q",
-            "transmission_offset": "I",
-            "frame_marking": "I",
-            "transport_number": "H",
-            "video_orientation": "H",
-            "video_content_type": "B",
-            "audio_level": "b",
-            "voice_activity": "B",
-        }.items()
-    },
-    **{
-        name: (code, _VALUES_AT + getattr(_library.RawValues, name).offset, "video_timing")
-        for name, code in {
-            "encode_start": "H",
-            "encode_finish": "H",
-            "packetize_complete": "H",
-            "last_left_pacer": "H",
-            "timing_flags": "B",
-        }.items()
-    },
-}
-# The columns of texts, and how many bytes each takes in the struct.
-TEXTS: Dict[str, Tuple[int, int, str]] = {
-    name: (_VALUES_AT + described.offset, described.size, name)
-    for name in ("mid", "rid", "repaired_rid")
-    for described in [getattr(_library.RawValues, name)]
-}
+    from ._many import Places
 
 
 def _zeros(code: str, count: int) -> array[int]:
@@ -98,68 +27,9 @@ def _zeros(code: str, count: int) -> array[int]:
     return column
 
 
-def _raw_column(column: array[int], offset: int = 0) -> _library.RawColumn:
-    return _library.RawColumn(offset, column.itemsize, column.buffer_info()[0], column.itemsize)
-
-
-def _numbers(places: Places) -> array[int]:
-    """The places, as numbers of 64 bits."""
-    numbers = array("q")
-    try:
-        view = memoryview(places)  # type: ignore[arg-type]
-    except TypeError:
-        pass
-    else:
-        if view.itemsize == 8 and view.format.lstrip("@=") in ("q", "Q", "l", "L", "n", "N"):
-            numbers.frombytes(view.tobytes())  # also where they don't lie together
-            return numbers
-    try:
-        numbers.extend(iter(places))  # type: ignore[arg-type]
-    except OverflowError as error:
-        raise BadField(Status.BAD_FIELD, "a place is no number of 64 bits") from error
-    return numbers
-
-
-def places_of(at: Places, lengths: Places) -> Tuple[array[int], array[int]]:
-    """Where datagrams begin, and how long they are."""
-    places = _numbers(at), _numbers(lengths)
-    if len(places[0]) != len(places[1]):
-        raise BadField(Status.BAD_FIELD, f"there are {len(places[0])} places and {len(places[1])} lengths")
-    return places
-
-
-def has_at(name: str) -> int:
-    """Where in the struct it stands whether this value is there."""
-    return _HAS_AT + _library.VALUES.index(name)
-
-
-def no_column(name: object) -> BadField:
-    return BadField(Status.BAD_FIELD, f"there is no column of {name!r}")
-
-
-def read(
-    data: Union[bytes, memoryview],
-    at: array[int],
-    lengths: array[int],
-    map: Optional[Map],
-    fields: List[_library.RawColumn],
-    values: List[_library.RawColumn],
-    is_rtp: _library.RawColumn,
-) -> None:
-    """Reads the datagrams at these places into these columns of fields and values."""
-    _library.columns_parse(
-        place_of(data)[1],
-        len(data),
-        raw_map(Map() if map is None else map),
-        at.buffer_info()[0],
-        lengths.buffer_info()[0],
-        len(at),
-        (_library.RawColumn * len(fields))(*fields),
-        len(fields),
-        (_library.RawColumn * len(values))(*values),
-        len(values),
-        is_rtp,
-    )
+def _raw_column(column: Union[array[int], memoryview], offset: int = 0) -> _library.RawColumn:
+    view = memoryview(column)
+    return _library.RawColumn(offset, view.itemsize, address_of(view), view.itemsize)
 
 
 class Verdict(IntEnum):
@@ -182,23 +52,27 @@ class Verdicts(NamedTuple):
 
 
 class Columns:
-    """What many datagrams of one buffer are, read in one call of C: a column for each field, and for each kind of value
-    that is asked for. A column has an item for each datagram, in the order in which their places were given. One
-    that is no packet has a status, and 0 in all other columns but is_rtcp: it spoils no other.
-
-    The columns are arrays of numbers as the machine has them, so `numpy.asarray(columns.ssrc)` is one of numpy over
-    the same memory, without a copy.
+    """What many datagrams of one buffer are, read in one call of C: a column for each field, and for each kind of
+    value that is asked for. A column has an item for each datagram, in the order in which their places were given:
+    `mask` tells which of them are packets of RTP. RTCP is told as if it were RTP; one that is no packet has a status,
+    and 0 in all other columns but is_rtcp: it spoils no other.
 
     >>> import rtp_wire
     >>> level = "90E00005 000000A0 00000007 BEDE0001 108A0000 6869"
-    >>> buffer = bytes.fromhex(level + "8021B798 00002710 0000002C" + "8021B7")
-    >>> columns = rtp_wire.Columns.parse(buffer, [0, 22, 34], [22, 12, 3], rtp_wire.Map.standard(), ["audio_level"])
-    >>> list(columns.ssrc), list(columns.sequence_number), list(columns.status)
-    ([7, 44, 0], [5, 47000, 0], [0, 0, 1])
+    >>> report = "81C90007 00000009 00000007" + 20 * "00"  # a receiver report on the source 7
+    >>> buffer = bytes.fromhex(level + report + "8021B7")
+    >>> columns = rtp_wire.Columns.parse(buffer, [0, 22, 54], [22, 32, 3], rtp_wire.Map.standard(), ["audio_level"])
+    >>> list(columns.mask)
+    [True, False, False]
+    >>> list(columns.ssrc), list(columns.status), list(columns.is_rtcp)
+    ([7, 7, 0], [0, 0, 1], [0, 1, 0])
     >>> list(columns.values["audio_level"])
     [-10, None, None]
-    >>> columns.payload(0).tobytes(), len(columns.payload(1)), columns.payload(2)
-    (b'hi', 0, None)
+    >>> columns.unpadded_payload(0).tobytes()
+    b'hi'
+
+    The columns are arrays of numbers as the machine has them, so `numpy.asarray(columns.ssrc)` is one of numpy over
+    the same memory, without a copy, and `numpy.asarray(columns.ssrc)[columns.mask]` the sources of the packets alone.
     """
 
     __slots__ = (*FIELDS, "is_rtp", "values", "texts", "_data", "_at", "_lengths")
@@ -209,7 +83,8 @@ class Columns:
     is_rtcp: array[int]
     """1 where the datagram is RTCP, as `is_rtcp` says; also where its bytes would be a packet of RTP too."""
     is_rtp: array[int]
-    """1 where the datagram is a packet and not RTCP: where status and is_rtcp are 0."""
+    """1 where the datagram is a packet and not RTCP: where status and is_rtcp are 0. numpy takes these for the numbers
+    of rows, and `mask` for a mask."""
     sequence_number: array[int]
     """The low 16 bits of the packet's number. `receive` extends them."""
     timestamp: array[int]
@@ -288,6 +163,11 @@ class Columns:
         """How many datagrams there are."""
         return len(self._at)
 
+    @property
+    def mask(self) -> memoryview:
+        """Which of the datagrams are packets of RTP: is_rtp as True and False, where it lies."""
+        return memoryview(self.is_rtp).cast("?")
+
     def datagram(self, row: int) -> Optional[memoryview]:
         """The bytes of a datagram where they lie; None where its place isn't within the buffer."""
         at, length = self._at[row], self._lengths[row]
@@ -298,10 +178,25 @@ class Columns:
         at, length = self.payload_at[row], self.payload_len[row]
         return None if self.status[row] else memoryview(self._data)[at : at + length]
 
+    def unpadded_payload(self, row: int) -> Optional[memoryview]:
+        """The payload of a packet without its padding; None also where the padding is longer than the payload. With
+        SRTP the padding is known only once the payload is decrypted."""
+        at, length = self.payload_at[row], self.unpadded_len[row]
+        return memoryview(self._data)[at : at + length] if self.padding_fits[row] else None
+
+    def _held(self, name: str, code: str) -> memoryview:
+        """A column, which can't change its size while it is held. BadField where it hasn't a number of this type for
+        each datagram: whoever has the columns may have changed it."""
+        view = memoryview(getattr(self, name))
+        if view.format != code or view.shape != (len(self),) or not view.c_contiguous:
+            raise BadField(Status.BAD_FIELD, f"the column {name} isn't {len(self)} numbers of the type {code!r}")
+        return view
+
     def receive(self, receivers: MutableMapping[int, Receiver], rollover_count: int = 1) -> Verdicts:
         """Has each packet judged by the receiver of its SSRC, one after the other, as `Receiver.receive` does; where
         there is none yet one is put there, which begins at the rollover count: at 1, where nothing is authenticated, a
-        packet from before the first one has a number too. RTCP isn't judged.
+        packet from before the first one has a number too. RTCP isn't judged. BadField where one of the columns ssrc,
+        sequence_number and is_rtp was made longer or shorter, or of another type.
 
         >>> import rtp_wire
         >>> buffer = bytes.fromhex("8021FFFF 00002710 0000002C" + "80210000 00002710 0000002C")
@@ -310,11 +205,35 @@ class Columns:
         >>> list(verdicts.number), list(verdicts.verdict), receivers[44].highest
         ([131071, 131072, 0], [1, 1, 2], 131072)
         """
-        count = len(self)
+        sources, numbers = self._held("ssrc", "I"), self._held("sequence_number", "H")
+        is_rtp, count = self._held("is_rtp", "B"), len(self)
         verdicts = Verdicts(_zeros("Q", count), _zeros("B", count))
-        judges = Judges(receivers, rollover_count, set(compress(self.ssrc, self.is_rtp)))
-        indices = array("Q", map(judges.index_of.__getitem__, self.ssrc))
-        given = _raw_column(self.sequence_number), _raw_column(self.is_rtp)
+        judges = Judges(receivers, rollover_count, set(compress(sources, is_rtp)))
+        indices = array("Q", map(judges.index_of.__getitem__, sources))
+        given = _raw_column(numbers), _raw_column(is_rtp)
         made = _raw_column(verdicts.number), _raw_column(verdicts.verdict)
         judges.judge(indices.buffer_info()[0], *given, count, *made)
         return verdicts
+
+    def differences(self, verdicts: Verdicts) -> array[int]:
+        """How far the number of each packet that is taken is above that of the packet of its source that was taken
+        before it, with a sign and modulo 2^64: 1 of the next one, 3 where two are missing between them, and -2 of one
+        that comes late. 0 of the first one of a source, and of all that aren't taken. (`numpy.diff` of the numbers
+        themselves, which have no sign, is 2^64 - 2 for -2.) BadField where the verdicts are of other datagrams.
+
+        >>> import rtp_wire
+        >>> datagrams = [bytes([0x80, 96, 0, number]) + bytes(8) for number in (5, 6, 9, 7, 7)]
+        >>> columns = rtp_wire.Columns.parse(b"".join(datagrams), range(0, 60, 12), [12] * 5)
+        >>> list(columns.differences(columns.receive({})))
+        [0, 1, 3, -2, 0]
+        """
+        if len(verdicts.verdict) != len(self):
+            told = f"there are {len(verdicts.verdict)} verdicts and {len(self)} datagrams"
+            raise BadField(Status.BAD_FIELD, told)
+        found = _zeros("q", len(self))
+        before: Dict[int, int] = {}
+        for row, (ssrc, number, verdict) in enumerate(zip(self.ssrc, *verdicts)):
+            if verdict == Verdict.TAKEN:
+                found[row] = (number - before.get(ssrc, number) + (1 << 63)) % (1 << 64) - (1 << 63)
+                before[ssrc] = number
+        return found

@@ -4,10 +4,10 @@ from __future__ import annotations
 
 from enum import IntEnum
 from operator import index
-from typing import TYPE_CHECKING, FrozenSet, Iterable, Optional
+from typing import TYPE_CHECKING, FrozenSet, Iterable, List, Optional, Sequence
 
 if TYPE_CHECKING:
-    from ._map import Kind
+    from ._kind import Kind
 
 
 class Status(IntEnum):
@@ -196,6 +196,13 @@ def within(name: str, value: int, low: int, high: int) -> int:
 def unsigned(name: str, value: int, bits: int) -> int:
     """The value, where it is a whole number of so many bits."""
     return within(name, value, 0, (1 << bits) - 1)
+
+
+def stored(numbers: Sequence[int], *bits: int) -> List[int]:
+    """The numbers of a state that was stored, each of so many bits. BadField where it is none."""
+    if len(numbers) != len(bits):
+        raise BadField(Status.BAD_FIELD, f"a state has {len(bits)} numbers, and not {len(numbers)}")
+    return [unsigned("a stored number", it, count) for it, count in zip(numbers, bits)]
 
 
 def element_id(id: int) -> int:

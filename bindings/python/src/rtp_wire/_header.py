@@ -9,8 +9,9 @@ from typing import TYPE_CHECKING, FrozenSet, Iterable, Optional, Tuple, cast
 from . import _library
 from ._buffers import address_of, place_of, view_of, writable_view_of
 from ._errors import BadField, LeftOut, Status, check, checked, unsigned, within
+from ._kind import Kind
 from ._layers import Layers, layers_of, raw_layers_of
-from ._map import Kind, Map, raw_map
+from ._map import Map, raw_map
 from ._values import Values, put_values, values_of
 
 if TYPE_CHECKING:
@@ -36,6 +37,15 @@ class Header:
     >>> header = Header(payload_type=33, sequence_number=47000, values=Values(mid="1"))
     >>> header.write_all(Map({3: Kind.MID})).hex(" ", 4)
     '9021b798 00000000 00000000 bede0001 30310000'
+
+    To send a packet like one that came, with its payload without the padding:
+
+    >>> from rtp_wire import Packet
+    >>> datagram = bytes.fromhex("A0600005 00000064 0000002C 6869 0002")
+    >>> header, packet = Header.parse(datagram), Packet.parse(datagram)
+    >>> header.ssrc, header.has_padding = 45, False
+    >>> (header.write_all(Map()) + packet.unpadded_payload).hex(" ", -4)
+    '80600005 00000064 0000002d 6869'
     """
 
     payload_type: int = 0
@@ -51,7 +61,8 @@ class Header:
     marker: bool = False
     """M."""
     has_padding: bool = False
-    """P."""
+    """P. As written only with padding behind the payload (`pad`): where a header that was read is written for a payload
+    without its padding set it to False, or each peer takes the payload's last bytes for padding."""
     has_extension: bool = cast(bool, None)
     """X, whether there is a block: without one no value is written. Where it isn't given, it is set exactly where one
     of the values is there."""
@@ -93,10 +104,11 @@ class Header:
         raw.sequence_number = unsigned("sequence_number", self.sequence_number, 16)
         raw.timestamp = unsigned("timestamp", self.timestamp, 32)
         raw.ssrc = unsigned("ssrc", self.ssrc, 32)
-        if len(self.csrc) > MOST_CSRCS:
-            raise BadField(Status.BAD_FIELD, f"csrc has {len(self.csrc)} sources, and not up to {MOST_CSRCS}")
-        raw.csrc_count = len(self.csrc)
-        raw.csrc[: len(self.csrc)] = [unsigned("a source", source, 32) for source in self.csrc]
+        sources = [unsigned("a source", source, 32) for source in self.csrc]
+        if len(sources) > MOST_CSRCS:
+            raise BadField(Status.BAD_FIELD, f"csrc has {len(sources)} sources, and not up to {MOST_CSRCS}")
+        raw.csrc_count = len(sources)
+        raw.csrc[: len(sources)] = sources
         raw.marker = unsigned("marker", self.marker, 1)
         raw.has_padding = unsigned("has_padding", self.has_padding, 1)
         raw.has_extension = unsigned("has_extension", self.has_extension, 1)
@@ -124,7 +136,7 @@ class Header:
         that is written is empty. Spatial layers at the end of a stream that aren't active are left out. So is a value
         without an id, or without a block, and nothing says so: `left_out` tells these, and `write_all` refuses them.
         BadField where a field or a value is out of its range, or no element can carry the layers, as those of more than
-        255 bytes.
+        255 bytes. P is has_padding, and the padding itself is yours to write behind the payload.
         """
         wire_len, write, given = self._calls(map)
         length = c_size_t()
@@ -179,15 +191,17 @@ class Header:
 
     def write_with(self, elements: Iterable[Tuple[int, Buffer]], form: Optional[int] = None) -> bytes:
         """The bytes of the header with a block of these elements, pairs of an id and its data, whatever has_extension
-        and the values hold: in the one-byte form where that can carry each of them, or in the form that is given alone,
-        for a peer that hasn't agreed to both in one stream. BadField where a field is out of its range, an id isn't 1
-        to 255, data have more than 255 bytes, a block can't have as many bytes, or the form can't carry an element.
+        and the values hold: in the one-byte form where that can carry each of them, or in the form that is given
+        alone, for a peer that hasn't agreed to both in one stream. BadField where a field is out of its range, an id
+        isn't 1 to 255, data have more than 255 bytes, a block can't have as many bytes, or the form can't carry an
+        element. P is has_padding, as `write` has it.
         """
         allowed = 0 if form is None else within("a form", form, 0, 2)
         data, places = _gather(elements, allowed)
-        room = _room(data, places) + BLOCK_HEADER + 12 + 4 * len(self.csrc)
+        raw = self._raw(with_values=False)
+        room = _room(data, places) + BLOCK_HEADER + 12 + 4 * raw.csrc_count
         buf, length = bytearray(room), c_size_t()
-        given = (self._raw(with_values=False), data, len(data), places, len(places))
+        given = (raw, data, len(data), places, len(places))
         into = (address_of(memoryview(buf)), len(buf), length)
         if form is None:
             checked(_library.write_with(*given, *into), LONG)

@@ -8,6 +8,7 @@ from ctypes import (
     Structure,
     c_bool,
     c_char,
+    c_char_p,
     c_int8,
     c_int32,
     c_int64,
@@ -199,14 +200,18 @@ class RawRoutedHeader(Structure):
     fields: RawFields
     original_number: int
     is_retransmission: int
+    clears_padding: int
     status: int
+    len: int
     _fields_ = [
         ("data_at", c_size_t),
         ("at", c_size_t),
         ("fields", cast(Any, RawFields)),
         ("original_number", c_uint16),
         ("is_retransmission", c_uint8),
+        ("clears_padding", c_uint8),
         ("status", c_int32),
+        ("len", c_uint32),
     ]
 
 
@@ -416,7 +421,7 @@ columns_receive = _declare(
     POINTER(RawColumn),
 )
 
-version = _declare(c_uint32, "rtpw_version")
+package_version = _declare(c_char_p, "package_version")
 
 is_rtcp = _declare(c_bool, "rtpw_is_rtcp", _BYTES, _SIZE)
 packet_parse = _declare(_STATUS, "rtpw_packet_parse", _BYTES, _SIZE, POINTER(RawPacket))
@@ -478,6 +483,7 @@ last_element = _declare(_STATUS, "rtpw_last_element", _BYTES, _SIZE, c_uint8, c_
 kind_of_uri = _declare(c_uint8, "rtpw_kind_of_uri", _BYTES, _SIZE)
 uri_of_kind = _declare(_STATUS, "rtpw_uri_of_kind", c_uint8, _BYTES, _SIZE, POINTER(c_size_t))
 map_set = _declare(_STATUS, "rtpw_map_set", POINTER(RawMap), c_uint8, c_uint8)
+map_remove = _declare(None, "rtpw_map_remove", POINTER(RawMap), c_uint8)
 map_get = _declare(c_uint8, "rtpw_map_get", POINTER(RawMap), c_uint8)
 id_of = _declare(c_uint8, "rtpw_id_of", POINTER(RawMap), c_uint8)
 map_standard = _declare(None, "rtpw_map_standard", POINTER(RawMap))
@@ -561,8 +567,10 @@ write_elements = _declare(
 )
 
 is_token = _declare(c_bool, "rtpw_is_token", _BYTES, _SIZE)
+is_stream_id = _declare(c_bool, "rtpw_is_stream_id", _BYTES, _SIZE)
 has_structure = _declare(c_bool, "rtpw_has_structure", _BYTES, _SIZE)
 extend_ntp_56 = _declare(c_uint64, "rtpw_extend_ntp_56", c_uint64, c_uint64)
+extend_send_time = _declare(c_uint64, "rtpw_extend_send_time", c_uint64, c_uint32)
 
 
 def _declare_value(name: str, read: Any, written: Any = None) -> Tuple[Function, Function]:
@@ -573,6 +581,7 @@ def _declare_value(name: str, read: Any, written: Any = None) -> Tuple[Function,
     )
 
 
+read_send_time, write_send_time = _declare_value("send_time", c_uint32, c_uint32)
 read_transmission_offset, write_transmission_offset = _declare_value("transmission_offset", c_int32, c_int32)
 read_frame_marking, write_frame_marking = _declare_value("frame_marking", RawFrameMarking)
 read_orientation, write_orientation = _declare_value("orientation", RawOrientation)

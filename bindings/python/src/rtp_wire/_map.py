@@ -2,97 +2,24 @@
 
 from __future__ import annotations
 
-import re
-from ctypes import c_size_t
-from enum import IntEnum
-from typing import Any, Iterable, Iterator, Mapping, MutableMapping, Optional, Tuple, TypeVar, Union
+from operator import index
+from typing import Any, Dict, Iterable, Iterator, Mapping, MutableMapping, Optional, Tuple, TypeVar, Union
+from warnings import warn
 
 from . import _library
-from ._buffers import address_of
-from ._errors import BadField, Status, check, unsigned, whole, within
-
-
-class Kind(IntEnum):
-    """The kinds of header extension, by numbers of this library, and from Kind(128), which is Kind.OWN, to Kind(255) by
-    yours: extensions that have no value here, as a dependency descriptor (`DependencyDescriptor`), whose elements you
-    read and write.
-    """
-
-    NONE = 0
-    ABS_SEND_TIME = 1
-    ABS_CAPTURE_TIME = 2
-    AUDIO_LEVEL = 3
-    TRANSMISSION_OFFSET = 4
-    VIDEO_ORIENTATION = 5
-    TRANSPORT_NUMBER = 6
-    PLAYOUT_DELAY = 7
-    VIDEO_CONTENT_TYPE = 8
-    VIDEO_TIMING = 9
-    RID = 10
-    REPAIRED_RID = 11
-    MID = 12
-    FRAME_MARKING = 13
-    COLOR_SPACE = 14
-    LAYERS = 15
-    OWN = 128
-
-    @classmethod
-    def _missing_(cls, value: object) -> Optional[Kind]:
-        if not isinstance(value, int) or not cls.OWN < value < 256:
-            return None
-        made = int.__new__(cls, value)
-        made._name_, made._value_ = f"OWN + {value - cls.OWN}", value
-        return cls._value2member_map_.setdefault(value, made)  # type: ignore[return-value]
-
-    def __reduce_ex__(self, protocol: object) -> Tuple[object, ...]:
-        return Kind, (int(self),)  # not by its name, which one of your own can't be found by
-
-    @classmethod
-    def from_uri(cls, uri: str) -> Kind:
-        """The kind whose URI this is, letter for letter; NONE where it is that of none, as of your own kinds."""
-        if not isinstance(uri, str):
-            raise TypeError(f"a URI is {type(uri).__name__}, and not str")
-        data = uri.encode()
-        return cls(_library.kind_of_uri(data, len(data)))
-
-    @property
-    def uri(self) -> Optional[str]:
-        """The URI that names the kind in SDP, as an answer says it; None of NONE, and of your own kinds.
-
-        >>> Kind.MID.uri
-        'urn:ietf:params:rtp-hdrext:sdes:mid'
-        """
-        buf, length = bytearray(_LONGEST_URI), c_size_t()
-        status = _library.uri_of_kind(self, address_of(memoryview(buf)), len(buf), length)
-        return None if status else buf[: length.value].decode()
-
-    def keeps(self, text: str) -> bool:
-        """Whether `Values` have this text of an element of the kind as it is: MID up to 16 ASCII letters, digits and
-        underscores, and RID and REPAIRED_RID up to 8. They have "cam_1" of "cam_1", "cam-1" and "cam.1", and the first
-        16 of 17 letters. A peer whose SDP has texts that aren't kept is understood by `Packet.token`.
-
-        >>> [text for text in ("cam_1", "cam-1", "cam.1") if Kind.MID.keeps(text)]
-        ['cam_1']
-        """
-        return len(text) <= _MOST.get(self, -1) and re.fullmatch("[A-Za-z0-9_]*", text) is not None
-
-
-# How many bytes a URI has at most.
-_LONGEST_URI = 73
-
-# How many characters of a text there may be.
-_MOST = {Kind.MID: 16, Kind.RID: 8, Kind.REPAIRED_RID: 8}
-
-
-def kind_number(kind: int, least: int) -> int:
-    """The number of a kind, from this one on. BadField where it is none."""
-    number = whole("a kind", kind)
-    if not (least <= number <= Kind.LAYERS or Kind.OWN <= number <= 255):
-        raise BadField(Status.BAD_FIELD, f"a kind is {number}, and not {least} to 15 or 128 to 255")
-    return number
-
+from ._errors import check, unsigned, within
+from ._kind import OWN_URIS, Kind, OwnUris, kind_number
 
 Entry = TypeVar("Entry", bound=int)
+
+
+def _id_of(key: object) -> int:
+    """The id that a key is; 0, which has no entry, where it is none."""
+    try:
+        id = index(key)  # type: ignore[arg-type]
+    except TypeError:
+        return 0
+    return id if 0 < id < 256 else 0
 
 
 class _Table(MutableMapping[int, Entry]):
@@ -103,7 +30,7 @@ class _Table(MutableMapping[int, Entry]):
 
     def __delitem__(self, id: int) -> None:
         self[id]  # raises KeyError where there is no entry
-        self._remove(id)
+        self._remove(_id_of(id))
 
     def _remove(self, id: int) -> None:
         raise NotImplementedError
@@ -124,17 +51,21 @@ class _Table(MutableMapping[int, Entry]):
 
 class Map(_Table[Kind]):
     """Which extension each id means, as the lines `a=extmap` of SDP say it (RFC 8285, 5): a mapping from ids, 1 to
-    255, to kinds.
+    255, to kinds. `del map[id]` takes an entry out: Kind.NONE is no entry.
 
     >>> Map({1: Kind.AUDIO_LEVEL})[1].name
     'AUDIO_LEVEL'
     """
 
-    __slots__ = ()
+    __slots__ = ("_own", "_unknown")
+    _own: OwnUris
+    _unknown: Dict[int, str]
 
     def __init__(self, kinds: Union[Mapping[int, Kind], Iterable[Tuple[int, Kind]]] = ()) -> None:
-        self._raw = _library.RawMap()
+        self._raw, self._own, self._unknown = _library.RawMap(), OWN_URIS, {}
         self.update(kinds)
+        if isinstance(kinds, Map):
+            self._own, self._unknown = kinds._own, dict(kinds._unknown)
 
     @classmethod
     def standard(cls) -> Map:
@@ -145,12 +76,64 @@ class Map(_Table[Kind]):
         return made
 
     @classmethod
-    def from_uris(cls, uris: Union[Mapping[int, str], Iterable[Tuple[int, str]]]) -> Map:
-        """The map of the URIs by their ids. An id whose URI is of no kind has no entry."""
-        return cls([(id, Kind.from_uri(uri)) for id, uri in dict(uris).items()])
+    def from_uris(
+        cls, uris: Union[Mapping[int, str], Iterable[Tuple[int, str]]], own: Optional[OwnUris] = None
+    ) -> Map:
+        """The map of the URIs by their ids. One that the library doesn't know gets a number of your own (`OwnUris`),
+        the same in all maps of the process or, where a table is given, in those of the table: so an extension that
+        both peers agreed on goes on from one to the other (`NewIds.between`). `unknown` tells these. Where the table
+        is full an id has no entry: that is a RuntimeWarning, and `left_out` tells which. BadField where an id isn't 1
+        to 255.
+
+        >>> uris = {1: "urn:ietf:params:rtp-hdrext:ssrc-audio-level", 2: "urn:x", 3: "urn:y"}
+        >>> sender, receiver = Map.from_uris(uris), Map.from_uris({8: "urn:y", 9: "urn:x"})
+        >>> NewIds.between(sender, receiver), sender.unknown
+        (NewIds({2: 9, 3: 8}), {2: 'urn:x', 3: 'urn:y'})
+        """
+        made = cls()
+        named = {within("an id", id, 1, 255): uri for id, uri in dict(uris).items()}
+        made._name(named, OWN_URIS if own is None else own)
+        return made
+
+    def _name(self, uris: Dict[int, str], own: OwnUris) -> None:
+        """Gives these ids the kinds of these URIs."""
+        if not isinstance(own, OwnUris):
+            raise TypeError(f"a table of URIs is {type(own).__name__}, and not OwnUris")
+        kinds = {id: Kind.from_uri(uri) for id, uri in uris.items()}
+        self._own = own
+        for id, kind in kinds.items():
+            kind = kind or own.kind_of(uris[id])
+            if kind:
+                self[id] = kind
+            if not kinds[id]:
+                self._unknown[id] = uris[id]
+        if self.left_out:
+            warn("all numbers for URIs that aren't known are given: ids have no entry (Map.left_out)", RuntimeWarning, 3)
+
+    @property
+    def uris(self) -> Dict[int, str]:
+        """The URI of each id, known or not, as an answer in SDP says it and `from_uris` takes it; a number of your own
+        that was set by hand has none.
+
+        >>> Map.from_uris({3: "urn:3gpp:video-orientation", 5: "urn:x"}).uris
+        {3: 'urn:3gpp:video-orientation', 5: 'urn:x'}
+        """
+        named = ((id, self._unknown.get(id) or kind.uri) for id, kind in self.items())
+        return {id: uri for id, uri in named if uri}
+
+    @property
+    def unknown(self) -> Dict[int, str]:
+        """By its id each URI of `from_uris` that the library doesn't know and that has a number: an extension whose
+        elements are yours to read and write, or a URI that is misspelled."""
+        return {id: uri for id, uri in self._unknown.items() if id in self}
+
+    @property
+    def left_out(self) -> Dict[int, str]:
+        """By its id each that has none, and so no entry, since all 128 were given: its elements go on to nobody."""
+        return {id: uri for id, uri in self._unknown.items() if id not in self}
 
     def __getitem__(self, id: int) -> Kind:
-        kind = _library.map_get(self._raw, id) if 0 < id < 256 else 0
+        kind = _library.map_get(self._raw, _id_of(id))
         if not kind:
             raise KeyError(id)
         return Kind(kind)
@@ -160,12 +143,29 @@ class Map(_Table[Kind]):
         return _library.id_of(self._raw, unsigned("a kind", kind, 8)) or None
 
     def __setitem__(self, id: int, kind: Kind) -> None:
-        """The id means the kind from now on, or nothing with Kind.NONE. BadField where the id isn't 1 to 255, or the
-        kind is one of 16 to 127."""
-        check(_library.map_set(self._raw, within("an id", id, 1, 255), kind_number(kind, 0)))
+        """The id means the kind from now on. BadField where the id isn't 1 to 255, or the kind is none: Kind.NONE,
+        which `Kind.from_uri` gives of a URI that it doesn't know, or one of 21 to 127."""
+        number = within("an id", id, 1, 255)
+        check(_library.map_set(self._raw, number, kind_number(kind)))
+        self._unknown.pop(number, None)
 
     def _remove(self, id: int) -> None:
-        self[id] = Kind.NONE
+        _library.map_remove(self._raw, id)
+        self._unknown.pop(id, None)
+
+    def __reduce__(self) -> Tuple[object, ...]:
+        """By the URIs, where there are some: in another process their numbers may be others."""
+        if not self._unknown:
+            return super().__reduce__()
+        by_number = {id: kind for id, kind in self.items() if id not in self._unknown}
+        return type(self)._stored, (by_number, dict(self._unknown), self._own)
+
+    @classmethod
+    def _stored(cls, kinds: Dict[int, Kind], unknown: Dict[int, str], own: OwnUris) -> Map:
+        """The map that was stored so."""
+        made = cls(kinds)
+        made._name(unknown, own)
+        return made
 
 
 def raw_map(map: Map) -> _library.RawMap:
@@ -189,11 +189,21 @@ class NewIds(_Table[int]):
     @classmethod
     def between(cls, sender: Map, receiver: Map) -> NewIds:
         """For each id of a kind in the sender's map, your own kinds too, its lowest id in the receiver's. An extension
-        whose URI has no kind goes on where both maps give it one kind of your own, or its new id is set by hand.
+        whose URI the library doesn't know goes on where both maps have a number for it, as `Map.from_uris` gives it,
+        of one table or of two.
         """
         made = cls()
         _library.new_ids_between(raw_map(sender), raw_map(receiver), made._raw)
+        if sender._own is not receiver._own:
+            made._compare(sender.unknown, receiver.unknown)
         return made
+
+    def _compare(self, sender: Dict[int, str], receiver: Dict[int, str]) -> None:
+        """Of ids whose numbers are of two tables, and so say nothing of each other, the URIs tell which go on."""
+        ids = {uri: id for id, uri in sorted(receiver.items(), reverse=True)}
+        for id, uri in sender.items():
+            if not self._raw.id[id] or self._raw.id[id] in receiver:
+                self._raw.id[id] = ids.get(uri, 0)
 
     @classmethod
     def to_retransmission(cls, map: Map) -> NewIds:
@@ -213,8 +223,9 @@ class NewIds(_Table[int]):
         return made
 
     def __getitem__(self, id: int) -> int:
-        new: int = self._raw.id[id] if 0 < id < 256 else 0
-        if not new:
+        number = _id_of(id)
+        new: int = self._raw.id[number]
+        if not number or not new:
             raise KeyError(id)
         return new
 

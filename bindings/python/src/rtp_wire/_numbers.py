@@ -1,8 +1,9 @@
-"""Elements that are numbers, as their standards have them: offsets, the levels of a mixer, and NTP times."""
+"""Elements that are numbers, as their standards have them: send times, offsets, the levels of a mixer, and NTP
+times."""
 
 from __future__ import annotations
 
-from ctypes import c_int8, c_int32, c_uint64
+from ctypes import c_int8, c_int32, c_uint32, c_uint64
 from typing import TYPE_CHECKING, Sequence
 
 from . import _library
@@ -12,6 +13,44 @@ from ._standard import read_data, written
 
 if TYPE_CHECKING:
     from ._buffers import Buffer
+
+
+# How many sources a packet has at most.
+MOST_SOURCES = 15
+
+
+def read_send_time(data: Buffer) -> int:
+    """The send time of Kind.ABS_SEND_TIME as it lies: 24 bits, in units of 2^-18 seconds, modulo 64 seconds. BadField
+    where there are not three bytes. `Values` have whole microseconds, and nearly all of the 2^24 times lose a unit
+    there: to send a time on as it came, or to reckon with it, take this one.
+
+    >>> read_send_time(bytes.fromhex("060000")) / 2**18
+    1.5
+    """
+    return read_data(_library.read_send_time, c_uint32(), data, "send time: it has 3").value
+
+
+def send_time_data(units: int) -> bytes:
+    """The three bytes of a send time in units of 2^-18 seconds. BadField where it has more than 24 bits.
+
+    >>> time = 1_000_000_000.75  # seconds, of any clock
+    >>> send_time_data(int(time * 2**18) % 2**24).hex()
+    '030000'
+    """
+    return written(_library.write_send_time, unsigned("units", units, 24))
+
+
+def extend_send_time(near: int, units: int) -> int:
+    """The time, in units of 2^-32 seconds, whose low 38 bits are these 24 and then 14 zeros, and that is nearest to
+    `near`, modulo 2^64; of two that are equally near the later one. Where `near` is the time at which the packet
+    arrived, of a clock that is less than 32 seconds off the sender's, it is the time at which that sent it. BadField
+    where `near` has more than 64 bits, or the units more than 24.
+
+    >>> arrived = 1_000_000_001 << 32  # a quarter of a second after it was sent
+    >>> extend_send_time(arrived, 0x030000) / 2**32
+    1000000000.75
+    """
+    return int(_library.extend_send_time(unsigned("near", near, 64), unsigned("units", units, 24)))
 
 
 def read_transmission_offset(data: Buffer) -> int:
@@ -37,8 +76,8 @@ def transmission_offset_data(ticks: int) -> bytes:
 
 def read_mixer_level(data: Buffer, csrc_count: int, index: int) -> int:
     """The audio level of the contributing source at this index of the `csrc_count` that the packet has
-    (urn:ietf:params:rtp-hdrext:csrc-audio-level, which has no kind; RFC 6465, 4), in decibels relative to the overload
-    point, -127 (silence) to 0. BadField where the packet doesn't have that source, or the data no byte for it.
+    (Kind.MIXER_LEVELS; RFC 6465, 4), in decibels relative to the overload point, -127 (silence) to 0. BadField where
+    the packet doesn't have that source, or the data no byte for it.
 
     >>> read_mixer_level(b"\\x7F\\x0A", csrc_count=2, index=1)
     -10
@@ -53,19 +92,20 @@ def read_mixer_level(data: Buffer, csrc_count: int, index: int) -> int:
 
 def mixer_levels_data(levels: Sequence[int]) -> bytes:
     """The levels of a packet's contributing sources, in their order, a byte for each (RFC 6465, 4). BadField where one
-    is none of -127 to 0.
+    is none of -127 to 0, or there are more than 15, which no packet has. Of none the data are empty, which the two-byte
+    form alone carries.
 
     >>> mixer_levels_data([-127, -10]).hex()
     '7f0a'
     """
     checked = [within("a level", level, -127, 0) for level in levels]
-    count = len(checked)
+    count = within("the number of levels", len(checked), 0, MOST_SOURCES)
     return written(_library.write_mixer_levels, (c_int8 * count)(*checked), count, most=count)
 
 
 def read_ntp_64(data: Buffer) -> int:
-    """An NTP timestamp of eight bytes (urn:ietf:params:rtp-hdrext:ntp-64, which has no kind; RFC 6051, 3.3), in units
-    of 2^-32 seconds since 1900. BadField where there are not eight bytes.
+    """An NTP timestamp of eight bytes (Kind.NTP_64; RFC 6051, 3.3), in units of 2^-32 seconds since 1900. BadField
+    where there are not eight bytes.
 
     >>> read_ntp_64(bytes.fromhex("00000001 80000000")) / 2**32
     1.5
@@ -79,8 +119,8 @@ def ntp_64_data(time: int) -> bytes:
 
 
 def read_ntp_56(data: Buffer) -> int:
-    """The low 56 bits of an NTP timestamp, in seven bytes (urn:ietf:params:rtp-hdrext:ntp-56, which has no kind; RFC
-    6051, 3.3): `extend_ntp_56` finds the others. BadField where there are not seven bytes."""
+    """The low 56 bits of an NTP timestamp, in seven bytes (Kind.NTP_56; RFC 6051, 3.3): `extend_ntp_56` finds the
+    others. BadField where there are not seven bytes."""
     return read_data(_library.read_ntp_56, c_uint64(), data, "NTP timestamp of 56 bits: it has 7").value
 
 

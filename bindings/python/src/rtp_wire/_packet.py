@@ -46,7 +46,8 @@ def is_rtcp(datagram: Buffer) -> bool:
 
 
 def elements(body: Buffer, form: int) -> Iterator[Element]:
-    """The elements of a block's body in order, up to one that is cut short, or in the one-byte form has the id 15.
+    """The elements of a block's body in order, up to one that is cut short, or in the one-byte form has the id 15. One
+    of the id 0 with length bits, behind which a receiver that follows RFC 8285, 4.2, reads nothing, is passed over.
     BadField where the form is none of the two."""
     view, raw = view_of(body), _library.RawElement()
     at, length, form = address_of(view), len(view), within("a form", form, 1, 2)
@@ -81,6 +82,10 @@ def put_fields(fields: _library.RawFields, *given: Optional[int]) -> None:
 
 class Packet:
     """A packet where it lies. `parse` looks at it once; no byte of it is copied.
+
+    >>> packet = Packet.parse(bytes.fromhex("A0600005 00000064 0000002C 6869 0002"))
+    >>> packet.ssrc, packet.unpadded_payload.hex(), packet.payload.hex()
+    (44, '6869', '68690002')
 
     The datagram is `bytes`, or another object with the buffer protocol, whose size then can't change while there is a
     packet of it. One that can be written, as a `bytearray`, is changed in place: by setting an attribute of the packet,
@@ -120,6 +125,10 @@ class Packet:
         if raw.has_layers and map is not None:
             self._values = values_of(raw.values)
             self._values.layers = read_layers(at, self._len, map)
+
+    def __reduce__(self) -> Tuple[object, ...]:
+        """Its datagram and map: what is stored is read again."""
+        return type(self).parse, (self._data, self._map)
 
     def __bytes__(self) -> bytes:
         """A copy of the whole packet."""
@@ -186,7 +195,8 @@ class Packet:
 
     @property
     def has_padding(self) -> bool:
-        """P. To set or clear it changes no other bit."""
+        """P: the payload ends with padding, which its last byte counts. To set or clear it changes no other bit:
+        `remove_padding` clears it and tells where the packet then ends, and `pad` writes padding."""
         return self._raw.has_padding != 0
 
     @has_padding.setter
@@ -239,12 +249,14 @@ class Packet:
 
     @property
     def header_bytes(self) -> memoryview:
-        """The header where it lies: a packet without a payload."""
+        """The header where it lies: a packet without a payload. P of it is the packet's: `payload` belongs behind it,
+        with the padding."""
         return self._view()[: self._raw.payload_at]
 
     @property
     def payload(self) -> memoryview:
-        """The payload where it lies, with any padding."""
+        """The payload where it lies, with any padding: what is passed on. `unpadded_payload` is what is heard and
+        seen."""
         return self._view()[self._raw.payload_at :]
 
     @property

@@ -4,14 +4,19 @@ from __future__ import annotations
 
 from ctypes import c_uint64
 from enum import IntEnum
-from typing import Any, NamedTuple, Optional, Tuple
+from typing import Any, Iterable, NamedTuple, Optional, Tuple
 
 from . import _library
-from ._errors import Status, check, unsigned, within
-
+from ._errors import Status, check, stored, unsigned, within
 
 MOST_WORDS = 512
 MAX_DROPOUT = 3000
+
+
+def _window(words: Iterable[int]) -> Any:
+    """The words of a window that was stored. BadField where they are none."""
+    listed = list(words)
+    return (c_uint64 * within("words", len(listed), 1, MOST_WORDS))(*stored(listed, *[64] * len(listed)))
 
 
 class _State:
@@ -112,7 +117,8 @@ class Receiver(_State):
         return raw.highest, raw.recorded_low, raw.recorded_high, raw.started != 0
 
     def __setstate__(self, state: Tuple[int, int, int, bool]) -> None:
-        self._raw = _library.RawReceiver(*state)
+        """BadField where what was stored is no state."""
+        self._raw = _library.RawReceiver(*stored(state, 64, 64, 64, 1))
 
 
 class WideReceiver(_State):
@@ -165,9 +171,9 @@ class WideReceiver(_State):
         return self._raw.highest, self._raw.started != 0, tuple(self._words)
 
     def __setstate__(self, state: Tuple[int, bool, Tuple[int, ...]]) -> None:
-        highest, started, words = state
-        self._raw = _library.RawWideReceiver(highest, started)
-        self._words = (c_uint64 * len(words))(*words)
+        """BadField where what was stored is no state."""
+        *numbers, words = state
+        self._raw, self._words = _library.RawWideReceiver(*stored(numbers, 64, 1)), _window(words)
 
 
 class Taken(NamedTuple):
@@ -183,6 +189,20 @@ class RestartingReceiver(_State):
     """The receive state of one stream that isn't authenticated and whose sender may start again under the same SSRC
     (RFC 3550, appendix A.1), with a window of 64 numbers for each of 1 to 512 words. Not for SRTP: there a packet that
     isn't authentic must change nothing.
+
+    The first packet of an epoch is taken: a loop that drops what is None keeps it.
+
+    >>> receiver = RestartingReceiver()
+    >>> for low in (7, 7, 30000, 30001):
+    ...     taken = receiver.receive(low)
+    ...     if taken is None:
+    ...         continue
+    ...     if taken.restarted:
+    ...         print("begin anew")
+    ...     print(taken.number)
+    65543
+    begin anew
+    226609
 
     A packet is of the stream where its number is less than max_dropout above the highest one taken, or less than
     max_misorder below it: it is judged by the window, as by `WideReceiver`. Any other is outside of the stream, and is
@@ -243,7 +263,8 @@ class RestartingReceiver(_State):
         """How many packets outside of the stream came last in a row, each with the number after that of the one before,
         up to 255, and 0 where the last packet was of the stream or taken. So it tells why `receive` returned None just
         now: where it is 0 the packet is of the stream, and a replay or too old (`standing_of`), and counts in
-        `ReceptionStatistics`; else the packet is far from the stream, and remembered as what may lead up to a new epoch.
+        `ReceptionStatistics`; else the packet is far from the stream, and remembered as what may lead up to a new
+        epoch.
 
         >>> receiver = RestartingReceiver()
         >>> for low in (60000, 60000, 58000, 7, 8):
@@ -284,9 +305,10 @@ class RestartingReceiver(_State):
         return (raw.highest, tuple(self._words), raw.max_dropout, raw.max_misorder, *row, raw.started != 0)
 
     def __setstate__(self, state: Tuple[int, Tuple[int, ...], int, int, int, int, int, bool]) -> None:
+        """BadField where what was stored is no state."""
         highest, words, *others = state
-        self._raw = _library.RawRestartingReceiver(highest, *others)
-        self._words = (c_uint64 * len(words))(*words)
+        numbers = stored([highest, *others], 64, 16, 16, 16, 8, 8, 1)
+        self._raw, self._words = _library.RawRestartingReceiver(*numbers), _window(words)
 
 
 def extend_u8(previous: int, number: int) -> int:

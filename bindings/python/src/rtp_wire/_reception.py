@@ -5,7 +5,7 @@ from __future__ import annotations
 from typing import NamedTuple, Optional, Tuple
 
 from . import _library
-from ._errors import Status, unsigned, within
+from ._errors import Status, stored, unsigned, within
 from ._standard import written
 
 
@@ -107,4 +107,5 @@ class ReceptionStatistics:
         return self._state()
 
     def __setstate__(self, state: Tuple[int, ...]) -> None:
-        self._raw = _library.RawReception(*state)
+        """BadField where what was stored is no state."""
+        self._raw = _library.RawReception(*stored(state, 64, 64, 64, 64, 64, 64, 32))

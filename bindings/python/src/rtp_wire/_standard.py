@@ -2,7 +2,8 @@
 str0m, or none.
 
 What is read is what `Packet.element` lends, and what is written is for `put_element`, `Packet.set_element` and
-`write_elements`. An extension without a kind here gets one of your own in the map.
+`write_elements`. The id of each is that of its kind in the map, but for RFC 9626's frame marking, whose URI has a
+number of your own (`OwnUris`).
 """
 
 from __future__ import annotations
@@ -47,7 +48,8 @@ class FrameLayers:
     """Where a frame is among the layers of its stream (RFC 9626, 3.1)."""
 
     base_layer_sync: bool
-    """Whether the frame depends on the base temporal layer alone."""
+    """Whether the frame depends on the base temporal layer alone; by RFC 9626 not where it is of that, which isn't
+    looked at: it is read as it lies, and written as it is given."""
     temporal_id: int
     """The temporal layer, 0 to 7; 0 is the base layer."""
     layer_id: int
@@ -59,7 +61,8 @@ class FrameLayers:
 @dataclass(frozen=True)
 class FrameMarking:
     """What a packet is to its frame, and the frame to its stream (RFC 9626, 3): one byte for a stream without layers,
-    and two or three for one with. `Values` have str0m's number of four bytes, which is none.
+    and two or three for one with. `Values` have str0m's number of four bytes, which is none. The RFC's URI is
+    urn:ietf:params:rtp-hdrext:framemarking, which has a number of your own (`OwnUris`).
 
     >>> marking = FrameMarking.from_data(bytes.fromhex("A90207"))
     >>> marking.start, marking.end, marking.independent, marking.discardable
@@ -132,7 +135,7 @@ class Orientation:
     camera: Camera
     """Which way the camera faces."""
     flip: bool
-    """Whether the picture is mirrored, left for right."""
+    """Whether the picture is mirrored, left for right, as it is sent, before the receiver turns it."""
     turn: int
     """How the receiver has to turn the picture, in degrees counter-clockwise: 0, 90, 180 or 270."""
 
@@ -162,7 +165,8 @@ def token_of(data: Buffer) -> Optional[str]:
 
 def read_token(data: Buffer) -> str:
     """The text of a mid or of a stream id as it lies, to be compared with the SDP's: a token of 1 to 255 characters
-    (RFC 8866, 9; RFC 5888, 4; RFC 8852, 3). BadField where the data are none. The data of a text are `text.encode()`.
+    (RFC 8866, 9), as a mid is (RFC 5888, 4). A stream id that is sent has to be less: `is_stream_id`. BadField where
+    the data are none. The data of a text are `text.encode()`.
 
     >>> read_token(b"cam-1")
     'cam-1'
@@ -171,6 +175,20 @@ def read_token(data: Buffer) -> str:
     if token is None:
         raise BadField(Status.BAD_FIELD, "the data are no token")
     return token
+
+
+def is_stream_id(text: str) -> bool:
+    """Whether a text is 1 to 255 letters and digits of ASCII, as a stream id and a repaired one have to be where they
+    are sent (RFC 8852, 3). In SDP `a=rid` also allows - and _ (RFC 8851, 10): a stream whose id has one can't be told
+    by it, so choose one without.
+
+    >>> is_stream_id("hi1"), is_stream_id("hi-1"), is_stream_id("hi_1")
+    (True, False, False)
+    """
+    if not isinstance(text, str):
+        raise TypeError(f"a stream id is {type(text).__name__}, and not str")
+    data = str.encode(text, "utf-8", "replace")  # of a character that has no bytes, ?
+    return bool(_library.is_stream_id(data, len(data)))
 
 
 @dataclass(frozen=True)
@@ -196,7 +214,8 @@ class Timing:
     network2: int
     """Another such time."""
     flags: Optional[int]
-    """Why the times were sent: bit 0 a timer, bit 1 a large frame. None in the older form, which has no flags."""
+    """Why the times were sent: bit 0 a timer, bit 1 a large frame; of 255, which libwebrtc has for times that aren't
+    valid, the times mean nothing. None in the older form, which has no flags."""
 
     @classmethod
     def from_data(cls, data: Buffer) -> Timing:
@@ -226,14 +245,13 @@ class FeedbackRequest:
     timestamps: bool
     """Whether the feedback is to have the times at which the packets arrived."""
     packets: int
-    """For how many packets the feedback is to be, 1 to 32,767, of which this one is the last."""
+    """For how many packets the feedback is to be, 0 to 32,767, of which this one is the last; 0 asks for none."""
 
 
 @dataclass(frozen=True)
 class TransportNumber:
-    """The packet's number on its transport, and what feedback it asks for
-    (http://www.webrtc.org/experiments/rtp-hdrext/transport-wide-cc-02, which has no kind): two bytes, or four with a
-    request. `Values` have the number alone, of the older URI, where feedback is on all packets.
+    """The packet's number on its transport, and what feedback it asks for (Kind.TRANSPORT_NUMBER_2): two bytes, or four
+    with a request. `Values` have the number alone, of the older URI, where feedback is on all packets.
 
     >>> TransportNumber.from_data(bytes.fromhex("1234 8005"))
     TransportNumber(number=4660, request=FeedbackRequest(timestamps=True, packets=5))
@@ -248,7 +266,8 @@ class TransportNumber:
 
     @classmethod
     def from_data(cls, data: Buffer) -> TransportNumber:
-        """Reads a number; a request for 0 packets is none. BadField where there are neither two nor four bytes."""
+        """Reads a number, and a request where there are four bytes. BadField where there are neither two nor four
+        bytes."""
         raw = _library.RawTransportNumber()
         read_data(_library.read_transport_number, raw, data, "transport number: it has 2 or 4")
         return cls(raw.number, FeedbackRequest(raw.timestamps != 0, raw.packets) if raw.has_request else None)
@@ -259,15 +278,15 @@ class TransportNumber:
         raw.number = unsigned("number", self.number, 16)
         if self.request is not None:
             raw.has_request = 1
-            raw.packets = within("packets", self.request.packets, 1, (1 << 15) - 1)
+            raw.packets = unsigned("packets", self.request.packets, 15)
             raw.timestamps = unsigned("timestamps", self.request.timestamps, 1)
         return written(_library.write_transport_number, raw)
 
 
 @dataclass(frozen=True)
 class DependencyDescriptor:
-    """The fields of a dependency descriptor that each packet has (AV1's RTP payload format, A.8; it has no kind): its
-    first three bytes. What follows them needs the structure that the sender sent before: hand it on as it is.
+    """The fields of a dependency descriptor that each packet has (Kind.DEPENDENCY_DESCRIPTOR; AV1's RTP payload format,
+    A.8): its first three bytes. What follows them needs the structure that the sender sent before: hand it on as it is.
 
     >>> DependencyDescriptor.from_data(bytes.fromhex("83 0102"))
     DependencyDescriptor(start_of_frame=True, end_of_frame=False, template_id=3, frame_number=258)

@@ -7,14 +7,18 @@ from typing import TYPE_CHECKING, Any, Dict, Iterable, List, MutableMapping, Opt
 
 from . import _library
 from ._buffers import place_of
-from ._columns import FIELDS, NUMBERS, TEXTS, has_at, no_column, places_of, read
 from ._judges import Judges
+from ._many import FIELDS, NUMBERS, TEXTS, has_at, no_column, places_of, read
 from ._map import Map
 from ._receiver import Receiver
 
 if TYPE_CHECKING:
     from ._buffers import Buffer
-    from ._columns import Places
+    from ._many import Places
+
+# The fields that only a packet has, and those that are masks.
+OF_A_PACKET = [name for name in FIELDS if name not in ("status", "is_rtcp")]
+FLAGS = ("is_rtcp", "is_rtp", "marker", "padding_fits", "voice_activity")
 
 
 def structured_array(
@@ -27,27 +31,31 @@ def structured_array(
     rollover_count: int = 1,
 ) -> Any:
     """What many datagrams of one buffer are, as a structured array of numpy with a row for each, where numpy is there;
-    else it is an ImportError. What is given, the fields and the values that are asked for are those of `Columns.parse`,
-    by the same names; `is_rtp` is one too. The rows are written where they lie, and nothing is copied.
+    else it is an ImportError. What is given, the fields and the values that are asked for are those of
+    `Columns.parse`, by the same names. The field `is_rtp` is a mask: `table[table["is_rtp"]]` are the packets of RTP.
+    So are `is_rtcp`, `marker`, `padding_fits` and `voice_activity`. The rows are written where they lie, and nothing is
+    copied.
 
-    It is a numpy.ma.MaskedArray, in which a value that isn't there is masked, and 0: `table["audio_level"].mean()` is of
-    those that are there, `table.data` is without masks, and `table[table["ssrc"] == 7]` are the packets of a source.
+    It is a numpy.ma.MaskedArray, in which what isn't there is masked, and 0: a value that the packet hasn't, and each
+    value and field of a packet where the row is RTCP or no packet. So `table["audio_level"].mean()` is of those that are
+    there, `table[table["ssrc"] == 7]` are the packets of a source, and `table.data` is without masks.
 
     With receivers each packet is judged as by `Columns.receive`, and there are the fields `number`, masked where the
-    packet isn't taken, and `verdict`, a `Verdict` as a number."""
+    packet isn't taken, and `verdict`, a `Verdict` as a number. The numbers have a sign, so that of those of a source
+    `numpy.diff` is -2 where one comes two late: one from 2^63 on is told less 2^64."""
     numpy: Any = import_module("numpy")
     data = place_of(buffer)[0]
     begins, sizes = places_of(at, lengths)
     listed = list(dict.fromkeys(values))
     formats: Dict[str, str] = {name: code for name, (code, _) in FIELDS.items()}
-    formats.update({"is_rtp": "B"} if receivers is None else {"is_rtp": "B", "number": "Q", "verdict": "B"})
+    formats.update({"is_rtp": "B"} if receivers is None else {"is_rtp": "B", "number": "q", "verdict": "B"})
     formats.update((name, _format_of(name)) for name in listed)
+    formats.update((name, "?") for name in FLAGS if name in formats)
     rows = _Rows(numpy, list(formats.items()), len(begins))
     fields = [rows.column(name, offset) for name, (_, offset) in FIELDS.items()]
     of_values = [it for name in listed for it in rows.value(name)]
     read(data, begins, sizes, map, fields, of_values, rows.column("is_rtp"))
-    for name in listed:
-        rows.turn(name)
+    rows.mask(listed)
     if receivers is not None:
         rows.judge(receivers, rollover_count)
     return numpy.ma.MaskedArray(rows.rows, rows.masks)
@@ -81,15 +89,19 @@ class _Rows:
         offset, has = NUMBERS[name][1:] if name in NUMBERS else TEXTS[name][::2]
         return [self.column(name, offset), self.column(name, has_at(has), masks=True)]
 
-    def turn(self, name: str) -> None:
-        """Masks those of a value that aren't there, and no other."""
-        self.numpy.logical_not(self.masks[name], out=self.masks[name])
+    def mask(self, values: List[str]) -> None:
+        """Masks the fields and these values where the row is no packet of RTP, and the values where the packet hasn't
+        them: so far their masks are set where it has."""
+        missing = ~self.rows["is_rtp"]
+        for name in (*OF_A_PACKET, *values):
+            self.rows[name][missing] = self.numpy.zeros((), self.rows.dtype[name])
+            self.masks[name] = missing | ~self.masks[name] if name in values else missing
 
     def judge(self, receivers: MutableMapping[int, Receiver], rollover_count: int) -> None:
         """Has the packets judged by the receivers of their sources."""
         numpy, rows = self.numpy, self.rows
         sources, places = numpy.unique(rows["ssrc"], return_inverse=True)
-        heard = numpy.unique(rows["ssrc"][rows["is_rtp"] != 0]).tolist()
+        heard = numpy.unique(rows["ssrc"][rows["is_rtp"]]).tolist()
         judges = Judges(receivers, rollover_count, heard)
         of_sources = [judges.index_of[ssrc] for ssrc in sources.tolist()]
         indices = numpy.array(of_sources, "Q")[places]

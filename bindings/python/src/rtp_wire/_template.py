@@ -2,11 +2,10 @@
 
 from __future__ import annotations
 
-from itertools import accumulate
 from typing import TYPE_CHECKING, Iterable, List, NamedTuple, Optional, Tuple, Union
 
 from . import _library
-from ._buffers import address_of, place_of, view_of, writable_view_of
+from ._buffers import address_of, copy_of, place_of, view_of, writable_view_of
 from ._errors import BadField, RtpError, Status, check, checked, element_id, error_of, unsigned, within
 from ._growing import allowed_forms
 from ._map import NewIds, raw_new_ids
@@ -36,11 +35,15 @@ class Route(NamedTuple):
     these were its own, P is clear, and the header ends with the number in two bytes. The payload follows without its
     padding, which isn't looked at here. That is what `to_retransmission` makes of what the receiver got, where each id
     stays."""
+    clears_padding: bool = False
+    """Whether P is clear, as it always is for a retransmission: where the payload is sent without its padding. Where P
+    stays set the receiver takes the last bytes of what is sent for padding."""
 
 
 class HeaderTemplate:
     """A packet's header for receivers that have the same ids and elements: each gets a copy with fields and data of its
-    own before the one payload, which stays where it lies (`socket.sendmsg`; RFC 7667, 3.7). It is what
+    own before the one payload, which stays where it lies (`socket.sendmsg`; RFC 7667, 3.7): `Packet.payload`, with its
+    padding, or with `clears_padding` of the route `Packet.unpadded_payload`. The header is what
     `Packet.set_fields`, `Packet.renumber`, `put_element` for each element and `compact` make of a copy of the packet's
     header, one after another, with `change_form` before `renumber` where a new id is above 14 and the two-byte form is
     allowed. The template has bytes of its own: the packet may change. Two with the same header and places of the data
@@ -68,13 +71,14 @@ class HeaderTemplate:
         elements: Iterable[Tuple[int, Buffer]] = (),
         allowed: Optional[Form] = None,
     ) -> None:
-        """Makes the header that the packet gets: each of its elements gets its new id, and one that gets none goes; then
-        these, pairs of an id and its data, are put into it in their order, at most 16 of ids of their own, in the forms
-        that are allowed, as in `put_element`. An id above 14 asks for the two-byte form. Its header alone is enough.
+        """Makes the header that the packet gets: each of its elements gets its new id, and one that gets none goes;
+        then these, pairs of an id and its data, are put into it in their order, at most 16 of ids of their own, in the
+        forms that are allowed, as in `put_element`. An id above 14 asks for the two-byte form. Its header alone is
+        enough.
 
         BadField where there are more elements, two have one id, or one has more than 255 bytes of data; BadId where an
-        id isn't 1 to 255; LongId where the one-byte form alone is allowed, and an element of a block of that form gets a
-        new id above 14, or one that is put has such an id; NotAPacket; OtherForm; FormNotAllowed; LongBlock."""
+        id isn't 1 to 255; LongId where the one-byte form alone is allowed, and an element of a block of that form gets
+        a new id above 14, or one that is put has such an id; NotAPacket; OtherForm; FormNotAllowed; LongBlock."""
         data, places = _gather(elements)
         forms, new_ids = allowed_forms(allowed), raw_new_ids(ids)
         packet, at = place_of(datagram)
@@ -113,78 +117,58 @@ class HeaderTemplate:
 
     def write(self, routes: Iterable[Route]) -> List[Union[bytes, RtpError]]:
         """The header of each receiver, in one call of the library for all; in its place the exception where a receiver
-        can't be served, and all others are as without it: BadField where its data aren't `data_len` bytes, or a field is
-        out of its range. TypeError where one is no `Route`, or has a value of another type.
+        can't be served, and all others are as without it: BadField where its data aren't `data_len` bytes, or a field
+        is out of its range. TypeError where one is no `Route`, or has a value of another type.
 
         >>> template = HeaderTemplate(bytes.fromhex("A0600005 00000064 0000002C 6869 0002"), NewIds())
-        >>> routes = [Route(), Route(payload_type=97, sequence_number=9, ssrc=45, original_number=5)]
-        >>> [header.hex(" ", -4) for header in template.write(routes)]
-        ['a0600005 00000064 0000002c', '80610009 00000064 0000002d 0005']
+        >>> again = Route(payload_type=97, sequence_number=9, ssrc=45, original_number=5)
+        >>> [header.hex(" ", -4) for header in template.write([Route(), Route(clears_padding=True), again])]
+        ['a0600005 00000064 0000002c', '80600005 00000064 0000002c', '80610009 00000064 0000002d 0005']
         """
         listed = _listed(routes)
-        lens = self._lens(listed)
-        written = self._write(listed, lens, accumulate(lens, initial=0), memoryview(bytearray(sum(lens))))
-        return [it if isinstance(it, RtpError) else bytes(it) for it in written]
+        room = memoryview(bytearray((len(self._header) + 2) * len(listed)))
+        return [it if isinstance(it, RtpError) else bytes(it) for it in self._write(listed, room)]
 
-    def write_into(
-        self, buffer: WritableBuffer, routes: Iterable[Route], at: Optional[Iterable[int]] = None
-    ) -> List[Union[memoryview, RtpError]]:
-        """The same in a buffer: the header of each receiver where it lies. They begin at these places, in bytes, or
-        without any in a row from the first byte on, each where the one before ends; where two overlap the bytes of the
-        later one stand. BadField where there are more places than receivers or fewer, and else for one alone, as
-        ShortBuffer where a header would reach past the buffer: nothing is written of that one. The data of receivers
-        may lie in the buffer.
+    def write_into(self, buffer: WritableBuffer, routes: Iterable[Route]) -> List[Union[memoryview, RtpError]]:
+        """The same in a buffer: the header of each receiver where it lies, one after another from the first byte on.
+        One that is refused takes no bytes; there is one more cause, ShortBuffer, where a header would reach past the
+        buffer, which `header_len` and 2 more for each is room enough for. The data of receivers may lie in the buffer.
 
         >>> template = HeaderTemplate(bytes.fromhex("80600005 00000064 0000002C"), NewIds())
         >>> buffer = bytearray(20)
-        >>> first, second = template.write_into(buffer, [Route(ssrc=45), Route(ssrc=46)], at=[8, 9])
+        >>> first, second = template.write_into(buffer, [Route(ssrc=45), Route(ssrc=46)])
         >>> buffer.hex(" ", -4), len(first), second
-        ('00000000 00000000 80600005 00000064 0000002d', 12, ShortBuffer('a buffer is too short'))
+        ('80600005 00000064 0000002d 00000000 00000000', 12, ShortBuffer('a buffer is too short'))
         """
-        listed = _listed(routes)
-        lens = self._lens(listed)
-        places: Iterable[int] = accumulate(lens, initial=0)
-        if at is not None:
-            places = list(at)
-            if len(places) != len(listed):
-                told = f"there are {len(places)} places and {len(listed)} receivers"
-                raise BadField(Status.BAD_FIELD, told)
-        return self._write(listed, lens, places, writable_view_of(buffer))
+        return self._write(_listed(routes), writable_view_of(buffer))
 
-    def _lens(self, routes: List[Route]) -> List[int]:
-        """How many bytes the header of each has."""
-        plain = len(self._header)
-        return [plain if it.original_number is None else plain + 2 for it in routes]
-
-    def _write(
-        self, routes: List[Route], lens: List[int], places: Iterable[int], room: memoryview
-    ) -> List[Union[memoryview, RtpError]]:
-        """Writes the headers, which are so long, at these places, and lends each, or says why it isn't written."""
+    def _write(self, routes: List[Route], room: memoryview) -> List[Union[memoryview, RtpError]]:
+        """Writes the headers, and lends each, or says why it isn't written."""
         receivers = (_library.RawRoutedHeader * len(routes))()
         data, causes = bytearray(), {}
-        for row, (route, place) in enumerate(zip(routes, places)):
+        for row, route in enumerate(routes):
             receiver = receivers[row]
             receiver.data_at = len(data)
             try:
-                receiver.at = unsigned("a place", place, 64)
                 data += self._own(receiver, route)
             except RtpError as error:
                 causes[row] = error
                 receiver.data_at = _NOWHERE
         self._call(bytes(data), receivers, room)
         return [
-            causes.get(row) or (error_of(it.status) if it.status else room[it.at : it.at + lens[row]])
+            causes.get(row) or (error_of(it.status) if it.status else room[it.at : it.at + it.len])
             for row, it in enumerate(receivers)
         ]
 
     def _own(self, receiver: _library.RawRoutedHeader, route: Route) -> memoryview:
         """The data of a receiver, whose fields and original number are put."""
-        data, *fields, original_number = route
+        data, *fields, original_number, clears_padding = route
         view = view_of(data)
         if len(view) != self._raw.data_total:
             told = f"the length of data is {len(view)}, and not {self._raw.data_total}"
             raise BadField(Status.BAD_FIELD, told)
         put_fields(receiver.fields, *fields)
+        receiver.clears_padding = unsigned("clears_padding", clears_padding, 1)
         if original_number is not None:
             receiver.original_number = unsigned("original_number", original_number, 16)
             receiver.is_retransmission = 1
@@ -222,7 +206,7 @@ class HeaderTemplate:
     def __setstate__(self, state: Tuple[bytes, bytes]) -> None:
         """BadField where what was stored is no template."""
         header, raw = state
-        self._header, self._raw = bytes(header), _library.RawTemplate.from_buffer_copy(raw)
+        self._header, self._raw = copy_of(header), _library.RawTemplate.from_buffer_copy(raw)
         self._call(b"", (_library.RawRoutedHeader * 0)(), memoryview(b""))
 
 

@@ -12,8 +12,9 @@ from typing import TYPE_CHECKING, Any, Callable, Dict, NamedTuple, Optional, Tup
 from . import _library
 from ._buffers import address_of, place_of
 from ._errors import BadField, Status, check, unsigned, whole, within
+from ._kind import Kind, kind_number
 from ._layers import Layers
-from ._map import Kind, Map, kind_number, raw_map
+from ._map import Map, raw_map
 
 if TYPE_CHECKING:
     from ._buffers import Buffer
@@ -53,15 +54,17 @@ class Values:
     underscore, and what is longer is cut: "cam-1", "cam_1" and "cam.1" are one. `Packet.token` has the text as it lies,
     for a mid that the peer chose."""
     rid: Optional[str] = None
-    """The stream, up to 8 of them (RFC 8852), changed and cut as the mid is: `Packet.token`."""
+    """The stream (RFC 8852), up to 8 of them, where the RFC has up to 255, changed and cut as the mid is:
+    `Packet.token`, and `is_stream_id` for what is sent."""
     repaired_rid: Optional[str] = None
-    """The stream that this one repairs, up to 8 of them (RFC 8852), changed and cut as the mid is: `Packet.token`."""
+    """The stream that this one repairs, the same."""
     audio_level: Optional[int] = None
     """Decibels relative to the overload point, -127 to 0. It is written together with the voice activity, or not."""
     voice_activity: Optional[bool] = None
     """Whether the audio has voice."""
     send_time: Optional[int] = None
-    """When the packet left its sender, in microseconds: as read modulo 64 seconds."""
+    """When the packet left its sender, in whole microseconds: as read modulo 64 seconds. Nearly all of the 2^24 times
+    lose a unit where they are read and written: `read_send_time` is exact."""
     transport_number: Optional[int] = None
     """The packet's number over all streams of the transport, 16 bits, without the request for feedback of
     transport-wide-cc-02: `TransportNumber`."""
@@ -102,12 +105,13 @@ class Values:
     def data_of(self, kind: Kind) -> bytes:
         """The data that an element of the kind has for these values, as `Header.write` writes them: so
         `packet.set_element(id, values.data_of(kind))` sets one value where it lies. NoElement where a value that the
-        kind needs isn't there, and always for Kind.COLOR_SPACE (`ColorSpace`), Kind.LAYERS and your own kinds. BadField
-        for Kind.NONE, and where a value, of this kind or not, is out of its range."""
+        kind needs isn't there, and always for Kind.COLOR_SPACE (`ColorSpace`), Kind.LAYERS, those from
+        Kind.MIXER_LEVELS to Kind.NTP_56 and your own kinds. BadField for Kind.NONE, and where a value, of this kind or
+        not, is out of its range."""
         raw, data, length = _library.RawValues(), bytearray(MOST_DATA), c_size_t()
         put_values(raw, self)
         view = memoryview(data)
-        check(_library.data_of(kind_number(kind, 1), raw, address_of(view), len(data), length))
+        check(_library.data_of(kind_number(kind), raw, address_of(view), len(data), length))
         return bytes(view[: length.value])
 
     def __repr__(self) -> str:
@@ -159,7 +163,7 @@ def values_of(raw: Raw) -> Values:
 def _text(name: str, text: str, most: int) -> bytes:
     if not isinstance(text, str):
         raise TypeError(f"{name} is {type(text).__name__}, and not str")
-    data = text.encode("ascii", "replace")
+    data = str.encode(text, "ascii", "replace")
     if len(data) > most or re.fullmatch(b"[A-Za-z0-9_]*", data) is None:
         raise BadField(
             Status.BAD_FIELD, f"{name} is {text!r}, and not up to {most} letters, digits and underscores"
