@@ -7,6 +7,7 @@
 //! each call below.
 #![allow(unsafe_code)]
 
+use crate::assembly::in_the_text;
 use crate::receiver::Receiver;
 use crate::reception::ReceptionReport;
 use crate::views::{
@@ -41,15 +42,27 @@ pub const KIND_OWN: u8 = 128;
 pub const CAMERA_FRONT: u8 = 0;
 pub const CAMERA_BACK: u8 = 1;
 
+/// Declares functions of the library under their names in its text.
+macro_rules! of_the_text {
+    ($(pub fn $name:ident($($argument:ident: $kind:ty),* $(,)?) $(-> $result:ty)?;)*) => {
+        extern "C" {
+            $(
+                #[link_name = in_the_text!($name)]
+                pub fn $name($($argument: $kind),*) $(-> $result)?;
+            )*
+        }
+    };
+}
+
 mod c {
     use super::{
-        ArrivalSlot, ColorSpaceView, DependencyDescriptorView, FieldsView, FrameMarkingView,
+        in_the_text, ArrivalSlot, ColorSpaceView, DependencyDescriptorView, FieldsView, FrameMarkingView,
         HeaderSlot, HeaderView, Layers, OrientationView, PacketParts, PacketSlot, Place,
         ReceiverState, ReceptionReport, ReceptionState, RestartingState, RoutedSlot, StoredMap,
         StoredNewIds, TemplateParts, TimingView, TransportNumberView, ValuesView, WideState,
     };
 
-    extern "C" {
+    of_the_text! {
         pub fn rtpw_is_rtcp(datagram: *const u8, len: usize) -> bool;
         pub fn rtpw_packet_parse(datagram: *const u8, len: usize, packet: *mut PacketParts) -> i32;
         pub fn rtpw_set_marker(datagram: *mut u8, len: usize, marker: bool) -> i32;
