@@ -182,7 +182,7 @@ if [ -e "$folder/receive" ]; then
 fi
 if [ -e "$folder/receive_rust" ]; then
     # 65,536 and 5: the first packet has the rollover count 1. The third one is no packet.
-    printf '%s\n' '65541: Some(-10) dB, [1, 2]' 'no RTP packet' >"$scratch/expected"
+    printf '%s\n' '65541: Some(-10) dB, [1, 2]' 'fewer than twelve bytes' >"$scratch/expected"
     "$folder/receive_rust" | diff "$scratch/expected" - >&2 || fail receive_rust
 fi
 

@@ -8,8 +8,8 @@ use std::iter::FusedIterator;
 
 use guarded::at_end;
 use rtp_wire::{
-    Fields, Form, Group, HeaderTemplate, NewIds, NotPut, NotRouted, NotWritten, Packet, Place,
-    RoutedSlot,
+    Fields, Form, Group, HeaderTemplate, NewIds, NotPut, NotRouted, NotWritten, Packet, PacketMut,
+    Place, RoutedSlot,
 };
 
 /// 96, 5, 100, 44 and what follows them: the element 1 (AA), and two bytes of padding. The payload is no part of it.
@@ -85,32 +85,30 @@ fn two_receivers() {
         marker: Some(true),
         ..NO_FIELDS
     };
-    let mut slots = [
-        RoutedSlot::new(&first, 0, 25),
-        RoutedSlot::new(&second, 2, 0),
-    ];
+    let mut slots = [RoutedSlot::new(&first, 0), RoutedSlot::new(&second, 2)];
     let mut buf = [0xEE; 50];
     let mut wanted = [0xEE; 50];
-    wanted[25..49].copy_from_slice(&header);
-    (wanted[28], wanted[36]) = (9, 45);
     wanted[..24].copy_from_slice(&header);
-    wanted[1..8].copy_from_slice(&[0xE1, 0, 5, 1, 2, 3, 4]);
-    wanted[20] = 8;
+    (wanted[3], wanted[11]) = (9, 45);
+    wanted[24..48].copy_from_slice(&header);
+    wanted[25..32].copy_from_slice(&[0xE1, 0, 5, 1, 2, 3, 4]);
+    wanted[44] = 8;
     let headers = template.write_headers(&NUMBERS, &mut slots, &mut buf);
-    assert!(headers.eq([Ok(&wanted[25..49]), Ok(&wanted[..24])]));
+    assert!(headers.eq([Ok(&wanted[..24]), Ok(&wanted[24..48])]));
     assert_eq!(buf, wanted);
+    assert_eq!(slots.map(|it| it.range()), [Ok(0..24), Ok(24..48)]);
     // alone
     let mut buf = [0xEE; 25];
     assert_eq!(
         template.write_header(&first, &NUMBERS[..2], &mut buf),
         Ok(24)
     );
-    assert_eq!((&buf[..24], buf[24]), (&wanted[25..49], 0xEE));
+    assert_eq!((&buf[..24], buf[24]), (&wanted[..24], 0xEE));
     assert_eq!(
         template.write_header(&second, &NUMBERS[2..], &mut buf),
         Ok(24)
     );
-    assert_eq!(buf[..24], wanted[..24]);
+    assert_eq!(buf[..24], wanted[24..48]);
 }
 
 #[test]
@@ -485,18 +483,23 @@ fn a_retransmission_between_others() {
             wanted_again[1] = 97;
             (wanted_again[3], wanted_again[11]) = (9, 45);
             wanted_again.extend(number.to_be_bytes());
+            let mut unpadded = wanted_plain.clone();
+            unpadded[0] = 0x90;
+            let all = [&wanted_plain[..], &wanted_again, &unpadded, &wanted_again];
+            let plain = RoutedSlot::new(&NO_FIELDS, 2);
+            let again = RoutedSlot::retransmission(&AGAIN, number, 0);
             let mut slots = [
-                RoutedSlot::new(&NO_FIELDS, 2, 0),
-                RoutedSlot::retransmission(&AGAIN, number, 0, 24),
-                RoutedSlot::new(&NO_FIELDS, 2, 50),
+                plain,
+                again,
+                plain.without_padding(),
+                again.without_padding(),
             ];
-            let buf = at_end(&[0xEE; 74]);
+            let buf = at_end(&[0xEE; 100]);
             let headers = template.write_headers(&NUMBERS, &mut slots, buf);
-            assert!(headers.eq([Ok(&wanted_plain[..]), Ok(&wanted_again), Ok(&wanted_plain)]));
-            assert_eq!(
-                *buf,
-                *[&wanted_plain[..], &wanted_again, &wanted_plain].concat()
-            );
+            assert!(headers.eq(all.map(Ok)));
+            assert_eq!(*buf, *all.concat());
+            let ranges = [0..24, 24..50, 50..74, 74..100].map(Ok);
+            assert_eq!(slots.map(|it| it.range()), ranges);
             // alone
             let buf = at_end(&[0xEE; 26]);
             let len = template.write_retransmission(&AGAIN, number, &NUMBERS[..2], buf);
@@ -508,25 +511,33 @@ fn a_retransmission_between_others() {
 #[test]
 fn a_retransmission_has_room_for_its_number_or_none() {
     let template = template();
-    let again = |at| RoutedSlot::retransmission(&AGAIN, 0x0105, 0, at);
-    for (slot, room, due) in [
-        (again(0), 26, Ok(26)),
-        (again(0), 25, Err(NotWritten::ShortBuffer)),
-        (again(0), 24, Err(NotWritten::ShortBuffer)),
-        (again(0), 1, Err(NotWritten::ShortBuffer)),
-        (again(0), 0, Err(NotWritten::ShortBuffer)),
-        (again(4), 30, Ok(26)),
-        (again(5), 30, Err(NotWritten::ShortBuffer)),
-        (again(usize::MAX), 30, Err(NotWritten::ShortBuffer)),
-        (again(usize::MAX - 25), 30, Err(NotWritten::ShortBuffer)),
-        (RoutedSlot::new(&AGAIN, 0, 0), 24, Ok(24)),
+    let again = RoutedSlot::retransmission(&AGAIN, 0x0105, 0);
+    let plain = RoutedSlot::new(&AGAIN, 0);
+    let short = Err(NotWritten::ShortBuffer);
+    for (slots, room, due) in [
+        ([again; 2], 52, [Ok(0..26), Ok(26..52)]),
+        ([again; 2], 51, [Ok(0..26), short.clone()]),
+        ([again; 2], 26, [Ok(0..26), short.clone()]),
+        ([again; 2], 25, [short.clone(), short.clone()]),
+        ([again; 2], 0, [short.clone(), short.clone()]),
+        // what is refused takes no bytes: the next one has them
+        ([again, plain], 50, [Ok(0..26), Ok(26..50)]),
+        ([again, plain], 49, [Ok(0..26), short.clone()]),
+        ([again, plain], 25, [short.clone(), Ok(0..24)]),
+        ([again, plain], 24, [short.clone(), Ok(0..24)]),
+        ([again, plain], 23, [short.clone(), short.clone()]),
     ] {
         let buf = at_end(&vec![0xEE; room]);
-        let mut slots = [slot];
-        let mut headers = template.write_headers(&NUMBERS, &mut slots, buf);
-        assert_eq!(headers.next().unwrap().map(<[u8]>::len), due);
-        assert_eq!(slots[0].written(), due.map(|_| ()));
-        assert!(due.is_ok() || buf.iter().all(|it| *it == 0xEE));
+        let slots = at_end(&slots);
+        let headers = template.write_headers(&NUMBERS, slots, buf);
+        let lens = due.iter().map(|it| it.clone().map(|at| at.len()));
+        assert!(headers.map(|it| it.map(<[u8]>::len)).eq(lens), "{room}");
+        assert!(
+            slots.iter().map(RoutedSlot::range).eq(due.clone()),
+            "{room}"
+        );
+        let end = due.into_iter().flatten().map(|it| it.end).max();
+        assert!(buf[end.unwrap_or(0)..].iter().all(|it| *it == 0xEE));
     }
     let bad_type = Fields {
         payload_type: Some(128),
@@ -552,17 +563,83 @@ fn a_slot_that_is_made_anew_is_no_retransmission() {
     let mut again = [template.header(), &[0, 7]].concat();
     again[1] = 97;
     (again[3], again[11]) = (9, 45);
-    let mut slots = [0, 26].map(|at| RoutedSlot::retransmission(&AGAIN, 7, 0, at));
-    assert_eq!(slots[0].written(), Err(NotWritten::BadField)); // not yet
+    let mut slots = [RoutedSlot::retransmission(&AGAIN, 7, 0); 2];
+    assert_eq!(slots[0].range(), Err(NotWritten::BadField)); // not yet
     let buf = at_end(&[0; 52]);
     for _ in 0..2 {
         let headers = template.write_headers(&NUMBERS, &mut slots, buf);
         assert!(headers.eq([Ok(&again[..]); 2]));
     }
-    slots[0] = RoutedSlot::new(&NO_FIELDS, 0, 2);
+    slots[0] = RoutedSlot::new(&NO_FIELDS, 0);
     let headers = template.write_headers(&NUMBERS, &mut slots, buf);
     assert!(headers.eq([Ok(template.header()), Ok(&again[..])]));
-    assert_eq!(buf[..2], again[..2]); // as they were
+    assert_eq!(buf[50..], again[24..]); // as they were
+}
+
+#[test]
+fn padding_stays_or_is_cleared_for_each() {
+    let ids = NewIds::new();
+    let group = Group {
+        ids: &ids,
+        data: &[],
+        elements: &[],
+        allowed: None,
+    };
+    let slot = RoutedSlot::new(&NO_FIELDS, 0);
+    // two packets in a row, of which the first has padding: the slots are used again
+    let mut slots = [slot, slot.without_padding(), slot];
+    for (first, due) in [(0xA0, [0xA0, 0x80, 0xA0]), (0x80, [0x80; 3])] {
+        let template = made(&written(first, ""), &group, 24).unwrap();
+        let buf = at_end(&[0; 36]);
+        let headers = template.write_headers(&[], &mut slots, buf);
+        assert!(headers.eq(due.map(|it| written(it, "")).iter().map(|it| Ok(&it[..]))));
+    }
+    // the call for one leaves it, and it is cleared there
+    let template = made(&written(0xA0, ""), &group, 24).unwrap();
+    let mut buf = [0; 12];
+    assert_eq!(template.write_header(&NO_FIELDS, &[], &mut buf), Ok(12));
+    assert_eq!(buf[0], 0xA0);
+    PacketMut::parse(&mut buf).unwrap().set_padding(false);
+    assert_eq!(buf[..], written(0x80, ""));
+}
+
+#[test]
+fn headers_of_forty_elements() {
+    // forty mids of one byte each, which take the first receivers' places far apart
+    let mids = |id: u8| (0..40).map(move |n| [id << 4, b'0' + n]);
+    let block = |id| {
+        [
+            &[0xBE, 0xDE, 0, 20][..],
+            &mids(id).flatten().collect::<Vec<_>>(),
+        ]
+        .concat()
+    };
+    let packet = [&SAMPLE[..12], &block(2)].concat();
+    let ids = NewIds::new().with(2, 7);
+    let group = Group {
+        ids: &ids,
+        data: &[],
+        elements: &[],
+        allowed: ONE,
+    };
+    let template = made(&packet, &group, 2 * 96).unwrap();
+    let mut slots = [
+        RoutedSlot::retransmission(&AGAIN, 0xABCD, 0),
+        RoutedSlot::new(&NO_FIELDS, 0),
+    ];
+    let headers: Vec<_> = template
+        .write_headers(&[], &mut slots, at_end(&[0; 196]))
+        .map(Result::unwrap)
+        .collect();
+    let again = [
+        &[0x90, 97, 0, 9, 0, 0, 0, 100, 0, 0, 0, 45],
+        &block(7)[..],
+        &[0xAB, 0xCD],
+    ];
+    assert_eq!(
+        headers,
+        [again.concat(), [&SAMPLE[..12], &block(7)].concat()]
+    );
 }
 
 /// Twenty receivers of the template, each with a number and data of its own.
@@ -571,10 +648,7 @@ fn twenty() -> (Vec<RoutedSlot>, Vec<u8>) {
         sequence_number: Some(1000 + n),
         ..NO_FIELDS
     };
-    let slot = |n: u16| {
-        let at = usize::from(n);
-        RoutedSlot::new(&fields(n), 2 * at, 24 * at)
-    };
+    let slot = |n: u16| RoutedSlot::new(&fields(n), 2 * usize::from(n));
     ((0..20).map(slot).collect(), (100..140).collect())
 }
 
@@ -587,47 +661,38 @@ fn one_of_twenty_cannot_be_served() {
         payload_type: Some(128),
         ..NO_FIELDS
     };
-    let bad = Err(NotWritten::BadField);
-    let short = Err(NotWritten::ShortBuffer);
     let rows = [
-        (RoutedSlot::new(&bad_type, 16, 192), bad),
-        (RoutedSlot::new(&NO_FIELDS, 39, 192), bad),
-        (RoutedSlot::new(&NO_FIELDS, 40, 192), bad),
-        (RoutedSlot::new(&NO_FIELDS, most, 192), bad),
-        (RoutedSlot::new(&NO_FIELDS, most - 1, 192), bad),
-        (RoutedSlot::new(&NO_FIELDS, 1 << 32, 192), bad),
-        (RoutedSlot::new(&NO_FIELDS, 16, 457), short),
-        (RoutedSlot::new(&NO_FIELDS, 16, 480), short),
-        (RoutedSlot::new(&NO_FIELDS, 16, most), short),
-        (RoutedSlot::new(&NO_FIELDS, 16, most - 23), short),
-        (RoutedSlot::new(&NO_FIELDS, 16, 1 << 32), short),
-        (slots[8], Ok(())),
+        (RoutedSlot::new(&bad_type, 16), false),
+        (RoutedSlot::new(&NO_FIELDS, 39), false),
+        (RoutedSlot::new(&NO_FIELDS, 40), false),
+        (RoutedSlot::new(&NO_FIELDS, most), false),
+        (RoutedSlot::new(&NO_FIELDS, most - 1), false),
+        (RoutedSlot::new(&NO_FIELDS, 1 << 32), false),
+        (slots[8], true),
     ];
-    for (ninth, outcome) in rows {
+    for (ninth, is_served) in rows {
         let slots = at_end(&slots);
         slots[8] = ninth;
+        let served: Vec<usize> = (0..20).filter(|n| *n != 8 || is_served).collect();
         let buf = at_end(&[0xEE; 480]);
         let mut wanted = [0xEE; 480];
-        for (n, header) in wanted.chunks_mut(24).enumerate() {
-            if n != 8 || outcome.is_ok() {
-                header.copy_from_slice(template.header());
-                header[2..4].copy_from_slice(&(1000 + n as u16).to_be_bytes());
-                header[19..21].copy_from_slice(&data[2 * n..2 * n + 2]);
-            }
+        for (n, header) in served.iter().zip(wanted.chunks_mut(24)) {
+            header.copy_from_slice(template.header());
+            header[2..4].copy_from_slice(&(1000 + *n as u16).to_be_bytes());
+            header[19..21].copy_from_slice(&data[2 * n..2 * n + 2]);
+        }
+        let mut due: Vec<_> = wanted.chunks(24).map(Ok).collect();
+        let mut ranges: Vec<_> = (0..20).map(|n| Ok(24 * n..24 * n + 24)).collect();
+        if !is_served {
+            due.insert(8, Err(NotWritten::BadField));
+            due.pop();
+            ranges.insert(8, Err(NotWritten::BadField));
+            ranges.pop();
         }
         let headers = template.write_headers(at_end(&data), slots, buf);
         assert_eq!(headers.len(), 20);
-        for (n, (header, due)) in headers.zip(wanted.chunks(24)).enumerate() {
-            let due = if n == 8 {
-                outcome.map(|()| due)
-            } else {
-                Ok(due)
-            };
-            assert_eq!(header, due, "{n}");
-        }
-        for (n, slot) in slots.iter().enumerate() {
-            assert_eq!(slot.written(), if n == 8 { outcome } else { Ok(()) });
-        }
+        assert!(headers.eq(due));
+        assert!(slots.iter().map(RoutedSlot::range).eq(ranges));
         assert_eq!(buf, wanted);
     }
 }
@@ -672,41 +737,12 @@ fn none_are_none() {
     assert_eq!((template.header_len(), template.data_len()), (12, 0));
     let buf = at_end(&[0; 12]);
     let mut slots = [
-        RoutedSlot::new(&NO_FIELDS, 0, 0),
-        RoutedSlot::new(&NO_FIELDS, 1, 0),
+        RoutedSlot::new(&NO_FIELDS, 0),
+        RoutedSlot::new(&NO_FIELDS, 1),
     ];
     let headers = template.write_headers(&[], &mut slots, buf);
     let wanted = written(0x80, "");
     assert!(headers.eq([Ok(&wanted[..]), Err(NotWritten::BadField)]));
-}
-
-#[test]
-fn where_headers_overlap_the_later_one_stands() {
-    let template = template();
-    let (_, data) = twenty();
-    // the second one lies over the end of the first, and the third over both
-    let number = |n: u16| Fields {
-        sequence_number: Some(n),
-        ..NO_FIELDS
-    };
-    let mut slots = [
-        RoutedSlot::new(&number(1), 0, 0),
-        RoutedSlot::new(&number(2), 2, 10),
-        RoutedSlot::new(&number(3), 4, 5),
-    ];
-    let buf = at_end(&[0xEE; 34]);
-    assert!(template
-        .write_headers(&data, &mut slots, buf)
-        .all(|it| it.is_ok()));
-    let mut wanted = [0; 34];
-    for (n, at) in [(1, 0), (2, 10), (3, 5)] {
-        wanted[at..at + 24].copy_from_slice(template.header());
-        wanted[at + 3] = n;
-        wanted[at + 19..at + 21].copy_from_slice(&data[2 * usize::from(n) - 2..2 * usize::from(n)]);
-    }
-    assert_eq!(buf, wanted);
-    let headers = template.write_headers(&data, &mut slots, &mut buf[..33]);
-    assert!(headers.map(|it| it.is_ok()).eq([true, false, true]));
 }
 
 #[test]
@@ -718,11 +754,11 @@ fn many_receivers_and_slots_that_are_used_again() {
         ..NO_FIELDS
     };
     let mut slots: Vec<_> = (0..1000)
-        .map(|n| RoutedSlot::new(&fields(n), 2 * n, 24 * n))
+        .map(|n| RoutedSlot::new(&fields(n), 2 * n))
         .collect();
     assert!(slots
         .iter()
-        .all(|it| it.written() == Err(NotWritten::BadField))); // not yet
+        .all(|it| it.range() == Err(NotWritten::BadField))); // not yet
     let mut buf = vec![0; 24_000];
     for (room, data_len) in [(24_000, 2000), (24 * 7, 2000), (24_000, 6), (24_000, 2000)] {
         let headers = template.write_headers(&data[..data_len], &mut slots, &mut buf[..room]);
