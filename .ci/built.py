@@ -33,7 +33,8 @@ GO_TESTS = "go test -vet=off -gcflags='-N -l -dwarf=false' -ldflags='-s -w' -c -
 # What is built and tested is the library or, for an edit of an example, that, and in C what stands in front of the
 # library, and the header file of C++17, too. An example in C is tested as it is, and then under sanitizers, by a name
 # that begins with `sanitized/`. In Rust all tests are one program, and where the library builds and they don't they
-# have failed, by the name of the file; in Python those of what makes the packages are run for an edit of that alone.
+# have failed, by the name of the file; those of its modules and of what documents it are run where it passes, and of an
+# example its own where it prints what is due; in Python those of what makes the packages are run for an edit of that alone.
 LANGUAGES = {
     "c": (
         ("cc", "c++"),
@@ -83,7 +84,9 @@ LANGUAGES = {
         "cargo build --quiet && it=$(cargo test --no-run --test all 2>&1 | tee $out/said | "
         "sed -n 's/^ *Executable .*(\\(.*\\))$/\\1/p') && ln -s ${it:-nowhere} $out/tests; fi",
         "if [[ -e out/said ]]; then cd bindings/rust/rtp-wire && cat ../../../out/said && "
-        f"../../../out/tests ${{TEST:+--exact}} $TEST; else {EXAMPLES}; fi",
+        "../../../out/tests ${TEST:+--exact} $TEST && "
+        "{ [[ -n $TEST ]] || { cargo test --quiet --lib && cargo test --quiet --doc; }; }; else "
+        f"{EXAMPLES} && {{ [[ -n $TEST ]] || (cd bindings/rust/rtp-wire && cargo test --quiet --examples); }}; fi",
         r"^(?:FAIL: |---- )(\S+?)(?: stdout ----)?$|--> tests/all/../(\w+)\.rs:",
     ),
 }

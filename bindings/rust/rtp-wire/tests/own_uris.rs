@@ -78,6 +78,9 @@ fn each_uri_has_one_kind() {
     ];
     assert!(uris.unknown().eq(unknown));
     assert_eq!(uris.clone(), uris);
+    // letter for letter
+    let cases = OwnUris::new().map([(1, "urn:x"), (2, "urn:X")]);
+    assert_eq!(cases, Ok(Map::new().with(1, own(128)).with(2, own(129))));
     // a typo, and another case, are told
     let mut uris = OwnUris::new();
     let typos = [&MID[..MID.len() - 1], "URN:ietf:params:rtp-hdrext:sdes:mid"];

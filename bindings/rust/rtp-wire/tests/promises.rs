@@ -378,6 +378,11 @@ mod may_grow {
             | Kind::FrameMarking
             | Kind::ColorSpace
             | Kind::Layers
+            | Kind::MixerLevels
+            | Kind::TransportNumber2
+            | Kind::DependencyDescriptor
+            | Kind::Ntp64
+            | Kind::Ntp56
             | Kind::Own(_) => true,
             _ => false,
         }
@@ -399,7 +404,7 @@ fn some_enums_may_grow_and_others_do_not() {
     };
     assert_eq!((bits(Form::OneByte), bits(Form::TwoByte)), (4, 8));
     let number = |it| match it {
-        Arrival::Taken(number) | Arrival::Restarted(number) => Some(number),
+        Arrival::Taken(_) | Arrival::Restarted(_) => it.number(),
         Arrival::Refused => None,
     };
     assert_eq!(number(RestartingReceiver::new().receive(7)), Some(65_543));
