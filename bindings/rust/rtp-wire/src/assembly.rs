@@ -39,4 +39,3 @@ text_of!(
     "../assembly/rtp_wire-aarch64.s",
     "../assembly/rtp_wire-aarch64.prefix"
 );
-pub(crate) use in_the_text;

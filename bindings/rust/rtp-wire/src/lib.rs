@@ -20,6 +20,7 @@
 #![deny(unsafe_code)]
 #![warn(missing_docs, missing_debug_implementations)]
 
+#[macro_use]
 mod assembly;
 mod elements;
 mod error;

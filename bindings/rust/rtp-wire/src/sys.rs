@@ -7,7 +7,6 @@
 //! each call below.
 #![allow(unsafe_code)]
 
-use crate::assembly::in_the_text;
 use crate::receiver::Receiver;
 use crate::reception::ReceptionReport;
 use crate::views::{
@@ -56,11 +55,10 @@ macro_rules! of_the_text {
 
 mod c {
     use super::{
-        in_the_text, ArrivalSlot, ColorSpaceView, DependencyDescriptorView, FieldsView,
-        FrameMarkingView, HeaderSlot, HeaderView, Layers, OrientationView, PacketParts, PacketSlot,
-        Place, ReceiverState, ReceptionReport, ReceptionState, RestartingState, RoutedSlot,
-        StoredMap, StoredNewIds, TemplateParts, TimingView, TransportNumberView, ValuesView,
-        WideState,
+        ArrivalSlot, ColorSpaceView, DependencyDescriptorView, FieldsView, FrameMarkingView,
+        HeaderSlot, HeaderView, Layers, OrientationView, PacketParts, PacketSlot, Place,
+        ReceiverState, ReceptionReport, ReceptionState, RestartingState, RoutedSlot, StoredMap,
+        StoredNewIds, TemplateParts, TimingView, TransportNumberView, ValuesView, WideState,
     };
 
     of_the_text! {
