@@ -83,8 +83,13 @@ fn each_uri_has_one_kind() {
     assert_eq!(cases, Ok(Map::new().with(1, own(128)).with(2, own(129))));
     // a typo, and another case, are told
     let mut uris = OwnUris::new();
-    let typos = [&MID[..MID.len() - 1], "URN:ietf:params:rtp-hdrext:sdes:mid"];
-    uris.map([(1, typos[0]), (2, MID), (3, typos[1])]).unwrap();
+    let typos = [
+        &MID[..MID.len() - 1],
+        "URN:ietf:params:rtp-hdrext:sdes:mid",
+        "urn:ietf:params:rtp-hdrext:sdes:mid ",
+    ];
+    uris.map([(1, typos[0]), (2, MID), (3, typos[1]), (4, typos[2])])
+        .unwrap();
     assert!(uris.unknown().map(|(_, uri)| uri).eq(typos));
     assert_eq!(OwnUris::new().unknown().next(), None);
 }
@@ -166,6 +171,10 @@ fn a_kind_of_the_callers_own_has_its_elements_alone() {
 fn the_call_of_1_0_drops_what_is_not_known() {
     let map = Map::from_uris([(3, MID), (3, "urn:x"), (4, LEVEL), (4, MID), (5, "urn:x")]);
     assert_eq!(map, Ok(Map::new().with(3, Kind::Mid).with(4, Kind::Mid)));
+    assert_eq!(
+        Map::from_uris([(3, " urn:ietf:params:rtp-hdrext:sdes:mid")]),
+        Ok(Map::new())
+    );
     assert_eq!(Map::from_uris([(0, MID)]), Err(BadId));
     assert_eq!(Map::from_uris([(0, "urn:x")]), Ok(Map::new()));
 }
