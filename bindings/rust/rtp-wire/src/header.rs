@@ -110,7 +110,8 @@ impl Header {
         Ok((Header::of(&view), layers))
     }
 
-    /// How many bytes the header took that was read: the payload begins there. It is 0 where none was.
+    /// How many bytes the header took that was read: the payload begins there, and ends with padding where
+    /// [`has_padding`](Header::has_padding) is set. It is 0 where none was.
     #[must_use]
     pub fn header_len(&self) -> usize {
         self.header_len
