@@ -256,7 +256,9 @@ impl Map {
         self
     }
 
-    /// The id means this kind from now on, or nothing.
+    /// The id means this kind from now on, or nothing: so it means nothing where the kind is what [`Kind::from_uri`] says
+    /// of a URI that isn't known or is misspelled, and something where it is what
+    /// [`OwnUris::kind_of`](crate::OwnUris::kind_of) says.
     ///
     /// # Errors
     ///

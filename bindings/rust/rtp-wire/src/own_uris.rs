@@ -11,7 +11,8 @@ const NUMBERS: usize = 256 - sys::KIND_OWN as usize;
 /// The maps of the peers of one call, made of the lines `a=extmap:ID URI` of their SDPs (RFC 8285, 5). A URI that names
 /// no [`Kind`] of this library gets a number of its own, from [`Kind::own`]`(128)` on, and in the map of each peer the
 /// same: so [`NewIds::between`](crate::NewIds::between) two of these maps carries all that both peers agreed on, and a
-/// forwarder passes on what it doesn't know itself.
+/// forwarder passes on what it doesn't know itself. Maps of two `OwnUris` don't go together: one number may be that of two
+/// URIs.
 ///
 /// ```
 /// use rtp_wire::{Kind, NewIds, OwnUris};

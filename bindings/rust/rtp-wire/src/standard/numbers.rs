@@ -44,7 +44,8 @@ pub fn transmission_offset_bytes(ticks: i32) -> Result<[u8; 3], OutOfRange> {
 ///
 /// # Errors
 ///
-/// [`NotAValue`] where the packet doesn't have that source, or the data no byte for it.
+/// [`NotAValue`] where the packet doesn't have that source, or the data no byte for it. What stands behind the last
+/// source's isn't looked at, and a `csrc_count` above 15, which no packet has, is taken.
 ///
 /// ```
 /// use rtp_wire::standard::parse_mixer_level;
