@@ -256,26 +256,23 @@ impl Map {
         self
     }
 
-    /// The id means this kind from now on, or nothing: so it means nothing where the kind is what [`Kind::from_uri`] says
-    /// of a URI that isn't known or is misspelled, and something where it is what
-    /// [`OwnUris::kind_of`](crate::OwnUris::kind_of) says.
+    /// The id means this kind from now on, or nothing where it is `None`, as [`Kind::from_uri`] says of a URI that isn't
+    /// known or is misspelled: [`OwnUris::kind_of`](crate::OwnUris::kind_of) has a kind for each.
     ///
     /// # Errors
     ///
     /// [`BadId`], and nothing changes, where the id is 0.
     pub fn set(&mut self, id: u8, kind: Option<Kind>) -> Result<(), BadId> {
-        let status = match kind {
-            Some(kind) => sys::map_set(&mut self.kinds, id, kind.number()),
-            None if id == 0 => sys::BAD_FIELD,
-            None => {
-                sys::map_remove(&mut self.kinds, id);
-                sys::OK
-            }
+        if id == 0 {
+            return Err(BadId);
+        }
+        let Some(kind) = kind else {
+            sys::map_remove(&mut self.kinds, id);
+            return Ok(());
         };
-        if status == sys::OK {
-            Ok(())
-        } else {
-            Err(BadId)
+        match sys::map_set(&mut self.kinds, id, kind.number()) {
+            sys::OK => Ok(()),
+            _ => Err(BadId),
         }
     }
 
