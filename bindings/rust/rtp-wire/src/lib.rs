@@ -38,6 +38,7 @@ mod payload;
 mod receiver;
 mod reception;
 mod restarting;
+mod routed_slot;
 pub mod standard;
 mod sys;
 mod template;
@@ -71,7 +72,8 @@ pub use payload::{
 pub use receiver::{extend_u15, extend_u16, extend_u32, extend_u8, Receiver, Standing};
 pub use reception::{ReceptionReport, ReceptionStatistics};
 pub use restarting::{Arrival, RestartingReceiver, WideRestartingReceiver};
-pub use template::{Group, HeaderTemplate, RoutedHeaders, RoutedSlot};
+pub use routed_slot::RoutedSlot;
+pub use template::{Group, HeaderTemplate, RoutedHeaders};
 pub use text::{Mid, NotAText, Rid, Text};
 pub use uri::Uri;
 pub use values::{Values, VideoTiming};
