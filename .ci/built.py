@@ -10,7 +10,7 @@ from pathlib import Path
 
 TOP = Path(__file__).resolve().parent.parent
 # What comes of the proved code, or of a build: nothing here is about it.
-MADE = re.compile(r"(rtp_wire\.h|\.s|\.S|\.so)$|(^|/)(out|target|__pycache__|wrong)/")
+MADE = re.compile(r"(rtp_wire\.h|\.s|\.S|\.so|\.prefix)$|(^|/)(out|target|__pycache__|wrong)/")
 COMMON = ("bindings/c/rtp_wire.h", "bindings/c/rtp_wire_sanitized.h", "bindings/test", "captures")
 # What the examples are compared by.
 BESIDE = ("captures", *(f"bindings/test/{it}" for it in ("examples.sh", "sanitized.sh", "sfu_*.c", "by_hand.*")))
@@ -34,7 +34,8 @@ GO_TESTS = "go test -vet=off -gcflags='-N -l -dwarf=false' -ldflags='-s -w' -c -
 # What is built and tested is the library or, for an edit of an example, that, and in C what stands in front of the
 # library, and the header file of C++17, too. An example in C is tested as it is, and then under sanitizers, by a name
 # that begins with `sanitized/`. In Rust all tests are one program, and where the library builds and they don't they
-# have failed, by the name of the file; in Python those of what makes the packages are run for an edit of that alone.
+# have failed, by the name of the file; those of its modules and of what documents it are run where it passes, and of an
+# example its own where it prints what is due; in Python those of what makes the packages are run for an edit of that alone.
 LANGUAGES = {
     "c": (
         ("cc", "c++"),
@@ -84,7 +85,9 @@ LANGUAGES = {
         "cargo build --quiet && it=$(cargo test --no-run --test all 2>&1 | tee $out/said | "
         "sed -n 's/^ *Executable .*(\\(.*\\))$/\\1/p') && ln -s ${it:-nowhere} $out/tests; fi",
         "if [[ -e out/said ]]; then cd bindings/rust/rtp-wire && cat ../../../out/said && "
-        f"../../../out/tests ${{TEST:+--exact}} $TEST; else {EXAMPLES}; fi",
+        "../../../out/tests ${TEST:+--exact} $TEST && "
+        "{ [[ -n $TEST ]] || { cargo test --quiet --lib && cargo test --quiet --doc; }; }; else "
+        f"{EXAMPLES} && {{ [[ -n $TEST ]] || (cd bindings/rust/rtp-wire && cargo test --quiet --examples); }}; fi",
         r"^(?:FAIL: |---- )(\S+?)(?: stdout ----)?$|--> tests/all/../(\w+)\.rs:",
     ),
 }

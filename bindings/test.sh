@@ -153,7 +153,11 @@ if [ -n "$proves" ]; then
     cp "$here/out/build-x86_64-unknown-linux-gnu/rtp_wire.s" "$scratch/$go/rtp_wire_linux_amd64.S"
     go=$scratch/$go
     cp -r "$rust" "$scratch/bindings/rust"
-    cp "$here/out/build-x86_64-unknown-linux-gnu/rtp_wire.s" "$scratch/$rust/assembly/rtp_wire-x86_64.s"
+    for it in s prefix; do
+        # shellcheck source=generated/copies.sh
+        (top=$PWD && . generated/copies.sh && copy_of bindings/out/build-x86_64-unknown-linux-gnu/rtp_wire.s "$rust/assembly/rtp_wire-x86_64.$it") \
+            >"$scratch/$rust/assembly/rtp_wire-x86_64.$it"
+    done
     rust=$scratch/$rust CARGO_TARGET_DIR+=-proved
 fi
 crate=(--manifest-path "$rust/Cargo.toml")
@@ -210,6 +214,10 @@ if has cargo; then
     said 'the crate for Rust: cargo test, cargo doc and cargo fmt, without a warning'
 fi
 if [ -z "$proves" ]; then
+    if has cargo; then
+        bindings/test/rust_versions.sh "$scratch/versions" "$rust"
+        said 'a program with two versions of the crate for Rust, each with its own text: dev, release, thin and fat LTO'
+    fi
     .ci/languages
 elif has go; then
     (cd "$go" && go test -count=1 ./... >"$scratch/go.log" 2>&1) || { cat "$scratch/go.log" >&2; fail 'go test'; }

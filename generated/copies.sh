@@ -5,7 +5,9 @@
 copies() {
     cat <<'END'
 generated/rtp_wire-x86_64.s bindings/rust/rtp-wire/assembly/rtp_wire-x86_64.s
+generated/rtp_wire-x86_64.s bindings/rust/rtp-wire/assembly/rtp_wire-x86_64.prefix
 generated/rtp_wire-aarch64.s bindings/rust/rtp-wire/assembly/rtp_wire-aarch64.s
+generated/rtp_wire-aarch64.s bindings/rust/rtp-wire/assembly/rtp_wire-aarch64.prefix
 bindings/c/rtp_wire.h bindings/rust/rtp-wire/tests/rtp_wire.h
 bindings/c/rtp_wire.h bindings/go/rtp_wire.h
 generated/rtp_wire-x86_64.s bindings/go/rtp_wire_linux_amd64.S
@@ -19,17 +21,37 @@ NOTICE bindings/go/NOTICE
 END
 }
 
+# What each name in a text for Rust begins with: a digest of the text. So a program may have several versions of the
+# crate, two states of one version too: without it the linker takes the calls of all of them to one text.
+prefix_of() { # text
+    printf 'rtp_%.8s_' "$(sha256sum <"$top/$1")"
+}
+
+# What a copy has: the file, or in a text for Rust other names and labels, and beside it what these begin with.
+copy_of() { # file, its copy
+    local prefix
+    case $2 in
+    bindings/rust/*.prefix) prefix_of "$1" ;;
+    bindings/rust/*.s)
+        prefix=$(prefix_of "$1")
+        sed -E -e "/^\t\.(ascii|section)\t/!s/\"([^\"]*)\"/\"$prefix\1\"/g" \
+            -e "/^\t\.(ascii|section)\t/!{s/\.Lrtp_/.L$prefix/g; s/\<(rtpw|rtp_proved)_([a-z])/$prefix\1_\2/g}" -- "$top/$1"
+        ;;
+    *) cat -- "$top/$1" ;;
+    esac
+}
+
 # The copies that aren't what they are copied from: each, and that, in one line.
 stale_copies() {
     local from to
     copies | while read -r from to; do
-        cmp -s -- "$top/$from" "$top/$to" || echo "$to isn't $from"
+        copy_of "$from" "$to" | cmp -s -- - "$top/$to" || echo "$to isn't $from"
     done | paste -s -d ,
 }
 
 write_copies() {
     local from to
     copies | while read -r from to; do
-        mkdir -p -- "$top/${to%/*}" && cp -- "$top/$from" "$top/$to"
+        mkdir -p -- "$top/${to%/*}" && copy_of "$from" "$to" >"$top/$to"
     done
 }

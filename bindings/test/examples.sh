@@ -182,7 +182,7 @@ if [ -e "$folder/receive" ]; then
 fi
 if [ -e "$folder/receive_rust" ]; then
     # 65,536 and 5: the first packet has the rollover count 1. The third one is no packet.
-    printf '%s\n' '65541: Some(-10) dB, [1, 2]' 'no RTP packet' >"$scratch/expected"
+    printf '%s\n' '65541: Some(-10) dB, [1, 2]' 'fewer than twelve bytes' >"$scratch/expected"
     "$folder/receive_rust" | diff "$scratch/expected" - >&2 || fail receive_rust
 fi
 
@@ -295,6 +295,8 @@ cat >"$scratch/many.expected" <<END
 3 906FFFFF000000A000000BB8BEDE0006EF${alice}30110000327AE147
 taken 65537 replays 0 late 0 rtcp 0 unreadable 0 strangers 0 sent 196611 unsent 0
 END
+# The 2,101st goes at 42 s, which are 11,010,048 units (0xA80000), with the transport number 2,100 (0x834).
+echo 1\ 906F0834000000A0000003E8BEDE0003216D3051083472A800000000 >"$scratch/later.expected"
 # Each is counted as what it is: 128 below the highest number is too late.
 printf '%s\n' 806F00CD000000A00000002C{,,} 806F004D000000A00000002C{,,} 80C900010000002C{,,,} 80{,,,,} >"$scratch/counted.lines"
 echo 'taken 1 replays 2 late 3 rtcp 4 unreadable 5 strangers 0 sent 3 unsent 0' >"$scratch/counted.expected"
@@ -378,6 +380,7 @@ sends_on() {
     for bad in "${bad_uris[@]}"; do is_bad_uri "$bad" "$@"; done
     is_bad_at_the_end "$@"
     numbered {0..65535} 0 | "$@" | tail -n 4 | diff "$scratch/many.expected" - >&2 || fail "$*, many datagrams"
+    numbered {0..2100} | "$@" | grep '^1 906F0834' | diff "$scratch/later.expected" - >&2 || fail "$*, after 42 s"
     # All print the same.
     for lines in captures/*.lines bindings/test/by_hand.lines "$scratch/full.lines"; do
         "$@" <"$lines" >"$scratch/said"

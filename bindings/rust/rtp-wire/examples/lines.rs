@@ -8,7 +8,8 @@ use std::process::ExitCode;
 
 use rtp_wire::{Header, Kind, Map, Receiver, Values};
 
-/// Maps the id of the line, of one to three digits, where it is a map line.
+/// Maps the id of the line, of one to three digits, where it is a map line. A URI that isn't known means nothing here:
+/// no packet goes on.
 fn is_mapped(map: &mut Map, line: &str) -> bool {
     let words = line.strip_prefix("map ").and_then(|it| it.split_once(' '));
     let Some((id, uri)) = words else {

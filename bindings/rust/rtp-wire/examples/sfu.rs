@@ -13,8 +13,8 @@ use std::io::{self, BufRead, Write};
 use std::process::ExitCode;
 
 use rtp_wire::{
-    change_form, is_rtcp, Fields, Form, Group, HeaderTemplate, Kind, Map, NewIds, Packet, Place,
-    Receiver, RoutedSlot,
+    change_form, is_rtcp, Fields, Form, Group, HeaderTemplate, Kind, Map, NewIds, OwnUris, Packet,
+    Place, Receiver, RoutedSlot,
 };
 
 /// So many numbers up to the highest one a receiver keeps.
@@ -193,12 +193,11 @@ impl Party {
         let (mut room, mut made) = ([0; HEADER], [0; HEADER]);
         let widened = self.widened(packet, &mut room)?;
         let template = HeaderTemplate::new(&widened, &group, &mut made).ok()?;
-        let (data_len, header_len) = (template.data_len(), template.header_len());
         let slot = |(n, it): (usize, &Route)| {
-            RoutedSlot::new(&it.fields(&packet, stream), n * data_len, n * header_len)
+            RoutedSlot::new(&it.fields(&packet, stream), n * template.data_len())
         };
         let mut slots: Vec<_> = self.routes.iter().enumerate().map(slot).collect();
-        let mut buf = vec![0; slots.len() * header_len];
+        let mut buf = vec![0; slots.len() * template.header_len()];
         let mut sent = 0;
         let headers = template.write_headers(&data, &mut slots, &mut buf);
         for (route, header) in self.routes.iter().zip(headers) {
@@ -311,16 +310,19 @@ const PEERS: [Peer; 3] = [
 ];
 
 /// Maps the id of the line, of one to three digits, where it is a map line.
-fn is_mapped(map: &mut Map, line: &str) -> bool {
+fn is_mapped(map: &mut Map, uris: &mut OwnUris<String>, line: &str) -> bool {
     let words = line.strip_prefix("map ").and_then(|it| it.split_once(' '));
     let Some((id, uri)) = words else {
         return false;
     };
     let is_number = id.len() <= 3 && id.bytes().all(|digit| digit.is_ascii_digit());
-    is_number && !uri.is_empty() && {
-        let id = id.parse();
-        id.is_ok_and(|id| map.set(id, Kind::from_uri(uri)).is_ok())
+    if !is_number || uri.is_empty() {
+        return false;
     }
+    let (Ok(id), Some(kind)) = (id.parse(), uris.kind_of(uri)) else {
+        return false;
+    };
+    map.set(id, Some(kind)).is_ok()
 }
 
 /// The bytes that the text spells.
@@ -347,12 +349,12 @@ fn text_of(header: &[u8], payload: &[u8]) -> String {
 
 fn main() -> io::Result<ExitCode> {
     let mut out = io::BufWriter::new(io::stdout().lock());
-    let mut sender = Map::new();
+    let (mut sender, mut uris) = (Map::new(), OwnUris::default());
     let mut sfu = Sfu::default();
     let mut count = 0;
     for (index, line) in io::stdin().lock().lines().enumerate() {
         let line = line?;
-        if count == 0 && is_mapped(&mut sender, &line) {
+        if count == 0 && is_mapped(&mut sender, &mut uris, &line) {
             continue;
         }
         let Some(datagram) = bytes_of(&line) else {

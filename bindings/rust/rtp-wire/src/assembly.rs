@@ -14,10 +14,28 @@ compile_error!(
      aarch64-unknown-linux-gnu and aarch64-unknown-linux-musl"
 );
 
+/// Takes the text of a processor, and defines the name that a function has there: it begins with what no other text's
+/// names do, so that a program may have several versions of this crate.
+macro_rules! text_of {
+    ($text:literal, $prefix:literal $(, $option:ident)?) => {
+        global_asm!(include_str!($text), options($($option,)? raw));
+
+        macro_rules! in_the_text {
+            ($name:ident) => {
+                concat!(include_str!($prefix), stringify!($name))
+            };
+        }
+    };
+}
+
 #[cfg(target_arch = "x86_64")]
-global_asm!(
-    include_str!("../assembly/rtp_wire-x86_64.s"),
-    options(att_syntax, raw)
+text_of!(
+    "../assembly/rtp_wire-x86_64.s",
+    "../assembly/rtp_wire-x86_64.prefix",
+    att_syntax
 );
 #[cfg(target_arch = "aarch64")]
-global_asm!(include_str!("../assembly/rtp_wire-aarch64.s"), options(raw));
+text_of!(
+    "../assembly/rtp_wire-aarch64.s",
+    "../assembly/rtp_wire-aarch64.prefix"
+);

@@ -210,7 +210,7 @@ impl From<OutOfRange> for NotWritten {
 pub struct OutOfRange {
     /// The name of the field.
     pub field: &'static str,
-    /// What was given.
+    /// What was given; 2^31 - 1 also where that was more.
     pub value: i32,
     /// The least that can be written.
     pub least: i32,

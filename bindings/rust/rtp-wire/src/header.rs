@@ -43,7 +43,11 @@ pub struct Header {
     pub timestamp: u32,
     /// The stream's source.
     pub ssrc: u32,
-    /// P: whether there is padding at the end of the payload.
+    /// P: whether there is padding at the end of the payload. Padding is no part of a header: the payload behind
+    /// [`header_len`](Header::header_len) ends with it, and [`Packet::unpadded_payload`](crate::Packet::unpadded_payload)
+    /// is the payload without. As written only with padding behind the payload ([`pad`](crate::pad)): clear it where a
+    /// header that was read is written before a payload without its padding, or each peer takes the payload's last bytes
+    /// for padding.
     pub has_padding: bool,
     /// X: whether there is a block of elements.
     pub has_extension: bool,
@@ -106,7 +110,8 @@ impl Header {
         Ok((Header::of(&view), layers))
     }
 
-    /// How many bytes the header took that was read: the payload begins there. It is 0 where none was.
+    /// How many bytes the header took that was read: the payload begins there, and ends with padding where
+    /// [`has_padding`](Header::has_padding) is set. It is 0 where none was.
     #[must_use]
     pub fn header_len(&self) -> usize {
         self.header_len
@@ -154,8 +159,24 @@ impl Header {
     ///
     /// # Errors
     ///
-    /// [`NotWritten::BadField`] where the payload type is above 127 or the orientation none of the four,
-    /// and else [`NotWritten::ShortBuffer`] where the buffer has too few bytes; nothing is written then.
+    /// [`NotWritten::BadField`] where the payload type is above 127, the orientation none of the four or the audio level
+    /// none of -127 to 0, and else [`NotWritten::ShortBuffer`] where the buffer has too few bytes; nothing is written
+    /// then.
+    ///
+    /// ```
+    /// use rtp_wire::{Header, Map, Packet};
+    ///
+    /// let datagram = [0xA0, 96, 0, 5, 0, 0, 0, 160, 0, 0, 0, 7, 1, 2, 0, 2]; // two bytes of padding
+    /// let payload = Packet::parse(&datagram)?.unpadded_payload().expect("the padding fits");
+    /// let mut header = Header::parse(&datagram, &Map::new())?;
+    /// header.ssrc = 44;
+    /// header.has_padding = false; // the payload is sent on without it
+    /// let mut buf = [0; 1500];
+    /// let len = header.write_to(&mut buf, &Map::new())?;
+    /// let sent = [&buf[..len], payload].concat();
+    /// assert_eq!(sent, [0x80, 96, 0, 5, 0, 0, 0, 160, 0, 0, 0, 44, 1, 2]);
+    /// # Ok::<(), Box<dyn std::error::Error>>(())
+    /// ```
     pub fn write_to(&self, buf: &mut [u8], map: &Map) -> Result<usize, NotWritten> {
         let mut len = 0;
         NotWritten::of_status(sys::write(&map.kinds, &self.view(), buf, &mut len))?;

@@ -13,7 +13,8 @@ impl KindSet {
     /// Whether the kind is in the set. None of the caller's own is.
     #[must_use]
     pub fn contains(self, kind: Kind) -> bool {
-        kind.number() < 16 && self.bits >> kind.number() & 1 == 1
+        let above = self.bits.checked_shr(kind.number().into());
+        above.is_some_and(|it| it & 1 == 1)
     }
 
     /// Whether no kind is in the set.

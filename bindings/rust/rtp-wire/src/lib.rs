@@ -2,6 +2,7 @@
 //!
 //! # Where to look
 //!
+//! - What was agreed on in SDP: [`OwnUris`] makes a [`Map`] of each peer's lines, and [`NewIds`] go from one to another.
 //! - To receive: [`is_rtcp`], [`Packet`] and its [`Elements`], [`Header`] and its [`Values`] under a [`Map`],
 //!   [`Receiver`].
 //! - To receive many at once: [`parse_packets`], [`parse_headers`], [`receive_many`].
@@ -14,11 +15,12 @@
 //! - To send again: [`to_retransmission`], [`from_retransmission`], [`read_original`], [`write_original`].
 //! - Elements as their standards have them, for any peer: [`standard`], [`Packet::token`].
 //! - What went wrong: [`NotAPacket`], [`NotAHeader`], [`NotAValue`], [`NotRead`], [`NotTaken`], [`NotWritten`], [`OutOfRange`], [`NotChanged`],
-//!   [`NotPut`], [`NotRouted`], [`NotRetransmitted`], [`NotAText`], [`BadId`], [`BadRolloverCount`], [`TooManyLayers`].
+//!   [`NotPut`], [`NotRouted`], [`NotRetransmitted`], [`NotAText`], [`NotMapped`], [`BadId`], [`BadRolloverCount`], [`TooManyLayers`].
 #![no_std]
 #![deny(unsafe_code)]
 #![warn(missing_docs, missing_debug_implementations)]
 
+#[macro_use]
 mod assembly;
 mod elements;
 mod error;
@@ -29,12 +31,14 @@ mod layers;
 mod many;
 mod map;
 mod new_ids;
+mod own_uris;
 mod packet;
 mod packet_mut;
 mod payload;
 mod receiver;
 mod reception;
 mod restarting;
+mod routed_slot;
 pub mod standard;
 mod sys;
 mod template;
@@ -59,6 +63,7 @@ pub use many::{
 };
 pub use map::{Kind, Map, OwnKind};
 pub use new_ids::NewIds;
+pub use own_uris::{NotMapped, OwnUris};
 pub use packet::{is_rtcp, Csrcs, Form, Packet};
 pub use packet_mut::{Fields, PacketMut};
 pub use payload::{
@@ -67,7 +72,8 @@ pub use payload::{
 pub use receiver::{extend_u15, extend_u16, extend_u32, extend_u8, Receiver, Standing};
 pub use reception::{ReceptionReport, ReceptionStatistics};
 pub use restarting::{Arrival, RestartingReceiver, WideRestartingReceiver};
-pub use template::{Group, HeaderTemplate, RoutedHeaders, RoutedSlot};
+pub use routed_slot::RoutedSlot;
+pub use template::{Group, HeaderTemplate, RoutedHeaders};
 pub use text::{Mid, NotAText, Rid, Text};
 pub use uri::Uri;
 pub use values::{Values, VideoTiming};

@@ -16,15 +16,16 @@ pub use crate::views::{ArrivalSlot, HeaderSlot, PacketSlot};
 /// ```
 /// use rtp_wire::{parse_packets, NotAPacket, NotRead, PacketSlot};
 ///
-/// let buf = [0x80, 0x21, 0xB7, 0x98, 0, 0, 0x27, 0x10, 0, 0, 0, 0x2C, b'h', b'i', 0x80, 0x21, 0xB7];
+/// let buf = [0xA0, 0x21, 0xB7, 0x98, 0, 0, 0x27, 0x10, 0, 0, 0, 0x2C, b'h', b'i', 0, 2, 0x80, 0x21, 0xB7];
 /// let mut slots = [PacketSlot::default(); 32]; // used again for each buffer
-/// slots[0].set_place(0, 14);
-/// slots[1].set_place(14, 3);
-/// slots[2].set_place(14, 4);
+/// slots[0].set_place(0, 16); // with two bytes of padding
+/// slots[1].set_place(16, 3);
+/// slots[2].set_place(16, 4);
 ///
 /// let mut datagrams = parse_packets(&buf, &mut slots[..3]);
 /// let packet = datagrams.next().expect("the first of three").packet()?;
-/// assert_eq!((packet.ssrc(), packet.sequence_number(), packet.payload()), (44, 47_000, &b"hi"[..]));
+/// assert_eq!((packet.ssrc(), packet.sequence_number()), (44, 47_000));
+/// assert_eq!(packet.unpadded_payload(), Some(&b"hi"[..]));
 /// let failures: Vec<_> = datagrams.map(|it| it.packet().expect_err("no packet")).collect();
 /// assert_eq!(failures, [NotRead::NotAPacket(NotAPacket::CutFixedPart), NotRead::OutsideOfTheBuffer]);
 /// # Ok::<(), NotRead>(())
@@ -44,13 +45,13 @@ pub fn parse_packets<'s, 'a>(
 /// ```
 /// use rtp_wire::{parse_headers, HeaderSlot, Map};
 ///
-/// let buf = [0x90, 96, 0, 5, 0, 0, 0, 160, 0, 0, 0, 7, 0xBE, 0xDE, 0, 1, 0x10, 0x8A, 0, 0, b'h', b'i'];
+/// let buf = *b"\xB0\x60\0\x05\0\0\0\xA0\0\0\0\x07\xBE\xDE\0\x01\x10\x8A\0\0hi\0\x02";
 /// let mut slots = [HeaderSlot::default(); 2];
-/// slots[0].set_place(0, 22);
+/// slots[0].set_place(0, 24); // with two bytes of padding
 /// slots[1].set_place(0, 19);
 /// let map = Map::standard(); // 1 is the audio level
 /// let levels: Vec<_> = parse_headers(&buf, &map, &mut slots)
-///     .map(|it| Some((it.header().ok()?.values.audio_level?, it.payload()?)))
+///     .map(|it| Some((it.header().ok()?.values.audio_level?, it.unpadded_payload()?)))
 ///     .collect();
 /// assert_eq!(levels, [Some((-10, &b"hi"[..])), None]);
 /// ```
@@ -203,6 +204,18 @@ impl<'a> Datagram<'_, 'a, HeaderSlot> {
             return None;
         }
         self.bytes()?.get(self.slot.header.header_len..)
+    }
+
+    /// The payload without its padding; `None` where there is no [`header`](Datagram::header), or the padding's last
+    /// byte counts more bytes than the payload has. Of SRTP the padding is encrypted: decrypt first.
+    #[must_use]
+    #[inline]
+    pub fn unpadded_payload(&self) -> Option<&'a [u8]> {
+        let payload = self.payload()?;
+        if self.slot.header.has_padding == 0 {
+            return Some(payload);
+        }
+        Packet::parse(self.bytes()?).ok()?.unpadded_payload()
     }
 }
 

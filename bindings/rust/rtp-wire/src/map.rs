@@ -18,7 +18,8 @@ impl OwnKind {
     }
 }
 
-/// What a header extension says of its packet.
+/// What a header extension says of its packet. [`Values`](crate::Values) have a field, or some, for each of the first
+/// ones, up to [`FrameMarking`](Kind::FrameMarking); of the others what is documented here reads and writes the data.
 #[derive(Clone, Copy, Debug, PartialEq, Eq, PartialOrd, Ord, Hash)]
 #[non_exhaustive]
 #[expect(missing_docs, reason = "the names are those of the extensions")]
@@ -35,17 +36,36 @@ pub enum Kind {
     Rid,
     RepairedRid,
     Mid,
+    /// The draft's, of four bytes. That of RFC 9626, `urn:ietf:params:rtp-hdrext:framemarking`, has no kind but one of
+    /// the caller's own: [`standard::FrameMarking`](crate::standard::FrameMarking).
     FrameMarking,
+    /// [`standard::ColorSpace`](crate::standard::ColorSpace).
     ColorSpace,
+    /// [`Header::parse_with_layers`](crate::Header::parse_with_layers) and
+    /// [`Header::write_with_layers`](crate::Header::write_with_layers).
     Layers,
-    /// One of the caller's own, by the number that it gave it ([`Kind::own`]): an extension that has no
-    /// value here, as a dependency descriptor ([`standard`](crate::standard)). What reads and writes values
-    /// passes over its ids.
+    /// The audio levels of the contributing sources (RFC 6465):
+    /// [`standard::parse_mixer_level`](crate::standard::parse_mixer_level) and
+    /// [`standard::write_mixer_levels`](crate::standard::write_mixer_levels).
+    MixerLevels,
+    /// `transport-wide-cc-02`, the number with what feedback it asks for:
+    /// [`standard::TransportNumber`](crate::standard::TransportNumber).
+    TransportNumber2,
+    /// AV1's: [`standard::DependencyDescriptor`](crate::standard::DependencyDescriptor).
+    DependencyDescriptor,
+    /// RFC 6051's NTP timestamp of eight bytes: [`standard::parse_ntp_64`](crate::standard::parse_ntp_64) and
+    /// [`standard::ntp_64_bytes`](crate::standard::ntp_64_bytes).
+    Ntp64,
+    /// Its low seven bytes: [`standard::parse_ntp_56`](crate::standard::parse_ntp_56) and
+    /// [`standard::ntp_56_bytes`](crate::standard::ntp_56_bytes).
+    Ntp56,
+    /// One of the caller's own, by the number that it gave it ([`Kind::own`]), or that [`OwnUris`](crate::OwnUris) gave
+    /// a URI: an extension that this library doesn't know. What reads and writes values passes over its ids.
     Own(OwnKind),
 }
 
 impl Kind {
-    pub(crate) const ALL: [Kind; 15] = [
+    pub(crate) const ALL: [Kind; 20] = [
         Kind::AbsSendTime,
         Kind::AbsCaptureTime,
         Kind::AudioLevel,
@@ -61,16 +81,22 @@ impl Kind {
         Kind::FrameMarking,
         Kind::ColorSpace,
         Kind::Layers,
+        Kind::MixerLevels,
+        Kind::TransportNumber2,
+        Kind::DependencyDescriptor,
+        Kind::Ntp64,
+        Kind::Ntp56,
     ];
 
     /// The extension of the caller's own that it gives this number, 128 to 255; `None` of other numbers.
-    /// Elements keep it where two maps have the same number ([`NewIds::between`](crate::NewIds::between)).
+    /// Elements keep it where two maps have the same number ([`NewIds::between`](crate::NewIds::between));
+    /// [`OwnUris`](crate::OwnUris) sees to that.
     ///
     /// ```
     /// use rtp_wire::{Kind, Map, NewIds};
     ///
-    /// let descriptor = Kind::own(128).unwrap();
-    /// let (from, to) = (Map::new().with(9, descriptor), Map::new().with(12, descriptor));
+    /// let kind = Kind::own(128).unwrap();
+    /// let (from, to) = (Map::new().with(9, kind), Map::new().with(12, kind));
     /// assert_eq!(NewIds::between(&from, &to).get(9), Some(12));
     /// assert_eq!(Kind::own(127), None);
     /// ```
@@ -83,7 +109,8 @@ impl Kind {
         }
     }
 
-    /// The kind that this URI names in SDP (RFC 8285, 5); `None` where it names none of these.
+    /// The kind that this URI names in SDP (RFC 8285, 5), letter for letter; `None` where it names none of these.
+    /// [`OwnUris::kind_of`](crate::OwnUris::kind_of) gives any other a number of the caller's own.
     ///
     /// ```
     /// use rtp_wire::Kind;
@@ -154,21 +181,26 @@ impl Kind {
             Kind::FrameMarking => 13,
             Kind::ColorSpace => 14,
             Kind::Layers => 15,
+            Kind::MixerLevels => 16,
+            Kind::TransportNumber2 => 17,
+            Kind::DependencyDescriptor => 18,
+            Kind::Ntp64 => 19,
+            Kind::Ntp56 => 20,
             Kind::Own(own) => own.number(),
         }
     }
 }
 
-/// Which extension each id means, as the two peers agreed (RFC 8285, 5). It may be a `const` or a
-/// `static`.
+/// Which extension each id means, as the two peers agreed (RFC 8285, 5): made of the lines of an SDP by
+/// [`OwnUris::map`](crate::OwnUris::map), or by hand. It may be a `const` or a `static`.
 ///
 /// ```
-/// use rtp_wire::{Kind, Map};
+/// use rtp_wire::{Kind, Map, OwnUris};
 ///
 /// const MAP: Map = Map::new().with(3, Kind::AudioLevel);
-/// let map = Map::from_uris([(3, "urn:ietf:params:rtp-hdrext:ssrc-audio-level"), (4, "urn:other")])?;
+/// let map = OwnUris::new().map([(3, "urn:ietf:params:rtp-hdrext:ssrc-audio-level")])?;
 /// assert_eq!(map, MAP);
-/// # Ok::<(), rtp_wire::BadId>(())
+/// # Ok::<(), rtp_wire::NotMapped>(())
 /// ```
 #[derive(Clone, Copy, PartialEq, Eq, Hash)]
 pub struct Map {
@@ -193,11 +225,17 @@ impl Map {
         map
     }
 
-    /// The map of the lines `a=extmap:ID URI` of an SDP. One whose URI names no [`Kind`] is passed over.
+    /// The map of the lines `a=extmap:ID URI` of an SDP. One whose URI names no [`Kind`] is passed over, and where a
+    /// packet goes on its elements are then lost ([`PacketMut::renumber`](crate::PacketMut::renumber)).
     ///
     /// # Errors
     ///
     /// [`BadId`] where the id of a kind is 0.
+    #[deprecated(
+        since = "1.1.0",
+        note = "it drops each URI that this library doesn't know, and NewIds::between then its elements, though both \
+                peers agreed on them: use OwnUris::map"
+    )]
     pub fn from_uris<'a>(lines: impl IntoIterator<Item = (u8, &'a str)>) -> Result<Map, BadId> {
         let mut map = Map::new();
         for (id, uri) in lines {
@@ -218,14 +256,21 @@ impl Map {
         self
     }
 
-    /// The id means this kind from now on, or nothing.
+    /// The id means this kind from now on, or nothing where it is `None`, as [`Kind::from_uri`] says of a URI that isn't
+    /// known or is misspelled: [`OwnUris::kind_of`](crate::OwnUris::kind_of) has a kind for each.
     ///
     /// # Errors
     ///
     /// [`BadId`], and nothing changes, where the id is 0.
     pub fn set(&mut self, id: u8, kind: Option<Kind>) -> Result<(), BadId> {
-        let number = kind.map_or(0, Kind::number);
-        match sys::map_set(&mut self.kinds, id, number) {
+        if id == 0 {
+            return Err(BadId);
+        }
+        let Some(kind) = kind else {
+            sys::map_remove(&mut self.kinds, id);
+            return Ok(());
+        };
+        match sys::map_set(&mut self.kinds, id, kind.number()) {
             sys::OK => Ok(()),
             _ => Err(BadId),
         }

@@ -15,6 +15,18 @@ pub enum Arrival {
     Refused,
 }
 
+impl Arrival {
+    /// The extended number of a packet that is taken, be it the first one of a new epoch or not. Who looks at
+    /// [`Arrival::Taken`] alone drops that first one.
+    #[must_use]
+    pub fn number(self) -> Option<u64> {
+        match self {
+            Arrival::Taken(number) | Arrival::Restarted(number) => Some(number),
+            Arrival::Refused => None,
+        }
+    }
+}
+
 /// The receive state of one stream that isn't authenticated and whose sender may start again under the
 /// same SSRC (RFC 3550, appendix A.1), with a replay window of 64 * WORDS numbers: of 1 to 512 words, which
 /// is tested as the program is compiled. [`RestartingReceiver`] has 16.
@@ -45,6 +57,24 @@ pub enum Arrival {
 /// assert_eq!(receiver.receive(7), Arrival::Refused);
 /// assert_eq!(receiver.receive(8), Arrival::Restarted(196_616));
 /// assert_eq!(receiver.receive(9), Arrival::Taken(196_617));
+/// ```
+///
+/// In a loop a restart is told, and its packet goes the way of all that are taken:
+///
+/// ```
+/// use rtp_wire::{Arrival, RestartingReceiver};
+///
+/// let mut receiver = RestartingReceiver::new();
+/// let (mut restarts, mut taken) = (0, Vec::new());
+/// for sequence_number in [60_000, 7, 8, 8, 9] {
+///     let arrival = receiver.receive(sequence_number);
+///     if let Arrival::Restarted(_) = arrival {
+///         restarts += 1; // what hangs on numbers begins anew
+///     }
+///     let Some(number) = arrival.number() else { continue }; // it is dropped
+///     taken.push(number);
+/// }
+/// assert_eq!((restarts, taken), (1, vec![125_536, 196_616, 196_617]));
 /// ```
 ///
 /// ```compile_fail

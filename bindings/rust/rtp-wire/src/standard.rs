@@ -3,8 +3,8 @@
 //!
 //! What is read is what [`Packet::element`](crate::Packet::element) lends, and what is written is for
 //! [`put_element`](crate::put_element), [`PacketMut::set_element`](crate::PacketMut::set_element) and
-//! [`write_elements`](crate::write_elements). An extension without a kind has one of your own
-//! ([`Kind::own`](crate::Kind::own)) in the map.
+//! [`write_elements`](crate::write_elements). [`Map::id_of`](crate::Map::id_of) its kind is the id of each but RFC 9626's
+//! frame marking, which has no kind: [`OwnUris`](crate::OwnUris) gives it one of your own.
 //!
 //! ```
 //! use rtp_wire::standard::{Camera, Orientation, Turn, MOST_DATA};
@@ -32,6 +32,7 @@ mod dependency_descriptor;
 mod frame_marking;
 mod numbers;
 mod orientation;
+mod send_time;
 mod timing;
 mod token;
 mod transport_number;
@@ -45,11 +46,12 @@ pub use numbers::{
     parse_transmission_offset, transmission_offset_bytes, write_mixer_levels,
 };
 pub use orientation::{Camera, Orientation, Turn};
+pub use send_time::{extend_send_time, parse_send_time, send_time_bytes};
 pub use timing::Timing;
-pub use token::parse_token;
+pub use token::{is_stream_id, parse_token};
 pub use transport_number::{FeedbackRequest, TransportNumber};
 
-/// Enough room for the data of each value but the levels of a mixer.
+/// Enough room for the data of each value.
 pub const MOST_DATA: usize = 28;
 
 /// How many bytes were written by a function that tells it.

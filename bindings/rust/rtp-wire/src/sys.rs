@@ -41,6 +41,18 @@ pub const KIND_OWN: u8 = 128;
 pub const CAMERA_FRONT: u8 = 0;
 pub const CAMERA_BACK: u8 = 1;
 
+/// Declares functions of the library under their names in its text.
+macro_rules! of_the_text {
+    ($(pub fn $name:ident($($argument:ident: $kind:ty),* $(,)?) $(-> $result:ty)?;)*) => {
+        extern "C" {
+            $(
+                #[link_name = in_the_text!($name)]
+                pub fn $name($($argument: $kind),*) $(-> $result)?;
+            )*
+        }
+    };
+}
+
 mod c {
     use super::{
         ArrivalSlot, ColorSpaceView, DependencyDescriptorView, FieldsView, FrameMarkingView,
@@ -49,7 +61,7 @@ mod c {
         StoredNewIds, TemplateParts, TimingView, TransportNumberView, ValuesView, WideState,
     };
 
-    extern "C" {
+    of_the_text! {
         pub fn rtpw_is_rtcp(datagram: *const u8, len: usize) -> bool;
         pub fn rtpw_packet_parse(datagram: *const u8, len: usize, packet: *mut PacketParts) -> i32;
         pub fn rtpw_set_marker(datagram: *mut u8, len: usize, marker: bool) -> i32;
@@ -189,6 +201,7 @@ mod c {
         pub fn rtpw_kind_of_uri(uri: *const u8, len: usize) -> u8;
         pub fn rtpw_uri_of_kind(kind: u8, buf: *mut u8, size: usize, len: *mut usize) -> i32;
         pub fn rtpw_map_set(map: *mut StoredMap, id: u8, kind: u8) -> i32;
+        pub fn rtpw_map_remove(map: *mut StoredMap, id: u8);
         pub fn rtpw_map_get(map: *const StoredMap, id: u8) -> u8;
         pub fn rtpw_id_of(map: *const StoredMap, kind: u8) -> u8;
         pub fn rtpw_map_standard(map: *mut StoredMap);
@@ -280,6 +293,9 @@ mod c {
             size: usize,
             len: *mut usize,
         ) -> i32;
+        pub fn rtpw_read_send_time(data: *const u8, data_len: usize, units: *mut u32) -> i32;
+        pub fn rtpw_write_send_time(units: u32, buf: *mut u8, size: usize, len: *mut usize) -> i32;
+        pub fn rtpw_extend_send_time(near: u64, units: u32) -> u64;
         pub fn rtpw_read_frame_marking(
             data: *const u8,
             data_len: usize,
@@ -373,6 +389,7 @@ mod c {
         pub fn rtpw_write_ntp_56(time: u64, buf: *mut u8, size: usize, len: *mut usize) -> i32;
         pub fn rtpw_extend_ntp_56(near: u64, low: u64) -> u64;
         pub fn rtpw_is_token(data: *const u8, data_len: usize) -> bool;
+        pub fn rtpw_is_stream_id(data: *const u8, data_len: usize) -> bool;
         pub fn rtpw_has_structure(data: *const u8, data_len: usize) -> bool;
         pub fn rtpw_new_ids_between(
             from: *const StoredMap,
@@ -626,6 +643,11 @@ pub fn map_set(map: &mut StoredMap, id: u8, kind: u8) -> i32 {
     unsafe { c::rtpw_map_set(map, id, kind) }
 }
 
+pub fn map_remove(map: &mut StoredMap, id: u8) {
+    // SAFETY: an exclusive reference.
+    unsafe { c::rtpw_map_remove(map, id) }
+}
+
 pub fn map_get(map: &StoredMap, id: u8) -> u8 {
     // SAFETY: a reference that is read.
     unsafe { c::rtpw_map_get(map, id) }
@@ -856,6 +878,23 @@ pub fn write_elements(
     }
 }
 
+pub fn read_send_time(data: &[u8]) -> Option<u32> {
+    let mut units = 0;
+    // SAFETY: a slice that is read, and an exclusive reference.
+    let status = unsafe { c::rtpw_read_send_time(data.as_ptr(), data.len(), &mut units) };
+    (status == OK).then_some(units)
+}
+
+pub fn write_send_time(units: u32, buf: &mut [u8], len: &mut usize) -> i32 {
+    // SAFETY: an exclusive slice, and an exclusive reference.
+    unsafe { c::rtpw_write_send_time(units, buf.as_mut_ptr(), buf.len(), len) }
+}
+
+pub fn extend_send_time(near: u64, units: u32) -> u64 {
+    // SAFETY: no memory is passed.
+    unsafe { c::rtpw_extend_send_time(near, units) }
+}
+
 pub fn read_frame_marking(data: &[u8]) -> Option<FrameMarkingView> {
     let mut value = FrameMarkingView::default();
     // SAFETY: a slice that is read, and an exclusive reference.
@@ -1000,6 +1039,11 @@ pub fn extend_ntp_56(near: u64, low: u64) -> u64 {
 pub fn is_token(data: &[u8]) -> bool {
     // SAFETY: a slice that is read.
     unsafe { c::rtpw_is_token(data.as_ptr(), data.len()) }
+}
+
+pub fn is_stream_id(data: &[u8]) -> bool {
+    // SAFETY: a slice that is read.
+    unsafe { c::rtpw_is_stream_id(data.as_ptr(), data.len()) }
 }
 
 pub fn has_structure(data: &[u8]) -> bool {

@@ -9,8 +9,7 @@ use crate::new_ids::NewIds;
 use crate::packet::{Form, Packet};
 use crate::packet_mut::Fields;
 use crate::sys;
-pub use crate::views::RoutedSlot;
-use crate::views::TemplateParts;
+use crate::views::{RoutedSlot, TemplateParts};
 
 /// What some receivers of a packet have in common.
 ///
@@ -62,9 +61,9 @@ pub struct Group<'a> {
 /// let template = HeaderTemplate::new(&Packet::parse(&datagram)?, &group, &mut room)?;
 ///
 /// let fields = |ssrc| Fields { ssrc: Some(ssrc), ..Fields::default() };
-/// let mut receivers = [(45, 0, 0), (46, 2, 24), (47, 3, 48)]
-///     .map(|(ssrc, data_at, at)| RoutedSlot::new(&fields(ssrc), data_at, at));
-/// let mut buf = [0; 3 * 24];
+/// let mut receivers = [(45, 0), (46, 2), (47, 3)]
+///     .map(|(ssrc, data_at)| RoutedSlot::new(&fields(ssrc), data_at));
+/// let mut buf = [0; 3 * 306]; // the template's header_len and two bytes for each are enough
 /// let mut headers = template.write_headers(&numbers, &mut receivers, &mut buf);
 /// assert!(headers.next().is_some_and(|it| it.is_ok()));
 /// let second = [0x90, 96, 0, 5, 0, 0, 0, 100, 0, 0, 0, 46, 0xBE, 0xDE, 0, 2, 0x30, 0xAA, 0x41, 0, 8, 0, 0, 0];
@@ -154,7 +153,8 @@ impl<'a> HeaderTemplate<'a> {
     }
 
     /// Writes the header with these fields and these data, which are those of the group's elements one after another, to
-    /// the front of the buffer, and returns how many bytes it has; those after them stay.
+    /// the front of the buffer, and returns how many bytes it has; those after them stay. P is the packet's: where the
+    /// payload is sent without its padding, [`PacketMut::set_padding`](crate::PacketMut::set_padding) clears it.
     ///
     /// # Errors
     ///
@@ -180,7 +180,7 @@ impl<'a> HeaderTemplate<'a> {
         data: &[u8],
         buf: &mut [u8],
     ) -> Result<usize, NotWritten> {
-        self.write_alone(RoutedSlot::new(fields, 0, 0), data, buf)
+        self.write_alone(RoutedSlot::new(fields, 0), data, buf)
     }
 
     /// Writes the header of a retransmission (RFC 4588, 4) in the same way: the fields are those of its own stream, with
@@ -213,7 +213,7 @@ impl<'a> HeaderTemplate<'a> {
         data: &[u8],
         buf: &mut [u8],
     ) -> Result<usize, NotWritten> {
-        let receiver = RoutedSlot::retransmission(fields, original_number, 0, 0);
+        let receiver = RoutedSlot::retransmission(fields, original_number, 0);
         self.write_alone(receiver, data, buf)
     }
 
@@ -227,20 +227,23 @@ impl<'a> HeaderTemplate<'a> {
             return Err(NotWritten::BadField);
         }
         self.write(data, slice::from_mut(&mut receiver), buf);
-        receiver.written()?;
-        Ok(receiver.len(self.header_len()))
+        receiver.range().map(|it| it.len())
     }
 
-    /// Writes the headers of many receivers, each with the fields of its slot, and with the data and at the place that
-    /// its slot says: in `data` there are [`data_len`](HeaderTemplate::data_len) bytes for each, those of the group's
-    /// elements one after another. They are written in the order of the slots: where two overlap the bytes of the later
-    /// one stand. What each gets is lent in that order, or told by [`RoutedSlot::written`].
+    /// Writes the headers of many receivers, each with the fields of its slot and the data that its slot says: in `data`
+    /// there are [`data_len`](HeaderTemplate::data_len) bytes for each, those of the group's elements one after another.
+    /// They are written in the order of the slots, one behind another from the buffer's first byte on: so none overlaps
+    /// another, and [`header_len`](HeaderTemplate::header_len) and two bytes for each are room enough. Bytes behind the
+    /// last one stay. What each gets is lent in that order, or told by [`RoutedSlot::range`].
+    ///
+    /// P of each but a retransmission is the packet's: behind it goes [`Packet::payload`], with its padding, or
+    /// [`Packet::unpadded_payload`] where the slot is [`without_padding`](RoutedSlot::without_padding).
     ///
     /// # Errors
     ///
     /// Each has a result of its own: [`NotWritten::BadField`] where its payload type is above 127, or its data reach
-    /// past `data`; [`NotWritten::ShortBuffer`] where its header would reach past the buffer. Nothing is written of
-    /// that one then, and all others are as without it.
+    /// past `data`; [`NotWritten::ShortBuffer`] where its header would reach past the buffer. That one takes no bytes
+    /// then, and all others are as without it.
     pub fn write_headers<'s, 'b>(
         &self,
         data: &[u8],
@@ -250,7 +253,6 @@ impl<'a> HeaderTemplate<'a> {
         self.write(data, receivers, buf);
         RoutedHeaders {
             buf,
-            header_len: self.header_len(),
             slots: receivers.iter(),
         }
     }
@@ -298,14 +300,12 @@ impl Group<'_> {
 #[derive(Clone)]
 pub struct RoutedHeaders<'s, 'b> {
     buf: &'b [u8],
-    header_len: usize,
     slots: slice::Iter<'s, RoutedSlot>,
 }
 
 impl<'b> RoutedHeaders<'_, 'b> {
     fn header(&self, slot: &RoutedSlot) -> Result<&'b [u8], NotWritten> {
-        slot.written()?;
-        Ok(&self.buf[slot.at..slot.at + slot.len(self.header_len)])
+        Ok(&self.buf[slot.range()?])
     }
 }
 
@@ -336,89 +336,5 @@ impl FusedIterator for RoutedHeaders<'_, '_> {}
 impl fmt::Debug for RoutedHeaders<'_, '_> {
     fn fmt(&self, f: &mut fmt::Formatter<'_>) -> fmt::Result {
         f.debug_list().entries(self.clone()).finish()
-    }
-}
-
-impl RoutedSlot {
-    /// A receiver with these fields, whose data begin there in all data, and whose header is to begin there in the
-    /// buffer, in bytes.
-    ///
-    /// ```
-    /// use rtp_wire::{Fields, Group, HeaderTemplate, NewIds, NotWritten, Packet, RoutedSlot};
-    ///
-    /// let packet = Packet::parse(&[0x80, 96, 0, 5, 0, 0, 0, 100, 0, 0, 0, 44])?;
-    /// let group = Group { ids: &NewIds::new(), data: &[], elements: &[], allowed: None };
-    /// let mut room = [0; 24];
-    /// let template = HeaderTemplate::new(&packet, &group, &mut room)?;
-    ///
-    /// let mut buf = [0; 24];
-    /// let fields = Fields { ssrc: Some(45), ..Fields::default() };
-    /// let mut slots = [RoutedSlot::new(&fields, 0, 12), RoutedSlot::new(&fields, 0, 13)];
-    /// template.write_headers(&[], &mut slots, &mut buf);
-    /// assert_eq!(slots.map(|it| it.written()), [Ok(()), Err(NotWritten::ShortBuffer)]);
-    /// assert_eq!((&buf[..12], buf[23]), (&[0; 12][..], 45)); // to be encrypted where they lie, say
-    /// # Ok::<(), Box<dyn std::error::Error>>(())
-    /// ```
-    #[must_use]
-    #[inline]
-    pub fn new(fields: &Fields, data_at: usize, at: usize) -> RoutedSlot {
-        RoutedSlot {
-            data_at,
-            at,
-            fields: fields.view(),
-            original_number: 0,
-            is_retransmission: 0,
-            status: sys::BAD_FIELD,
-        }
-    }
-
-    /// A receiver that gets a retransmission ([`HeaderTemplate::write_retransmission`]) of the packet with this original
-    /// number. Its header is two bytes longer than that of the others.
-    ///
-    /// ```
-    /// use rtp_wire::{Fields, Group, HeaderTemplate, NewIds, Packet, RoutedSlot};
-    ///
-    /// let packet = Packet::parse(&[0x80, 96, 0, 5, 0, 0, 0, 100, 0, 0, 0, 44])?;
-    /// let group = Group { ids: &NewIds::new(), data: &[], elements: &[], allowed: None };
-    /// let mut room = [0; 24];
-    /// let template = HeaderTemplate::new(&packet, &group, &mut room)?;
-    ///
-    /// let stream = Fields { payload_type: Some(97), sequence_number: Some(9), ssrc: Some(45), ..Fields::default() };
-    /// let mut slots = [RoutedSlot::retransmission(&stream, 5, 0, 0), RoutedSlot::new(&Fields::default(), 0, 14)];
-    /// let mut buf = [0; 26];
-    /// let mut headers = template.write_headers(&[], &mut slots, &mut buf);
-    /// assert_eq!(headers.next(), Some(Ok(&[0x80, 97, 0, 9, 0, 0, 0, 100, 0, 0, 0, 45, 0, 5][..])));
-    /// assert_eq!(headers.next(), Some(Ok(&[0x80, 96, 0, 5, 0, 0, 0, 100, 0, 0, 0, 44][..])));
-    /// # Ok::<(), Box<dyn std::error::Error>>(())
-    /// ```
-    #[must_use]
-    #[inline]
-    pub fn retransmission(
-        fields: &Fields,
-        original_number: u16,
-        data_at: usize,
-        at: usize,
-    ) -> RoutedSlot {
-        RoutedSlot {
-            original_number,
-            is_retransmission: 1,
-            ..RoutedSlot::new(fields, data_at, at)
-        }
-    }
-
-    /// How many bytes its header has, by those of the template's.
-    #[inline]
-    fn len(&self, header_len: usize) -> usize {
-        header_len + 2 * usize::from(self.is_retransmission)
-    }
-
-    /// Whether the receiver's header was written.
-    ///
-    /// # Errors
-    ///
-    /// Those of [`HeaderTemplate::write_headers`]; [`NotWritten::BadField`] also where that wasn't called yet.
-    #[inline]
-    pub fn written(&self) -> Result<(), NotWritten> {
-        NotWritten::of_status(self.status)
     }
 }

@@ -23,10 +23,10 @@ pub struct Text<const ROOM: usize> {
     bytes: [u8; ROOM],
 }
 
-/// A media section's identification tag, of at most 16 characters (RFC 9143).
+/// A media section's identification tag (RFC 9143), of at most 16 characters.
 pub type Mid = Text<17>;
 
-/// A stream's id, of at most 8 characters (RFC 8852).
+/// A stream's id (RFC 8852), of at most 8 characters, where the RFC has up to 255.
 pub type Rid = Text<9>;
 
 impl<const ROOM: usize> Text<ROOM> {

@@ -3,7 +3,7 @@ use core::ops::Deref;
 use core::str;
 
 /// The most bytes that a URI has.
-const ROOM: usize = 73;
+const ROOM: usize = 87;
 
 /// The URI that names a kind in SDP ([`Kind::uri`](crate::Kind::uri)). It is copied, and takes no memory.
 #[derive(Clone, Copy, PartialEq, Eq, Hash)]

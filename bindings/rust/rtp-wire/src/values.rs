@@ -28,7 +28,9 @@ pub struct VideoTiming {
 #[derive(Clone, Copy, Debug, Default, PartialEq, Eq, Hash)]
 #[non_exhaustive]
 pub struct Values {
-    /// When the packet left its sender, in microseconds: as read modulo 64 seconds.
+    /// When the packet left its sender, in microseconds: as read modulo 64 seconds. The whole ones, so that nearly all of
+    /// the 2^24 times lose one unit where they are read and written:
+    /// [`parse_send_time`](crate::standard::parse_send_time).
     pub send_time: Option<u64>,
     /// When the frame was captured, as an NTP timestamp with 32 bits of fraction.
     pub capture_time: Option<u64>,
@@ -59,8 +61,8 @@ pub struct Values {
     pub video_timing: Option<VideoTiming>,
     /// 0 unspecified, 1 a screen.
     pub video_content_type: Option<u8>,
-    /// Decibels relative to the overload point, -127 to 0. It is written together with the voice
-    /// activity, or not.
+    /// Decibels relative to the overload point, -127 to 0; any other isn't written ([`NotWritten::BadField`]). It is
+    /// written together with the voice activity, or not.
     pub audio_level: Option<i8>,
     /// Whether the audio has voice.
     pub voice_activity: Option<bool>,
@@ -136,12 +138,12 @@ impl Values {
     /// Writes the data that an element of the kind has for these values to the front of the buffer, to set
     /// it where it lies ([`PacketMut::set_element`](crate::PacketMut::set_element)), and tells how many
     /// bytes they are; `None` where a value that the kind needs isn't there, as always for the layer
-    /// allocation, the color space ([`ColorSpace`](crate::standard::ColorSpace)) and the caller's own kinds.
+    /// allocation and the kinds that have no field here.
     ///
     /// # Errors
     ///
-    /// [`NotWritten::BadField`] where the orientation is none of the four, whatever the kind is, and else
-    /// [`NotWritten::ShortBuffer`]; nothing is written then.
+    /// [`NotWritten::BadField`] where the orientation is none of the four or the audio level none of -127 to 0, whatever
+    /// the kind is, and else [`NotWritten::ShortBuffer`]; nothing is written then.
     ///
     /// ```
     /// use rtp_wire::{Kind, Values};

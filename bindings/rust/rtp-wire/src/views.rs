@@ -231,7 +231,9 @@ pub struct RoutedSlot {
     pub(crate) fields: FieldsView,
     pub(crate) original_number: u16,
     pub(crate) is_retransmission: u8,
+    pub(crate) clears_padding: u8,
     pub(crate) status: i32,
+    pub(crate) len: u32,
 }
 
 /// A spatial layer of a [`Stream`].
@@ -410,7 +412,7 @@ mod tests {
             has_timestamp 12, has_ssrc 13, has_sequence_number 14, has_payload_type 15, has_marker 16);
         lies!(TemplateParts, 88, aligned 4, header_len 0, data_at 4, data_total 68, count 70, data_len 71);
         lies!(RoutedSlot, 48, data_at 0, at 8, fields 16, original_number 36, is_retransmission 38,
-            status 40);
+            clears_padding 39, status 40, len 44);
         lies!(Layer, 40, kbps 0, width 32, height 34, framerate 36, has_resolution 37, rates 38);
         lies!(Stream, 168, layers 0, count 160);
         lies!(Layers, 680, streams 0, count 672, current 673);

@@ -267,13 +267,27 @@ fn what_is_refused_writes_nothing() {
         write_mixer_levels(&[-1, 1], &mut data),
         Err(NotWritten::OutOfRange(level))
     );
-    for count in [15, 16, 255, 1000] {
+    for count in [1, 14, 15] {
         let mut levels = vec![-1; count];
         assert_eq!(write_mixer_levels(&levels, &mut vec![0; count]), Ok(count));
         levels[count - 1] = 1;
         assert_eq!(
             write_mixer_levels(&levels, &mut []),
             Err(NotWritten::OutOfRange(level))
+        );
+    }
+    // a packet has at most 15 sources, whatever their levels are
+    for count in [16, 255, 300, 1000] {
+        let many = OutOfRange {
+            field: "the number of levels",
+            value: count,
+            least: 0,
+            most: 15,
+        };
+        let levels = vec![1; count as usize];
+        assert_eq!(
+            write_mixer_levels(&levels, &mut [0; 1000]),
+            Err(NotWritten::OutOfRange(many))
         );
     }
     assert_eq!(

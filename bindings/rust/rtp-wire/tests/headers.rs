@@ -163,14 +163,6 @@ fn maps_are_filled() {
         .fold(Map::new(), |map, (id, kind)| map.with(id, kind));
     assert_eq!(Map::standard(), expected);
 
-    let toffset = "urn:ietf:params:rtp-hdrext:toffset";
-    let map = Map::from_uris([(7, toffset), (8, "urn:x"), (9, toffset)]).unwrap();
-    assert_eq!(
-        format!("{map:?}"),
-        "{7: TransmissionOffset, 9: TransmissionOffset}"
-    );
-    assert_eq!(Map::from_uris([(0, toffset)]), Err(BadId));
-    assert_eq!(Map::from_uris([(0, "urn:x")]), Ok(Map::new()));
     assert_eq!(Kind::from_uri("URN:ietf:params:rtp-hdrext:toffset"), None);
     assert_eq!(Kind::from_uri(""), None);
 }

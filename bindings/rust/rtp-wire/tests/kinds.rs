@@ -1,9 +1,9 @@
-//! The fifteen kinds: their URIs, and their numbers in the header file for C.
+//! The twenty kinds: their URIs, and their numbers in the header file for C.
 
-use rtp_wire::{BadId, Kind, Map, NewIds, NotWritten, Values};
+use rtp_wire::{BadId, Kind, KindSet, Map, NewIds, NotWritten, OwnUris, Values};
 
 /// The kind, its number, its name in the header file, and its URI.
-const KINDS: [(Kind, u8, &str, &str); 15] = [
+const KINDS: [(Kind, u8, &str, &str); 20] = [
     (
         Kind::AbsSendTime,
         1,
@@ -89,6 +89,36 @@ const KINDS: [(Kind, u8, &str, &str); 15] = [
         "LAYERS",
         "http://www.webrtc.org/experiments/rtp-hdrext/video-layers-allocation00",
     ),
+    (
+        Kind::MixerLevels,
+        16,
+        "MIXER_LEVELS",
+        "urn:ietf:params:rtp-hdrext:csrc-audio-level",
+    ),
+    (
+        Kind::TransportNumber2,
+        17,
+        "TRANSPORT_NUMBER_2",
+        "http://www.webrtc.org/experiments/rtp-hdrext/transport-wide-cc-02",
+    ),
+    (
+        Kind::DependencyDescriptor,
+        18,
+        "DEPENDENCY_DESCRIPTOR",
+        "https://aomediacodec.github.io/av1-rtp-spec/#dependency-descriptor-rtp-header-extension",
+    ),
+    (
+        Kind::Ntp64,
+        19,
+        "NTP_64",
+        "urn:ietf:params:rtp-hdrext:ntp-64",
+    ),
+    (
+        Kind::Ntp56,
+        20,
+        "NTP_56",
+        "urn:ietf:params:rtp-hdrext:ntp-56",
+    ),
 ];
 
 #[test]
@@ -101,6 +131,7 @@ fn each_kind_has_its_number_and_its_uri() {
             "{name}"
         );
         assert_eq!(Kind::from_uri(uri), Some(kind));
+        assert_eq!(kind.uri().as_deref(), Some(uri));
         assert_eq!(Kind::from_uri(&uri[1..]), None);
         assert_eq!(Kind::from_uri(&uri[..uri.len() - 1]), None);
         for other in [
@@ -123,12 +154,12 @@ fn each_id_takes_each_kind() {
             let mut map = Map::new();
             assert_eq!(map.set(id, Some(kind)), Ok(()));
             assert_eq!(map, Map::new().with(id, kind));
-            assert_eq!(Map::from_uris([(id, "urn:x"), (id, uri)]), Ok(map));
+            assert_eq!(OwnUris::new().map([(id, "urn:x"), (id, uri)]), Ok(map));
             let known: Vec<_> = (0..=255)
                 .filter_map(|it| Some((it, map.get(it)?)))
                 .collect();
             assert_eq!(known, [(id, kind)]);
-            let (other, ..) = KINDS[(index + 1) % 15];
+            let (other, ..) = KINDS[(index + 1) % 20];
             assert_ne!(map, map.with(id, other));
             assert_eq!(map.with(id, other).get(id), Some(other));
             assert_eq!(map.set(0, Some(kind)), Err(BadId));
@@ -138,7 +169,7 @@ fn each_id_takes_each_kind() {
             assert_eq!(map, Map::default());
         }
         assert_eq!(Map::new().with(0, kind), Map::new());
-        assert_eq!(Map::from_uris([(0, uri)]), Err(BadId));
+        assert!(!KindSet::default().contains(kind));
     }
 }
 
@@ -147,14 +178,15 @@ fn each_map_is_told() {
     let all = KINDS
         .into_iter()
         .fold(Map::new(), |map, (kind, number, ..)| {
-            map.with(16 - number, kind)
+            map.with(21 - number, kind)
         });
     let text = format!("{:?}", all.with(255, Kind::Mid).with(0, Kind::Rid));
     assert_eq!(
         text,
-        "{1: Layers, 2: ColorSpace, 3: FrameMarking, 4: Mid, 5: RepairedRid, 6: Rid, 7: VideoTiming, \
-         8: VideoContentType, 9: PlayoutDelay, 10: TransportNumber, 11: VideoOrientation, \
-         12: TransmissionOffset, 13: AudioLevel, 14: AbsCaptureTime, 15: AbsSendTime, 255: Mid}"
+        "{1: Ntp56, 2: Ntp64, 3: DependencyDescriptor, 4: TransportNumber2, 5: MixerLevels, 6: Layers, \
+         7: ColorSpace, 8: FrameMarking, 9: Mid, 10: RepairedRid, 11: Rid, 12: VideoTiming, \
+         13: VideoContentType, 14: PlayoutDelay, 15: TransportNumber, 16: VideoOrientation, \
+         17: TransmissionOffset, 18: AudioLevel, 19: AbsCaptureTime, 20: AbsSendTime, 255: Mid}"
     );
     assert_eq!(format!("{:?}", Map::new()), "{}");
 }
@@ -193,7 +225,8 @@ fn data_of_one_kind() {
         values.data_of(Kind::AbsSendTime, &mut data[..2]),
         Err(NotWritten::ShortBuffer)
     );
-    for kind in [Kind::Layers, Kind::ColorSpace, Kind::own(255).unwrap()] {
+    let without_a_field = KINDS[13..].iter().map(|it| it.0);
+    for kind in without_a_field.chain(Kind::own(255)) {
         assert_eq!(values.data_of(kind, &mut data), Ok(None));
     }
     values.video_orientation = Some(45);
@@ -212,20 +245,20 @@ fn new_ids_lead_from_one_map_to_the_other() {
     let to = KINDS
         .into_iter()
         .fold(Map::new(), |map, (kind, number, ..)| {
-            map.with(240 + number, kind)
+            map.with(230 + number, kind)
         });
-    let ids = NewIds::between(&from, &to.with(200, Kind::AudioLevel).with(252, Kind::Rid));
+    let ids = NewIds::between(&from, &to.with(200, Kind::AudioLevel).with(242, Kind::Rid));
     for id in 0..=255 {
         let new = match id {
             3 => Some(200), // the lowest
             12 => None,     // the mid has none
-            1..=15 => Some(240 + id),
+            1..=20 => Some(230 + id),
             _ => None,
         };
         assert_eq!(ids.get(id), new, "{id}");
     }
     assert_ne!(NewIds::between(&to, &from), ids);
-    assert_eq!(NewIds::between(&to, &from).get(241), Some(1));
+    assert_eq!(NewIds::between(&to, &from).get(231), Some(1));
     assert_eq!(NewIds::between(&Map::new(), &to), NewIds::default());
 
     let by_hand = NewIds::new()
@@ -272,20 +305,5 @@ fn a_uri_is_compared_whole() {
         "urn:ietf:params:rtp-hdrext:sdes:mid\n",
     ] {
         assert_eq!(Kind::from_uri(uri), None);
-        assert_eq!(Map::from_uris([(3, uri)]), Ok(Map::new()));
-        assert_eq!(Map::from_uris([(0, uri)]), Ok(Map::new()));
-    }
-}
-
-#[test]
-fn of_an_id_the_last_known_uri_counts() {
-    let (level, mid, other) = (KINDS[2].3, KINDS[11].3, "urn:x");
-    for (uris, kind) in [
-        ([level, mid, other], Kind::Mid),
-        ([mid, other, level], Kind::AudioLevel),
-        ([other, mid, mid], Kind::Mid),
-    ] {
-        let map = Map::from_uris(uris.map(|uri| (3, uri)));
-        assert_eq!(map, Ok(Map::new().with(3, kind)), "{uris:?}");
     }
 }

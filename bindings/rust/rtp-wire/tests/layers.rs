@@ -327,4 +327,12 @@ fn what_no_element_can_carry_is_refused() {
     assert_eq!(Layer::new(&[0; 5], None), Err(TooManyLayers));
     assert_eq!(Stream::new(&[Layer::default(); 5]), Err(TooManyLayers));
     assert_eq!(Layers::new(0, &[Stream::default(); 5]), Err(TooManyLayers));
+    for wanted in [
+        (vec![], size(640, 360)),
+        (vec![5], size(0, 0)),
+        (vec![], None),
+    ] {
+        let layers = made(0, &[vec![wanted.clone()]]);
+        assert_eq!(given(&layers.streams()[0].layers()[0]), wanted);
+    }
 }

@@ -70,7 +70,7 @@ fn are_as_alone(buf: &[u8], places: &[(usize, usize)], map: &Map) {
                 (Err(outside), Err(outside))
             );
             assert_eq!((packet.is_rtcp(), header.is_rtcp()), (false, false));
-            assert_eq!(header.payload(), None);
+            assert_eq!((header.payload(), header.unpadded_payload()), (None, None));
             continue;
         };
         assert_eq!(
@@ -88,6 +88,10 @@ fn are_as_alone(buf: &[u8], places: &[(usize, usize)], map: &Map) {
         assert_eq!(header.header(), alone);
         let payload = alone.ok().map(|it| &bytes[it.header_len()..]);
         assert_eq!(header.payload(), payload);
+        let packet = packet.packet().ok();
+        let unpadded = packet.filter(|_| alone.is_ok());
+        let unpadded = unpadded.and_then(|it| it.unpadded_payload());
+        assert_eq!(header.unpadded_payload(), unpadded);
     }
 }
 
@@ -160,6 +164,8 @@ fn values_are_those_worked_out_by_hand() {
     assert_eq!(first.values.transport_number, Some(0xBBCC));
     assert_eq!(first.values.rid.as_deref(), Some("xy"));
     assert_eq!(headers[0].payload(), Some(&[0x77, 0, 2][..]));
+    assert_eq!(headers[0].unpadded_payload(), Some(&[0x77][..]));
+    assert_eq!(headers[1].unpadded_payload(), Some(&b"hi"[..]));
     // of the second a level of 0 is there, and nothing of the first
     let mut wanted = Values::default();
     (wanted.audio_level, wanted.voice_activity) = (Some(0), Some(false));
@@ -169,6 +175,23 @@ fn values_are_those_worked_out_by_hand() {
         (headers[2].header(), headers[2].payload()),
         (Err(NotRead::UnknownForm), None)
     );
+}
+
+#[test]
+fn padding_is_no_media() {
+    // of one byte, of all three, of one too many, and a last byte of 0, which takes nothing away
+    let mut slots = [HeaderSlot::default(); 2];
+    for (last, payload) in [(1, Some(2)), (3, Some(0)), (4, None), (0, Some(3))] {
+        let padded = [&[0xA0], &PLAIN[1..], &[last]].concat();
+        let (buf, places) = joined(&[&padded, &PLAIN]);
+        for (slot, (at, len)) in slots.iter_mut().zip(places) {
+            slot.set_place(at, len);
+        }
+        let lens: Vec<_> = parse_headers(&buf, &Map::new(), &mut slots)
+            .map(|it| it.unpadded_payload().map(<[u8]>::len))
+            .collect();
+        assert_eq!(lens, [payload, Some(2)], "{last}");
+    }
 }
 
 #[test]

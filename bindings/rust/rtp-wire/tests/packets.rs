@@ -418,7 +418,7 @@ fn padding_and_originals_have_limits() {
         rtp_wire::write_original(&mut [1], 2),
         Err(NotWritten::ShortBuffer)
     );
-    assert_eq!(rtp_wire::version(), 65_536); // 1.0.0
+    assert_eq!(rtp_wire::version(), 65_792); // 1.1.0
 }
 
 /// The stream id 10 becomes the repaired one, 11; one that was there goes. The padding is room enough.

@@ -17,10 +17,10 @@ use rtp_wire::{
     read_original, receive_many, remove_block, to_retransmission, version, write_elements,
     write_original, Arrival, ArrivalSlot, BadId, BadRolloverCount, Csrcs, Datagram, Datagrams,
     Element, Elements, Fields, Form, Header, HeaderSlot, Kind, Layer, Layers, Map, Mid, NewIds,
-    NotAHeader, NotAPacket, NotAText, NotChanged, NotPut, NotRead, NotRetransmitted, NotTaken,
-    NotWritten, OwnKind, Packet, PacketMut, PacketSlot, Place, Places, Receiver, ReceptionReport,
-    ReceptionStatistics, Resolution, RestartingReceiver, Rid, Stream, Text, TooManyLayers, Values,
-    VideoTiming, WideReceiver,
+    NotAHeader, NotAPacket, NotAText, NotChanged, NotMapped, NotPut, NotRead, NotRetransmitted,
+    NotTaken, NotWritten, OwnKind, OwnUris, Packet, PacketMut, PacketSlot, Place, Places, Receiver,
+    ReceptionReport, ReceptionStatistics, Resolution, RestartingReceiver, Rid, Stream, Text,
+    TooManyLayers, Values, VideoTiming, WideReceiver,
 };
 
 /// What every type has: it goes to another thread, and may be moved and logged.
@@ -77,12 +77,14 @@ fn each_type_has_its_traits() {
             Fields, Receiver, ReceptionReport, ReceptionStatistics, Values, VideoTiming, Mid, Rid, Text<3>;
         Copied: PacketSlot, HeaderSlot, ArrivalSlot, Datagram<'_, '_, PacketSlot>, Datagram<'_, '_, HeaderSlot>;
         Copied: Packet<'_>, Arrival, RestartingReceiver, WideReceiver<1>, WideReceiver<512>;
-        Eq: Packet<'_>, Arrival;
-        Default: PacketSlot, HeaderSlot, Place, Header, Layer, Stream, Layers, Map, NewIds, Fields, Receiver, RestartingReceiver,
+        Plain: OwnUris<&str>, OwnUris<String>;
+        Clone: OwnUris<&str>, OwnUris<String>;
+        Eq: Packet<'_>, Arrival, OwnUris<&str>, OwnUris<String>;
+        Default: OwnUris<&str>, OwnUris<String>, PacketSlot, HeaderSlot, Place, Header, Layer, Stream, Layers, Map, NewIds, Fields, Receiver, RestartingReceiver,
             ReceptionReport, ReceptionStatistics, WideReceiver<3>, Values, VideoTiming;
         Ord: Kind, OwnKind, Mid, Rid, Text<3>;
         Failure: NotAPacket, NotAHeader, NotWritten, NotChanged, NotPut, NotRetransmitted, NotAText, BadId,
-            BadRolloverCount, TooManyLayers, NotRead, NotTaken;
+            BadRolloverCount, TooManyLayers, NotRead, NotTaken, NotMapped;
         Listed: Csrcs<'_>, Elements<'_>, Places<'_>, Datagrams<'_, '_, PacketSlot>, Datagrams<'_, '_, HeaderSlot>;
         DoubleEndedIterator: Csrcs<'_>, Datagrams<'_, '_, PacketSlot>, Datagrams<'_, '_, HeaderSlot>;
         ExactSizeIterator: Csrcs<'_>, Datagrams<'_, '_, PacketSlot>, Datagrams<'_, '_, HeaderSlot>;
@@ -107,6 +109,7 @@ fn each_type_is_made_of_others() {
     from::<NotAHeader, NotAPacket>();
     from::<NotPut, NotAPacket>();
     from::<NotRetransmitted, NotAPacket>();
+    from::<NotMapped, BadId>();
     from::<Box<dyn Error + Send + Sync>, NotPut>();
     try_from::<&[u8], Packet<'_>, NotAPacket>();
     try_from::<&mut [u8], PacketMut<'_>, NotAPacket>();
@@ -186,13 +189,13 @@ fn what_is_lent_lives_as_long_as_the_datagram() {
 #[test]
 fn texts_and_uris_are_borrowed_for_the_call_alone() {
     let uri = String::from("urn:ietf:params:rtp-hdrext:sdes:mid");
-    let map = Map::from_uris([(3, &uri[..])]);
+    let map = OwnUris::<String>::default().map([(3, &uri[..])]);
     assert_eq!(Kind::from_uri(&uri), Some(Kind::Mid));
     drop(uri);
     assert_eq!(map, Ok(Map::new().with(3, Kind::Mid)));
     // from whatever has pairs
     let (ids, uris) = (vec![3_u8], vec!["urn:ietf:params:rtp-hdrext:sdes:mid"]);
-    assert_eq!(Map::from_uris(ids.into_iter().zip(uris)), map);
+    assert_eq!(OwnUris::new().map(ids.into_iter().zip(uris)), map);
     let mid = Mid::try_from(&*String::from("ab"));
     assert_eq!(mid, Ok("ab".parse().unwrap()));
 }
@@ -252,9 +255,14 @@ fn kinds_are_ordered_by_their_numbers() {
         Kind::FrameMarking,
         Kind::ColorSpace,
         Kind::Layers,
+        Kind::MixerLevels,
+        Kind::TransportNumber2,
+        Kind::DependencyDescriptor,
+        Kind::Ntp64,
+        Kind::Ntp56,
     ];
     let kinds: Vec<Kind> = first.into_iter().chain(numbers).collect();
-    assert_eq!(kinds.len(), 15 + 128);
+    assert_eq!(kinds.len(), 20 + 128);
     for pair in kinds.windows(2) {
         assert!(
             pair[0] < pair[1] && pair[0].number() < pair[1].number(),
@@ -370,6 +378,11 @@ mod may_grow {
             | Kind::FrameMarking
             | Kind::ColorSpace
             | Kind::Layers
+            | Kind::MixerLevels
+            | Kind::TransportNumber2
+            | Kind::DependencyDescriptor
+            | Kind::Ntp64
+            | Kind::Ntp56
             | Kind::Own(_) => true,
             _ => false,
         }
@@ -391,7 +404,7 @@ fn some_enums_may_grow_and_others_do_not() {
     };
     assert_eq!((bits(Form::OneByte), bits(Form::TwoByte)), (4, 8));
     let number = |it| match it {
-        Arrival::Taken(number) | Arrival::Restarted(number) => Some(number),
+        Arrival::Taken(_) | Arrival::Restarted(_) => it.number(),
         Arrival::Refused => None,
     };
     assert_eq!(number(RestartingReceiver::new().receive(7)), Some(65_543));

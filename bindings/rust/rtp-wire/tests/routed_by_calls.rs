@@ -209,15 +209,13 @@ struct Receiver {
     fields: Fields,
     original_number: Option<u16>,
     data_at: usize,
-    at: usize,
 }
 
 impl Receiver {
     fn slot(&self) -> RoutedSlot {
-        let (fields, data_at, at) = (&self.fields, self.data_at, self.at);
         match self.original_number {
-            None => RoutedSlot::new(fields, data_at, at),
-            Some(number) => RoutedSlot::retransmission(fields, number, data_at, at),
+            None => RoutedSlot::new(&self.fields, self.data_at),
+            Some(number) => RoutedSlot::retransmission(&self.fields, number, self.data_at),
         }
     }
 
@@ -274,20 +272,14 @@ fn each_is_what_the_calls_for_one_packet_make() {
         assert_eq!(template.data_len(), joined.len());
         let (count, header_len) = (random.below(6), template.header_len());
         let data = random.bytes(joined.len() * count);
-        let mut end = 0;
-        let mut receiver = |n: usize| {
-            let it = Receiver {
-                fields: random.fields(),
-                original_number: random.original_number(),
-                data_at: n * joined.len(),
-                at: end,
-            };
-            end += header_len + if it.original_number.is_some() { 2 } else { 0 };
-            it
+        let mut receiver = |n: usize| Receiver {
+            fields: random.fields(),
+            original_number: random.original_number(),
+            data_at: n * joined.len(),
         };
         let receivers: Vec<_> = (0..count).map(&mut receiver).collect();
         let mut slots: Vec<_> = receivers.iter().map(Receiver::slot).collect();
-        let mut buf = vec![0xEE; end];
+        let mut buf = vec![0xEE; count * (header_len + 2)];
         let headers = template.write_headers(&data, &mut slots, &mut buf);
         for (header, receiver) in headers.zip(&receivers) {
             let fields = &receiver.fields;
@@ -327,7 +319,7 @@ fn each_is_what_the_calls_for_one_packet_make() {
 }
 
 #[test]
-fn any_places_fields_and_data() {
+fn any_fields_data_and_room() {
     let mut random = Random(11);
     let ids = NewIds::new().with(1, 3);
     let packet = [
@@ -349,30 +341,27 @@ fn any_places_fields_and_data() {
             fields: random.fields(),
             original_number: random.original_number(),
             data_at: random.place(data_len),
-            at: random.place(room),
         };
         let receivers: Vec<_> = (0..6).map(&mut receiver).collect();
         let mut slots: Vec<_> = receivers.iter().map(Receiver::slot).collect();
         let mut buf = vec![0xEE; room];
-        // one after the other, each of them alone
-        let mut wanted = buf.clone();
+        // each of them alone, behind those before it
+        let (mut wanted, mut end) = (buf.clone(), 0);
         let mut one = |it: &Receiver| {
             let its_data = data.get(it.data_at..).and_then(|it| it.get(..5));
             let its_data = its_data.ok_or(NotWritten::BadField)?;
             if it.fields.payload_type.is_some_and(|it| it > 127) {
                 return Err(NotWritten::BadField);
             }
-            let its_buf = wanted.get_mut(it.at..).ok_or(NotWritten::ShortBuffer)?;
-            it.write(&made, its_data, its_buf)
+            let len = it.write(&made, its_data, &mut wanted[end..])?;
+            end += len;
+            Ok(end - len..end)
         };
         let results: Vec<_> = receivers.iter().map(&mut one).collect();
         let headers = made.write_headers(&data, &mut slots, &mut buf);
-        for ((header, result), it) in headers.zip(&results).zip(&receivers) {
-            let due = result.map(|len| &wanted[it.at..it.at + len]);
-            assert_eq!(header, due);
-        }
+        let due = results.iter().map(|it| it.clone().map(|at| &wanted[at]));
+        assert!(headers.eq(due));
         assert_eq!(buf, wanted);
-        let results = results.iter().map(|it| it.map(|_| ()));
-        assert!(slots.iter().map(RoutedSlot::written).eq(results));
+        assert!(slots.iter().map(RoutedSlot::range).eq(results));
     }
 }

@@ -236,6 +236,9 @@ fn transport_numbers_have_a_request_or_none() {
         (0x1234, Some((true, 5)), &[0x12, 0x34, 0x80, 5]),
         (7, Some((true, 32_767)), &[0, 7, 0xFF, 0xFF]),
         (7, Some((false, 32_766)), &[0, 7, 0x7F, 0xFE]),
+        // asked for on no packet, which the bits can say
+        (8, Some((false, 0)), &[0, 8, 0, 0]),
+        (9, Some((true, 0)), &[0, 9, 0x80, 0]),
     ] {
         let request = request.map(|(timestamps, packets)| FeedbackRequest {
             timestamps,
@@ -243,14 +246,7 @@ fn transport_numbers_have_a_request_or_none() {
         });
         is!(TransportNumber { number, request }, *data);
     }
-    for none in [0, 0x80] {
-        let number = TransportNumber {
-            number: 9,
-            request: None,
-        };
-        assert_eq!(TransportNumber::parse(&[0, 9, none, 0]), Ok(number));
-    }
-    for packets in [0, 32_768, 65_535] {
+    for packets in [32_768, 65_535] {
         let number = TransportNumber {
             number: 1,
             request: Some(FeedbackRequest {
@@ -262,7 +258,7 @@ fn transport_numbers_have_a_request_or_none() {
             |buf| number.write_to(buf),
             "packets",
             packets.into(),
-            1,
+            0,
             32_767,
         );
     }

@@ -153,7 +153,12 @@ fn judges<const WORDS: usize>(
     rows: &[(u16, Arrival)],
 ) {
     for (low, arrival) in rows {
-        assert_eq!(receiver.receive(*low), *arrival, "{low}");
+        let judged = receiver.receive(*low);
+        assert_eq!(judged, *arrival, "{low}");
+        // what is taken has a number, the first one of an epoch too
+        let is_taken = judged != Arrival::Refused;
+        let number = judged.number().map(|it| it as u16);
+        assert_eq!(number, is_taken.then_some(*low));
     }
 }
 

@@ -2,6 +2,7 @@
 
 use std::collections::{BTreeSet, HashMap, HashSet};
 
+use rtp_wire::standard::{is_stream_id, parse_token};
 use rtp_wire::{Mid, NotAText, Rid};
 
 #[test]
@@ -101,4 +102,27 @@ fn texts_are_shown() {
     );
     let none: Rid = "".parse().unwrap();
     assert_eq!(format!("{none}{none:?}"), "\"\"");
+}
+
+/// RFC 8852, 3: letters and digits alone, where a token of RFC 8866, 9, may have others too.
+#[test]
+fn stream_ids_have_letters_and_digits_alone() {
+    for byte in 0..=127_u8 {
+        for text in [vec![byte], vec![b'h', byte], vec![byte, b'1']] {
+            let text = String::from_utf8(text).unwrap();
+            let is_plain = matches!(byte, b'0'..=b'9' | b'A'..=b'Z' | b'a'..=b'z');
+            assert_eq!(is_stream_id(&text), is_plain, "{text:?}");
+        }
+    }
+    for (len, is_one) in [(0, false), (1, true), (9, true), (255, true), (256, false)] {
+        assert_eq!(is_stream_id(&"a".repeat(len)), is_one, "{len}");
+    }
+    for text in ["\u{e4}", "a\u{e4}", "\u{661}", "\u{FF21}"] {
+        assert!(!is_stream_id(text));
+    }
+    // what SDP allows in `a=rid`, and no stream may send
+    for text in ["hi-2", "hi_2"] {
+        assert_eq!(parse_token(text.as_bytes()), Ok(text));
+        assert!(!is_stream_id(text));
+    }
 }

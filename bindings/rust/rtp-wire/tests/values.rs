@@ -3,7 +3,7 @@
 
 use std::time::Duration;
 
-use rtp_wire::{Header, Kind, Map, NotWritten, Packet, Values};
+use rtp_wire::{Header, Kind, Layers, Map, NotWritten, Packet, Values};
 
 /// The data of the one element that is written of these values.
 fn written(kind: Kind, set: impl FnOnce(&mut Values)) -> Result<Vec<u8>, NotWritten> {
@@ -31,16 +31,14 @@ fn read(kind: Kind, data: &[u8]) -> Values {
 #[test]
 fn levels_have_a_magnitude() {
     let rows = [
-        (-128, false, 0x00, 0),
-        (-127, true, 0xFF, -127),
-        (-64, false, 0x40, -64),
-        (-1, true, 0x81, -1),
-        (0, false, 0x00, 0),
-        (0, true, 0x80, 0),
-        (5, false, 0x05, -5),
-        (127, true, 0xFF, -127),
+        (-127, true, 0xFF),
+        (-126, false, 0x7E),
+        (-64, false, 0x40),
+        (-1, true, 0x81),
+        (0, false, 0x00),
+        (0, true, 0x80),
     ];
-    for (level, voice, byte, again) in rows {
+    for (level, voice, byte) in rows {
         let data = written(Kind::AudioLevel, |it| {
             (it.audio_level, it.voice_activity) = (Some(level), Some(voice));
         });
@@ -48,8 +46,30 @@ fn levels_have_a_magnitude() {
         let values = read(Kind::AudioLevel, &[byte]);
         assert_eq!(
             (values.audio_level, values.voice_activity),
-            (Some(again), Some(voice))
+            (Some(level), Some(voice))
         );
+    }
+    // no element can carry any other, and it is told also where none is written
+    for level in [-128, 1, 5, 30, 127] {
+        for voice in [None, Some(false), Some(true)] {
+            let mut values = Values::default();
+            (values.audio_level, values.voice_activity) = (Some(level), voice);
+            let header = Header::with_values(values);
+            let mut buf = [0xEE; 40];
+            for map in [Map::new(), Map::new().with(3, Kind::AudioLevel)] {
+                let bad = Err(NotWritten::BadField);
+                assert_eq!(header.write_to(&mut buf, &map), bad);
+                assert_eq!(header.write_all(&mut buf, &map), bad);
+                assert_eq!(header.wire_len(&map), bad);
+                let layers = Layers::default();
+                assert_eq!(header.write_with_layers(&mut buf, &map, &layers), bad);
+                assert_eq!(header.left_out(&map).err(), bad.err());
+            }
+            for kind in [Kind::AudioLevel, Kind::Mid] {
+                assert_eq!(values.data_of(kind, &mut buf), Err(NotWritten::BadField));
+            }
+            assert_eq!(buf, [0xEE; 40]);
+        }
     }
 }
 

@@ -33,6 +33,10 @@ pub enum ChromaSiting {
 /// element needs the two-byte form. [`Values`](crate::Values) have none, though
 /// [`Kind::ColorSpace`](crate::Kind::ColorSpace) can be mapped.
 ///
+/// All numbers are read and written. libwebrtc passes over an element with a code point that H.273 reserves, as the
+/// primaries 0 or 3, or with HDR metadata beyond 20,000 cd/m^2 (`luminance_min` beyond 5), or with a chromaticity above
+/// 1.
+///
 /// ```
 /// use rtp_wire::standard::{ChromaSiting, ColorRange, ColorSpace};
 ///

@@ -3,8 +3,8 @@ use crate::error::{NotAValue, NotWritten, OutOfRange};
 use crate::sys;
 use crate::views::DependencyDescriptorView;
 
-/// The fields of a dependency descriptor that each packet has (AV1's RTP payload format, A.8; it has no kind): its
-/// first three bytes. What follows them needs the structure that the sender sent before: hand it on as it is.
+/// The fields of a dependency descriptor that each packet has (AV1's RTP payload format, A.8;
+/// [`Kind::DependencyDescriptor`](crate::Kind::DependencyDescriptor)): its first three bytes. What follows them needs the structure that the sender sent before: hand it on as it is.
 ///
 /// ```
 /// use rtp_wire::standard::DependencyDescriptor;

@@ -37,7 +37,8 @@ pub struct FrameMarking {
 /// Where a frame is among the layers of its stream (RFC 9626, 3.1).
 #[derive(Clone, Copy, Debug, Default, PartialEq, Eq, Hash)]
 pub struct FrameLayers {
-    /// Whether the frame depends on the base temporal layer alone.
+    /// Whether the frame depends on the base temporal layer alone. By RFC 9626 it isn't set where the temporal layer is
+    /// 0, which isn't looked at: it is read as it lies, and written as it is given.
     pub base_layer_sync: bool,
     /// The temporal layer, 0 to 7; 0 is the base layer.
     pub temporal_id: u8,

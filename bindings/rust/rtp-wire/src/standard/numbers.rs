@@ -39,12 +39,13 @@ pub fn transmission_offset_bytes(ticks: i32) -> Result<[u8; 3], OutOfRange> {
 }
 
 /// Reads the audio level of the contributing source at this index of the `csrc_count` that the packet has
-/// (`urn:ietf:params:rtp-hdrext:csrc-audio-level`, which has no kind; RFC 6465, 4), in decibels relative to the
-/// overload point, -127 (silence) to 0.
+/// ([`Kind::MixerLevels`](crate::Kind::MixerLevels); RFC 6465, 4), in decibels relative to the overload point, -127
+/// (silence) to 0.
 ///
 /// # Errors
 ///
-/// [`NotAValue`] where the packet doesn't have that source, or the data no byte for it.
+/// [`NotAValue`] where the packet doesn't have that source, or the data no byte for it. What stands behind the last
+/// source's isn't looked at, and a `csrc_count` above 15, which no packet has, is taken.
 ///
 /// ```
 /// use rtp_wire::standard::parse_mixer_level;
@@ -60,8 +61,8 @@ pub fn parse_mixer_level(data: &[u8], csrc_count: usize, index: usize) -> Result
 ///
 /// # Errors
 ///
-/// [`NotWritten::OutOfRange`] where one is none of -127 to 0, and else [`NotWritten::ShortBuffer`]; nothing is
-/// written then.
+/// [`NotWritten::OutOfRange`] where they are more than 15, which no packet has, or one is none of -127 to 0, and else
+/// [`NotWritten::ShortBuffer`]; nothing is written then.
 ///
 /// ```
 /// use rtp_wire::standard::write_mixer_levels;
@@ -71,14 +72,16 @@ pub fn parse_mixer_level(data: &[u8], csrc_count: usize, index: usize) -> Result
 /// assert_eq!(data[..2], [0x7F, 0x0A]);
 /// ```
 pub fn write_mixer_levels(levels: &[i8], buf: &mut [u8]) -> Result<usize, NotWritten> {
+    let count = i32::try_from(levels.len()).unwrap_or(i32::MAX);
+    OutOfRange::check("the number of levels", count, 0..=15)?;
     for level in levels {
         OutOfRange::check("a level", (*level).into(), -127..=0)?;
     }
     written(|len| sys::write_mixer_levels(levels, buf, len))
 }
 
-/// Reads an NTP timestamp of eight bytes (`urn:ietf:params:rtp-hdrext:ntp-64`, which has no kind; RFC 6051, 3.3), in
-/// units of 2^-32 seconds since 1900.
+/// Reads an NTP timestamp of eight bytes ([`Kind::Ntp64`](crate::Kind::Ntp64); RFC 6051, 3.3), in units of 2^-32 seconds
+/// since 1900.
 ///
 /// # Errors
 ///
@@ -101,8 +104,8 @@ pub fn ntp_64_bytes(time: u64) -> [u8; 8] {
     data
 }
 
-/// Reads the low 56 bits of an NTP timestamp, in seven bytes (`urn:ietf:params:rtp-hdrext:ntp-56`, which has no kind;
-/// RFC 6051, 3.3): [`extend_ntp_56`] finds the others.
+/// Reads the low 56 bits of an NTP timestamp, in seven bytes ([`Kind::Ntp56`](crate::Kind::Ntp56); RFC 6051, 3.3):
+/// [`extend_ntp_56`] finds the others.
 ///
 /// # Errors
 ///

@@ -71,7 +71,7 @@ impl Turn {
 pub struct Orientation {
     /// Which way the camera faces.
     pub camera: Camera,
-    /// Whether the picture is mirrored, left for right.
+    /// Whether the picture is mirrored, left for right, as it is sent, before the receiver turns it.
     pub flip: bool,
     /// How the receiver has to turn the picture.
     pub turn: Turn,

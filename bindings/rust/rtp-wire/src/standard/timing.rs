@@ -19,7 +19,8 @@ use crate::views::TimingView;
 /// ```
 #[derive(Clone, Copy, Debug, Default, PartialEq, Eq, Hash)]
 pub struct Timing {
-    /// Why the times were sent: bit 0 a timer, bit 1 a large frame. `None` in the older form, which has no flags.
+    /// Why the times were sent: bit 0 a timer, bit 1 a large frame; of 255, which libwebrtc has for times that aren't
+    /// valid, the times mean nothing. `None` in the older form, which has no flags.
     pub flags: Option<u8>,
     /// When its encoding began.
     pub encode_start: u16,

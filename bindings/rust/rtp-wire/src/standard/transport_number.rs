@@ -4,8 +4,10 @@ use crate::sys;
 use crate::views::TransportNumberView;
 
 /// The packet's number on its transport, and what feedback it asks for
-/// (<http://www.webrtc.org/experiments/rtp-hdrext/transport-wide-cc-02>, which has no kind): two bytes, or four with
-/// a request. [`Values`](crate::Values) have the number alone, of the older URI, where feedback is on all packets.
+/// (<http://www.webrtc.org/experiments/rtp-hdrext/transport-wide-cc-02>,
+/// [`Kind::TransportNumber2`](crate::Kind::TransportNumber2)): two bytes, or four with a request. Each that is read is
+/// written byte for byte. [`Values`](crate::Values) have the number alone, of the older URI, where feedback is on all
+/// packets.
 ///
 /// ```
 /// use rtp_wire::standard::{FeedbackRequest, TransportNumber};
@@ -28,12 +30,12 @@ pub struct TransportNumber {
 pub struct FeedbackRequest {
     /// Whether the feedback is to have the times at which the packets arrived.
     pub timestamps: bool,
-    /// For how many packets the feedback is to be, 1 to 32,767, of which this one is the last.
+    /// For how many packets the feedback is to be, 0 to 32,767, of which this one is the last; 0 asks for none.
     pub packets: u16,
 }
 
 impl TransportNumber {
-    /// Reads a number. A request for 0 packets is none.
+    /// Reads a number.
     ///
     /// # Errors
     ///
@@ -54,7 +56,7 @@ impl TransportNumber {
     ///
     /// # Errors
     ///
-    /// [`NotWritten::OutOfRange`] where there is a request for 0 or more than 32,767 packets, and else
+    /// [`NotWritten::OutOfRange`] where there is a request for more than 32,767 packets, and else
     /// [`NotWritten::ShortBuffer`]; nothing is written then.
     pub fn write_to(&self, buf: &mut [u8]) -> Result<usize, NotWritten> {
         let mut view = TransportNumberView {
@@ -62,7 +64,7 @@ impl TransportNumber {
             ..TransportNumberView::default()
         };
         if let Some(request) = self.request {
-            OutOfRange::check("packets", request.packets.into(), 1..=0x7FFF)?;
+            OutOfRange::check("packets", request.packets.into(), 0..=0x7FFF)?;
             view.has_request = 1;
             view.packets = request.packets;
             view.timestamps = u8::from(request.timestamps);
