@@ -5,6 +5,7 @@
 #ifndef RTPWIRE_CALLS_H
 #define RTPWIRE_CALLS_H
 
+#include "names.h"
 #include "rtp_wire.h"
 
 #include <string.h>

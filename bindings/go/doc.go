@@ -38,4 +38,4 @@
 package rtpwire
 
 // Version is the version of this package and of its library.
-const Version = "1.0.0"
+const Version = "1.1.0-dev"
