@@ -226,11 +226,10 @@ func ExampleRouteBatch() {
 		IDs:      rtpwire.NewIDsBetween(publisher, subscribers),
 		Elements: []rtpwire.Place{{ID: 4, At: 0, Len: 2}},
 	}
-	const stride = 64
-	buf := make([]byte, 2*stride)
+	buf := make([]byte, 1024) // for the headers of both
 	var batch rtpwire.RouteBatch
 	for i, ssrc := range []uint32{45, 46} {
-		batch.Add(2*i, stride*i).SetSSRC(ssrc)
+		batch.Add(2 * i).SetSSRC(ssrc)
 	}
 
 	// For each packet:
@@ -255,12 +254,12 @@ func ExampleRouteBatch() {
 func ExampleRouteBatch_AddRetransmission() {
 	datagram := []byte{0xA0, 96, 0, 5, 0, 0, 0, 160, 0, 0, 0, 7, 'h', 'i', 0, 2} // two bytes of padding
 	var batch rtpwire.RouteBatch
-	batch.Add(0, 0).SetSSRC(46)
-	fields := batch.AddRetransmission(0, 12, 5)
+	batch.Add(0).SetSSRC(46)
+	fields := batch.AddRetransmission(0, 5)
 	fields.SetPayloadType(97)
 	fields.SetSequenceNumber(9)
 	fields.SetSSRC(45)
-	if err := batch.Route(datagram, &rtpwire.Group{}, nil, make([]byte, 26)); err != nil {
+	if err := batch.Route(datagram, &rtpwire.Group{}, nil, make([]byte, 1024)); err != nil {
 		log.Fatal(err)
 	}
 	for i, payload := range [][]byte{datagram[12:], datagram[12:14]} {
