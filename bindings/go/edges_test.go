@@ -1,6 +1,7 @@
 package rtpwire_test
 
 import (
+	"bytes"
 	"errors"
 	"math"
 	"testing"
@@ -312,13 +313,18 @@ func TestEndsOfMaps(t *testing.T) {
 	kind, err := m.SetURI(255, "")
 	same(t, "no URI", []any{kind, err, m}, []any{rtpwire.KindNone, nil, rtpwire.Map{}})
 	for kind := 0; kind < 256; kind++ {
-		is := kind <= 15 || kind >= 128
+		is := 1 <= kind && kind <= 20 || kind >= 128
 		for _, id := range []uint8{1, 14, 15, 255} {
 			m = rtpwire.Map{}
 			err := m.Set(id, rtpwire.Kind(kind))
-			same(t, "set", []bool{err == nil, err == rtpwire.ErrBadField, m.Get(id) == rtpwire.Kind(kind)}, []bool{is, !is, is})
+			same(t, "set", []bool{err == nil, err == rtpwire.ErrBadField}, []bool{is, !is})
+			got := rtpwire.KindNone
+			if is {
+				got = rtpwire.Kind(kind)
+			}
+			same(t, "got", m.Get(id), got)
 			wanted := id
-			if !is || kind == 0 {
+			if !is {
 				wanted = 0
 			}
 			same(t, "id", m.IDOf(rtpwire.Kind(kind)), wanted)
@@ -326,7 +332,7 @@ func TestEndsOfMaps(t *testing.T) {
 		m = rtpwire.Map{}
 		same(t, "the id 0", []any{m.Set(0, rtpwire.Kind(kind)), m}, []any{rtpwire.ErrBadField, rtpwire.Map{}})
 	}
-	same(t, "set", []error{m.Set(7, rtpwire.KindMID), m.Set(7, 16)}, []error{nil, rtpwire.ErrBadField})
+	same(t, "set", []error{m.Set(7, rtpwire.KindMID), m.Set(7, 21)}, []error{nil, rtpwire.ErrBadField})
 	same(t, "as before", m.Get(7), rtpwire.KindMID)
 	ids := *rtpwire.NewIDsBetween(&m, &m)
 	copied := ids
@@ -348,7 +354,8 @@ func TestNilMapsAreNotSet(t *testing.T) {
 	const uri = "urn:ietf:params:rtp-hdrext:sdes:rtp-stream-id"
 	same(t, "set", panics(func() { _ = none.Set(1, rtpwire.KindMID) }), true)
 	same(t, "set by URI", panics(func() { _, _ = none.SetURI(2, uri) }), true)
-	same(t, "nothing is set", panics(func() { _ = none.Set(3, rtpwire.KindNone) }), true)
+	same(t, "set by an unknown URI", panics(func() { _, _ = none.SetURI(2, "urn:unknown") }), true)
+	same(t, "removed", panics(func() { none.Remove(3) }), true)
 
 	// elements of the ids 1 and 2: the mid "a" and the rid "b" where a map says so
 	datagram := []byte{0x90, 0, 0, 5, 0, 0, 0, 1, 0, 0, 0, 0x2C, 0xBE, 0xDE, 0, 1, 0x10, 'a', 0x20, 'b'}
@@ -374,4 +381,24 @@ func TestCausesAreErrors(t *testing.T) {
 	}
 	numbers := []rtpwire.Cause{rtpwire.CutFixedPart, rtpwire.OtherVersion, rtpwire.CutSources, rtpwire.CutBlockHeader, rtpwire.CutBlock}
 	same(t, "numbers", numbers, []rtpwire.Cause{1, 2, 3, 4, 6})
+}
+
+// The places of a block of 68,000 bytes, 4,000 elements of 16 bytes each: in a slice that has to grow, from nothing on,
+// and where its room ended behind the byte 65,536.
+func TestPlacesOfALongBlock(t *testing.T) {
+	const count = 4000
+	datagram := []byte{0x90, 96, 0, 5, 0, 0, 0, 1, 0, 0, 0, 2, 0xBE, 0xDE, byte(17 * count / 4 >> 8), byte(17 * count / 4 & 255)}
+	for i := 0; i < count; i++ {
+		datagram = append(datagram, byte(1+i%14)<<4|15)
+		datagram = append(datagram, bytes.Repeat([]byte{byte(i)}, 16)...)
+	}
+	packet := parsed(t, append(datagram, 'p'), nil)
+	for _, places := range [][]rtpwire.Place{packet.AppendPlaces(nil), packet.AppendPlaces(make([]rtpwire.Place, 0, 3900))} {
+		same(t, "how many", len(places), count)
+		for i, place := range places {
+			if place.ID != byte(1+i%14) || place.At != 17*i+1 || place.Len != 16 || packet.Data(place)[15] != byte(i) {
+				t.Fatalf("element %d: %+v", i, place)
+			}
+		}
+	}
 }
