@@ -578,6 +578,23 @@ func isToken(data []byte) bool {
 	return bool(C.rtpw_is_token(first(data), size(data)))
 }
 
+func isStreamID(data []byte) bool {
+	return bool(C.rtpw_is_stream_id(first(data), size(data)))
+}
+
+func parseSendTime(data []byte) (SendTime, error) {
+	units, err := numberOr(C.call_read_send_time(first(data), size(data)))
+	return SendTime(units), err
+}
+
+func (s SendTime) append(data []byte) ([]byte, error) {
+	return appended(data, C.call_write_send_time(C.uint32_t(s)))
+}
+
+func extendSendTime(near uint64, s SendTime) uint64 {
+	return uint64(C.rtpw_extend_send_time(C.uint64_t(near), C.uint32_t(s)))
+}
+
 func parseTransmissionOffset(data []byte) (int32, error) {
 	it := C.call_read_transmission_offset(first(data), size(data))
 	return int32(it.number), errorOf(int32(it.status))
