@@ -49,6 +49,8 @@ func AppendTransmissionOffset(data []byte, ticks int32) ([]byte, error) {
 
 // A FrameMarking is what a packet is to its frame, and the frame to its stream (RFC 9626, 3): one byte for a stream
 // without layers, and two or three for one with. [Values.FrameMarking] has str0m's number of four bytes, which is none.
+// KindFrameMarking is of the draft's URI; that of RFC 9626, urn:ietf:params:rtp-hdrext:framemarking, has none, and so one
+// of your own by [Map.SetURI].
 type FrameMarking struct {
 	Start         bool  // the packet is the first of its frame
 	End           bool  // it is the last of its frame
