@@ -172,9 +172,9 @@ func (s *sfu) forward(buf []byte, from *stream, now time.Duration, send udp.Send
 }
 
 // describe sets what each receiver gets of its own: its SSRC of the stream, the number, its mid of the stream, and the
-// transport number and the time at which it is sent (24 bits, in units of 2^-18 seconds).
+// transport number and the time at which it is sent.
 func (s *sfu) describe(from *stream, now time.Duration) {
-	time := uint32(uint64(now.Microseconds()) % 64000000 * 262144 / 1000000)
+	sent := rtpwire.SendTimeOf(time.Unix(0, 0).Add(now))
 	for i := 0; i < len(s.data)/own; i++ {
 		fields := s.batch.Fields(i)
 		fields.SetSSRC(uint32(1000*(i+1) + from.index))
@@ -182,7 +182,7 @@ func (s *sfu) describe(from *stream, now time.Duration) {
 		number := s.transport + uint16(i)
 		copy(s.data[own*i:own*i+own], []byte{
 			byte('0' + i/10%10), byte('0' + i%10), "0123456789ABCDEF"[from.index],
-			byte(number >> 8), byte(number), byte(time >> 16), byte(time >> 8), byte(time),
+			byte(number >> 8), byte(number), byte(sent >> 16), byte(sent >> 8), byte(sent),
 		})
 	}
 	s.transport++
