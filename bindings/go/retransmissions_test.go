@@ -145,3 +145,22 @@ func TestBatchesWithRetransmissionsAreUsedAgain(t *testing.T) {
 		addAgain(&batch, 0, 5)
 	}), 0.0)
 }
+
+// Of several causes the first one is told: the padding before the id, and that before the room.
+func TestFirstCauseOfARetransmission(t *testing.T) {
+	header := "B0 BEDE0001 10AA0000"
+	for _, row := range []struct {
+		payload  string
+		to, from error
+	}{
+		{"0102 0A", rtpwire.ErrBadField, rtpwire.ErrBadField}, // ten bytes of padding in three
+		{"0102 02", rtpwire.ErrLongID, rtpwire.ErrNotFound},   // one byte without the padding
+		{"0102 01", rtpwire.ErrLongID, rtpwire.ErrLongID},
+	} {
+		packet := written(t, header+row.payload)
+		before := append([]byte(nil), packet...)
+		_, to := rtpwire.ToRetransmission(packet, len(packet), 45, 97, 9, newIDs([2]uint8{1, 15}))
+		_, from := rtpwire.FromRetransmission(packet, len(packet), 45, 97, newIDs([2]uint8{1, 15}))
+		same(t, row.payload, []any{to, from, packet}, []any{row.to, row.from, before})
+	}
+}
