@@ -85,6 +85,16 @@ func TestRetransmissionBehindARefusedOne(t *testing.T) {
 	}
 }
 
+// Fields that aren't set are the packet's, of a retransmission too: but P, which is clear.
+func TestFieldsOfThePacket(t *testing.T) {
+	packet := []byte{0xA0, 0xE0, 0x12, 0x34, 1, 2, 3, 4, 5, 6, 7, 8, 'h', 'i', 0, 2}
+	var batch rtpwire.RouteBatch
+	batch.Add(0)
+	batch.AddRetransmission(0, 0x5678)
+	same(t, "routed", batch.Route(packet, &rtpwire.Group{}, nil, make([]byte, 26)), nil)
+	same(t, "headers", headersOf(&batch), []any{packet[:12], []byte{0x80, 0xE0, 0x12, 0x34, 1, 2, 3, 4, 5, 6, 7, 8, 0x56, 0x78}})
+}
+
 // P of a receiver is the packet's, or clear where that is said, until it is said anew or the batch is Reset: with the
 // payload without its padding behind it the second is a whole packet.
 func TestPaddingIsClearedWhereItIsSaid(t *testing.T) {
@@ -179,11 +189,4 @@ func TestCopiedTemplates(t *testing.T) {
 	same(t, "made", template.Make(second, numbered(), []byte{0, 0}), nil)
 	headers("the copy still", &copied, nil, 24, 2, header(45, 0xBB))
 	headers("the first anew", &template, nil, 24, 2, header(46, 0xBB))
-
-	// Of a batch too: a copy routes by a header of its own.
-	same(t, "routed", batch.Route(first, numbered(), data, buf), nil)
-	other := batch
-	same(t, "routed", other.Route(second, numbered(), data, make([]byte, 100)), nil)
-	same(t, "routed", batch.Route(first, numbered(), data, buf), nil)
-	same(t, "its own", buf[:24], header(44, 0xAA))
 }

@@ -74,6 +74,17 @@ func TestTablesOfURIs(t *testing.T) {
 	same(t, "nothing kept", rtpwire.Kind(255).URI(), "")
 }
 
+// A URI is known by all of its letters, as it is written (RFC 8285, 5).
+func TestLettersOfOwnURIs(t *testing.T) {
+	var own rtpwire.OwnURIs
+	seen := make(map[rtpwire.Kind]bool)
+	for _, uri := range []string{"urn:x", "urn:X", "URN:x", "urn:x ", "urn:x\x00", " urn:x", "urn:x/", "urn:"} {
+		kind := own.KindOf(uri)
+		same(t, uri, []any{kind.IsOwn(), seen[kind], own.KindOf(uri), own.URI(kind)}, []any{true, false, kind, uri})
+		seen[kind] = true
+	}
+}
+
 // Numbers that are chosen by hand, from KindOwn on, aren't those of URIs.
 func TestKindsByHandAndByURI(t *testing.T) {
 	var own rtpwire.OwnURIs

@@ -125,7 +125,7 @@ type routedHeader struct {
 // its own. With the packet's payload behind it each is the packet that goes to the receiver: what [Fields.Apply],
 // [Renumber], [PutElement] for each element and [Compact] make of a copy, one after the other, with [ChangeForm] before
 // Renumber where a new id is above 14 and the two-byte form is allowed. One receiver that gets none spoils no other. Use
-// one again, as a [HeaderBatch]. The zero RouteBatch is ready.
+// one again, as a [HeaderBatch]. The zero RouteBatch is ready; a copy has the same receivers.
 //
 // The headers lie one after another in the buffer, from its first byte on, and [RouteBatch.At] tells each. So a buffer
 // is long enough that has room for the longest header of all packets as often as there are receivers, and for two bytes
@@ -220,7 +220,6 @@ func (b *RouteBatch) Write(t *HeaderTemplate, data, buf []byte) error {
 // It returns the errors of Make. Nothing is written then, and Len is 0.
 func (b *RouteBatch) Route(datagram []byte, group *Group, data, buf []byte) error {
 	b.buf, b.written = nil, nil
-	b.own.claim()
 	status := route(&b.own, datagram, group, data, b.given, buf)
 	for status == shortBuffer && b.own.grow(datagram, group) {
 		status = route(&b.own, datagram, group, data, b.given, buf)

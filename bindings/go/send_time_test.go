@@ -1,6 +1,7 @@
 package rtpwire_test
 
 import (
+	"strings"
 	"testing"
 	"time"
 
@@ -88,6 +89,7 @@ func TestEstimatedSendTimes(t *testing.T) {
 	arrival := time.Now()
 	sent := (rtpwire.SendTimeOf(arrival.Add(-20*time.Millisecond)) | 0xFF000000).Estimate(arrival)
 	since := arrival.Sub(sent)
+	same(t, "a monotonic clock", strings.Contains(sent.String(), " m="), true)
 	same(t, "20 ms", since >= 20*time.Millisecond-time.Nanosecond && since < 20*time.Millisecond+4*time.Microsecond, true)
 	elsewhere := arrival.In(time.FixedZone("elsewhere", 3600))
 	same(t, "elsewhere", rtpwire.SendTime(7).Estimate(elsewhere).Location(), elsewhere.Location())
