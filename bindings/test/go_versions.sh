@@ -21,6 +21,7 @@ rm -- other/bindings/go/*_test.go
 sed -i 's/^const Version = .*/const Version = "2.0.0"/' other/bindings/go/doc.go
 echo 'module rtpwire/v2' >other/bindings/go/go.mod
 cp -- "$here/bindings/c/rtp_wire.h" other/bindings/c
+# shellcheck disable=SC2016
 sed '/^rtpw_version:/a movl $131072, %eax; retq' "$here/generated/rtp_wire-x86_64.s" >other/generated/rtp_wire-x86_64.s
 sed '/^rtpw_version:/a mov w0, #131072; ret' "$here/generated/rtp_wire-aarch64.s" >other/generated/rtp_wire-aarch64.s
 top=$PWD/other
