@@ -215,7 +215,7 @@ func TestStructsLieAsThoseOfC(t *testing.T) {
 		{"dependency_descriptor.start_of_frame", unsafe.Offsetof(d.StartOfFrame), 2},
 		{"dependency_descriptor.end_of_frame", unsafe.Offsetof(d.EndOfFrame), 3},
 		{"dependency_descriptor.template_id", unsafe.Offsetof(d.TemplateID), 4},
-		{"map", unsafe.Sizeof(Map{}), 256},
+		{"map", unsafe.Sizeof(Map{}.kinds), 256},
 		{"new_ids", unsafe.Sizeof(NewIDs{}), 256},
 		{"datagram", unsafe.Sizeof(dg), 88},
 		{"datagram.len", unsafe.Offsetof(dg.len), 8},

@@ -81,7 +81,7 @@ func (m *Map) c() *C.rtpw_map {
 	if m == nil {
 		m = &noKinds
 	}
-	return (*C.rtpw_map)(unsafe.Pointer(m))
+	return (*C.rtpw_map)(unsafe.Pointer(&m.kinds))
 }
 
 func (h *Header) c() *C.rtpw_header {

@@ -89,6 +89,7 @@ func (k Kind) URI() string {
 // means anything, and a nil *Map is read as that. It may be copied, and compared with ==.
 type Map struct {
 	kinds [256]uint8
+	own   *OwnURIs // what gave the kinds of one's own that URIs have
 }
 
 // StandardMap is the map of the usual ids: 1 audio level, 2 send time, 3 transport number, 4 mid, 10 rid, 11
@@ -139,11 +140,25 @@ type NewIDs struct {
 }
 
 // NewIDsBetween has for each id that means a kind in from, one of your own too, the lowest id that means it in to. Make
-// it once for two streams.
+// it once for two streams. Kinds of your own that two [OwnURIs] gave are no common ones: of such maps their ids get none.
 func NewIDsBetween(from, to *Map) *NewIDs {
+	if from != nil && to != nil && from.own != nil && to.own != nil && from.own != to.own {
+		from = from.withoutOwn()
+	}
 	n := new(NewIDs)
 	n.between(from, to)
 	return n
+}
+
+// withoutOwn is a map in which no id means a kind of one's own.
+func (m *Map) withoutOwn() *Map {
+	known := new(Map)
+	for id, kind := range m.kinds {
+		if !Kind(kind).IsOwn() {
+			known.kinds[id] = kind
+		}
+	}
+	return known
 }
 
 // NewIDsToRetransmission has the new ids where packets become retransmissions ([ToRetransmission]; RFC 8852, 3): where

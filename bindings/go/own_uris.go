@@ -13,7 +13,8 @@ func (k Kind) IsOwn() bool {
 
 // An OwnURIs gives URIs that the library doesn't know kinds of their own: 128 of them, one for each URI, in all maps that
 // it sets. [Map.SetURI] has one for the whole program; a server that takes the SDP of strangers has one for each call or
-// room, since whoever sends 128 URIs of his own fills it.
+// room, since whoever sends 128 URIs of his own fills it. One for each peer is no use: the maps of a call have to be of
+// the same one ([NewIDsBetween]).
 //
 // Kinds are given from 255 on downwards, and so those that a program chose by hand, from KindOwn on upwards, are others
 // until they meet: where both stand in one map, take the kind of [OwnURIs.KindOf].
@@ -52,7 +53,7 @@ func (o *OwnURIs) KindOf(uri string) Kind {
 
 // SetURI makes the id of the map mean the kind that the URI names here, and returns it, as [Map.SetURI] does with the
 // URIs of the whole program: KindNone, and then the id means nothing, where KindOf has none. It returns ErrBadField, and
-// changes nothing, where the id is 0.
+// changes nothing, where the id is 0, or the map has kinds of another OwnURIs and the URI one of this.
 func (o *OwnURIs) SetURI(m *Map, id uint8, uri string) (Kind, error) {
 	if id == 0 {
 		return KindNone, ErrBadField
@@ -61,6 +62,12 @@ func (o *OwnURIs) SetURI(m *Map, id uint8, uri string) (Kind, error) {
 	if kind == KindNone {
 		m.Remove(id)
 		return KindNone, nil
+	}
+	if kind.IsOwn() {
+		if m.own != nil && m.own != o {
+			return KindNone, ErrBadField
+		}
+		m.own = o
 	}
 	return kind, m.Set(id, kind)
 }

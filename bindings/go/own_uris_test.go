@@ -44,7 +44,7 @@ func TestUnknownURIsArePassedOn(t *testing.T) {
 // A table has room for 128 URIs, whose kinds are all of one's own. One more has none: its id means nothing, and that is
 // no error, and what is known is found as before.
 func TestTablesOfURIs(t *testing.T) {
-	var own, other rtpwire.OwnURIs
+	var own rtpwire.OwnURIs
 	var m rtpwire.Map
 	same(t, "no URI", []any{own.KindOf(""), own.URI(255)}, []any{rtpwire.KindNone, ""})
 	seen := make(map[rtpwire.Kind]bool)
@@ -64,14 +64,59 @@ func TestTablesOfURIs(t *testing.T) {
 	kind, err = own.SetURI(&m, 202, mid)
 	same(t, "a known one", []any{kind, err, m.Get(202), own.URI(kind), kind.IsOwn()}, []any{rtpwire.KindMID, nil, rtpwire.KindMID, mid, false})
 
-	// The id 0 takes no room, and each table has its own.
+	same(t, "nothing kept", rtpwire.Kind(255).URI(), "")
+}
+
+// The id 0 takes no room in a table, and each table has its own. Their kinds don't meet: no map has those of two, and
+// between maps of two the elements of known kinds alone go on.
+func TestTwoTablesOfURIs(t *testing.T) {
+	var first, second rtpwire.OwnURIs
+	var from, to, known rtpwire.Map
 	for i := 0; i < 200; i++ {
-		kind, err = other.SetURI(&m, 0, fmt.Sprint("urn:other:", i))
+		kind, err := second.SetURI(&to, 0, fmt.Sprint("urn:", i))
 		same(t, "the id 0", []any{kind, err}, []any{rtpwire.KindNone, rtpwire.ErrBadField})
 	}
-	kind, err = other.SetURI(&m, 203, "urn:own:5")
-	same(t, "in another table", []any{err, kind.IsOwn(), other.URI(kind), other.URI(kind - 1)}, []any{nil, true, "urn:own:5", ""})
-	same(t, "nothing kept", rtpwire.Kind(255).URI(), "")
+	for _, row := range []struct {
+		own *rtpwire.OwnURIs
+		m   *rtpwire.Map
+		id  uint8
+		uri string
+	}{
+		{&first, &from, 1, "urn:a"}, {&first, &from, 2, mid}, {&first, &from, 3, "urn:b"},
+		{&second, &to, 4, "urn:b"}, {&second, &to, 5, mid}, {&first, &known, 6, mid}, {&second, &known, 7, "urn:b"},
+	} {
+		kind, err := row.own.SetURI(row.m, row.id, row.uri)
+		same(t, row.uri, []any{err, row.own.URI(kind)}, []any{nil, row.uri})
+	}
+	same(t, "one number", []bool{from.Get(1) == to.Get(4), second.URI(254) == ""}, []bool{true, true})
+	before := to
+	for _, set := range []func() (rtpwire.Kind, error){
+		func() (rtpwire.Kind, error) { return first.SetURI(&to, 9, "urn:b") },
+		func() (rtpwire.Kind, error) { return to.SetURI(4, "urn:b") },
+	} {
+		kind, err := set()
+		same(t, "of another table", []any{kind, err, to == before}, []any{rtpwire.KindNone, rtpwire.ErrBadField, true})
+	}
+	kind, err := first.SetURI(&to, 9, mid)
+	same(t, "a known one", []any{kind, err}, []any{rtpwire.KindMID, nil})
+
+	for _, row := range []struct {
+		from, to *rtpwire.Map
+		ids      [4]uint8 // of 1, 2, 3 and 4
+	}{
+		{&from, &to, [4]uint8{0, 5, 0, 0}},
+		{&to, &from, [4]uint8{}},
+		{&from, &from, [4]uint8{1, 2, 3, 0}},
+		{&to, &known, [4]uint8{3: 7}},
+		{&from, nil, [4]uint8{}},
+	} {
+		ids := rtpwire.NewIDsBetween(row.from, row.to)
+		same(t, "ids", [4]uint8{ids.Get(1), ids.Get(2), ids.Get(3), ids.Get(4)}, row.ids)
+	}
+	// Numbers that were taken from a table by hand are those of any.
+	var byHand rtpwire.Map
+	same(t, "set", byHand.Set(8, second.KindOf("urn:b")), nil)
+	same(t, "by hand", rtpwire.NewIDsBetween(&to, &byHand).Get(4), uint8(8))
 }
 
 // A URI is known by all of its letters, as it is written (RFC 8285, 5).
