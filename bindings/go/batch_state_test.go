@@ -1,6 +1,7 @@
 package rtpwire_test
 
 import (
+	"errors"
 	"fmt"
 	"testing"
 
@@ -350,15 +351,19 @@ func TestEachZeroMakesABlock(t *testing.T) {
 	same(t, "an offset alone", rtpwire.NewHeader(v).HasExtension, true)
 }
 
-// Each of the levels is judged, whatever their count.
+// No packet has more than 15 sources (RFC 3550, 5.1), and the last of these levels is judged too.
 func TestManyLevels(t *testing.T) {
-	for _, count := range []int{15, 16, 255, 1000} {
-		levels := make([]int8, count)
-		data, err := rtpwire.AppendMixerLevels([]byte{7}, levels)
-		same(t, "written", []any{len(data), data[0], err}, []any{count + 1, byte(7), nil})
-		levels[count-1] = 1
-		data, err = rtpwire.AppendMixerLevels([]byte{7}, levels)
-		same(t, "refused", []any{data, err.Error()}, []any{[]byte{7}, fmt.Sprintf("rtpwire: the level %d is 1, and not -127 to 0", count-1)})
+	levels := make([]int8, 15, 1000)
+	data, err := rtpwire.AppendMixerLevels([]byte{7}, levels)
+	same(t, "written", []any{len(data), data[0], err}, []any{16, byte(7), nil})
+	levels[14] = 1
+	data, err = rtpwire.AppendMixerLevels([]byte{7}, levels)
+	same(t, "refused", []any{data, err.Error()}, []any{[]byte{7}, "rtpwire: the level 14 is 1, and not -127 to 0"})
+	levels[14] = 0
+	for _, count := range []int{16, 255, 256, 300, 1000} {
+		data, err = rtpwire.AppendMixerLevels([]byte{7}, levels[:count])
+		wanted := fmt.Sprintf("rtpwire: the number of levels is %d, and not 0 to 15", count)
+		same(t, "too many", []any{data, err.Error(), errors.Is(err, rtpwire.ErrBadField)}, []any{[]byte{7}, wanted, true})
 	}
 }
 

@@ -5,6 +5,7 @@
 #ifndef RTPWIRE_CALLS_H
 #define RTPWIRE_CALLS_H
 
+#include "names.h"
 #include "rtp_wire.h"
 
 #include <string.h>
@@ -394,6 +395,20 @@ typedef struct {
     int32_t number;
     int32_t status;
 } call_signed;
+
+static inline call_number call_read_send_time(const uint8_t *data, size_t len) {
+    uint32_t units = 0;
+    call_number it = {0};
+    it.status = rtpw_read_send_time(data, len, &units);
+    it.number = units;
+    return it;
+}
+
+static inline call_data call_write_send_time(uint32_t units) {
+    call_data it = {{0}, 0, RTPW_OK};
+    it.status = rtpw_write_send_time(units, it.data, sizeof it.data, &it.len);
+    return it;
+}
 
 static inline call_signed call_read_transmission_offset(const uint8_t *data, size_t len) {
     call_signed it = {0, RTPW_OK};

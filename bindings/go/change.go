@@ -232,9 +232,9 @@ func WriteOriginal(payload []byte, number uint64) error {
 // ([NewIDsToRetransmission]), and as payload the original number in two bytes and the original payload without its
 // padding. P becomes clear, and all else stays, M and the timestamp too, and so do the bytes behind it.
 //
-// It returns ErrBadField where the payload type is above 127, the length isn't one of the buffer, or the padding's last
-// byte counts more bytes than the payload has; [ErrLongID] where the packet's form can't carry a new id; or else
-// ErrShortBuffer where there is no room for the two bytes. Nothing changes then.
+// It returns the first that applies: ErrBadField where the payload type is above 127 or the length isn't one of the
+// buffer; a [Cause]; ErrBadField where the padding's last byte counts more bytes than the payload has; [ErrLongID] where
+// the packet's form can't carry a new id; ErrShortBuffer where there is no room for the two bytes. Nothing changes then.
 func ToRetransmission(
 	buf []byte, length int, ssrc uint32, payloadType uint8, number uint16, ids *NewIDs,
 ) ([]byte, error) {
@@ -253,8 +253,8 @@ func ToRetransmission(
 // ids ([NewIDsFromRetransmission]), and as payload what follows that number, without padding. P becomes clear, and all
 // else stays, and so do the bytes behind it.
 //
-// It returns ErrBadField and ErrLongID as ToRetransmission, and ErrNotFound where the payload has fewer than the two bytes of a
-// number. Nothing changes then.
+// It returns errors as ToRetransmission does, but for the last one; and before ErrLongID ErrNotFound, where the payload
+// without its padding has fewer than the two bytes of a number. Nothing changes then.
 func FromRetransmission(buf []byte, length int, ssrc uint32, payloadType uint8, ids *NewIDs) ([]byte, error) {
 	if length < 0 {
 		return nil, ErrBadField

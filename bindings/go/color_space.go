@@ -37,7 +37,9 @@ type HDRMetadata struct {
 }
 
 // A ColorSpace is that of a video, as WebRTC's color-space has it: four bytes, or 28 with HDR metadata, for which an
-// element needs the two-byte form. [Values] have none, though KindColorSpace can be mapped.
+// element needs the two-byte form. [Values] have none, though KindColorSpace can be mapped. libwebrtc passes over one with
+// a code point that H.273 reserves, as the primaries 0 or 3, or with HDR metadata beyond 20,000 cd/m^2 (LuminanceMin
+// beyond 5), or with a chromaticity above 1; all of them are read and appended here.
 type ColorSpace struct {
 	HDR        HDRMetadata  // of a video of high dynamic range: without HasHDR it isn't looked at
 	Primaries  uint8        // the color primaries, a code point of H.273, 8.1

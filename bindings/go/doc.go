@@ -6,9 +6,9 @@
 // what its contract says. Its assembly text is in this package, which go build builds by cgo and a C compiler,
 // for Linux on x86-64 and ARM. The Go code around it isn't proved: it is tested.
 //
-// A call of the library takes 100 nanoseconds and more, by the machine. So there is one call for a whole packet:
-// [Packet.Parse] reads all fields, values and places, and [Receiver.ReceivePacket] judges the packet too.
-// What is a look at these needs no call: the fields, the values, [Packet.Payload], [Header.CSRC].
+// A call of the library takes 70 nanoseconds before it does anything, on a Xeon at 2.5 GHz. So there is one call for a
+// whole packet: [Packet.Parse] reads all fields, values and places, and [Receiver.ReceivePacket] judges the packet too.
+// What is a look at these needs no call: the fields, the values, [Packet.UnpaddedPayload], [Header.CSRC].
 //
 // Where many datagrams lie in one buffer one call reads them all ([HeaderBatch], [PacketBatch]), and another judges
 // them ([ArrivalBatch]): of 32 at once each then takes less than half of that time.
@@ -16,26 +16,32 @@
 // A packet that goes to many receivers gets all their headers by one call, each with fields and data of its own, while
 // the payload stays where it lies ([RouteBatch]).
 //
+// [Map.SetURI] makes a map of the lines a=extmap of SDP, and [NewIDsBetween] the new ids between two of them: those of
+// extensions that the library doesn't know too ([OwnURIs]).
+//
 // [Values] have some elements as str0m reads and writes them, and others not at all. The data that [Packet.Element]
-// lends are read as the standards have them, for any peer, by [ParseTransmissionOffset], [ParseFrameMarking],
-// [ParseOrientation], [ParseTiming], [ParseTransportNumber], [ParseColorSpace], [ParseDependencyDescriptor],
-// [ParseMixerLevel], [ParseNTP64] and [ParseNTP56], each with what writes them. [Packet.Token] has a mid as it lies.
+// lends are read as the standards have them, for any peer, by [ParseSendTime], [ParseTransmissionOffset],
+// [ParseFrameMarking], [ParseOrientation], [ParseTiming], [ParseTransportNumber], [ParseColorSpace],
+// [ParseDependencyDescriptor], [ParseMixerLevel], [ParseNTP64] and [ParseNTP56], each with what writes them.
+// [Packet.Token] has a mid as it lies. What is no standard's: an element of the id 0 with length bits, at which reading
+// ends by RFC 8285, 4.2, is passed over, and the elements behind it are read.
 //
 // A packet changes where it lies: [SetElement], [PutElement], [AddElement], [Renumber], [ChangeForm], [PutBlock],
 // [RemoveBlock], [Compact].
 //
 // [NewReceiver] asks for the rollover count: 1 where nothing is authenticated. [WideReceiver] has a window of another
-// size, and [RestartingReceiver], which is not for SRTP, tells that a sender has started again;
-// [WideRestartingReceiver] does so with a window of another size. [ReceptionStatistics] are what a
-// receiver report says (RFC 3550, 6.4.1).
+// size, and [RestartingReceiver], which is not for SRTP, tells that a sender has started again: drop what is [Refused]
+// alone, since what is [Restarted] is taken. [WideRestartingReceiver] does so with a window of another size.
+// [ReceptionStatistics] are what a receiver report says (RFC 3550, 6.4.1).
 //
 // No function keeps a pointer to what it is given, but a Packet the datagram that it was read from, and a batch the
 // buffer. Calls from several goroutines at once are safe as long as nothing that one of them changes is used by
-// another.
+// another; an [OwnURIs] may be. No race detector (go test -race) sees what the library reads and writes: it reports two
+// goroutines at one [Header], where Go code reads and writes it, and not at one [Receiver] or datagram.
 //
 // On a port that RTP and RTCP share [IsRTCP] comes before [Packet.Parse], which would take a receiver report
 // for RTP.
 package rtpwire
 
 // Version is the version of this package and of its library.
-const Version = "1.0.0"
+const Version = "1.1.0-dev"

@@ -312,13 +312,18 @@ func TestEndsOfMaps(t *testing.T) {
 	kind, err := m.SetURI(255, "")
 	same(t, "no URI", []any{kind, err, m}, []any{rtpwire.KindNone, nil, rtpwire.Map{}})
 	for kind := 0; kind < 256; kind++ {
-		is := kind <= 15 || kind >= 128
+		is := 1 <= kind && kind <= 20 || kind >= 128
 		for _, id := range []uint8{1, 14, 15, 255} {
 			m = rtpwire.Map{}
 			err := m.Set(id, rtpwire.Kind(kind))
-			same(t, "set", []bool{err == nil, err == rtpwire.ErrBadField, m.Get(id) == rtpwire.Kind(kind)}, []bool{is, !is, is})
+			same(t, "set", []bool{err == nil, err == rtpwire.ErrBadField}, []bool{is, !is})
+			got := rtpwire.KindNone
+			if is {
+				got = rtpwire.Kind(kind)
+			}
+			same(t, "got", m.Get(id), got)
 			wanted := id
-			if !is || kind == 0 {
+			if !is {
 				wanted = 0
 			}
 			same(t, "id", m.IDOf(rtpwire.Kind(kind)), wanted)
@@ -326,7 +331,7 @@ func TestEndsOfMaps(t *testing.T) {
 		m = rtpwire.Map{}
 		same(t, "the id 0", []any{m.Set(0, rtpwire.Kind(kind)), m}, []any{rtpwire.ErrBadField, rtpwire.Map{}})
 	}
-	same(t, "set", []error{m.Set(7, rtpwire.KindMID), m.Set(7, 16)}, []error{nil, rtpwire.ErrBadField})
+	same(t, "set", []error{m.Set(7, rtpwire.KindMID), m.Set(7, 21)}, []error{nil, rtpwire.ErrBadField})
 	same(t, "as before", m.Get(7), rtpwire.KindMID)
 	ids := *rtpwire.NewIDsBetween(&m, &m)
 	copied := ids
@@ -348,7 +353,8 @@ func TestNilMapsAreNotSet(t *testing.T) {
 	const uri = "urn:ietf:params:rtp-hdrext:sdes:rtp-stream-id"
 	same(t, "set", panics(func() { _ = none.Set(1, rtpwire.KindMID) }), true)
 	same(t, "set by URI", panics(func() { _, _ = none.SetURI(2, uri) }), true)
-	same(t, "nothing is set", panics(func() { _ = none.Set(3, rtpwire.KindNone) }), true)
+	same(t, "set by an unknown URI", panics(func() { _, _ = none.SetURI(2, "urn:unknown") }), true)
+	same(t, "removed", panics(func() { none.Remove(3) }), true)
 
 	// elements of the ids 1 and 2: the mid "a" and the rid "b" where a map says so
 	datagram := []byte{0x90, 0, 0, 5, 0, 0, 0, 1, 0, 0, 0, 0x2C, 0xBE, 0xDE, 0, 1, 0x10, 'a', 0x20, 'b'}

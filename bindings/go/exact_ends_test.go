@@ -1,6 +1,7 @@
 package rtpwire_test
 
 import (
+	"bytes"
 	"os"
 	"syscall"
 	"testing"
@@ -68,6 +69,26 @@ func TestNothingPastTheEndIsTouched(t *testing.T) {
 				t.Fatal(n, err)
 			}
 			packet.UnpaddedPayload()
+		}
+	}
+}
+
+// The places of a block of 68,000 bytes, 4,000 elements of 16 bytes each: in a slice that has to grow, from nothing on,
+// and where its room ended behind the byte 65,536.
+func TestPlacesOfALongBlock(t *testing.T) {
+	const count = 4000
+	datagram := []byte{0x90, 96, 0, 5, 0, 0, 0, 1, 0, 0, 0, 2, 0xBE, 0xDE, byte(17 * count / 4 >> 8), byte(17 * count / 4 & 255)}
+	for i := 0; i < count; i++ {
+		datagram = append(datagram, byte(1+i%14)<<4|15)
+		datagram = append(datagram, bytes.Repeat([]byte{byte(i)}, 16)...)
+	}
+	packet := parsed(t, append(datagram, 'p'), nil)
+	for _, places := range [][]rtpwire.Place{packet.AppendPlaces(nil), packet.AppendPlaces(make([]rtpwire.Place, 0, 3900))} {
+		same(t, "how many", len(places), count)
+		for i, place := range places {
+			if place.ID != byte(1+i%14) || place.At != 17*i+1 || place.Len != 16 || packet.Data(place)[15] != byte(i) {
+				t.Fatalf("element %d: %+v", i, place)
+			}
 		}
 	}
 }

@@ -4,6 +4,7 @@ import (
 	"errors"
 	"fmt"
 	"log"
+	"time"
 
 	"rtpwire"
 )
@@ -18,7 +19,8 @@ func Example() {
 	if err != nil {
 		log.Fatal(err)
 	}
-	datagram := []byte{0x90, 96, 0, 5, 0, 0, 0, 160, 0, 0, 0, 7, 0xBE, 0xDE, 0, 1, 0x10, 0x8A, 0, 0, 'h', 'i'}
+	// P is set: the last two bytes are padding.
+	datagram := []byte{0xB0, 96, 0, 5, 0, 0, 0, 160, 0, 0, 0, 7, 0xBE, 0xDE, 0, 1, 0x10, 0x8A, 0, 0, 'h', 'i', 0, 2}
 
 	var packet rtpwire.Packet // used again for each packet
 	for _, received := range [][]byte{datagram, datagram, datagram[:19]} {
@@ -31,7 +33,12 @@ func Example() {
 			fmt.Println(err)
 			continue
 		}
-		fmt.Printf("%d: payload type %d, %q\n", number, packet.PayloadType, packet.Payload())
+		media, ok := packet.UnpaddedPayload()
+		if !ok {
+			fmt.Println("padding that is longer than its payload")
+			continue
+		}
+		fmt.Printf("%d: payload type %d, %q\n", number, packet.PayloadType, media)
 		if level, voice, ok := packet.Values.AudioLevel(); ok {
 			fmt.Println("audio at", level, "dB, voice", voice)
 		}
@@ -62,6 +69,30 @@ func ExampleReceiver_CheckPacket() {
 	// a replay, too old, or forged
 	// taken as 5
 	// a replay, too old, or forged
+}
+
+// A packet like one that was read, under another SSRC and number: without the padding of that, and so without P.
+func ExampleHeader_Write() {
+	datagram := []byte{0xA0, 96, 0, 5, 0, 0, 0, 160, 0, 0, 0, 7, 'h', 'i', 0, 2}
+	var packet rtpwire.Packet
+	if err := packet.Parse(datagram, nil); err != nil {
+		log.Fatal(err)
+	}
+	media, ok := packet.UnpaddedPayload()
+	if !ok {
+		log.Fatal("padding that is longer than its payload")
+	}
+	header := packet.Header // a copy
+	header.SSRC, header.SequenceNumber = 44, 47000
+	header.HasPadding = false
+	buf := make([]byte, 1500)
+	n, err := header.Write(buf, nil)
+	if err != nil {
+		log.Fatal(err)
+	}
+	n += copy(buf[n:], media)
+	fmt.Printf("% X, and then %q\n", buf[:12], buf[12:n])
+	// Output: 80 60 B7 98 00 00 00 A0 00 00 00 2C, and then "hi"
 }
 
 func ExampleHeader_WriteAll() {
@@ -171,8 +202,13 @@ func ExampleHeaderBatch() {
 			indices[header.SSRC], receivers = index, append(receivers, *first)
 		}
 		arrivals.Add(index, header.SequenceNumber)
-		level, _, ok := header.Values.AudioLevel()
-		fmt.Printf("SSRC %d, audio at %d dB: %v, %q\n", header.SSRC, level, ok, batch.Payload(i))
+		level, _, hasLevel := header.Values.AudioLevel()
+		media, ok := batch.UnpaddedPayload(i)
+		if !ok {
+			fmt.Println("padding that is longer than its payload")
+			continue
+		}
+		fmt.Printf("SSRC %d, audio at %d dB: %v, %q\n", header.SSRC, level, hasLevel, media)
 	}
 	arrivals.Receive(receivers)
 	for i := 0; i < arrivals.Len(); i++ {
@@ -226,11 +262,10 @@ func ExampleRouteBatch() {
 		IDs:      rtpwire.NewIDsBetween(publisher, subscribers),
 		Elements: []rtpwire.Place{{ID: 4, At: 0, Len: 2}},
 	}
-	const stride = 64
-	buf := make([]byte, 2*stride)
+	buf := make([]byte, 1024) // for the headers of both
 	var batch rtpwire.RouteBatch
 	for i, ssrc := range []uint32{45, 46} {
-		batch.Add(2*i, stride*i).SetSSRC(ssrc)
+		batch.Add(2 * i).SetSSRC(ssrc)
 	}
 
 	// For each packet:
@@ -255,12 +290,12 @@ func ExampleRouteBatch() {
 func ExampleRouteBatch_AddRetransmission() {
 	datagram := []byte{0xA0, 96, 0, 5, 0, 0, 0, 160, 0, 0, 0, 7, 'h', 'i', 0, 2} // two bytes of padding
 	var batch rtpwire.RouteBatch
-	batch.Add(0, 0).SetSSRC(46)
-	fields := batch.AddRetransmission(0, 12, 5)
+	batch.Add(0).SetSSRC(46)
+	fields := batch.AddRetransmission(0, 5)
 	fields.SetPayloadType(97)
 	fields.SetSequenceNumber(9)
 	fields.SetSSRC(45)
-	if err := batch.Route(datagram, &rtpwire.Group{}, nil, make([]byte, 26)); err != nil {
+	if err := batch.Route(datagram, &rtpwire.Group{}, nil, make([]byte, 1024)); err != nil {
 		log.Fatal(err)
 	}
 	for i, payload := range [][]byte{datagram[12:], datagram[12:14]} {
@@ -298,6 +333,29 @@ func ExamplePacket_Token() {
 	// cam_1 cam_1 true true
 }
 
+// Only what is refused is dropped: the first packet after a restart is taken.
+func ExampleVerdict() {
+	var receiver rtpwire.RestartingReceiver
+	for _, sequenceNumber := range []uint16{60000, 60000, 7, 8, 9} {
+		number, verdict := receiver.Receive(sequenceNumber)
+		if verdict == rtpwire.Refused {
+			fmt.Println(sequenceNumber, "is dropped")
+			continue
+		}
+		if verdict == rtpwire.Restarted {
+			fmt.Println("what hangs on numbers begins anew")
+		}
+		fmt.Println(sequenceNumber, "is taken as", number)
+	}
+	// Output:
+	// 60000 is taken as 125536
+	// 60000 is dropped
+	// 7 is dropped
+	// what hangs on numbers begins anew
+	// 8 is taken as 196616
+	// 9 is taken as 196617
+}
+
 // What was refused of the stream counts as received, and what is far from it does not.
 func ExampleRestartingReceiver_InRow() {
 	var receiver rtpwire.RestartingReceiver
@@ -319,6 +377,51 @@ func ExampleRestartingReceiver_InRow() {
 	// 58000 refused 123536 too old to tell
 	// 7 refused far from the stream
 	// 8 restarted 196616
+}
+
+// A server that takes the SDP of strangers has a table for each call. Two peers agreed on an extension that the library
+// doesn't know: its elements go from one to the other.
+func ExampleOwnURIs() {
+	var uris rtpwire.OwnURIs // of the call
+	var publisher, subscriber rtpwire.Map
+	for _, line := range []struct {
+		m   *rtpwire.Map
+		id  uint8
+		uri string
+	}{
+		{&publisher, 1, "urn:ietf:params:rtp-hdrext:ssrc-audio-level"},
+		{&publisher, 3, "urn:ietf:params:rtp-hdrext:framemarking"},
+		{&subscriber, 5, "urn:ietf:params:rtp-hdrext:framemarking"},
+	} {
+		kind, err := uris.SetURI(line.m, line.id, line.uri)
+		if err != nil {
+			log.Fatal(err)
+		}
+		if kind == rtpwire.KindNone || kind.IsOwn() {
+			fmt.Println(line.id, "isn't known:", line.uri)
+		}
+	}
+	ids := rtpwire.NewIDsBetween(&publisher, &subscriber)
+	fmt.Println(ids.Get(1), ids.Get(3), uris.URI(subscriber.Get(5)))
+	// Output:
+	// 3 isn't known: urn:ietf:params:rtp-hdrext:framemarking
+	// 5 isn't known: urn:ietf:params:rtp-hdrext:framemarking
+	// 0 5 urn:ietf:params:rtp-hdrext:framemarking
+}
+
+// How long a packet was on its way, by two clocks that agree.
+func ExampleSendTime_Estimate() {
+	arrival := time.Date(2026, 2, 3, 4, 5, 6, 0, time.UTC)
+	sent, err := rtpwire.ParseSendTime([]byte{0xC7, 0xEF, 0x9D}) // 49 s and 257,949 of 262,144; the arrival is 50 s
+	if err != nil {
+		log.Fatal(err)
+	}
+	fmt.Println(arrival.Sub(sent.Estimate(arrival)))
+	data, err := sent.Append(nil) // as it came
+	fmt.Printf("% X %v\n", data, err)
+	// Output:
+	// 16.002655ms
+	// C7 EF 9D <nil>
 }
 
 // The offset of RFC 5450 has three bytes and a sign, and is put into a packet and read as any element.

@@ -16,7 +16,8 @@ type Header struct {
 	csrcCount   uint8
 	// Marker is M.
 	Marker bool
-	// HasPadding is P: whether there is padding at the end of the payload.
+	// HasPadding is P: whether there is padding at the end of the payload. Where a header that was read is written for a
+	// payload without its padding, make it false: else each peer takes the payload's last bytes for padding.
 	HasPadding bool
 	// HasExtension is X: whether there is a block of elements. Without one no value is written.
 	HasExtension bool
@@ -59,10 +60,11 @@ func (h *Header) WireLen(m *Map) (int, error) {
 // Those after them stay. Where there is a block it has an element for each mapped id whose value is there, by rising
 // id, in the one-byte form where no id above 14 and no KindLayers is mapped, and no text that is written is empty. A
 // layer allocation isn't written ([Header.WriteLayers]). A value without an id, or without a block, is left out, and no
-// error says so: [Header.LeftOut] tells these, and [Header.WriteAll] refuses them.
+// error says so: [Header.LeftOut] tells these, and [Header.WriteAll] refuses them. Where HasPadding is true the padding
+// is the caller's to write behind the payload ([Pad] does both).
 //
-// It returns ErrBadField where the payload type is above 127, or the orientation none of the four, and else
-// ErrShortBuffer where the buffer has too few bytes; nothing is written then.
+// It returns ErrBadField where the payload type is above 127, the orientation none of the four, or the audio level none
+// of -127 to 0, and else ErrShortBuffer where the buffer has too few bytes; nothing is written then.
 func (h *Header) Write(buf []byte, m *Map) (int, error) {
 	return h.write(buf, m)
 }

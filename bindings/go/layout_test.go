@@ -215,7 +215,7 @@ func TestStructsLieAsThoseOfC(t *testing.T) {
 		{"dependency_descriptor.start_of_frame", unsafe.Offsetof(d.StartOfFrame), 2},
 		{"dependency_descriptor.end_of_frame", unsafe.Offsetof(d.EndOfFrame), 3},
 		{"dependency_descriptor.template_id", unsafe.Offsetof(d.TemplateID), 4},
-		{"map", unsafe.Sizeof(Map{}), 256},
+		{"map", unsafe.Sizeof(Map{}.kinds), 256},
 		{"new_ids", unsafe.Sizeof(NewIDs{}), 256},
 		{"datagram", unsafe.Sizeof(dg), 88},
 		{"datagram.len", unsafe.Offsetof(dg.len), 8},
@@ -241,7 +241,9 @@ func TestStructsLieAsThoseOfC(t *testing.T) {
 		{"routed_header.fields", unsafe.Offsetof(rh.Fields), 16},
 		{"routed_header.original_number", unsafe.Offsetof(rh.originalNumber), 36},
 		{"routed_header.is_retransmission", unsafe.Offsetof(rh.isRetransmission), 38},
+		{"routed_header.clears_padding", unsafe.Offsetof(rh.clearsPadding), 39},
 		{"routed_header.status", unsafe.Offsetof(rh.status), 40},
+		{"routed_header.len", unsafe.Offsetof(rh.length), 44},
 	}
 	for _, row := range rows {
 		if row.got != row.wanted {

@@ -104,15 +104,24 @@ func TestLayersAreLeftOutWithoutAnID(t *testing.T) {
 }
 
 func TestEachKindHasItsURI(t *testing.T) {
-	for kind := KindAbsSendTime; kind <= KindLayers; kind++ {
+	for kind := KindAbsSendTime; kind <= KindNTP56; kind++ {
 		if KindOfURI(kind.URI()) != kind {
 			t.Error(kind, kind.URI())
 		}
 	}
-	if uri := KindMID.URI(); uri != "urn:ietf:params:rtp-hdrext:sdes:mid" {
-		t.Error(uri)
+	for kind, wanted := range map[Kind]string{
+		KindMID:                  "urn:ietf:params:rtp-hdrext:sdes:mid",
+		KindMixerLevels:          "urn:ietf:params:rtp-hdrext:csrc-audio-level",
+		KindTransportNumber2:     "http://www.webrtc.org/experiments/rtp-hdrext/transport-wide-cc-02",
+		KindDependencyDescriptor: "https://aomediacodec.github.io/av1-rtp-spec/#dependency-descriptor-rtp-header-extension",
+		KindNTP64:                "urn:ietf:params:rtp-hdrext:ntp-64",
+		KindNTP56:                "urn:ietf:params:rtp-hdrext:ntp-56",
+	} {
+		if uri := kind.URI(); uri != wanted {
+			t.Errorf("%v: %s", kind, uri)
+		}
 	}
-	if KindNone.URI() != "" || Kind(16).URI() != "" || KindOwn.URI() != "" {
+	if KindNone.URI() != "" || Kind(21).URI() != "" || KindOwn.URI() != "" {
 		t.Error("a URI of no kind")
 	}
 }

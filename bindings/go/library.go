@@ -81,7 +81,7 @@ func (m *Map) c() *C.rtpw_map {
 	if m == nil {
 		m = &noKinds
 	}
-	return (*C.rtpw_map)(unsafe.Pointer(m))
+	return (*C.rtpw_map)(unsafe.Pointer(&m.kinds))
 }
 
 func (h *Header) c() *C.rtpw_header {
@@ -576,6 +576,23 @@ func hasDependencyStructure(data []byte) bool {
 
 func isToken(data []byte) bool {
 	return bool(C.rtpw_is_token(first(data), size(data)))
+}
+
+func isStreamID(data []byte) bool {
+	return bool(C.rtpw_is_stream_id(first(data), size(data)))
+}
+
+func parseSendTime(data []byte) (SendTime, error) {
+	units, err := numberOr(C.call_read_send_time(first(data), size(data)))
+	return SendTime(units), err
+}
+
+func (s SendTime) append(data []byte) ([]byte, error) {
+	return appended(data, C.call_write_send_time(C.uint32_t(s)))
+}
+
+func extendSendTime(near uint64, s SendTime) uint64 {
+	return uint64(C.rtpw_extend_send_time(C.uint64_t(near), C.uint32_t(s)))
 }
 
 func parseTransmissionOffset(data []byte) (int32, error) {

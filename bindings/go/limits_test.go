@@ -136,7 +136,7 @@ func TestCopies(t *testing.T) {
 	same(t, "taken", []any{number, verdict}, []any{uint64(65542), rtpwire.Taken})
 	m := rtpwire.StandardMap()
 	changed := *m
-	same(t, "set", changed.Set(1, rtpwire.KindNone), nil)
+	changed.Remove(1)
 	same(t, "apart", []rtpwire.Kind{m.Get(1), changed.Get(1)}, []rtpwire.Kind{rtpwire.KindAudioLevel, rtpwire.KindNone})
 	same(t, "each its own", rtpwire.StandardMap() == m, false)
 }
@@ -309,8 +309,8 @@ func TestNames(t *testing.T) {
 	header, err := os.ReadFile("rtp_wire.h")
 	same(t, "read", err, nil)
 	found := regexp.MustCompile(`RTPW_KIND_(\w+) = (\d+)`).FindAllStringSubmatch(string(header), -1)
-	same(t, "kinds", len(found), 17)
-	for _, it := range found[:16] {
+	same(t, "kinds", len(found), 22)
+	for _, it := range found[:21] {
 		var number uint8
 		_, err := fmt.Sscan(it[2], &number)
 		same(t, it[1], []any{err, rtpwire.Kind(number).String()}, []any{nil, strings.ToLower(strings.ReplaceAll(it[1], "_", " "))})

@@ -46,10 +46,11 @@ func (p *place) of(buf []byte, from int) []byte {
 //	batch.Parse(buf, &m)
 //	for i := 0; i < batch.Len(); i++ {
 //		header, err := batch.At(i)
-//		if err != nil || batch.IsRTCP(i) {
+//		media, ok := batch.UnpaddedPayload(i)
+//		if err != nil || batch.IsRTCP(i) || !ok {
 //			continue
 //		}
-//		deliver(header.SSRC, header.Timestamp, batch.Payload(i))
+//		deliver(header.SSRC, header.Timestamp, media)
 //	}
 type HeaderBatch struct {
 	buf   []byte
@@ -116,7 +117,7 @@ func (b *HeaderBatch) HeaderLen(i int) int {
 	return b.read[i].header.headerLen
 }
 
-// Payload is the payload with any padding, a part of the buffer; nil where At returns an error.
+// Payload is the payload with any padding ([Packet.Payload]), a part of the buffer; nil where At returns an error.
 func (b *HeaderBatch) Payload(i int) []byte {
 	d := &b.read[i]
 	if d.status != 0 {
@@ -126,8 +127,8 @@ func (b *HeaderBatch) Payload(i int) []byte {
 	return b.buf[d.at+d.header.headerLen : end : end]
 }
 
-// UnpaddedPayload is the payload without its padding ([Packet.UnpaddedPayload]). It is not ok also where At returns an
-// error.
+// UnpaddedPayload is the payload without its padding, the media ([Packet.UnpaddedPayload]). It is not ok also where At
+// returns an error.
 func (b *HeaderBatch) UnpaddedPayload(i int) (payload []byte, ok bool) {
 	d := &b.read[i]
 	if d.status != 0 {
@@ -214,7 +215,7 @@ func (b *PacketBatch) HeaderLen(i int) int {
 	return b.read[i].packet.payloadAt
 }
 
-// Payload is the payload with any padding, a part of the buffer; nil where At returns an error.
+// Payload is the payload with any padding ([Packet.Payload]), a part of the buffer; nil where At returns an error.
 func (b *PacketBatch) Payload(i int) []byte {
 	d := &b.read[i]
 	if d.status != 0 {
@@ -224,8 +225,8 @@ func (b *PacketBatch) Payload(i int) []byte {
 	return b.buf[d.at+d.packet.payloadAt : end : end]
 }
 
-// UnpaddedPayload is the payload without its padding ([Packet.UnpaddedPayload]). It is not ok also where At returns an
-// error.
+// UnpaddedPayload is the payload without its padding, the media ([Packet.UnpaddedPayload]). It is not ok also where At
+// returns an error.
 func (b *PacketBatch) UnpaddedPayload(i int) (payload []byte, ok bool) {
 	d := &b.read[i]
 	if d.status != 0 || !d.packet.paddingFits {

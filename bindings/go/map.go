@@ -3,11 +3,12 @@ package rtpwire
 import "strconv"
 
 // A Kind is what a header extension says of its packet. Its numbers are this library's own, and from KindOwn to 255
-// yours: extensions that have no value here, as a dependency descriptor, whose elements you read and write
-// ([ParseDependencyDescriptor]).
+// yours: those of extensions that the library doesn't know ([OwnURIs]).
 type Kind uint8
 
-// The kinds of extension; KindNone is that of an id that means nothing, and of a URI that is that of none.
+// The kinds of extension; KindNone is that of an id that means nothing, and of a URI that has none. Those to KindLayers
+// but KindColorSpace have a value in [Values]. The elements of the others, and of yours, are read and written by their
+// data, and go from one map to another ([NewIDsBetween]).
 const (
 	KindNone Kind = iota
 	KindAbsSendTime
@@ -25,28 +26,38 @@ const (
 	KindFrameMarking
 	KindColorSpace
 	KindLayers
+	KindMixerLevels          // of the contributing sources: ParseMixerLevel
+	KindTransportNumber2     // with what feedback it asks for: ParseTransportNumber
+	KindDependencyDescriptor // of AV1: ParseDependencyDescriptor
+	KindNTP64                // ParseNTP64
+	KindNTP56                // ParseNTP56
 )
 
 // KindOwn is the first of the caller's own kinds.
 const KindOwn Kind = 128
 
 var kinds = [...]string{
-	KindNone:               "none",
-	KindAbsSendTime:        "abs send time",
-	KindAbsCaptureTime:     "abs capture time",
-	KindAudioLevel:         "audio level",
-	KindTransmissionOffset: "transmission offset",
-	KindVideoOrientation:   "video orientation",
-	KindTransportNumber:    "transport number",
-	KindPlayoutDelay:       "playout delay",
-	KindVideoContentType:   "video content type",
-	KindVideoTiming:        "video timing",
-	KindRID:                "rid",
-	KindRepairedRID:        "repaired rid",
-	KindMID:                "mid",
-	KindFrameMarking:       "frame marking",
-	KindColorSpace:         "color space",
-	KindLayers:             "layers",
+	KindNone:                 "none",
+	KindAbsSendTime:          "abs send time",
+	KindAbsCaptureTime:       "abs capture time",
+	KindAudioLevel:           "audio level",
+	KindTransmissionOffset:   "transmission offset",
+	KindVideoOrientation:     "video orientation",
+	KindTransportNumber:      "transport number",
+	KindPlayoutDelay:         "playout delay",
+	KindVideoContentType:     "video content type",
+	KindVideoTiming:          "video timing",
+	KindRID:                  "rid",
+	KindRepairedRID:          "repaired rid",
+	KindMID:                  "mid",
+	KindFrameMarking:         "frame marking",
+	KindColorSpace:           "color space",
+	KindLayers:               "layers",
+	KindMixerLevels:          "mixer levels",
+	KindTransportNumber2:     "transport number 2",
+	KindDependencyDescriptor: "dependency descriptor",
+	KindNTP64:                "ntp 64",
+	KindNTP56:                "ntp 56",
 }
 
 // String names the kind.
@@ -57,15 +68,16 @@ func (k Kind) String() string {
 	return kinds[k]
 }
 
-// KindOfURI is the kind that this URI names in SDP (RFC 8285, 5), letter for letter; KindNone where it names none
-// of them.
+// KindOfURI is the kind that this URI names in SDP (RFC 8285, 5), letter for letter; KindNone where the library doesn't
+// know it, as where it is misspelled: [Map.SetURI] has a kind for it too.
 func KindOfURI(uri string) Kind {
 	return kindOfURI([]byte(uri))
 }
 
-// URI is the URI that names the kind in SDP (RFC 8285, 5), as an answer says it: "" for KindNone, and for yours.
+// URI is the URI that names the kind in SDP (RFC 8285, 5), as an answer says it: "" for KindNone, and for yours, whose
+// URIs [OwnURIs.URI] tells.
 func (k Kind) URI() string {
-	var buf [73]byte // the longest has as many
+	var buf [87]byte // the longest has as many
 	n, err := k.uri(buf[:])
 	if err != nil {
 		return ""
@@ -77,6 +89,7 @@ func (k Kind) URI() string {
 // means anything, and a nil *Map is read as that. It may be copied, and compared with ==.
 type Map struct {
 	kinds [256]uint8
+	own   *OwnURIs // what gave the kinds of one's own that URIs have
 }
 
 // StandardMap is the map of the usual ids: 1 audio level, 2 send time, 3 transport number, 4 mid, 10 rid, 11
@@ -87,17 +100,24 @@ func StandardMap() *Map {
 	return m
 }
 
-// Set makes the id mean the kind from now on, or nothing with KindNone. It returns ErrBadField, and changes
-// nothing, where the id is 0 or the kind is one of 16 to 127.
+// Set makes the id mean the kind from now on. It returns ErrBadField, and changes nothing, where the id is 0, or the kind
+// is KindNone, as of a URI that [KindOfURI] doesn't know, or one of 21 to 127.
 func (m *Map) Set(id uint8, kind Kind) error {
 	return m.set(id, kind)
 }
 
-// SetURI makes the id mean the kind that the URI names, as a line a=extmap:ID URI of SDP says, and returns it. One
-// that names none makes the id mean nothing. It returns ErrBadField, and changes nothing, where the id is 0.
+// SetURI makes the id mean the kind that the URI names, as a line a=extmap:ID URI of SDP says, and returns it. One that
+// the library doesn't know has a kind of its own ([Kind.IsOwn]), the same in all maps of the program that are made so:
+// its elements go from one to the other ([NewIDsBetween]). There is room for 128 such URIs, and any further one makes
+// the id mean nothing, and KindNone is returned: so a server whose peers are strangers has [OwnURIs] for each call. It
+// returns ErrBadField, and changes nothing, where the id is 0.
 func (m *Map) SetURI(id uint8, uri string) (Kind, error) {
-	kind := KindOfURI(uri)
-	return kind, m.set(id, kind)
+	return ownURIs.SetURI(m, id, uri)
+}
+
+// Remove makes the id mean nothing from now on.
+func (m *Map) Remove(id uint8) {
+	m.kinds[id] = uint8(KindNone)
 }
 
 // Get is the kind that the id means; KindNone where it means none.
@@ -120,11 +140,25 @@ type NewIDs struct {
 }
 
 // NewIDsBetween has for each id that means a kind in from, one of your own too, the lowest id that means it in to. Make
-// it once for two streams.
+// it once for two streams. Kinds of your own that two [OwnURIs] gave are no common ones: of such maps their ids get none.
 func NewIDsBetween(from, to *Map) *NewIDs {
+	if from != nil && to != nil && from.own != nil && to.own != nil && from.own != to.own {
+		from = from.withoutOwn()
+	}
 	n := new(NewIDs)
 	n.between(from, to)
 	return n
+}
+
+// withoutOwn is a map in which no id means a kind of one's own.
+func (m *Map) withoutOwn() *Map {
+	known := new(Map)
+	for id, kind := range m.kinds {
+		if !Kind(kind).IsOwn() {
+			known.kinds[id] = kind
+		}
+	}
+	return known
 }
 
 // NewIDsToRetransmission has the new ids where packets become retransmissions ([ToRetransmission]; RFC 8852, 3): where

@@ -25,7 +25,7 @@ type PacketFields struct {
 	csrcCount   uint8
 	// Marker is M.
 	Marker bool
-	// HasPadding is P: whether there is padding at the end of the payload.
+	// HasPadding is P: whether there is padding at the end of the payload ([PacketBatch.UnpaddedPayload]).
 	HasPadding  bool
 	paddingFits bool
 	form        Form
@@ -56,14 +56,15 @@ func (p *Packet) HeaderLen() int {
 	return p.parts.payloadAt
 }
 
-// Payload is the payload with any padding.
+// Payload is the payload with any padding, as the packet is sent on. What is played is [Packet.UnpaddedPayload]: of a
+// packet with P set the last bytes of this one are no media.
 func (p *Packet) Payload() []byte {
 	size := len(p.datagram)
 	return p.datagram[p.parts.payloadAt:size:size]
 }
 
-// UnpaddedPayload is the payload without its padding. It is not ok where the padding's last byte counts more bytes
-// than the payload has: drop the packet. Of SRTP the padding is encrypted: decrypt first.
+// UnpaddedPayload is the payload without its padding: the media. It is not ok where the padding's last byte counts more
+// bytes than the payload has: drop the packet. Of SRTP the padding is encrypted: decrypt first.
 func (p *Packet) UnpaddedPayload() (payload []byte, ok bool) {
 	if !p.parts.paddingFits {
 		return nil, false

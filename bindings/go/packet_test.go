@@ -3,6 +3,7 @@ package rtpwire_test
 import (
 	"bytes"
 	"errors"
+	"fmt"
 	"os"
 	"reflect"
 	"strings"
@@ -132,10 +133,12 @@ func TestVersion(t *testing.T) {
 	if err != nil {
 		t.Fatal(err)
 	}
-	if !strings.Contains(string(header), `#define RTPW_VERSION "`+rtpwire.Version+`"`) {
-		t.Error(rtpwire.Version)
+	for _, line := range []string{
+		fmt.Sprintf("#define RTPW_VERSION %q\n", rtpwire.Version),
+		fmt.Sprintf("#define RTPW_VERSION_NUMBER %d\n", rtpwire.LibraryVersion()),
+	} {
+		same(t, line, strings.Contains(string(header), line), true)
 	}
-	same(t, "the library's version", rtpwire.LibraryVersion(), uint32(1<<16|0<<8|0))
 }
 
 func TestElements(t *testing.T) {

@@ -33,7 +33,16 @@ type RestartingReceiver struct {
 	words         [16]uint64
 }
 
-// A Verdict is what a [RestartingReceiver] says of a packet.
+// A Verdict is what a [RestartingReceiver] says of a packet. Two of the three take it: drop a packet where it is Refused,
+// and not where it isn't Taken, which would lose the first packet of each epoch.
+//
+//	number, verdict := receiver.Receive(packet.SequenceNumber)
+//	if verdict == rtpwire.Refused {
+//		continue
+//	}
+//	if verdict == rtpwire.Restarted {
+//		beginAnew() // and go on: the packet is taken
+//	}
 type Verdict uint8
 
 // The verdicts.
@@ -43,8 +52,8 @@ const (
 	Refused Verdict = iota
 	// Taken: the packet is of the stream, or the first one of all.
 	Taken
-	// Restarted: the packet is taken, as the first one after its sender has started again. What hangs on numbers
-	// begins anew.
+	// Restarted: the packet is taken as with Taken, and is the first one after its sender has started again. What hangs
+	// on numbers begins anew.
 	Restarted
 )
 

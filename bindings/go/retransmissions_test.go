@@ -19,8 +19,8 @@ func again(original uint16) []byte {
 }
 
 // addAgain adds the receiver of which again has the header.
-func addAgain(batch *rtpwire.RouteBatch, dataAt, at int, original uint16) *rtpwire.Fields {
-	fields := batch.AddRetransmission(dataAt, at, original)
+func addAgain(batch *rtpwire.RouteBatch, dataAt int, original uint16) *rtpwire.Fields {
+	fields := batch.AddRetransmission(dataAt, original)
 	fields.SetPayloadType(97)
 	fields.SetSequenceNumber(9)
 	fields.SetSSRC(45)
@@ -52,9 +52,9 @@ func TestRetransmissionBetweenOthers(t *testing.T) {
 			what := fmt.Sprintf("% X, %d", first, original)
 			var template rtpwire.HeaderTemplate
 			var batch rtpwire.RouteBatch
-			batch.Add(2, 0)
-			addAgain(&batch, 0, 24, original)
-			batch.Add(2, 50)
+			batch.Add(2)
+			addAgain(&batch, 0, original)
+			batch.Add(2)
 			same(t, what, []any{template.Make(packet, numbered(), data), template.HeaderLen()}, []any{nil, 24})
 			for _, write := range []func(buf []byte) error{
 				func(buf []byte) error { return batch.Route(packet, numbered(), data, buf) },
@@ -71,39 +71,39 @@ func TestRetransmissionBetweenOthers(t *testing.T) {
 	}
 }
 
-// A retransmission's header reaches past the buffer where its number does.
+// A retransmission's header reaches past the buffer where its number does; and one that has room stands where that of the
+// receiver before it does, which gets none.
 func TestRoomForTheOriginalNumber(t *testing.T) {
 	data := []byte{0, 7}
 	rows := []struct {
-		dataAt, at, room int
-		payloadType      uint8
-		err              error
+		dataAt, room int
+		payloadType  uint8
+		err          error
 	}{
-		{0, 0, 26, 97, nil},
-		{0, 0, 25, 97, rtpwire.ErrShortBuffer},
-		{0, 0, 24, 97, rtpwire.ErrShortBuffer},
-		{0, 0, 1, 97, rtpwire.ErrShortBuffer},
-		{0, 0, 0, 97, rtpwire.ErrShortBuffer},
-		{0, 4, 30, 97, nil},
-		{0, 5, 30, 97, rtpwire.ErrShortBuffer},
-		{0, -1, 30, 97, rtpwire.ErrShortBuffer},
-		{0, -26, 30, 97, rtpwire.ErrShortBuffer},
-		{0, math.MaxInt, 30, 97, rtpwire.ErrShortBuffer},
-		{0, 0, 0, 128, rtpwire.ErrBadField},
-		{1, 0, 0, 97, rtpwire.ErrBadField},
+		{0, 26, 97, nil},
+		{0, 25, 97, rtpwire.ErrShortBuffer},
+		{0, 24, 97, rtpwire.ErrShortBuffer},
+		{0, 1, 97, rtpwire.ErrShortBuffer},
+		{0, 0, 97, rtpwire.ErrShortBuffer},
+		{0, 30, 97, nil},
+		{0, 0, 128, rtpwire.ErrBadField},
+		{1, 0, 97, rtpwire.ErrBadField},
+		{math.MaxInt, 30, 97, rtpwire.ErrBadField},
 	}
 	for i, row := range rows {
+		what := fmt.Sprint("row ", i)
 		var batch rtpwire.RouteBatch
-		addAgain(&batch, row.dataAt, row.at, 7).SetPayloadType(row.payloadType)
+		batch.Add(0).SetPayloadType(128)
+		addAgain(&batch, row.dataAt, 7).SetPayloadType(row.payloadType)
 		buf := atEnd(t, bytes.Repeat([]byte{0xEE}, row.room))
-		same(t, fmt.Sprint("row ", i), batch.Route(routable(), numbered(), data, buf), nil)
+		same(t, what, batch.Route(routable(), numbered(), data, buf), nil)
 		if row.err != nil {
-			same(t, fmt.Sprint("row ", i), headersOf(&batch), []any{row.err})
-			same(t, fmt.Sprint("row ", i), buf, bytes.Repeat([]byte{0xEE}, row.room))
+			same(t, what, headersOf(&batch), []any{rtpwire.ErrBadField, row.err})
+			same(t, what, buf, bytes.Repeat([]byte{0xEE}, row.room))
 			continue
 		}
-		same(t, fmt.Sprint("row ", i), headersOf(&batch), []any{again(7)})
-		same(t, fmt.Sprint("row ", i), buf[:row.at], bytes.Repeat([]byte{0xEE}, row.at))
+		same(t, what, headersOf(&batch), []any{rtpwire.ErrBadField, again(7)})
+		same(t, what, [][]byte{buf[:26], buf[26:]}, [][]byte{again(7), bytes.Repeat([]byte{0xEE}, row.room-26)})
 	}
 }
 
@@ -117,31 +117,50 @@ func TestBatchesWithRetransmissionsAreUsedAgain(t *testing.T) {
 		same(t, what, batch.Route(routable(), numbered(), data, buf), nil)
 		same(t, what, headersOf(&batch), wanted)
 	}
-	addAgain(&batch, 0, 0, 300)
-	addAgain(&batch, 0, 26, 301)
+	addAgain(&batch, 0, 300)
+	addAgain(&batch, 0, 301)
 	routed("two", again(300), again(301))
 	batch.Fields(0).SetMarker(true)
 	marked := again(300)
 	marked[1] |= 0x80
 	routed("with another field", marked, again(301))
-	batch.Add(0, 52)
+	batch.Add(0)
 	routed("and one more", marked, again(301), plain)
 	batch.Reset()
-	batch.Add(0, 0)
-	addAgain(&batch, 0, 24, 0)
+	batch.Add(0)
+	addAgain(&batch, 0, 0)
 	routed("of other kinds", plain, again(0))
 	batch.Reset()
-	addAgain(&batch, 0, 0, 5)
-	batch.Add(0, 26)
+	addAgain(&batch, 0, 5)
+	batch.Add(0)
 	routed("of other kinds once more", again(5), plain)
 	batch.Reset()
-	batch.Add(0, 0)
-	batch.Add(0, 50)
+	batch.Add(0)
+	batch.Add(0)
 	routed("of none", plain, plain)
 
 	same(t, "how often", testing.AllocsPerRun(100, func() {
 		batch.Reset()
-		batch.Add(0, 0)
-		addAgain(&batch, 0, 24, 5)
+		batch.Add(0)
+		addAgain(&batch, 0, 5)
 	}), 0.0)
+}
+
+// Of several causes the first one is told: the padding before the id, and that before the room.
+func TestFirstCauseOfARetransmission(t *testing.T) {
+	header := "B0 BEDE0001 10AA0000"
+	for _, row := range []struct {
+		payload  string
+		to, from error
+	}{
+		{"0102 0A", rtpwire.ErrBadField, rtpwire.ErrBadField}, // ten bytes of padding in three
+		{"0102 02", rtpwire.ErrLongID, rtpwire.ErrNotFound},   // one byte without the padding
+		{"0102 01", rtpwire.ErrLongID, rtpwire.ErrLongID},
+	} {
+		packet := written(t, header+row.payload)
+		before := append([]byte(nil), packet...)
+		_, to := rtpwire.ToRetransmission(packet, len(packet), 45, 97, 9, newIDs([2]uint8{1, 15}))
+		_, from := rtpwire.FromRetransmission(packet, len(packet), 45, 97, newIDs([2]uint8{1, 15}))
+		same(t, row.payload, []any{to, from, packet}, []any{row.to, row.from, before})
+	}
 }

@@ -26,10 +26,23 @@ type template struct {
 // A HeaderTemplate is the header that a packet gets for a group of receivers: made once, and written for each receiver
 // with fields and data of its own ([RouteBatch.Write]). It has a copy of what it was made from, and several goroutines may
 // write by it at once, each with a batch of its own. Use one again: then no memory is taken but where a header is longer
-// than ever before.
+// than ever before. A copy of a HeaderTemplate is as one that was never made.
 type HeaderTemplate struct {
 	made template
-	buf  []byte // begins with the header
+	buf  []byte          // begins with the header
+	self *HeaderTemplate // whose buffer it is: a copy has that of the other
+}
+
+// isCopy is whether the buffer isn't its own.
+func (t *HeaderTemplate) isCopy() bool {
+	return t.self != t
+}
+
+// claim gives the buffer up where it isn't its own.
+func (t *HeaderTemplate) claim() {
+	if t.isCopy() {
+		*t = HeaderTemplate{self: t}
+	}
 }
 
 // mostHeader is how many bytes a header has at most.
@@ -50,6 +63,7 @@ const shortBuffer = 8
 // elements have no room in the two-byte form; and of the group's elements in turn [ErrBadID], ErrBadField of more than 255
 // bytes of data, ErrOtherForm, ErrLongID, [ErrFormNotAllowed] or ErrLongBlock. No header is made then.
 func (t *HeaderTemplate) Make(datagram []byte, group *Group, data []byte) error {
+	t.claim()
 	status := t.make(datagram, group, data)
 	for status == shortBuffer && t.grow(datagram, group) {
 		status = t.make(datagram, group, data)
@@ -82,11 +96,17 @@ func (t *HeaderTemplate) ended(status int32) error {
 // HeaderLen is how many bytes the header has, and each that is written: 12 to 262,216; 0 where none is made. That of a
 // retransmission has 2 more.
 func (t *HeaderTemplate) HeaderLen() int {
+	if t.isCopy() {
+		return 0
+	}
 	return int(t.made.headerLen)
 }
 
 // DataLen is how many bytes of data each receiver brings, those of all elements together: 0 to 4,080.
 func (t *HeaderTemplate) DataLen() int {
+	if t.isCopy() {
+		return 0
+	}
 	return int(t.made.dataTotal)
 }
 
@@ -95,20 +115,26 @@ type routedHeader struct {
 	dataAt, at int
 	Fields
 	originalNumber   uint16
-	isRetransmission uint8
+	isRetransmission bool
+	clearsPadding    bool
 	status           int32
+	length           uint32
 }
 
 // A RouteBatch writes the headers of all receivers of a group in one call of the library, each with fields and data of
 // its own. With the packet's payload behind it each is the packet that goes to the receiver: what [Fields.Apply],
 // [Renumber], [PutElement] for each element and [Compact] make of a copy, one after the other, with [ChangeForm] before
 // Renumber where a new id is above 14 and the two-byte form is allowed. One receiver that gets none spoils no other. Use
-// one again, as a [HeaderBatch]. The zero RouteBatch is ready.
+// one again, as a [HeaderBatch]. The zero RouteBatch is ready; a copy has the same receivers.
+//
+// The headers lie one after another in the buffer, from its first byte on, and [RouteBatch.At] tells each. So a buffer
+// is long enough that has room for the longest header of all packets as often as there are receivers, and for two bytes
+// more for each retransmission.
 //
 //	group := rtpwire.Group{IDs: ids, Elements: []rtpwire.Place{{ID: 4, At: 0, Len: 2}}} // two bytes of the id 4
 //	batch.Reset()
 //	for i, receiver := range receivers {
-//		fields := batch.Add(2*i, 512*i) // the data from the byte 2*i on; the header goes to the byte 512*i of the buffer
+//		fields := batch.Add(2 * i) // the data from the byte 2*i on
 //		fields.SetSSRC(receiver.ssrc)
 //	}
 //	err := batch.Route(datagram, &group, data, buf)
@@ -119,12 +145,14 @@ type routedHeader struct {
 //		header, err := batch.At(i)
 //		...
 //	}
+//
+// P is the packet's, so that its payload is sent with its padding ([Packet.Payload]); where [RouteBatch.ClearPadding]
+// cleared it, without ([Packet.UnpaddedPayload]).
 type RouteBatch struct {
-	buf       []byte
-	headerLen int
-	given     []routedHeader
-	written   []routedHeader
-	own       HeaderTemplate
+	buf     []byte
+	given   []routedHeader
+	written []routedHeader
+	own     HeaderTemplate
 }
 
 // Reset takes all receivers away.
@@ -133,16 +161,16 @@ func (b *RouteBatch) Reset() {
 }
 
 // Add adds a receiver. Its data begin there in the data: those of the group's elements, one after the other in their
-// order. Its header is to begin at this place of the buffer. It returns the receiver's fields, of which none is set yet,
-// and which are to be set before the next Add; later [RouteBatch.Fields] tells them.
-func (b *RouteBatch) Add(dataAt, at int) *Fields {
+// order. It returns the receiver's fields, of which none is set yet, and which are to be set before the next Add; later
+// [RouteBatch.Fields] tells them.
+func (b *RouteBatch) Add(dataAt int) *Fields {
 	n := len(b.given)
 	if n == cap(b.given) {
 		b.given = append(b.given, routedHeader{})
 	}
 	b.given = b.given[:n+1]
 	r := &b.given[n]
-	*r = routedHeader{dataAt: dataAt, at: at}
+	*r = routedHeader{dataAt: dataAt}
 	return &r.Fields
 }
 
@@ -151,10 +179,10 @@ func (b *RouteBatch) Add(dataAt, at int) *Fields {
 // own. P is clear, and original, the number that it got the packet with, stands behind the header in two bytes. The
 // packet's payload follows without its padding, which isn't looked at here. That is what [ToRetransmission] makes of what
 // the receiver got, where each id stays.
-func (b *RouteBatch) AddRetransmission(dataAt, at int, original uint16) *Fields {
-	fields := b.Add(dataAt, at)
+func (b *RouteBatch) AddRetransmission(dataAt int, original uint16) *Fields {
+	fields := b.Add(dataAt)
 	r := &b.given[len(b.given)-1]
-	r.originalNumber, r.isRetransmission = original, 1
+	r.originalNumber, r.isRetransmission = original, true
 	return fields
 }
 
@@ -164,15 +192,25 @@ func (b *RouteBatch) Fields(i int) *Fields {
 	return &b.given[i].Fields
 }
 
-// Write writes the headers of the receivers that were added, in the order in which they were, to their places in the
-// buffer: where two overlap, the bytes of the later one stand. The batch keeps the buffer until it writes into another
+// ClearPadding says whether P is clear in the header of a receiver that was added, for a payload that is sent without
+// its padding: where P stays set the receiver takes the last bytes of the media for padding. It is so until it is said
+// anew, or a Reset.
+func (b *RouteBatch) ClearPadding(i int, clears bool) {
+	b.given[i].clearsPadding = clears
+}
+
+// Write writes the headers of the receivers that were added to the buffer, in the order in which they were, one after
+// another from the first byte on; those behind the last one stay. The batch keeps the buffer until it writes into another
 // one or is Reset. Data that overlap the buffer are copied first.
 //
 // It returns CutFixedPart where the template was never made, or the last Make failed. Nothing is written then, and Len
 // is 0.
 func (b *RouteBatch) Write(t *HeaderTemplate, data, buf []byte) error {
 	b.buf, b.written = nil, nil
-	return b.ended(t, buf, writeHeaders(t, data, b.given, buf))
+	if t.isCopy() {
+		return CutFixedPart
+	}
+	return b.ended(buf, writeHeaders(t, data, b.given, buf))
 }
 
 // Route makes the header of a packet for a group and writes it for all receivers that were added, as
@@ -186,13 +224,13 @@ func (b *RouteBatch) Route(datagram []byte, group *Group, data, buf []byte) erro
 	for status == shortBuffer && b.own.grow(datagram, group) {
 		status = route(&b.own, datagram, group, data, b.given, buf)
 	}
-	return b.ended(&b.own, buf, status)
+	return b.ended(buf, status)
 }
 
-// ended keeps what was written by the template, unless the status is that of an error, which it returns.
-func (b *RouteBatch) ended(t *HeaderTemplate, buf []byte, status int32) error {
+// ended keeps what was written, unless the status is that of an error, which it returns.
+func (b *RouteBatch) ended(buf []byte, status int32) error {
 	if status == 0 {
-		b.buf, b.written, b.headerLen = buf, b.given, t.HeaderLen()
+		b.buf, b.written = buf, b.given
 	}
 	return errorOf(status)
 }
@@ -202,15 +240,16 @@ func (b *RouteBatch) Len() int {
 	return len(b.written)
 }
 
-// At is the header of a receiver: a part of the buffer, which an append copies.
+// At is the header of a receiver, and behind that of a retransmission the number: a part of the buffer, which an append
+// copies.
 //
-// It returns ErrBadField where the receiver's fields have a payload type above 127, or its data reach past the data; and
-// else ErrShortBuffer where its header would reach past the buffer. Nothing is written for it then.
+// It returns nil, and ErrBadField where the receiver's fields have a payload type above 127, or its data reach past the
+// data; and else ErrShortBuffer where its header would reach past the buffer. It takes no bytes of the buffer then.
 func (b *RouteBatch) At(i int) ([]byte, error) {
 	r := &b.written[i]
 	if r.status != 0 {
 		return nil, errorOf(r.status)
 	}
-	length := b.headerLen + 2*int(r.isRetransmission)
-	return b.buf[r.at:][:length:length], nil
+	end := r.at + int(r.length)
+	return b.buf[r.at:end:end], nil
 }

@@ -48,10 +48,10 @@ func TestTwoReceivers(t *testing.T) {
 	data := []byte{0, 7, 0, 8}
 	var template rtpwire.HeaderTemplate
 	var batch rtpwire.RouteBatch
-	fields := batch.Add(0, 25)
+	fields := batch.Add(0)
 	fields.SetSequenceNumber(9)
 	fields.SetSSRC(45)
-	fields = batch.Add(2, 0)
+	fields = batch.Add(2)
 	fields.SetTimestamp(0x01020304)
 	fields.SetPayloadType(97)
 	fields.SetMarker(true)
@@ -69,8 +69,8 @@ func TestTwoReceivers(t *testing.T) {
 		first, err := batch.At(0)
 		second, otherErr := batch.At(1)
 		same(t, fmt.Sprint("headers ", i), []any{first, second, err, otherErr}, []any{wanted[0], wanted[1], nil, nil})
-		same(t, "between them", []byte{buf[24], buf[49]}, []byte{0xEE, 0xEE})
-		same(t, "their places", []bool{&first[0] == &buf[25], &second[0] == &buf[0]}, []bool{true, true})
+		same(t, "behind them", buf[48:], []byte{0xEE, 0xEE})
+		same(t, "their places", []bool{&first[0] == &buf[0], &second[0] == &buf[24]}, []bool{true, true})
 		same(t, "no room behind", []int{cap(first), cap(second)}, []int{24, 24})
 	}
 	same(t, "data", data, []byte{0, 7, 0, 8})
@@ -91,7 +91,7 @@ func TestTwoReceivers(t *testing.T) {
 func routedAs(t *testing.T, packet string, group *rtpwire.Group, data string) string {
 	t.Helper()
 	var batch rtpwire.RouteBatch
-	batch.Add(0, 0)
+	batch.Add(0)
 	buf := make([]byte, 100)
 	if err := batch.Route(written(t, packet), group, []byte(data), buf); err != nil {
 		return err.Error()
@@ -197,7 +197,7 @@ func TestHeadersThatAreNotMade(t *testing.T) {
 		group := &rtpwire.Group{IDs: row.ids, Elements: row.elements, Allowed: row.allowed}
 		buf := bytes.Repeat([]byte{0xEE}, 900)
 		batch.Reset()
-		batch.Add(0, 0).SetSSRC(45)
+		batch.Add(0).SetSSRC(45)
 		same(t, what, []error{template.Make(row.packet, group, data), batch.Route(row.packet, group, data, buf)}, []error{row.err, row.err})
 		if row.err == nil {
 			header, err := batch.At(0)
@@ -211,32 +211,26 @@ func TestHeadersThatAreNotMade(t *testing.T) {
 }
 
 // Twenty receivers, of which the ninth can't be served, each time for another cause: it gets an error and no byte, and
-// all others are as alone.
+// all others are as alone, one behind the other.
 func TestTheNinthOfTwenty(t *testing.T) {
 	const count, length, ninth = 20, 24, 8
-	data, buf := make([]byte, 2*count), make([]byte, length*count)
+	data, buf := make([]byte, 2*count), make([]byte, length*count+1)
 	for i := range data {
 		data[i] = byte(100 + i)
 	}
 	rows := []struct {
-		dataAt, at  int
+		dataAt      int
 		payloadType uint8
 		err         error
 	}{
-		{16, ninth * length, 128, rtpwire.ErrBadField},
-		{2*count - 1, ninth * length, 127, rtpwire.ErrBadField},
-		{-1, ninth * length, 127, rtpwire.ErrBadField},
-		{-2, ninth * length, 127, rtpwire.ErrBadField},
-		{1 << 32, ninth * length, 127, rtpwire.ErrBadField},
-		{math.MinInt, ninth * length, 127, rtpwire.ErrBadField},
-		{16, length*(count-1) + 1, 127, rtpwire.ErrShortBuffer},
-		{16, length * count, 127, rtpwire.ErrShortBuffer},
-		{16, -1, 127, rtpwire.ErrShortBuffer},
-		{16, -length, 127, rtpwire.ErrShortBuffer},
-		{16, ninth*length + 1<<32, 127, rtpwire.ErrShortBuffer},
-		{16, math.MaxInt, 127, rtpwire.ErrShortBuffer},
-		{-1, -1, 128, rtpwire.ErrBadField},
-		{2*count - 2, ninth * length, 127, nil},
+		{16, 128, rtpwire.ErrBadField},
+		{2*count - 1, 127, rtpwire.ErrBadField},
+		{-1, 127, rtpwire.ErrBadField},
+		{-2, 127, rtpwire.ErrBadField},
+		{1 << 32, 127, rtpwire.ErrBadField},
+		{math.MinInt, 127, rtpwire.ErrBadField},
+		{-1, 128, rtpwire.ErrBadField},
+		{2*count - 2, 127, nil},
 	}
 	var template rtpwire.HeaderTemplate
 	var batch rtpwire.RouteBatch
@@ -247,17 +241,18 @@ func TestTheNinthOfTwenty(t *testing.T) {
 		}
 		batch.Reset()
 		for r := 0; r < count; r++ {
-			fields, dataAt, at := (*rtpwire.Fields)(nil), 2*r, length*r
+			dataAt := 2 * r
 			if r == ninth {
-				dataAt, at = row.dataAt, row.at
+				dataAt = row.dataAt
 			}
-			fields = batch.Add(dataAt, at)
+			fields := batch.Add(dataAt)
 			fields.SetSequenceNumber(uint16(1000 + r))
 			if r == ninth {
 				fields.SetPayloadType(row.payloadType)
 			}
 		}
 		same(t, "written", []any{batch.Write(&template, data, buf), batch.Len()}, []any{nil, count})
+		at := 0
 		for r := 0; r < count; r++ {
 			what := fmt.Sprintf("row %d, receiver %d", i, r)
 			number := 1000 + r
@@ -270,50 +265,50 @@ func TestTheNinthOfTwenty(t *testing.T) {
 			header, err := batch.At(r)
 			if r == ninth && row.err != nil {
 				same(t, what, []any{header, err}, []any{[]byte(nil), row.err})
-				same(t, what, buf[length*r:length*(r+1)], bytes.Repeat([]byte{0xEE}, length))
 				continue
 			}
 			wanted[19], wanted[20] = data[dataAt], data[dataAt+1]
 			same(t, what, []any{header, err}, []any{wanted, nil})
-			same(t, what, buf[length*r:length*(r+1)], wanted)
+			same(t, what, buf[at:at+length], wanted)
+			at += length
 		}
+		same(t, "behind them", buf[at:], bytes.Repeat([]byte{0xEE}, len(buf)-at))
 	}
 }
 
-// Headers may overlap: the bytes of the later one stand. A buffer that is a byte short serves one receiver fewer.
-func TestOverlappingHeaders(t *testing.T) {
+// A buffer that is a byte short serves one receiver fewer, and its bytes stay.
+func TestRoomOfHeaders(t *testing.T) {
 	data := []byte{1, 2, 3, 4, 5, 6}
 	var template rtpwire.HeaderTemplate
 	var batch rtpwire.RouteBatch
 	same(t, "made", template.Make(routable(), numbered(), data), nil)
-	for r, at := range []int{0, 10, 5} {
-		batch.Add(2*r, at).SetSequenceNumber(uint16(1000 + r))
+	for r := 0; r < 3; r++ {
+		batch.Add(2 * r)
 	}
-	buf := bytes.Repeat([]byte{0xEE}, 40)
-	same(t, "written", batch.Write(&template, data, buf[:34]), nil)
-	first := []byte{0x90, 96, 3, 0xE8, 0}
-	third := []byte{0x90, 96, 3, 0xEA, 0, 0, 0, 100, 0, 0, 0, 44, 0xBE, 0xDE, 0, 2, 0x30, 0xAA, 0x41, 5, 6, 0, 0, 0}
-	second := []byte{3, 4, 0, 0, 0}
-	same(t, "all three", buf, append(append(append(first, third...), second...), 0xEE, 0xEE, 0xEE, 0xEE, 0xEE, 0xEE))
-	for i := 0; i < 3; i++ {
-		_, err := batch.At(i)
-		same(t, "served", err, nil)
-	}
-	errs := func(what string, wanted ...error) {
-		t.Helper()
-		for i, err := range wanted {
-			_, got := batch.At(i)
-			same(t, fmt.Sprint(what, i), got, err)
+	short, bad := rtpwire.ErrShortBuffer, rtpwire.ErrBadField
+	for _, row := range []struct {
+		room, data, written int
+		errs                [3]error
+	}{
+		{72, 6, 72, [3]error{}},
+		{71, 6, 48, [3]error{2: short}},
+		{47, 6, 24, [3]error{1: short, 2: short}},
+		{23, 6, 0, [3]error{short, short, short}},
+		{0, 6, 0, [3]error{short, short, short}},
+		{72, 5, 48, [3]error{2: bad}},
+		{48, 5, 48, [3]error{2: bad}},
+		{47, 1, 0, [3]error{bad, bad, bad}},
+		{72, 0, 0, [3]error{bad, bad, bad}},
+	} {
+		what := fmt.Sprint(row.room, " bytes, and of data ", row.data)
+		buf := bytes.Repeat([]byte{0xEE}, 72)
+		same(t, what, batch.Write(&template, data[:row.data], buf[:row.room]), nil)
+		for i, wanted := range row.errs {
+			header, err := batch.At(i)
+			same(t, what, []any{len(header) == 24, err}, []any{wanted == nil, wanted})
 		}
+		same(t, what, buf[row.written:], bytes.Repeat([]byte{0xEE}, 72-row.written))
 	}
-	same(t, "a byte short", batch.Write(&template, data, buf[:33]), nil)
-	errs("a byte short", nil, rtpwire.ErrShortBuffer, nil)
-	same(t, "no buffer", batch.Write(&template, data, nil), nil)
-	errs("no buffer", rtpwire.ErrShortBuffer, rtpwire.ErrShortBuffer, rtpwire.ErrShortBuffer)
-	same(t, "a byte less of data", batch.Write(&template, data[:5], buf), nil)
-	errs("a byte less of data", nil, nil, rtpwire.ErrBadField)
-	same(t, "no data", batch.Write(&template, nil, buf[:33]), nil)
-	errs("no data", rtpwire.ErrBadField, rtpwire.ErrBadField, rtpwire.ErrBadField)
 }
 
 // A template has a copy of all that it was made from, until the next Make, and serves any batch.
@@ -331,10 +326,10 @@ func TestTemplatesKeepNothing(t *testing.T) {
 	data[0], data[1] = 1, 2
 	buf := make([]byte, 100)
 	var batch, second rtpwire.RouteBatch
-	batch.Add(0, 0)
-	second.Add(0, 60)
+	batch.Add(0)
+	second.Add(0)
 	for i := 0; i < 2; i++ {
-		same(t, "written", []error{batch.Write(&template, data, buf), second.Write(&template, data, buf)}, []error{nil, nil})
+		same(t, "written", []error{batch.Write(&template, data, buf), second.Write(&template, data, buf[60:])}, []error{nil, nil})
 		header, _ := batch.At(0)
 		later, _ := second.At(0)
 		same(t, "headers", [][]byte{header, later}, [][]byte{wanted, wanted})
@@ -352,11 +347,11 @@ func TestTemplatesKeepNothing(t *testing.T) {
 	same(t, "with an SSRC", []any{batch.Route(routable(), numbered(), data, buf), buf[11]}, []any{nil, uint8(45)})
 	batch.Reset()
 	same(t, "after a reset", batch.Len(), 0)
-	batch.Add(0, 0)
+	batch.Add(0)
 	same(t, "without one", []any{batch.Route(routable(), numbered(), data, buf), buf[11]}, []any{nil, uint8(44)})
 	batch.Reset()
 	same(t, "none", []any{batch.Route(routable(), numbered(), data, buf), batch.Len()}, []any{nil, 0})
-	batch.Add(0, 0)
+	batch.Add(0)
 	same(t, "added and not written", batch.Len(), 0)
 }
 
@@ -365,24 +360,22 @@ func TestHeadersOverTheirPacketAndData(t *testing.T) {
 	buf := append(routable(), make([]byte, 60)...)
 	copy(buf[50:], []byte{7, 8, 9, 10})
 	var batch rtpwire.RouteBatch
-	batch.Add(0, 0).SetSSRC(45)
-	batch.Add(2, 30).SetSSRC(46)
-	batch.Add(1, 10)
+	batch.Add(0).SetSSRC(45)
+	batch.Add(2).SetSSRC(46)
+	batch.Add(1)
 	same(t, "routed", batch.Route(buf[:21], numbered(), buf[50:54], buf), nil)
 	wanted := func(ssrc, first, second byte) []byte {
 		return []byte{0x90, 96, 0, 5, 0, 0, 0, 100, 0, 0, 0, ssrc, 0xBE, 0xDE, 0, 2, 0x30, 0xAA, 0x41, first, second, 0, 0, 0}
 	}
-	same(t, "the first", buf[:10], wanted(45, 7, 8)[:10])
-	same(t, "the third", buf[10:30], wanted(44, 8, 9)[:20])
-	same(t, "the second", buf[34:54], wanted(46, 9, 10)[4:])
+	same(t, "all", headersOf(&batch), []any{wanted(45, 7, 8), wanted(46, 9, 10), wanted(44, 8, 9)})
 
 	var template rtpwire.HeaderTemplate
 	same(t, "made", template.Make(routable(), numbered(), []byte{1, 2}), nil)
 	copy(buf[20:], []byte{11, 12, 13, 14})
 	batch.Reset()
-	batch.Add(0, 2).SetSSRC(47)
-	batch.Add(2, 26).SetSSRC(48)
-	same(t, "written", batch.Write(&template, buf[20:24], buf), nil)
+	batch.Add(0).SetSSRC(47)
+	batch.Add(2).SetSSRC(48)
+	same(t, "written", batch.Write(&template, buf[20:24], buf[2:]), nil)
 	same(t, "both", buf[2:50], append(wanted(47, 11, 12), wanted(48, 13, 14)...))
 }
 
@@ -390,29 +383,30 @@ func TestHeadersOverTheirPacketAndData(t *testing.T) {
 func TestTheLongestBlock(t *testing.T) {
 	packet := append([]byte{0x90, 96, 0, 5, 0, 0, 0, 100, 0, 0, 0, 44, 0xBE, 0xDE, 0xFF, 0xFF}, bytes.Repeat([]byte{0x10, 0xAA}, 131070)...)
 	packet = append(packet, 'p')
-	group, data, buf := &rtpwire.Group{IDs: newIDs([2]uint8{1, 3})}, []byte{1, 2}, make([]byte, 2*262156)
+	group, data, buf := &rtpwire.Group{IDs: newIDs([2]uint8{1, 3})}, []byte{1, 2}, make([]byte, 2*262156+262155)
 	wanted := append(append([]byte(nil), packet[:16]...), bytes.Repeat([]byte{0x30, 0xAA}, 131070)...)
 	var batch rtpwire.RouteBatch
 	var template rtpwire.HeaderTemplate
-	batch.Add(0, 262156)
-	batch.Add(0, 0)
-	batch.Add(0, 1)
+	batch.Add(0)
+	batch.Add(0).SetSSRC(45)
+	batch.Add(0)
 	same(t, "written", []error{batch.Route(packet, group, nil, buf), template.Make(packet, group, nil)}, []error{nil, nil})
-	_, err := batch.At(0)
-	header, otherErr := batch.At(2)
-	same(t, "served", []any{err, otherErr, template.HeaderLen(), len(header)}, []any{nil, nil, 262156, 262156})
-	same(t, "bytes", []bool{bytes.Equal(header, wanted), bytes.Equal(buf[262157:], wanted[1:])}, []bool{true, true})
+	first, _ := batch.At(0)
+	second, _ := batch.At(1)
+	_, err := batch.At(2)
+	same(t, "served", []any{err, template.HeaderLen(), len(first), len(second)}, []any{rtpwire.ErrShortBuffer, 262156, 262156, 262156})
+	same(t, "bytes", []bool{bytes.Equal(first, wanted), bytes.Equal(second[12:], wanted[12:]), second[11] == 45}, []bool{true, true, true})
 	group.Elements = []rtpwire.Place{{ID: 4, Len: 2}}
 	same(t, "and one more", []error{batch.Route(packet, group, data, buf), template.Make(packet, group, data)},
 		[]error{rtpwire.ErrLongBlock, rtpwire.ErrLongBlock})
 	packet[14] = 0x7F // the rest is payload
 	same(t, "one more, of half as many", batch.Route(packet, group, data, buf), nil)
-	header, err = batch.At(1)
+	header, err := batch.At(1)
 	same(t, "length", []any{len(header), err}, []any{16 + 4*0x8000, nil})
 	// In the other form each of the 65,534 elements takes three bytes, which a new batch has room for too.
 	group.Allowed = rtpwire.TwoByteForm
 	batch, template = rtpwire.RouteBatch{}, rtpwire.HeaderTemplate{}
-	batch.Add(0, 0)
+	batch.Add(0)
 	packet = packet[:16+4*0x7FFF]
 	same(t, "in the other form", []error{batch.Route(packet, group, data, buf), template.Make(packet, group, data)}, []error{nil, nil})
 	header, err = batch.At(0)
@@ -435,9 +429,9 @@ func TestRoutesOfManyGoroutines(t *testing.T) {
 				packet := routable()
 				packet[11], packet[17] = own, byte(round)
 				batch.Reset()
-				batch.Add(0, int(own)).SetSequenceNumber(uint16(round))
+				batch.Add(0).SetSequenceNumber(uint16(round))
 				plain.Reset()
-				plain.Add(0, 0)
+				plain.Add(0)
 				data := []byte{own, byte(round)}
 				failed := batch.Route(packet, group, data, buf)
 				header, _ := batch.At(0)
@@ -466,13 +460,14 @@ func TestRoutesTakeNoMemory(t *testing.T) {
 	packets := [][]byte{sample(), camera(), routable(), append(plain(7), make([]byte, 1200)...)}
 	group := numbered()
 	group.Elements = append(group.Elements, rtpwire.Place{ID: 9, At: 2, Len: 3})
-	data, buf := make([]byte, 5*40), make([]byte, 64*40)
+	data, buf := make([]byte, 5*40), make([]byte, 60*40)
 	var template rtpwire.HeaderTemplate
 	var batch rtpwire.RouteBatch
 	once := func() {
 		batch.Reset()
 		for r := 0; r < 40; r++ {
-			batch.Add(5*r, 64*r).SetSSRC(uint32(r))
+			batch.Add(5 * r).SetSSRC(uint32(r))
+			batch.ClearPadding(r, r%2 == 0)
 		}
 		for i, packet := range packets {
 			if err := batch.Route(packet, group, data, buf); err != nil && i != 1 {
@@ -550,23 +545,25 @@ func sentAgain(packet []byte, fields rtpwire.Fields, original uint16, group *rtp
 	return rtpwire.ToRetransmission(buf, len(header), own.SSRC, own.PayloadType, own.SequenceNumber, each())
 }
 
-// receiver is one of a group, and the number of the packet that it gets again, if it does.
+// receiver is one of a group, the number of the packet that it gets again, if it does, and whether its P is cleared.
 type receiver struct {
 	rtpwire.Fields
 	original uint16
 	isAgain  bool
+	clears   bool
 }
 
-// receiverOf is a receiver by bits: of its fields by fieldsOf, and by the highest ones whether it gets a retransmission.
+// receiverOf is a receiver by bits: of its fields by fieldsOf, and by the highest ones whether it gets a retransmission,
+// and whether its P is cleared.
 func receiverOf(bits uint64) receiver {
-	return receiver{fieldsOf(bits), uint16(bits >> 40), bits>>62 == 3}
+	return receiver{fieldsOf(bits), uint16(bits >> 40), bits>>62 == 3, bits>>60&3 == 1}
 }
 
-func (r receiver) add(batch *rtpwire.RouteBatch, dataAt, at int) {
+func (r receiver) add(batch *rtpwire.RouteBatch, dataAt int) {
 	if r.isAgain {
-		*batch.AddRetransmission(dataAt, at, r.original) = r.Fields
+		*batch.AddRetransmission(dataAt, r.original) = r.Fields
 	} else {
-		*batch.Add(dataAt, at) = r.Fields
+		*batch.Add(dataAt) = r.Fields
 	}
 }
 
@@ -574,7 +571,11 @@ func (r receiver) byCalls(packet []byte, group *rtpwire.Group, data []byte) ([]b
 	if r.isAgain {
 		return sentAgain(packet, r.Fields, r.original, group, data)
 	}
-	return byCalls(packet, r.Fields, group, data)
+	header, err := byCalls(packet, r.Fields, group, data)
+	if err == nil && r.clears {
+		err = rtpwire.SetPadding(header, false)
+	}
+	return header, err
 }
 
 // asTheCalls is whether the group's headers of the packet for these receivers are those of the calls for
@@ -590,12 +591,13 @@ func asTheCalls(t *testing.T, packet []byte, group *rtpwire.Group, data []byte, 
 			repeated = repeated || before.ID == element.ID
 		}
 	}
-	stride := 2*len(packet) + 264*len(group.Elements) + 3
 	for r, it := range receivers {
-		it.add(&batch, r, r*stride)
-		it.add(&other, r, r*stride)
+		it.add(&batch, r)
+		batch.ClearPadding(r, it.clears)
+		it.add(&other, r)
+		other.ClearPadding(r, it.clears)
 	}
-	buf := bytes.Repeat([]byte{0xEE}, len(receivers)*stride)
+	buf := bytes.Repeat([]byte{0xEE}, len(receivers)*(2*len(packet)+264*len(group.Elements)+3))
 	err := batch.Route(packet, group, data, buf)
 	if made := template.Make(packet, group, data); made != err {
 		t.Fatalf("% x: %v, and by a template %v", packet, err, made)
@@ -611,7 +613,7 @@ func asTheCalls(t *testing.T, packet []byte, group *rtpwire.Group, data []byte, 
 	if err := other.Write(&template, data, again); err != nil || !bytes.Equal(again, buf) {
 		t.Fatalf("% x: written by a template: %v, % x, wanted % x", packet, err, again, buf)
 	}
-	expected := bytes.Repeat([]byte{0xEE}, len(buf))
+	var expected []byte
 	for r, it := range receivers {
 		header, err := batch.At(r)
 		if r+total > len(data) {
@@ -624,9 +626,10 @@ func asTheCalls(t *testing.T, packet []byte, group *rtpwire.Group, data []byte, 
 		if err != wantedErr || !bytes.Equal(header, wanted) {
 			t.Fatalf("% x: receiver %d: % x, %v, wanted % x, %v", packet, r, header, err, wanted, wantedErr)
 		}
-		copy(expected[r*stride:], wanted)
+		expected = append(expected, wanted...)
 		served++
 	}
+	expected = append(expected, bytes.Repeat([]byte{0xEE}, len(buf)-len(expected))...)
 	if !bytes.Equal(buf, expected) {
 		t.Fatalf("% x: % x, wanted % x", packet, buf, expected)
 	}

@@ -7,7 +7,7 @@ import (
 
 // The data of one element as the standard of its extension has them, where Values has another reading, that of str0m,
 // or none. What is read is what Packet.Element lends, and what is appended is for PutElement, SetElement and
-// WriteElements. An extension without a Kind has one of your own in the map.
+// WriteElements.
 //
 // Each Parse function returns ErrBadField where the data are not well-formed for the value, and each Append, with the
 // data as they were, where a field is out of its range: the error says which.
@@ -49,13 +49,15 @@ func AppendTransmissionOffset(data []byte, ticks int32) ([]byte, error) {
 
 // A FrameMarking is what a packet is to its frame, and the frame to its stream (RFC 9626, 3): one byte for a stream
 // without layers, and two or three for one with. [Values.FrameMarking] has str0m's number of four bytes, which is none.
+// KindFrameMarking is of the draft's URI; that of RFC 9626, urn:ietf:params:rtp-hdrext:framemarking, has none, and so one
+// of your own by [Map.SetURI].
 type FrameMarking struct {
 	Start         bool  // the packet is the first of its frame
 	End           bool  // it is the last of its frame
 	Independent   bool  // the frame can be decoded without any frame before it
 	Discardable   bool  // no other frame needs this one
 	HasLayers     bool  // the stream has layers: without them none of what follows is looked at
-	BaseLayerSync bool  // the frame depends on the base temporal layer alone
+	BaseLayerSync bool  // the frame depends on the base temporal layer alone; with a TemporalID of 0 RFC 9626 has false
 	TemporalID    uint8 // the temporal layer, 0 to 7; 0 is the base layer
 	LayerID       uint8 // the spatial and quality layer, by the numbers of its codec
 	HasTL0PicIdx  bool  // the next one is sent
@@ -94,7 +96,7 @@ const (
 type Orientation struct {
 	Turn   uint16 // how the receiver has to turn the picture, in degrees counter-clockwise: 0, 90, 180 or 270
 	Camera Camera // which way the camera faces
-	Flip   bool   // the picture is mirrored, left for right
+	Flip   bool   // the picture is mirrored, left for right, as it is sent, before the receiver turns it
 }
 
 // ParseOrientation reads an orientation: 0D is of the back camera, mirrored, and to be turned by 270 degrees. The high
@@ -116,13 +118,21 @@ func (o Orientation) Append(data []byte) ([]byte, error) {
 }
 
 // ParseToken reads the text of a mid or of a stream id as it lies, to be compared with the SDP's byte by byte: a token
-// (RFC 8866, 9; RFC 5888, 4; RFC 8852, 3), as "cam-1" is. It returns ErrBadField where the data are none, or have more
-// than 255 bytes. What is written is the text itself: PutElement(buf, length, id, []byte("cam-1"), AnyForm).
+// (RFC 8866, 9), as a mid is (RFC 5888, 4), "cam-1" say. It returns ErrBadField where the data are none, or have more
+// than 255 bytes. What is written is the text itself: PutElement(buf, length, id, []byte("cam-1"), AnyForm). For one that
+// is sent as a stream id see [IsStreamID].
 func ParseToken(data []byte) (string, error) {
 	if !isToken(data) {
 		return "", ErrBadField
 	}
 	return string(data), nil
+}
+
+// IsStreamID is whether the text is 1 to 255 ASCII letters and digits, as a stream id and a repaired one have to be where
+// they are sent (RFC 8852, 3). In SDP a=rid also allows - and _ (RFC 8851, 10): a stream whose id has one can't be told by
+// it, so choose one without. To compare what came with the SDP's text [ParseToken] is enough.
+func IsStreamID(text string) bool {
+	return isStreamID([]byte(text))
 }
 
 // Token is the text of the last element of this id as it lies, as [ParseToken] reads it: that of [Map.IDOf] of KindMID,
@@ -159,7 +169,7 @@ type Timing struct {
 	LastLeftPacer     uint16 // and left the pacer
 	Network           uint16 // a time that a server on the way fills in; what it means is the application's
 	Network2          uint16 // another such time
-	Flags             uint8  // why the times were sent: bit 0 a timer, bit 1 a large frame
+	Flags             uint8  // why the times were sent: bit 0 a timer, bit 1 a large frame; of 255 the times mean nothing
 	HasFlags          bool   // false in the older form, which has no flags
 }
 
@@ -175,27 +185,27 @@ func (t Timing) Append(data []byte) []byte {
 	return data
 }
 
-// A TransportNumber is the packet's number on its transport, and what feedback it asks for
-// (http://www.webrtc.org/experiments/rtp-hdrext/transport-wide-cc-02, which has no Kind): two bytes, or four with a
-// request. [Values.TransportNumber] has the number alone, of the older URI, where feedback is on all packets.
+// A TransportNumber is the packet's number on its transport, and what feedback it asks for (KindTransportNumber2,
+// http://www.webrtc.org/experiments/rtp-hdrext/transport-wide-cc-02): two bytes, or four with a request. Each that is
+// read is appended byte for byte. [Values.TransportNumber] has the number alone, of the older URI, where feedback is on
+// all packets.
 type TransportNumber struct {
 	Number     uint16 // the packet's number over all streams of the transport
-	Packets    uint16 // for how many packets the feedback is to be, 1 to 32,767, of which this one is the last
+	Packets    uint16 // for how many packets the feedback is to be, of which this one is the last; 0 asks for none
 	HasRequest bool   // the sender asks for feedback with this packet: without it the fields of one aren't looked at
 	Timestamps bool   // the feedback is to have the times at which the packets arrived
 }
 
-// ParseTransportNumber reads a number: 12 34 80 05 is 0x1234, with a request for five packets with their times. A
-// request for 0 packets is none. It returns ErrBadField where there are neither two nor four bytes.
+// ParseTransportNumber reads a number: 12 34 80 05 is 0x1234, with a request for five packets with their times. It
+// returns ErrBadField where there are neither two nor four bytes.
 func ParseTransportNumber(data []byte) (TransportNumber, error) {
 	return parseTransportNumber(data)
 }
 
-// Append appends the data of the number. It returns ErrBadField where there is a request for 0 or more than 32,767
-// packets.
+// Append appends the data of the number. It returns ErrBadField where there is a request for more than 32,767 packets.
 func (n TransportNumber) Append(data []byte) ([]byte, error) {
 	if n.HasRequest {
-		if err := inRange("Packets", int(n.Packets), 1, 1<<15-1); err != nil {
+		if err := inRange("Packets", int(n.Packets), 0, 1<<15-1); err != nil {
 			return data, err
 		}
 	}
@@ -203,9 +213,9 @@ func (n TransportNumber) Append(data []byte) ([]byte, error) {
 }
 
 // ParseMixerLevel reads the audio level of the contributing source at this index of the csrcCount that the packet has
-// (urn:ietf:params:rtp-hdrext:csrc-audio-level, which has no Kind; RFC 6465, 4), in decibels relative to the overload
-// point, -127 (silence) to 0: of 7F 0A it is -10 at index 1 of 2. It returns ErrBadField where the packet doesn't have
-// that source, or the data no byte for it.
+// (KindMixerLevels; RFC 6465, 4), in decibels relative to the overload point, -127 (silence) to 0: of 7F 0A it is -10 at
+// index 1 of 2. It returns ErrBadField where the packet doesn't have that source, or the data no byte for it; what stands
+// behind the last source's isn't looked at.
 func ParseMixerLevel(data []byte, csrcCount, index int) (level int8, err error) {
 	if csrcCount < 0 || index < 0 {
 		return 0, ErrBadField
@@ -214,8 +224,11 @@ func ParseMixerLevel(data []byte, csrcCount, index int) (level int8, err error) 
 }
 
 // AppendMixerLevels appends the levels of a packet's contributing sources, in their order, a byte for each: -127 and
-// -10 are 7F 0A. It returns ErrBadField where one is none of -127 to 0.
+// -10 are 7F 0A. It returns ErrBadField where there are more than 15, which no packet has, or one is none of -127 to 0.
 func AppendMixerLevels(data []byte, levels []int8) ([]byte, error) {
+	if err := inRange("the number of levels", len(levels), 0, 15); err != nil {
+		return data, err
+	}
 	for i, level := range levels {
 		if err := inRange("the level "+strconv.Itoa(i), int(level), -127, 0); err != nil {
 			return data, err
@@ -227,8 +240,8 @@ func AppendMixerLevels(data []byte, levels []int8) ([]byte, error) {
 	return data[:at+count], err
 }
 
-// ParseNTP64 reads an NTP timestamp of eight bytes (urn:ietf:params:rtp-hdrext:ntp-64, which has no Kind; RFC 6051,
-// 3.3), in units of 2^-32 seconds since 1900. It returns ErrBadField where there are not eight bytes.
+// ParseNTP64 reads an NTP timestamp of eight bytes (KindNTP64; RFC 6051, 3.3), in units of 2^-32 seconds since 1900. It
+// returns ErrBadField where there are not eight bytes.
 func ParseNTP64(data []byte) (time uint64, err error) {
 	return parseNTP64(data)
 }
@@ -239,8 +252,8 @@ func AppendNTP64(data []byte, time uint64) []byte {
 	return data
 }
 
-// ParseNTP56 reads the low 56 bits of an NTP timestamp, in seven bytes (urn:ietf:params:rtp-hdrext:ntp-56, which has no
-// Kind; RFC 6051, 3.3): [ExtendNTP56] finds the others. It returns ErrBadField where there are not seven bytes.
+// ParseNTP56 reads the low 56 bits of an NTP timestamp, in seven bytes (KindNTP56; RFC 6051, 3.3): [ExtendNTP56] finds
+// the others. It returns ErrBadField where there are not seven bytes.
 func ParseNTP56(data []byte) (low uint64, err error) {
 	return parseNTP56(data)
 }
@@ -258,9 +271,9 @@ func ExtendNTP56(near, low uint64) uint64 {
 	return extendNTP56(near, low)
 }
 
-// A DependencyDescriptor has the fields of a dependency descriptor that each packet has (AV1's RTP payload format, A.8;
-// it has no Kind): its first three bytes. What follows them needs the structure that the sender sent before: hand it on
-// as it is.
+// A DependencyDescriptor has the fields of a dependency descriptor that each packet has (KindDependencyDescriptor; AV1's
+// RTP payload format, A.8): its first three bytes. What follows them needs the structure that the sender sent before:
+// hand it on as it is.
 type DependencyDescriptor struct {
 	FrameNumber  uint16 // the number of the frame, which rolls over
 	StartOfFrame bool   // the packet is the first of its frame

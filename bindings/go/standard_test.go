@@ -256,19 +256,18 @@ func TestTransportNumbers(t *testing.T) {
 		{[]byte{0, 7, 0xFF, 0xFF},
 			rtpwire.TransportNumber{Number: 7, HasRequest: true, Packets: 32767, Timestamps: true}},
 		{[]byte{0, 7, 0x7F, 0xFE}, rtpwire.TransportNumber{Number: 7, HasRequest: true, Packets: 32766}},
+		// On no packet.
+		{[]byte{0, 9, 0, 0}, rtpwire.TransportNumber{Number: 9, HasRequest: true}},
+		{[]byte{0, 9, 0x80, 0}, rtpwire.TransportNumber{Number: 9, HasRequest: true, Timestamps: true}},
 	} {
 		same(t, "read", read(rtpwire.ParseTransportNumber(row.data)), read(row.number, nil))
 		same(t, "written", appended(t, row.number.Append), row.data)
 	}
-	for _, byte2 := range []byte{0, 0x80} {
-		same(t, "a request for none", read(rtpwire.ParseTransportNumber([]byte{0, 9, byte2, 0})),
-			read(rtpwire.TransportNumber{Number: 9}, nil))
-	}
 	ignored := rtpwire.TransportNumber{Number: 9, Packets: 40000, Timestamps: true}
 	same(t, "without a request", appended(t, ignored.Append), []byte{0, 9})
-	for packets, text := range map[uint16]string{0: "0", 32768: "32768", 65535: "65535"} {
+	for packets, text := range map[uint16]string{32768: "32768", 65535: "65535"} {
 		refused(t, rtpwire.TransportNumber{HasRequest: true, Packets: packets}.Append,
-			"Packets is "+text+", and not 1 to 32767")
+			"Packets is "+text+", and not 0 to 32767")
 	}
 	notOf(t, rtpwire.ParseTransportNumber, 2, 4)
 }

@@ -117,9 +117,22 @@ func TestPlayoutDelays(t *testing.T) {
 	}
 }
 
-// A level's magnitude is written modulo 128, whatever its sign.
+// A level is 0 to -127 dB, and written as its magnitude (RFC 6464, 3); another one is refused.
 func TestLevels(t *testing.T) {
-	for level, written := range map[int8]byte{0: 0, -1: 1, 1: 1, -126: 126, -127: 127, 127: 127, -128: 0} {
+	for _, level := range []int8{1, 30, 127, -128} {
+		var v rtpwire.Values
+		v.SetAudioLevel(level, true)
+		header := rtpwire.NewHeader(v)
+		_, err := v.DataOf(rtpwire.KindAudioLevel, make([]byte, 1))
+		_, written := header.Write(make([]byte, 100), rtpwire.StandardMap())
+		_, whole := header.WriteAll(make([]byte, 100), nil)
+		_, length := header.WireLen(nil)
+		_, left := header.LeftOut(nil)
+		for _, err := range []error{err, written, whole, length, left} {
+			same(t, "refused", err, rtpwire.ErrBadField)
+		}
+	}
+	for level, written := range map[int8]byte{0: 0, -1: 1, -10: 10, -126: 126, -127: 127} {
 		for _, voice := range []bool{false, true} {
 			var v rtpwire.Values
 			v.SetAudioLevel(level, voice)

@@ -63,12 +63,14 @@ type VideoTiming struct {
 	LastLeftPacer     uint16 // and left the pacer
 }
 
-// SendTime is when the packet left its sender, in microseconds: as read modulo 64 seconds.
+// SendTime is when the packet left its sender, in whole microseconds: as read modulo 64 seconds. [ParseSendTime] has the
+// exact units.
 func (v *Values) SendTime() (micros uint64, ok bool) {
 	return v.sendTime, v.hasSendTime
 }
 
-// SetSendTime sets the send time, in microseconds. Its whole units of 2^-18 seconds are written, modulo 64 seconds.
+// SetSendTime sets the send time, in microseconds. Its whole units of 2^-18 seconds are written, modulo 64 seconds: of
+// what was read nearly always one unit less ([SendTime.Append]).
 func (v *Values) SetSendTime(micros uint64) {
 	v.sendTime, v.hasSendTime = micros, true
 }
@@ -194,7 +196,8 @@ func (v *Values) AudioLevel() (level int8, voice, ok bool) {
 	return v.audioLevel, v.voiceActivity, v.hasAudioLevel && v.hasVoiceActivity
 }
 
-// SetAudioLevel sets the audio level, whose magnitude is written modulo 128, and the voice activity.
+// SetAudioLevel sets the audio level and the voice activity: Write returns ErrBadField where the level is none of -127
+// to 0.
 func (v *Values) SetAudioLevel(level int8, voice bool) {
 	v.audioLevel, v.hasAudioLevel = level, true
 	v.voiceActivity, v.hasVoiceActivity = voice, true
@@ -213,7 +216,8 @@ func (v *Values) SetMID(mid string) error {
 	return setText(v.mid[:], mid, &v.hasMID)
 }
 
-// RID is the stream that the packet is of (RFC 8852), up to 8 characters, changed and cut as MID is: [Packet.Token].
+// RID is the stream that the packet is of (RFC 8852), up to 8 characters where the RFC has up to 255, changed and cut as
+// MID is: [Packet.Token].
 func (v *Values) RID() (rid string, ok bool) {
 	return textOf(v.rid[:]), v.hasRID
 }
@@ -223,8 +227,7 @@ func (v *Values) SetRID(rid string) error {
 	return setText(v.rid[:], rid, &v.hasRID)
 }
 
-// RepairedRID is the stream that this one repairs (RFC 8852), up to 8 characters, changed and cut as MID is:
-// [Packet.Token].
+// RepairedRID is the stream that this one repairs (RFC 8852), cut as RID is: [Packet.Token].
 func (v *Values) RepairedRID() (rid string, ok bool) {
 	return textOf(v.repairedRID[:]), v.hasRepairedRID
 }
@@ -246,9 +249,9 @@ const MostData = 16
 //		err = rtpwire.SetElement(datagram, m.IDOf(rtpwire.KindAbsSendTime), data)
 //	}
 //
-// It returns ErrBadField where the kind is KindNone or one of 16 to 127, or a value, of this kind or not, is one that
+// It returns ErrBadField where the kind is KindNone or one of 21 to 127, or a value, of this kind or not, is one that
 // can't be written; ErrNotFound where a value that the kind needs isn't there, and always for KindColorSpace
-// ([ColorSpace.Append]), KindLayers and your own kinds; ErrShortBuffer. Then nothing changes.
+// ([ColorSpace.Append]), KindLayers, those behind it and your own kinds; ErrShortBuffer. Then nothing changes.
 func (v *Values) DataOf(kind Kind, buf []byte) ([]byte, error) {
 	length, err := v.dataOf(kind, buf)
 	if err != nil {

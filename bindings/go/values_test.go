@@ -254,7 +254,7 @@ func TestLayersAreWritten(t *testing.T) {
 func TestMaps(t *testing.T) {
 	m := new(rtpwire.Map)
 	same(t, "the id 0", m.Set(0, rtpwire.KindMID), rtpwire.ErrBadField)
-	same(t, "no kind", m.Set(1, rtpwire.KindLayers+1), rtpwire.ErrBadField)
+	same(t, "no kind", m.Set(1, rtpwire.KindNTP56+1), rtpwire.ErrBadField)
 	same(t, "the map", *m, rtpwire.Map{})
 	same(t, "an id of none", m.IDOf(rtpwire.KindMID), uint8(0))
 
@@ -267,8 +267,10 @@ func TestMaps(t *testing.T) {
 	same(t, "the lowest", m.IDOf(rtpwire.KindMID), uint8(9))
 	same(t, "none of none", m.IDOf(rtpwire.KindNone), uint8(0))
 	same(t, "none of nil", (*rtpwire.Map)(nil).IDOf(rtpwire.KindMID), uint8(0))
-	kind, err = m.SetURI(9, "urn:x")
-	same(t, "an unknown URI", []any{kind, err, m.Get(9)}, []any{rtpwire.KindNone, nil, rtpwire.KindNone})
+	same(t, "no kind", []any{m.Set(3, rtpwire.KindNone), m.Get(3)}, []any{rtpwire.ErrBadField, rtpwire.KindRID})
+	m.Remove(3)
+	m.Remove(0)
+	same(t, "removed", []rtpwire.Kind{m.Get(3), m.Get(255), m.Get(9)}, []rtpwire.Kind{rtpwire.KindNone, rtpwire.KindMID, rtpwire.KindMID})
 	_, err = m.SetURI(0, "urn:ietf:params:rtp-hdrext:sdes:mid")
 	same(t, "the id 0 by URI", err, rtpwire.ErrBadField)
 	kind, err = m.SetURI(0, "urn:x")
@@ -283,8 +285,8 @@ func TestMaps(t *testing.T) {
 		same(t, "standard", standard.Get(uint8(id)), usual[uint8(id)])
 		same(t, "nil", (*rtpwire.Map)(nil).Get(uint8(id)), rtpwire.KindNone)
 	}
-	names := []string{rtpwire.KindNone.String(), rtpwire.KindLayers.String(), rtpwire.Kind(16).String()}
-	same(t, "names", names, []string{"none", "layers", "kind 16"})
+	names := []string{rtpwire.KindNone.String(), rtpwire.KindLayers.String(), rtpwire.Kind(21).String()}
+	same(t, "names", names, []string{"none", "layers", "kind 21"})
 }
 
 func TestOwnKinds(t *testing.T) {
@@ -293,7 +295,7 @@ func TestOwnKinds(t *testing.T) {
 		same(t, "set", []any{from.Set(id, kind), from.Get(id)}, []any{nil, kind})
 	}
 	same(t, "ids", []uint8{from.IDOf(255), from.IDOf(rtpwire.KindOwn), from.IDOf(200)}, []uint8{5, 7, 0})
-	for _, kind := range []rtpwire.Kind{16, 127} {
+	for _, kind := range []rtpwire.Kind{21, 127} {
 		same(t, "no kind", []any{to.Set(1, kind), to.IDOf(kind)}, []any{rtpwire.ErrBadField, uint8(0)})
 	}
 	same(t, "set", []error{to.Set(12, 255), to.Set(8, 255), to.Set(9, rtpwire.KindMID)}, []error{nil, nil, nil})
@@ -334,11 +336,14 @@ func TestDataOf(t *testing.T) {
 		same(t, "too short", err, rtpwire.ErrShortBuffer)
 	}
 	buf := make([]byte, rtpwire.MostData)
-	for _, kind := range []rtpwire.Kind{rtpwire.KindRID, rtpwire.KindColorSpace, rtpwire.KindLayers, rtpwire.KindOwn, 255} {
+	for _, kind := range []rtpwire.Kind{
+		rtpwire.KindRID, rtpwire.KindColorSpace, rtpwire.KindLayers, rtpwire.KindMixerLevels, rtpwire.KindTransportNumber2,
+		rtpwire.KindDependencyDescriptor, rtpwire.KindNTP64, rtpwire.KindNTP56, rtpwire.KindOwn, 255,
+	} {
 		data, err := v.DataOf(kind, buf)
 		same(t, "no value", []any{len(data), err}, []any{0, rtpwire.ErrNotFound})
 	}
-	for _, kind := range []rtpwire.Kind{rtpwire.KindNone, 16, 127} {
+	for _, kind := range []rtpwire.Kind{rtpwire.KindNone, 21, 127} {
 		_, err := v.DataOf(kind, buf)
 		same(t, "no kind", err, rtpwire.ErrBadField)
 	}

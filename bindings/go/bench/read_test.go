@@ -37,6 +37,13 @@ var m = func() *rtpwire.Map {
 
 var sink int
 
+// BenchmarkCall is a call of the library that does nothing.
+func BenchmarkCall(b *testing.B) {
+	for i := 0; i < b.N; i++ {
+		sink += int(rtpwire.LibraryVersion())
+	}
+}
+
 func BenchmarkReadPlainRtpwire(b *testing.B) {
 	b.ReportAllocs()
 	var packet rtpwire.Packet

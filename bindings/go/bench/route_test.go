@@ -24,16 +24,15 @@ func eachGroup(b *testing.B, route func(b *testing.B, receivers int)) {
 
 func BenchmarkRouteRtpwire(b *testing.B) {
 	eachGroup(b, func(b *testing.B, receivers int) {
-		const stride = 64
 		ids := new(rtpwire.NewIDs)
 		for id := uint8(1); id <= 4; id++ {
 			ids.Set(id, id%4+1)
 		}
 		group := rtpwire.Group{IDs: ids, Elements: []rtpwire.Place{{ID: 1, At: 0, Len: 1}, {ID: 4, At: 1, Len: 2}}}
-		buf, data := make([]byte, stride*receivers), make([]byte, 3*receivers)
+		buf, data := make([]byte, 64*receivers), make([]byte, 3*receivers)
 		var batch rtpwire.RouteBatch
 		for r := 0; r < receivers; r++ {
-			batch.Add(3*r, stride*r)
+			batch.Add(3 * r)
 		}
 		for i := 0; i < b.N; i++ {
 			for r := 0; r < receivers; r++ {

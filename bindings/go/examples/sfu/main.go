@@ -19,9 +19,8 @@ import (
 )
 
 const (
-	streams = 16  // so many SSRCs of the sender, at most
-	stride  = 512 // for each header
-	own     = 8   // what each receiver has in each packet: a mid of three characters, a transport number, a send time
+	streams = 16 // so many SSRCs of the sender, at most
+	own     = 8  // what each receiver has in each packet: a mid of three characters, a transport number, a send time
 )
 
 // The ids of the receivers.
@@ -65,14 +64,14 @@ type sfu struct {
 func newSFU(receivers int) *sfu {
 	s := &sfu{
 		data:    make([]byte, own*receivers),
-		headers: make([]byte, stride*receivers),
+		headers: make([]byte, udp.Room*receivers),
 		streams: make(map[uint32]*stream),
 	}
 	s.group.Elements = []rtpwire.Place{
 		{ID: midID, At: 0, Len: 3}, {ID: transportNumberID, At: 3, Len: 2}, {ID: sendTimeID, At: 5, Len: 3},
 	}
 	for i := 0; i < receivers; i++ {
-		s.batch.Add(own*i, stride*i)
+		s.batch.Add(own * i)
 	}
 	return s
 }
@@ -140,7 +139,8 @@ func (s *sfu) received(datagram []byte) (*stream, error) {
 	return from, nil
 }
 
-// forward sends the packet to all receivers: the header of each is written before the payload in its turn.
+// forward sends the packet to all receivers: the header of each is copied before the payload in its turn, where there is
+// room for one that isn't longer than udp.Room.
 func (s *sfu) forward(buf []byte, from *stream, now time.Duration, send udp.Send) {
 	s.describe(from, now)
 	group := &s.group
@@ -156,7 +156,7 @@ func (s *sfu) forward(buf []byte, from *stream, now time.Duration, send udp.Send
 	payloadAt := udp.Room + s.packet.HeaderLen()
 	for i := 0; i < receivers; i++ {
 		header, err := s.batch.At(i)
-		if len(header) > stride { // then the next one lies over its end
+		if len(header) > udp.Room {
 			err = rtpwire.ErrShortBuffer
 		}
 		if err == nil {
@@ -172,9 +172,9 @@ func (s *sfu) forward(buf []byte, from *stream, now time.Duration, send udp.Send
 }
 
 // describe sets what each receiver gets of its own: its SSRC of the stream, the number, its mid of the stream, and the
-// transport number and the time at which it is sent (24 bits, in units of 2^-18 seconds).
+// transport number and the time at which it is sent.
 func (s *sfu) describe(from *stream, now time.Duration) {
-	time := uint32(uint64(now.Microseconds()) % 64000000 * 262144 / 1000000)
+	sent := rtpwire.SendTimeOf(time.Unix(0, 0).Add(now))
 	for i := 0; i < len(s.data)/own; i++ {
 		fields := s.batch.Fields(i)
 		fields.SetSSRC(uint32(1000*(i+1) + from.index))
@@ -182,7 +182,7 @@ func (s *sfu) describe(from *stream, now time.Duration) {
 		number := s.transport + uint16(i)
 		copy(s.data[own*i:own*i+own], []byte{
 			byte('0' + i/10%10), byte('0' + i%10), "0123456789ABCDEF"[from.index],
-			byte(number >> 8), byte(number), byte(time >> 16), byte(time >> 8), byte(time),
+			byte(number >> 8), byte(number), byte(sent >> 16), byte(sent >> 8), byte(sent),
 		})
 	}
 	s.transport++

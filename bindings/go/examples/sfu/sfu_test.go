@@ -61,7 +61,7 @@ func TestPacketsOfEachReceiver(t *testing.T) {
 			"906F0006" + "00000066" + "000003E8" + "ABAC0001" + "01020304" + "73",
 			"906F03EE" + "00000066" + "000007D0" + "ABAC0001" + "01020304" + "73",
 		}},
-		// A header of 512 bytes has its place, and one of 516 hasn't.
+		// A header of 512 bytes has room before the payload, and one of 516 hasn't.
 		{"906F 0007 00000067 0000002C ABAC007C" + strings.Repeat("00000000", 124) + "74", 0, []string{
 			"906F0007" + "00000067" + "000003E8" + "ABAC007C" + strings.Repeat("00000000", 124) + "74",
 			"906F03EF" + "00000067" + "000007D0" + "ABAC007C" + strings.Repeat("00000000", 124) + "74",
@@ -84,6 +84,57 @@ func TestPacketsOfEachReceiver(t *testing.T) {
 	}
 	if wanted := uint64(6); s.counts.strangers != wanted {
 		t.Errorf("%d strangers, wanted %d", s.counts.strangers, wanted)
+	}
+}
+
+// blocked is a server that takes its first datagram for as long as the end of the input leaves time to come.
+type blocked struct {
+	taken chan byte
+}
+
+func (b blocked) Map(uint8, string) error { return nil }
+
+func (b blocked) Take(buf []byte, _ time.Duration, _ udp.Send) {
+	b.taken <- buf[len(buf)-1]
+}
+
+// What the socket holds when its time has ended is taken too, each datagram once and in order.
+func TestLastDatagrams(t *testing.T) {
+	in, lines := io.Pipe()
+	said, out := io.Pipe()
+	server, ended := blocked{make(chan byte)}, make(chan error, 1)
+	go func() {
+		_, err := udp.Serve(in, out, nil, server)
+		close(server.taken)
+		ended <- err
+	}()
+	fmt.Fprintf(lines, "\n")
+	var port int
+	if _, err := fmt.Fscanf(bufio.NewReader(said), "port %d\n", &port); err != nil {
+		t.Fatal(err)
+	}
+	sender, err := net.DialUDP("udp4", nil, &net.UDPAddr{IP: net.IPv4(127, 0, 0, 1), Port: port})
+	if err != nil {
+		t.Fatal(err)
+	}
+	defer sender.Close()
+	for i := byte(0); i < 100; i++ {
+		if _, err := sender.Write([]byte{0x80, 96, 0, i}); err != nil {
+			t.Fatal(err)
+		}
+	}
+	lines.Close()
+	time.Sleep(500 * time.Millisecond) // more than Serve leaves once its input has ended
+	for i := byte(0); i < 100; i++ {
+		if got, ok := <-server.taken; !ok || got != i {
+			t.Fatalf("the datagram %d: %d, %v", i, got, ok)
+		}
+	}
+	if got, ok := <-server.taken; ok {
+		t.Errorf("one more: %d", got)
+	}
+	if err := <-ended; err != nil {
+		t.Error(err)
 	}
 }
 
