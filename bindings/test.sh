@@ -136,9 +136,15 @@ for it in c++ clang++; do
             "${looks[@]}" -D 'LOOKED_AT=(void)'
             ! "${looks[@]}" -D LOOKED_AT= 2>/dev/null || fail "a status that isn't looked at passed $it: $call"
         done
+        last=$(sed -n 's/^#e*l*if REFUSED == \([0-9]*\).*/\1/p' bindings/c/test/refused.cpp | tail -n 1)
+        for ((which = 0; which <= last; which++)); do
+            status=0
+            $it -std=$standard "${strict[@]}" -fsyntax-only -D "REFUSED=$which" bindings/c/test/refused.cpp 2>"$scratch/told" || status=$?
+            [ $((status != 0)) = $((which != 0)) ] || { cat "$scratch/told" >&2; fail "REFUSED=$which of refused.cpp with $it as $standard"; }
+        done
     done
 done
-said 'the header file of C++17, as C++17 and C++20, and a status that is not looked at is a warning'
+said "the header file of C++17, as C++17 and C++20; a status that is not looked at, $last views of what is gone and wrong strides are told"
 
 # The examples print what rtp_lines does.
 cargo=(cargo --quiet)
@@ -291,12 +297,14 @@ told_by_sanitizers() { # those of -fsanitize=
     fi
     clang "${built[@]}" "$scratch/call.c" "$library" -o "$scratch/call_C"
     "$scratch/call_C" | cmp - "$scratch/said_C" >&2 || fail "-fsanitize=$1, the program in C of docs/CALLING.md"
-    clang "${built[@]}" bindings/c/test/sanitized.c "$library" -o "$scratch/of_blocks"
+    clang "${built[@]}" -Wcast-qual bindings/c/test/sanitized.c "$library" -o "$scratch/of_blocks"
     "$scratch/of_blocks" >"$scratch/told" || { cat "$scratch/told" >&2; fail "-fsanitize=$1 tells nothing"; }
     if [ "$1" = memory ]; then
-        clang "${built[@]}" bindings/c/test/sanitized_fields.c "$library" -o "$scratch/of_fields"
-        "$scratch/of_fields" >"$scratch/said" || { cat "$scratch/said" >&2; fail "-fsanitize=memory, the fields of structs"; }
-        sed -i "s/\$/ and $(cat "$scratch/said")/" "$scratch/told"
+        for it in bytes fields; do
+            clang "${built[@]}" -fsanitize-recover=memory bindings/c/test/sanitized_$it.c "$library" -o "$scratch/of_bytes"
+            "$scratch/of_bytes" >"$scratch/said" 2>&1 || { cat "$scratch/said" >&2; fail "-fsanitize=memory, sanitized_$it.c"; }
+            sed -i "s/\$/, $(tail -n 1 "$scratch/said")/" "$scratch/told"
+        done
     fi
     clang++ "${built[@]/-std=c99/-std=c++11}" -x c++ -fsyntax-only "$scratch/header.c"
     for program in wrapped wrapped_alike wrapped_peers; do
@@ -314,6 +322,39 @@ if has clang; then
 else
     said "clang's sanitizers were left out: there is no clang"
 fi
+
+# ThreadSanitizer too, of gcc and clang: each block that one thread changes while another one has it is told, and what
+# threads may share isn't.
+for it in gcc clang; do
+    has $it || continue
+    built=(-std=c99 -g "${strict[@]}" -D_GNU_SOURCE -fsanitize=thread)
+    if ! $it "${built[@]}" "$scratch/none.c" -o "$scratch/none" 2>/dev/null || ! "$scratch/none"; then
+        said "$it's -fsanitize=thread was left out: it is not there"
+        continue
+    fi
+    $it "${built[@]}" -Wcast-qual bindings/c/test/sanitized.c "$library" -lpthread -o "$scratch/races"
+    "$scratch/races" >"$scratch/told" || { cat "$scratch/told" >&2; fail "$it's -fsanitize=thread"; }
+    $it "${built[@]}" bindings/test/threads.c "$library" -lpthread -o "$scratch/threads"
+    "$scratch/threads" 2>&1 | grep -qx 'threads: 4 .*: same' || fail "$it's -fsanitize=thread reports what threads may share"
+    ! TSAN_OPTIONS=halt_on_error=1 "$scratch/threads" one >"$scratch/said" 2>&1 || fail "four threads at one receiver pass $it's -fsanitize=thread"
+    grep -q 'ThreadSanitizer: data race' "$scratch/said" || fail "what $it's -fsanitize=thread says of one receiver"
+    said "$it's -fsanitize=thread: $(cat "$scratch/told") of all calls, each once read and once written meanwhile; one receiver of four threads"
+done
+
+# No sanitizer's header file has a warning, also where a const would be cast away.
+for it in gcc clang g++ clang++; do
+    language=c standard=c99 old=()
+    case $it in *++) language=c++ standard=c++11 old=(-Wold-style-cast) ;; esac
+    has "$it" || continue
+    for sanitizer in address memory thread undefined; do
+        case $it,$sanitizer in g*,memory) continue ;; esac
+        for level in -O0 -O2; do
+            $it -std=$standard "${strict[@]}" "${include[@]}" $level -Wcast-qual -Wshadow -Wconversion "${old[@]}" "-fsanitize=$sanitizer" \
+                -x $language -c "$scratch/header.c" -o /dev/null || fail "warnings of rtp_wire_sanitized.h: $it, $sanitizer"
+        done
+    done
+done
+said 'the header files under each sanitizer, without a warning'
 
 cc -std=c99 "${strict[@]}" bindings/test/threads.c "$library" -lpthread -o "$scratch/threads"
 "$scratch/threads"
