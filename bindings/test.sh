@@ -34,22 +34,7 @@ include=(-I"$prefix/include")
 # The ABI: what the header file declares is what the list says, and a change of it is told.
 abi=bindings/test/abi-$(sed -n 's/^#define RTPW_VERSION "\([0-9]*\)\..*/\1/p' bindings/c/rtp_wire.h).txt
 bindings/test/abi.sh || fail "the header file isn't what $abi lists: where that is meant, bindings/test/abi.sh --write"
-mkdir -p "$scratch/bindings"/{c,test}
-cp bindings/test/abi* "$scratch/bindings/test"
-sed -e 's/uint8_t id;/uint16_t id;/' -e '/RTPW_REFUSED/s/10,/17,/' -e '/rtpw_set_marker(/s/bool/uint8_t/' \
-    -e 's/^uint32_t rtpw_version(void);/uint32_t rtpw_versions(void);/' bindings/c/rtp_wire.h >"$scratch/bindings/c/rtp_wire.h"
-! "$scratch/bindings/test/abi.sh" 2>"$scratch/told" || fail 'another ABI passed'
-LC_ALL=C sort >"$scratch/expected" <<'END'
-abi.sh: gone or changed: rtpw_element.id at 24, 1 bytes: uint8_t
-abi.sh: gone or changed: constant RTPW_REFUSED: 10
-abi.sh: gone or changed: function int32_t rtpw_set_marker(uint8_t *, size_t, _Bool)
-abi.sh: gone or changed: function uint32_t rtpw_version(void)
-abi.sh: new: rtpw_element.id at 24, 2 bytes: uint16_t
-abi.sh: new: constant RTPW_REFUSED: 17
-abi.sh: new: function int32_t rtpw_set_marker(uint8_t *, size_t, uint8_t)
-abi.sh: new: function uint32_t rtpw_versions(void)
-END
-LC_ALL=C sort "$scratch/told" | diff "$scratch/expected" - >&2 || fail 'what is told of another ABI'
+bindings/test/abi_tests.sh || fail 'what is told of another ABI'
 said "the ABI: $(grep -c '^struct' "$abi") structs, $(grep -c '^constant' "$abi") constants and $(grep -c '^function' "$abi") functions, as $abi lists them"
 
 # The names that can be seen, and those that are wanted.
@@ -136,15 +121,10 @@ for it in c++ clang++; do
             "${looks[@]}" -D 'LOOKED_AT=(void)'
             ! "${looks[@]}" -D LOOKED_AT= 2>/dev/null || fail "a status that isn't looked at passed $it: $call"
         done
-        last=$(sed -n 's/^#e*l*if REFUSED == \([0-9]*\).*/\1/p' bindings/c/test/refused.cpp | tail -n 1)
-        for ((which = 0; which <= last; which++)); do
-            status=0
-            $it -std=$standard "${strict[@]}" -fsyntax-only -D "REFUSED=$which" bindings/c/test/refused.cpp 2>"$scratch/told" || status=$?
-            [ $((status != 0)) = $((which != 0)) ] || { cat "$scratch/told" >&2; fail "REFUSED=$which of refused.cpp with $it as $standard"; }
-        done
+        bindings/test/refused.sh $it $standard >"$scratch/refused" || fail 'what has to be refused of the header file of C++17'
     done
 done
-said "the header file of C++17, as C++17 and C++20; a status that is not looked at, $last views of what is gone and wrong strides are told"
+said "the header file of C++17, as C++17 and C++20; a status that is not looked at is told, and $(cat "$scratch/refused") views of what is gone and wrong strides are refused"
 
 # The examples print what rtp_lines does.
 cargo=(cargo --quiet)
@@ -289,7 +269,7 @@ fi
 
 # clang's sanitizers see what the library does by rtp_wire_sanitized.h. The programs of random bytes copy and compare no
 # bytes from NULL, which C allows since N3322.
-told_by_sanitizers() { # those of -fsanitize=
+told_by_sanitizers() { # those of -fsanitize=, and the programs of bindings/test/told.sh
     local built=(-std=c99 -g "${strict[@]}" "${include[@]}" -D_GNU_SOURCE "-fsanitize=$1" -fno-sanitize-recover=all)
     if ! clang "${built[@]}" "$scratch/none.c" -o "$scratch/none" 2>/dev/null || ! "$scratch/none"; then
         said "clang's -fsanitize=$1 was left out: it is not there"
@@ -297,15 +277,13 @@ told_by_sanitizers() { # those of -fsanitize=
     fi
     clang "${built[@]}" "$scratch/call.c" "$library" -o "$scratch/call_C"
     "$scratch/call_C" | cmp - "$scratch/said_C" >&2 || fail "-fsanitize=$1, the program in C of docs/CALLING.md"
-    clang "${built[@]}" -Wcast-qual bindings/c/test/sanitized.c "$library" -o "$scratch/of_blocks"
-    "$scratch/of_blocks" >"$scratch/told" || { cat "$scratch/told" >&2; fail "-fsanitize=$1 tells nothing"; }
-    if [ "$1" = memory ]; then
-        for it in bytes fields; do
-            clang "${built[@]}" -fsanitize-recover=memory bindings/c/test/sanitized_$it.c "$library" -o "$scratch/of_bytes"
-            "$scratch/of_bytes" >"$scratch/said" 2>&1 || { cat "$scratch/said" >&2; fail "-fsanitize=memory, sanitized_$it.c"; }
-            sed -i "s/\$/, $(tail -n 1 "$scratch/said")/" "$scratch/told"
-        done
-    fi
+    : >"$scratch/told"
+    for it in ${2-}; do
+        bindings/test/told.sh "$scratch/of" "$library" "$it"
+        "$scratch/of/$it" >"$scratch/said" 2>&1 || { cat "$scratch/said" >&2; fail "-fsanitize=$1, $it of bindings/test/told.sh"; }
+        echo "$(paste -s -d ' ' "$scratch/told" | sed 's/..*/&, /')$(tail -n 1 "$scratch/said")" >"$scratch/told_too"
+        mv "$scratch/told_too" "$scratch/told"
+    done
     clang++ "${built[@]/-std=c99/-std=c++11}" -x c++ -fsyntax-only "$scratch/header.c"
     for program in wrapped wrapped_alike wrapped_peers; do
         clang++ "${built[@]/-std=c99/-std=c++17}" bindings/c/test/$program.cpp "$library" -o "$scratch/by_hand"
@@ -318,7 +296,8 @@ told_by_sanitizers() { # those of -fsanitize=
     said "clang's -fsanitize=$1: the examples, the header file of C++17, random bytes, and $(cat "$scratch/told") of all calls that it tells of"
 }
 if has clang; then
-    for it in address,undefined memory; do told_by_sanitizers "$it"; done
+    told_by_sanitizers address,undefined address
+    told_by_sanitizers memory 'memory bytes fields'
 else
     said "clang's sanitizers were left out: there is no clang"
 fi
@@ -332,8 +311,8 @@ for it in gcc clang; do
         said "$it's -fsanitize=thread was left out: it is not there"
         continue
     fi
-    $it "${built[@]}" -Wcast-qual bindings/c/test/sanitized.c "$library" -lpthread -o "$scratch/races"
-    "$scratch/races" >"$scratch/told" || { cat "$scratch/told" >&2; fail "$it's -fsanitize=thread"; }
+    CC=$it bindings/test/told.sh "$scratch/of" "$library" thread
+    "$scratch/of/thread" >"$scratch/told" || { cat "$scratch/told" >&2; fail "$it's -fsanitize=thread"; }
     $it "${built[@]}" bindings/test/threads.c "$library" -lpthread -o "$scratch/threads"
     "$scratch/threads" 2>&1 | grep -qx 'threads: 4 .*: same' || fail "$it's -fsanitize=thread reports what threads may share"
     ! TSAN_OPTIONS=halt_on_error=1 "$scratch/threads" one >"$scratch/said" 2>&1 || fail "four threads at one receiver pass $it's -fsanitize=thread"

@@ -453,6 +453,11 @@ static inline void rtpw_sanitizer_data(const uint8_t *data, size_t data_len, siz
     if (least <= data_len && data_len <= most) { rtpw_sanitizer_reads(data, data_len); }
 }
 
+/* A text: it is read where it isn't too long. */
+static inline void rtpw_sanitizer_token(const uint8_t *data, size_t data_len) {
+    rtpw_sanitizer_data(data, data_len, 1, 255);
+}
+
 static inline void rtpw_sanitizer_frame_marking(const rtpw_frame_marking *marking) {
     RTPW_SANITIZER_ROOM(marking, sizeof *marking);
     rtpw_sanitizer_reads(&marking->start, 5); /* and end, independent, discardable, has_layers */
@@ -864,10 +869,10 @@ RTPW_SANITIZED(write_orientation, (const rtpw_orientation *orientation, uint8_t 
     RTPW_WROTE(len) RTPW_WROTE_BYTES(buf, *len))
 #define rtpw_write_orientation rtpw_sanitized_write_orientation
 RTPW_SANITIZED_AS(bool, is_token, (const uint8_t *data, size_t data_len), (data, data_len),
-    rtpw_sanitizer_data(data, data_len, 1, 255), (void)0)
+    rtpw_sanitizer_token(data, data_len), (void)0)
 #define rtpw_is_token rtpw_sanitized_is_token
 RTPW_SANITIZED_AS(bool, is_stream_id, (const uint8_t *data, size_t data_len), (data, data_len),
-    rtpw_sanitizer_data(data, data_len, 1, 255), (void)0)
+    rtpw_sanitizer_token(data, data_len), (void)0)
 #define rtpw_is_stream_id rtpw_sanitized_is_stream_id
 RTPW_SANITIZED(read_timing, (const uint8_t *data, size_t data_len, rtpw_timing *timing),
     (data, data_len, timing), rtpw_sanitizer_data(data, data_len, 12, 13); RTPW_ROOM(timing), RTPW_WROTE(timing))

@@ -79,7 +79,8 @@ static void *out(size_t size) {
 #ifdef IS_THREAD
 __attribute__((no_sanitize("thread")))
 #endif
-static void copy(uint8_t *to, const void *from, size_t size) {
+static void
+copy(uint8_t *to, const void *from, size_t size) {
     const volatile uint8_t *bytes = (const volatile uint8_t *)from;
     for (size_t i = 0; i < size; i++) {
         to[i] = bytes[i];

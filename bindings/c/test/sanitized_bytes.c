@@ -21,6 +21,9 @@ static const uint8_t empty[LEN - 4] = {0x92, 0xef, 1, 2, 0, 0, 3, 4,    0,    0,
 /* Without a block. */
 static const uint8_t plain[LEN - 8] = {0xa2, 0xef, 1, 2, 0, 0, 3, 4, 0, 0, 0, 44, 0, 0, 0, 9, 0, 0, 0, 7, 5, 6, 7, 8, 1};
 
+/* Without a payload, though P is set. */
+static const uint8_t header[12 + 4] = {0xa1, 0xef, 1, 2, 0, 0, 3, 4, 0, 0, 0, 44, 0, 0, 0, 9};
+
 static uint8_t buf[ROOM];
 static size_t len;
 static const uint8_t data[] = {1, 2, 3, 4, 5, 6, 7, 8};
@@ -67,8 +70,8 @@ static void parse_many(void) {
 }
 static void make_template(void) {
     rtpw_template made;
-    uint8_t header[400];
-    done(rtpw_make_template(buf, len, &ids, NULL, 0, NULL, 0, RTPW_ANY_FORM, header, sizeof header, &made));
+    uint8_t room[400];
+    done(rtpw_make_template(buf, len, &ids, NULL, 0, NULL, 0, RTPW_ANY_FORM, room, sizeof room, &made));
 }
 static void set_marker(void) {
     done(rtpw_set_marker(buf, len, false));
@@ -162,6 +165,7 @@ static const struct {
     ROW(packet_parse, packet, "rrrrrrrrrrrr" SOURCES "rrrr====" "====r", 0),
     ROW(packet_parse, empty, "rrrrrrrrrrrr" SOURCES "rrrr" PAYLOAD, 0),
     ROW(packet_parse, plain, "rrrrrrrrrrrr" SOURCES "====r", 0),
+    ROW(packet_parse, header, "rrrrrrrrrrrr" "====", 0),
     ROW(packet_parse_many, packet, "rrrrrrrrrrrr" SOURCES "rrrr====" "====r", 0),
     ROW(parse, packet, "rrrrrrrrrrrrrrrrrrrrrrrrrrrr" PAYLOAD, 0),
     ROW(parse, empty, "rrrrrrrrrrrrrrrrrrrrrrrr" PAYLOAD, 0),

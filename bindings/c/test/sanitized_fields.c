@@ -1,6 +1,6 @@
-/* What MemorySanitizer tells of the fields of the structs that the calls of rtp_wire.h are given: of each byte of a field
- * that a call looks at, where that byte alone isn't set, and of no other field. Which are looked at is what rtp_wire.h
- * says of each struct. Prints how many bytes were tried, or the first of which it is told wrongly. */
+/* What MemorySanitizer tells of the fields of the structs that the calls of rtp_wire.h are given: of each byte of a
+ * field that a call looks at, where that byte alone isn't set, and of no other field. Which are looked at is what
+ * rtp_wire.h says of each struct. Prints how many bytes were tried, or the first of which it is told wrongly. */
 #include <stddef.h>
 #include <string.h>
 
