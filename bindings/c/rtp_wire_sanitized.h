@@ -189,7 +189,7 @@ static inline rtpw_sanitizer_before rtpw_sanitizer_front(const uint8_t *buf, siz
     rtpw_sanitizer_before before;
     RTPW_SANITIZER_ROOM(buf, size);
     rtpw_sanitizer_reads(len, sizeof *len);
-    before.len = rtpw_sanitizer_least(*len, size);
+    before.len = *len <= size ? *len : 0; /* else it isn't looked at */
     before.header_len = rtpw_sanitizer_header_len(buf, before.len);
     before.payload = NULL;
 #ifdef RTPW_SANITIZER_MEMORY

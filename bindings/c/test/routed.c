@@ -297,29 +297,34 @@ static void without_padding(void) {
     CHECK(headers[0] == 0x90 && headers[20] == 0x90);
 }
 
-/* Twenty receivers, of which the ninth can't be served, each for another cause: those after it take its place. */
-static void many(void) {
-    enum { COUNT = 20, LEN = 24 };
+/* A template of two bytes of data, and receivers of it with numbers from 1,000 on. */
+enum { COUNT = 20, LEN = 24 };
+static void many_receivers(rtpw_routed_header receivers[COUNT], uint8_t data[2 * COUNT]) {
     const rtpw_new_ids ids = ids_of(1, 3);
     const rtpw_element element = element_of(0, 2, 4);
-    rtpw_routed_header receivers[COUNT], before[COUNT];
-    uint8_t headers[COUNT * LEN + 1], expected[LEN], data[2 * COUNT];
-    size_t i, cause, size;
+    size_t i;
     CHECK(rtpw_make_template(SAMPLE, sizeof SAMPLE, &ids, NUMBERS, sizeof NUMBERS, &element, 1, RTPW_ANY_FORM, header,
                              sizeof header, &made) == RTPW_OK);
-    for (i = 0; i < sizeof data; i++) {
-        data[i] = (uint8_t)(i + 100);
+    memset(receivers, 0, COUNT * sizeof *receivers);
+    for (i = 0; i < COUNT; i++) {
+        data[2 * i] = (uint8_t)(2 * i + 100);
+        data[2 * i + 1] = (uint8_t)(2 * i + 101);
+        receivers[i].data_at = 2 * i;
+        receivers[i].fields.has_sequence_number = 1;
+        receivers[i].fields.sequence_number = (uint16_t)(1000 + i);
+        receivers[i].fields.payload_type = 128; /* it isn't given */
+        receivers[i].status = 77;
     }
+}
+
+/* Twenty receivers, of which the ninth can't be served, each for another cause: those after it take its place. */
+static void many(void) {
+    rtpw_routed_header receivers[COUNT], before[COUNT];
+    uint8_t headers[COUNT * LEN + 1], expected[LEN], data[2 * COUNT];
+    size_t i, cause;
     for (cause = 0; cause < 4; cause++) {
         size_t end = 0;
-        memset(receivers, 0, sizeof receivers);
-        for (i = 0; i < COUNT; i++) {
-            receivers[i].data_at = 2 * i;
-            receivers[i].fields.has_sequence_number = 1;
-            receivers[i].fields.sequence_number = (uint16_t)(1000 + i);
-            receivers[i].fields.payload_type = 128; /* it isn't given */
-            receivers[i].status = 77;
-        }
+        many_receivers(receivers, data);
         switch (cause) {
         case 0: receivers[8].fields.has_payload_type = 1; break;
         case 1: receivers[8].data_at = 2 * COUNT - 1; break;
@@ -346,7 +351,14 @@ static void many(void) {
         }
         CHECK(end == LEN * (cause < 3 ? COUNT - 1 : COUNT) && headers[end] == 0xEE && headers[COUNT * LEN] == 0xEE);
     }
-    /* so many as there is room for; the second one is a retransmission, and where it has none the third one has */
+}
+
+/* As many as there is room for: the second one is a retransmission, and where it has none the third one has. */
+static void as_many_as_fit(void) {
+    rtpw_routed_header receivers[COUNT];
+    uint8_t headers[101], data[2 * COUNT];
+    size_t i, size;
+    many_receivers(receivers, data);
     receivers[1].is_retransmission = 1;
     for (size = 0; size < 100; size++) {
         const int has[] = {size >= 24, size >= 50, (size >= 48 && size < 50) || size >= 74};
@@ -447,6 +459,7 @@ int main(void) {
     refusals();
     without_padding();
     many();
+    as_many_as_fit();
     data_over_fields();
     torn();
     return failed;

@@ -493,6 +493,14 @@ static void absent_parts(void) { /* what stands beside a has_ of 0 isn't looked 
     space->has_hdr = 0;
     done(rtpw_write_color_space(space, bytes, 4, &len));
 }
+static void past_the_buffer(void) { /* what isn't within the buffer isn't looked at */
+    uint8_t *it = out(12);
+    size_t len = 13;
+    if (rtpw_compact(it, 12, &len) != RTPW_BAD_FIELD || rtpw_remove_block(it, 12, &len) != RTPW_BAD_FIELD ||
+        rtpw_change_form(it, 12, &len, RTPW_TWO_BYTE_FORM) != RTPW_BAD_FIELD) {
+        _exit(3);
+    }
+}
 static void new_ids_between(void) {
     const rtpw_map *from = MAP, *to = MAP;
     rtpw_new_ids *ids = out(sizeof *ids);
@@ -875,6 +883,7 @@ static const struct called cases[] = {
     CASE(write_dependency_descriptor),
     CASE(has_structure),
     CASE(absent_parts),
+    CASE(past_the_buffer),
     CASE(new_ids_between),
     CASE(new_ids_to_retransmission),
     CASE(new_ids_from_retransmission),
