@@ -38,20 +38,27 @@ GO_TESTS = "go test -vet=off -gcflags='-N -l -dwarf=false' -ldflags='-s -w' -c -
 # example its own where it prints what is due; in Python those of what makes the packages are run for an edit of that alone.
 LANGUAGES = {
     "c": (
-        ("cc", "c++"),
+        ("cc", "c++", "clang"),
         (
             *("bindings/examples", "bindings/c/test/apart.c", "bindings/test/apart.sh", "generated/apart.c"),
-            *("bindings/c/rtp_wire.hpp", "bindings/c/test/wrapped.cpp", "bindings/c/test/wrapped_alike.cpp"),
+            *("bindings/c/rtp_wire.hpp", "bindings/c/test/*.cpp", "bindings/test/refused.sh"),
+            *("bindings/c/rtp_wire_sanitized.h", "bindings/c/test/sanitized*", "bindings/c/test/told.h", "bindings/test/told.sh"),
+            *("bindings/c/rtp_wire.h", "bindings/test/abi*"),
         ),
         "of=(bindings/c text.o \"${EDITED##*/}\"); "
         "if [[ $EDITED == generated/* ]]; then bindings/test/apart.sh out/apart; elif [[ $EDITED == *.hpp ]]; then "
-        "mkdir -p out && for it in ${TEST:-wrapped wrapped_alike}; do "
-        "c++ -std=c++17 bindings/c/test/$it.cpp text.o -o out/$it || exit; done; "
+        "mkdir -p out && for it in ${TEST:-wrapped wrapped_alike wrapped_peers refused}; do case $it in "
+        "refused) printf '%s\\n' 'exec bindings/test/refused.sh c++ c++17' >out/refused && chmod +x out/refused ;; "
+        "*) c++ -std=c++17 bindings/c/test/$it.cpp text.o -o out/$it ;; esac || exit; done; "
+        "elif [[ $EDITED == *.sh ]]; then mkdir -p out && "
+        "printf '%s\\n' 'exec bindings/test/abi_tests.sh' >out/abi_tests && chmod +x out/abi_tests; "
+        "elif [[ $EDITED == *_sanitized.h ]]; then for it in ${TEST:-address thread memory bytes fields}; do "
+        "bindings/test/told.sh out text.o $it || exit; done; "
         "else for it in ${TEST:-/ sanitized/}; do case $it in "
         "sanitized/*) bindings/test/sanitized.sh out/sanitized \"${of[@]}\" \"${it#*/}\" ;; "
         "*) SANITIZERS= bindings/test/sanitized.sh out \"${of[@]}\" \"${it#/}\" ;; esac || exit; done; fi",
-        "case $(echo out/*) in out/apart | out/wrapped*) for it in $(ls out); do [ ${TEST:-$it} != $it ] || out/$it || "
-        f"{{ echo FAIL: $it; exit 1; }}; done ;; *) {EXAMPLES} ;; esac",
+        "case $EDITED in generated/* | *.hpp | *_sanitized.h | *.sh) for it in $(ls out); do [ ${TEST:-$it} != $it ] || "
+        f"out/$it || {{ echo FAIL: $it; exit 1; }}; done ;; *) {EXAMPLES} ;; esac",
         r"^FAIL: ([\w/.]+)$",
     ),
     "go": (
@@ -109,9 +116,10 @@ def copy_of(language, room):
     for place in (*LANGUAGES[language][1], *COMMON, "generated", "LICENSE-MIT", "LICENSE-APACHE", "NOTICE"):
         if (TOP / place).is_dir():
             shutil.copytree(TOP / place, room / place, ignore=left_out, dirs_exist_ok=True)
-        elif (TOP / place).exists():
-            (room / place).parent.mkdir(parents=True, exist_ok=True)
-            shutil.copy2(TOP / place, room / place)
+        for file in () if (TOP / place).is_dir() else TOP.glob(place):
+            to = room / file.relative_to(TOP)
+            to.parent.mkdir(parents=True, exist_ok=True)
+            shutil.copy2(file, to)
 
 
 def prepare(language, room):
@@ -170,7 +178,7 @@ def run(command, room, edited="", test="", name=""):
 def part_of(edit):
     """Which of the programs of a language an edit is a part of."""
     examples = "/examples/lines/", "/examples/sfu/", "/examples/"
-    parts = ("/backend/",) if edit.language == "python" else (*examples, "generated/", ".hpp")
+    parts = ("/backend/",) if edit.language == "python" else (*examples, "generated/", ".hpp", "_sanitized.h", ".sh")
     return next((it for it in parts if it in edit.file), "")
 
 

@@ -34,22 +34,7 @@ include=(-I"$prefix/include")
 # The ABI: what the header file declares is what the list says, and a change of it is told.
 abi=bindings/test/abi-$(sed -n 's/^#define RTPW_VERSION "\([0-9]*\)\..*/\1/p' bindings/c/rtp_wire.h).txt
 bindings/test/abi.sh || fail "the header file isn't what $abi lists: where that is meant, bindings/test/abi.sh --write"
-mkdir -p "$scratch/bindings"/{c,test}
-cp bindings/test/abi* "$scratch/bindings/test"
-sed -e 's/uint8_t id;/uint16_t id;/' -e '/RTPW_REFUSED/s/10,/17,/' -e '/rtpw_set_marker(/s/bool/uint8_t/' \
-    -e 's/^uint32_t rtpw_version(void);/uint32_t rtpw_versions(void);/' bindings/c/rtp_wire.h >"$scratch/bindings/c/rtp_wire.h"
-! "$scratch/bindings/test/abi.sh" 2>"$scratch/told" || fail 'another ABI passed'
-LC_ALL=C sort >"$scratch/expected" <<'END'
-abi.sh: gone or changed: rtpw_element.id at 24, 1 bytes: uint8_t
-abi.sh: gone or changed: constant RTPW_REFUSED: 10
-abi.sh: gone or changed: function int32_t rtpw_set_marker(uint8_t *, size_t, _Bool)
-abi.sh: gone or changed: function uint32_t rtpw_version(void)
-abi.sh: new: rtpw_element.id at 24, 2 bytes: uint16_t
-abi.sh: new: constant RTPW_REFUSED: 17
-abi.sh: new: function int32_t rtpw_set_marker(uint8_t *, size_t, uint8_t)
-abi.sh: new: function uint32_t rtpw_versions(void)
-END
-LC_ALL=C sort "$scratch/told" | diff "$scratch/expected" - >&2 || fail 'what is told of another ABI'
+bindings/test/abi_tests.sh || fail 'what is told of another ABI'
 said "the ABI: $(grep -c '^struct' "$abi") structs, $(grep -c '^constant' "$abi") constants and $(grep -c '^function' "$abi") functions, as $abi lists them"
 
 # The names that can be seen, and those that are wanted.
@@ -136,9 +121,10 @@ for it in c++ clang++; do
             "${looks[@]}" -D 'LOOKED_AT=(void)'
             ! "${looks[@]}" -D LOOKED_AT= 2>/dev/null || fail "a status that isn't looked at passed $it: $call"
         done
+        bindings/test/refused.sh $it $standard >"$scratch/refused" || fail 'what has to be refused of the header file of C++17'
     done
 done
-said 'the header file of C++17, as C++17 and C++20, and a status that is not looked at is a warning'
+said "the header file of C++17, as C++17 and C++20; a status that is not looked at is told, and $(cat "$scratch/refused") views of what is gone and wrong strides are refused"
 
 # The examples print what rtp_lines does.
 cargo=(cargo --quiet)
@@ -291,7 +277,7 @@ fi
 
 # clang's sanitizers see what the library does by rtp_wire_sanitized.h. The programs of random bytes copy and compare no
 # bytes from NULL, which C allows since N3322.
-told_by_sanitizers() { # those of -fsanitize=
+told_by_sanitizers() { # those of -fsanitize=, and the programs of bindings/test/told.sh
     local built=(-std=c99 -g "${strict[@]}" "${include[@]}" -D_GNU_SOURCE "-fsanitize=$1" -fno-sanitize-recover=all)
     if ! clang "${built[@]}" "$scratch/none.c" -o "$scratch/none" 2>/dev/null || ! "$scratch/none"; then
         said "clang's -fsanitize=$1 was left out: it is not there"
@@ -299,13 +285,13 @@ told_by_sanitizers() { # those of -fsanitize=
     fi
     clang "${built[@]}" "$scratch/call.c" "$library" -o "$scratch/call_C"
     "$scratch/call_C" | cmp - "$scratch/said_C" >&2 || fail "-fsanitize=$1, the program in C of docs/CALLING.md"
-    clang "${built[@]}" bindings/c/test/sanitized.c "$library" -o "$scratch/of_blocks"
-    "$scratch/of_blocks" >"$scratch/told" || { cat "$scratch/told" >&2; fail "-fsanitize=$1 tells nothing"; }
-    if [ "$1" = memory ]; then
-        clang "${built[@]}" bindings/c/test/sanitized_fields.c "$library" -o "$scratch/of_fields"
-        "$scratch/of_fields" >"$scratch/said" || { cat "$scratch/said" >&2; fail "-fsanitize=memory, the fields of structs"; }
-        sed -i "s/\$/ and $(cat "$scratch/said")/" "$scratch/told"
-    fi
+    : >"$scratch/told"
+    for it in ${2-}; do
+        bindings/test/told.sh "$scratch/of" "$library" "$it"
+        "$scratch/of/$it" >"$scratch/said" 2>&1 || { cat "$scratch/said" >&2; fail "-fsanitize=$1, $it of bindings/test/told.sh"; }
+        echo "$(paste -s -d ' ' "$scratch/told" | sed 's/..*/&, /')$(tail -n 1 "$scratch/said")" >"$scratch/told_too"
+        mv "$scratch/told_too" "$scratch/told"
+    done
     clang++ "${built[@]/-std=c99/-std=c++11}" -x c++ -fsyntax-only "$scratch/header.c"
     for program in wrapped wrapped_alike wrapped_peers; do
         clang++ "${built[@]/-std=c99/-std=c++17}" bindings/c/test/$program.cpp "$library" -o "$scratch/by_hand"
@@ -318,10 +304,44 @@ told_by_sanitizers() { # those of -fsanitize=
     said "clang's -fsanitize=$1: the examples, the header file of C++17, random bytes, and $(cat "$scratch/told") of all calls that it tells of"
 }
 if has clang; then
-    for it in address,undefined memory; do told_by_sanitizers "$it"; done
+    told_by_sanitizers address,undefined address
+    told_by_sanitizers memory 'memory bytes fields'
 else
     said "clang's sanitizers were left out: there is no clang"
 fi
+
+# ThreadSanitizer too, of gcc and clang: each block that one thread changes while another one has it is told, and what
+# threads may share isn't.
+for it in gcc clang; do
+    has $it || continue
+    built=(-std=c99 -g "${strict[@]}" -D_GNU_SOURCE -fsanitize=thread)
+    if ! $it "${built[@]}" "$scratch/none.c" -o "$scratch/none" 2>/dev/null || ! "$scratch/none"; then
+        said "$it's -fsanitize=thread was left out: it is not there"
+        continue
+    fi
+    CC=$it bindings/test/told.sh "$scratch/of" "$library" thread
+    "$scratch/of/thread" >"$scratch/told" || { cat "$scratch/told" >&2; fail "$it's -fsanitize=thread"; }
+    $it "${built[@]}" bindings/test/threads.c "$library" -lpthread -o "$scratch/threads"
+    "$scratch/threads" 2>&1 | grep -qx 'threads: 4 .*: same' || fail "$it's -fsanitize=thread reports what threads may share"
+    ! TSAN_OPTIONS=halt_on_error=1 "$scratch/threads" one >"$scratch/said" 2>&1 || fail "four threads at one receiver pass $it's -fsanitize=thread"
+    grep -q 'ThreadSanitizer: data race' "$scratch/said" || fail "what $it's -fsanitize=thread says of one receiver"
+    said "$it's -fsanitize=thread: $(cat "$scratch/told") of all calls, each once read and once written meanwhile; one receiver of four threads"
+done
+
+# No sanitizer's header file has a warning, also where a const would be cast away.
+for it in gcc clang g++ clang++; do
+    language=c standard=c99 old=()
+    case $it in *++) language=c++ standard=c++11 old=(-Wold-style-cast) ;; esac
+    has "$it" || continue
+    for sanitizer in address memory thread undefined; do
+        case $it,$sanitizer in g*,memory) continue ;; esac
+        for level in -O0 -O2; do
+            $it -std=$standard "${strict[@]}" "${include[@]}" $level -Wcast-qual -Wshadow -Wconversion "${old[@]}" "-fsanitize=$sanitizer" \
+                -x $language -c "$scratch/header.c" -o /dev/null || fail "warnings of rtp_wire_sanitized.h: $it, $sanitizer"
+        done
+    done
+done
+said 'the header files under each sanitizer, without a warning'
 
 cc -std=c99 "${strict[@]}" bindings/test/threads.c "$library" -lpthread -o "$scratch/threads"
 "$scratch/threads"

@@ -4,7 +4,11 @@
  * Each has the name that it has in C behind rtpw_, does what is said there, and is called with what C++ has for it:
  * bytes are a pointer and a length (in C++20 std::span), and so are a buffer and several structs; a text is a
  * std::string_view; and what a call writes is what it returns, beside its status. A result or a status that isn't
- * looked at is a warning. The structs are those of rtp_wire.h. Nothing here throws, keeps a pointer or takes memory.
+ * looked at is a warning. The structs are those of rtp_wire.h. Nothing here throws, keeps a pointer or takes memory,
+ * but for own_uris, which keeps the URIs that it is given.
+ *
+ * A view of what is gone after the statement doesn't compile, as rtpw::mid((*rtpw::parse(datagram, map)).values), and
+ * neither does writing into it; of a result that isn't kept take a copy, (*rtpw::packet_parse(datagram)).ssrc.
  *
  *     const auto packet = rtpw::packet_parse({datagram, len});
  *     if (!packet) {
@@ -22,17 +26,42 @@
 #include <cstdint>
 #include <cstring>
 #include <optional>
+#include <string>
 #include <string_view>
+#include <type_traits>
 #include <utility>
+#include <vector>
 #if __cplusplus >= 202002L
 #include <span>
 #endif
 
 #include "rtp_wire.h"
 
+/* What is returned may point into this argument: where that is gone, the compiler says so, if it has the attribute. */
+#define RTPW_BOUND
+#ifdef __has_cpp_attribute
+#if __has_cpp_attribute(clang::lifetimebound)
+#undef RTPW_BOUND
+#define RTPW_BOUND [[clang::lifetimebound]]
+#endif
+#endif
+
 namespace rtpw {
 
 /* ---- Bytes, statuses and results ---- */
+
+namespace detail {
+template <class Values, class = void> struct is_view : std::false_type {};
+template <class Values> struct is_view<Values, std::void_t<typename Values::element_type>> : std::true_type {};
+/* A container that is gone after the statement, as a vector that a function returns; a span is none. */
+template <class Values>
+constexpr bool is_gone = !std::is_lvalue_reference_v<Values> && !is_view<std::remove_cv_t<Values>>::value;
+template <class Values> using gone = std::enable_if_t<is_gone<Values>>;
+/* An array of the one is an array of the other, but for const: not so of a struct and one that is derived from it. */
+template <class Given, class Value> constexpr bool is_array_of = std::is_convertible_v<Given (*)[], Value (*)[]>;
+template <class Given, class Value>
+using derived = std::enable_if_t<std::is_convertible_v<Given *, Value *> && !is_array_of<Given, Value>>;
+} // namespace detail
 
 #if __cplusplus >= 202002L
 template <class Value> using span = std::span<Value>;
@@ -40,11 +69,15 @@ template <class Value> using span = std::span<Value>;
 /* A pointer to values, and how many there are: from both, or from what has data() and size(), as std::vector. */
 template <class Value> class span {
   public:
+    using element_type = Value;
     constexpr span() noexcept = default;
     constexpr span(Value *data, std::size_t size) noexcept : data_(data), size_(size) {}
     template <std::size_t count> constexpr span(Value (&array)[count]) noexcept : data_(array), size_(count) {}
-    template <class Values, class = decltype(static_cast<Value *>(std::declval<Values &>().data()))>
+    template <class Values, class Given = std::remove_pointer_t<decltype(std::declval<Values &>().data())>,
+              class = std::enable_if_t<detail::is_array_of<Given, Value> &&
+                                       (std::is_const_v<Value> || !detail::is_gone<Values>)>>
     constexpr span(Values &&it) noexcept : data_(it.data()), size_(it.size()) {}
+    template <class Given, class = detail::derived<Given, Value>> span(Given *, std::size_t) = delete;
     constexpr Value *data() const noexcept {
         return data_;
     }
@@ -112,10 +145,17 @@ template <class Value> class [[nodiscard]] result {
     rtpw::status status() const noexcept {
         return status_;
     }
-    const Value &operator*() const noexcept {
+    const Value &operator*() const &noexcept RTPW_BOUND {
         return value_;
     }
-    const Value *operator->() const noexcept {
+    Value operator*() const &&noexcept {
+        return value_;
+    }
+    const Value *operator->() const &noexcept RTPW_BOUND {
+        return &value_;
+    }
+    [[deprecated("the result is gone after the statement: keep it, or take a copy of its value by *")]] const Value *
+    operator->() const &&noexcept RTPW_BOUND {
         return &value_;
     }
 
@@ -149,6 +189,9 @@ inline bytes unpadded_payload(bytes datagram, const rtpw_packet &packet) noexcep
 inline bytes body(bytes datagram, const rtpw_packet &packet) noexcept {
     return datagram.subspan(packet.body_at, packet.body_len);
 }
+template <class Bytes, class = detail::gone<Bytes>> bytes payload(Bytes &&, const rtpw_packet &) = delete;
+template <class Bytes, class = detail::gone<Bytes>> bytes unpadded_payload(Bytes &&, const rtpw_packet &) = delete;
+template <class Bytes, class = detail::gone<Bytes>> bytes body(Bytes &&, const rtpw_packet &) = delete;
 /* The contributing source at a place below packet.csrc_count. */
 inline std::uint32_t csrc(bytes datagram, std::size_t index) noexcept {
     const std::uint8_t *it = datagram.data() + RTPW_CSRC_AT + 4 * index;
@@ -238,6 +281,7 @@ class elements {
   public:
     elements(bytes datagram, const rtpw_packet &packet) noexcept
         : body_(body(datagram, packet)), form_(packet.block_form) {}
+    template <class Bytes, class = detail::gone<Bytes>> elements(Bytes &&, const rtpw_packet &) = delete;
 
     class iterator {
       public:
@@ -286,6 +330,10 @@ inline std::optional<std::string_view> token(bytes datagram, const rtpw_packet &
     }
     return std::string_view(reinterpret_cast<const char *>(data->data()), data->size());
 }
+template <class Bytes, class = detail::gone<Bytes>>
+std::optional<bytes> data_of_element(Bytes &&, const rtpw_packet &, std::uint8_t) = delete;
+template <class Bytes, class = detail::gone<Bytes>>
+std::optional<std::string_view> token(Bytes &&, const rtpw_packet &, std::uint8_t) = delete;
 
 /* ---- The values of a block ---- */
 
@@ -304,6 +352,9 @@ inline result<std::string_view> uri_of_kind(std::uint8_t kind, buffer buf) noexc
 inline status map_set(rtpw_map &map, std::uint8_t id, std::uint8_t kind) noexcept {
     return status(::rtpw_map_set(&map, id, kind));
 }
+inline void map_remove(rtpw_map &map, std::uint8_t id) noexcept {
+    ::rtpw_map_remove(&map, id);
+}
 inline std::uint8_t map_get(const rtpw_map &map, std::uint8_t id) noexcept {
     return ::rtpw_map_get(&map, id);
 }
@@ -316,6 +367,52 @@ inline rtpw_map map_standard() noexcept {
     return map;
 }
 
+/* Numbers of one's own for URIs that the library doesn't know, the same for the same URI in all maps that are made with
+ * it: so the elements of an extension go on where both peers have it, whatever it is. Keep one for a call. It takes
+ * memory, which may throw.
+ *
+ *     rtpw::own_uris uris;
+ *     for (const auto &[id, uri] : offer.extmap) { // a=extmap:ID URI
+ *         if (uris.set(publisher.map, id, uri) != rtpw::status::ok) {
+ *             return refuse(id);
+ *         }
+ *     }
+ *     for (const std::string &uri : uris.unknown()) {
+ *         log("no value is read of", uri); // or it is misspelled
+ *     }
+ */
+class own_uris {
+  public:
+    /* The id means from now on what the URI names. bad_field where the id is 0, or the URI is one too many that the
+     * library doesn't know: 128 have numbers. */
+    status set(rtpw_map &map, std::uint8_t id, std::string_view uri) {
+        std::uint8_t kind = kind_of(uri);
+        if (kind == RTPW_KIND_NONE && id != 0 && unknown_.size() < 256 - RTPW_KIND_OWN) {
+            unknown_.emplace_back(uri);
+            kind = kind_of(uri);
+        }
+        return map_set(map, id, kind);
+    }
+    /* The number of a kind of the library, or one's own where the URI was set; else RTPW_KIND_NONE. */
+    std::uint8_t kind_of(std::string_view uri) const noexcept {
+        std::uint8_t kind = rtpw::kind_of_uri(uri);
+        for (std::size_t i = 0; kind == RTPW_KIND_NONE && i < unknown_.size(); i++) {
+            kind = unknown_[i] == uri ? static_cast<std::uint8_t>(RTPW_KIND_OWN + i) : kind;
+        }
+        return kind;
+    }
+    /* The URIs that the library doesn't know, by their numbers: that of RTPW_KIND_OWN first. */
+    const std::vector<std::string> &unknown() const &noexcept RTPW_BOUND {
+        return unknown_;
+    }
+    std::vector<std::string> unknown() &&noexcept {
+        return std::move(unknown_);
+    }
+
+  private:
+    std::vector<std::string> unknown_;
+};
+
 inline result<rtpw_values> values_read(bytes body, std::uint8_t form, const rtpw_map &map) noexcept {
     return result<rtpw_values>(
         [&](rtpw_values *it) { return ::rtpw_values_read(body.data(), body.size(), form, &map, it); });
@@ -326,15 +423,18 @@ inline result<std::size_t> data_of(std::uint8_t kind, const rtpw_values &values,
 }
 
 /* The texts of values, where they are there. */
-inline std::optional<std::string_view> mid(const rtpw_values &values) noexcept {
+inline std::optional<std::string_view> mid(const rtpw_values &values RTPW_BOUND) noexcept {
     return values.has_mid ? std::optional<std::string_view>(values.mid) : std::nullopt;
 }
-inline std::optional<std::string_view> rid(const rtpw_values &values) noexcept {
+inline std::optional<std::string_view> rid(const rtpw_values &values RTPW_BOUND) noexcept {
     return values.has_rid ? std::optional<std::string_view>(values.rid) : std::nullopt;
 }
-inline std::optional<std::string_view> repaired_rid(const rtpw_values &values) noexcept {
+inline std::optional<std::string_view> repaired_rid(const rtpw_values &values RTPW_BOUND) noexcept {
     return values.has_repaired_rid ? std::optional<std::string_view>(values.repaired_rid) : std::nullopt;
 }
+std::optional<std::string_view> mid(const rtpw_values &&) = delete;
+std::optional<std::string_view> rid(const rtpw_values &&) = delete;
+std::optional<std::string_view> repaired_rid(const rtpw_values &&) = delete;
 
 /* Sets a text. bad_field where it is too long (16 characters, or 8) or has a zero; then nothing changes. Its other
  * characters are judged where it is written. */
@@ -402,8 +502,7 @@ inline rtpw_header header_with(const rtpw_values &values) noexcept {
 }
 inline result<std::uint32_t> left_out_layers(const rtpw_map &map, const rtpw_header &header,
                                              const rtpw_layers &layers) noexcept {
-    return result<std::uint32_t>(
-        [&](std::uint32_t *it) { return ::rtpw_left_out_layers(&map, &header, &layers, it); });
+    return result<std::uint32_t>([&](std::uint32_t *it) { return ::rtpw_left_out_layers(&map, &header, &layers, it); });
 }
 /* With `count` elements; `form` is RTPW_ONE_BYTE_FORM or RTPW_TWO_BYTE_FORM alone, or either. */
 inline result<std::size_t> write_with(const rtpw_header &header, bytes data, const rtpw_element *elements,
@@ -419,11 +518,27 @@ inline result<std::size_t> write_elements(bytes data, const rtpw_element *elemen
         return ::rtpw_write_elements(data.data(), data.size(), elements, count, form, buf.data(), buf.size(), it);
     });
 }
+template <class Element, class = detail::derived<Element, const rtpw_element>>
+result<std::size_t> write_with(const rtpw_header &, bytes, Element *, std::size_t, buffer,
+                               std::uint8_t = RTPW_NO_BLOCK) = delete;
+template <class Element, class = detail::derived<Element, const rtpw_element>>
+result<std::size_t> write_elements(bytes, Element *, std::size_t, std::uint8_t, buffer) = delete;
 
 /* ---- Values as the standards lay them out ---- */
 
 /* The data of one element are read, or written to the front of a buffer: then what is returned is how many bytes they
  * are. */
+inline result<std::uint32_t> read_send_time(bytes data) noexcept {
+    return result<std::uint32_t>(
+        [&](std::uint32_t *it) { return ::rtpw_read_send_time(data.data(), data.size(), it); });
+}
+inline result<std::size_t> write_send_time(std::uint32_t units, buffer buf) noexcept {
+    return result<std::size_t>(
+        [&](std::size_t *it) { return ::rtpw_write_send_time(units, buf.data(), buf.size(), it); });
+}
+inline std::uint64_t extend_send_time(std::uint64_t near, std::uint32_t units) noexcept {
+    return ::rtpw_extend_send_time(near, units);
+}
 inline result<std::int32_t> read_transmission_offset(bytes data) noexcept {
     return result<std::int32_t>(
         [&](std::int32_t *it) { return ::rtpw_read_transmission_offset(data.data(), data.size(), it); });
@@ -450,6 +565,9 @@ inline result<std::size_t> write_orientation(const rtpw_orientation &orientation
 }
 inline bool is_token(bytes data) noexcept {
     return ::rtpw_is_token(data.data(), data.size());
+}
+inline bool is_stream_id(bytes data) noexcept {
+    return ::rtpw_is_stream_id(data.data(), data.size());
 }
 inline result<rtpw_timing> read_timing(bytes data) noexcept {
     return result<rtpw_timing>([&](rtpw_timing *it) { return ::rtpw_read_timing(data.data(), data.size(), it); });
@@ -479,15 +597,13 @@ inline result<std::uint64_t> read_ntp_64(bytes data) noexcept {
     return result<std::uint64_t>([&](std::uint64_t *it) { return ::rtpw_read_ntp_64(data.data(), data.size(), it); });
 }
 inline result<std::size_t> write_ntp_64(std::uint64_t time, buffer buf) noexcept {
-    return result<std::size_t>(
-        [&](std::size_t *it) { return ::rtpw_write_ntp_64(time, buf.data(), buf.size(), it); });
+    return result<std::size_t>([&](std::size_t *it) { return ::rtpw_write_ntp_64(time, buf.data(), buf.size(), it); });
 }
 inline result<std::uint64_t> read_ntp_56(bytes data) noexcept {
     return result<std::uint64_t>([&](std::uint64_t *it) { return ::rtpw_read_ntp_56(data.data(), data.size(), it); });
 }
 inline result<std::size_t> write_ntp_56(std::uint64_t time, buffer buf) noexcept {
-    return result<std::size_t>(
-        [&](std::size_t *it) { return ::rtpw_write_ntp_56(time, buf.data(), buf.size(), it); });
+    return result<std::size_t>([&](std::size_t *it) { return ::rtpw_write_ntp_56(time, buf.data(), buf.size(), it); });
 }
 inline std::uint64_t extend_ntp_56(std::uint64_t near, std::uint64_t low) noexcept {
     return ::rtpw_extend_ntp_56(near, low);
@@ -571,11 +687,7 @@ inline bool receiver_accepts(const rtpw_receiver &receiver, std::uint64_t number
     return ::rtpw_receiver_accepts(&receiver, number);
 }
 /* Why a number isn't accepted. */
-enum class standing : std::uint8_t {
-    unseen = RTPW_NEW,
-    taken = RTPW_TAKEN,
-    too_old = RTPW_TOO_OLD
-};
+enum class standing : std::uint8_t { unseen = RTPW_NEW, taken = RTPW_TAKEN, too_old = RTPW_TOO_OLD };
 inline standing receiver_standing_of(const rtpw_receiver &receiver, std::uint64_t number) noexcept {
     return standing(::rtpw_receiver_standing_of(&receiver, number));
 }
@@ -694,7 +806,8 @@ inline result<rtpw_template> make_template(bytes datagram, const rtpw_new_ids &i
                                     elements.size(), allowed, buf.data(), buf.size(), it);
     });
 }
-/* The status of each receiver stands in its struct: rtpw::status(it.status). */
+/* The status of each receiver stands in its struct, and where its header lies in the buffer, whose start the first one
+ * takes: rtpw::status(it.status), it.at and it.len. */
 inline status write_headers(const rtpw_template &made, bytes header, bytes data, span<rtpw_routed_header> receivers,
                             buffer buf) noexcept {
     return status(::rtpw_write_headers(&made, header.data(), header.size(), data.data(), data.size(), receivers.data(),
@@ -702,5 +815,7 @@ inline status write_headers(const rtpw_template &made, bytes header, bytes data,
 }
 
 } // namespace rtpw
+
+#undef RTPW_BOUND
 
 #endif

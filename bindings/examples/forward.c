@@ -1,7 +1,8 @@
 /*
  * Sends the packets of a stream on to a subscriber: reads datagrams, one a line in hexadecimal, and prints
  * them under the SSRC and the numbers of the new stream, with its ids of extensions, and with the time at
- * which they go. Of what the subscriber's map has not, here the mid, nothing goes on.
+ * which they go. Of what the subscriber's map has not, here the mid, nothing goes on. An extension that the
+ * library doesn't know, urn:example:seat, has one number in both maps, and its elements go on.
  *
  * usage: forward SSRC OFFSET SECONDS < lines
  *        OFFSET is added to each sequence number; the first packet goes at SECONDS, each other one 20
@@ -14,17 +15,20 @@
 #include <stdlib.h>
 #include <string.h>
 
-static const rtpw_map PUBLISHER = {.kind = {[3] = RTPW_KIND_MID, [4] = RTPW_KIND_ABS_SEND_TIME}};
-static const rtpw_map SUBSCRIBER = {.kind = {[1] = RTPW_KIND_AUDIO_LEVEL, [2] = RTPW_KIND_ABS_SEND_TIME}};
+enum { SEAT = RTPW_KIND_OWN }; /* urn:example:seat */
+static const rtpw_map PUBLISHER = {.kind = {[3] = RTPW_KIND_MID, [4] = RTPW_KIND_ABS_SEND_TIME, [6] = SEAT}};
+static const rtpw_map SUBSCRIBER = {.kind = {[1] = RTPW_KIND_AUDIO_LEVEL, [2] = RTPW_KIND_ABS_SEND_TIME, [5] = SEAT}};
 
 /* Gives the packet its new ids and its send time where it lies; false where it can't go on. */
 static bool forward(uint8_t *datagram, size_t len, const rtpw_new_ids *ids, uint64_t microseconds) {
-    uint32_t time = (uint32_t)(microseconds % 64000000 * 262144 / 1000000); /* 24 bits, in units of 2^-18 seconds */
-    uint8_t bytes[3] = {(uint8_t)(time >> 16), (uint8_t)(time >> 8), (uint8_t)time};
-    if (rtpw_renumber(datagram, len, ids) != RTPW_OK) {
+    uint32_t time = (uint32_t)(microseconds % 64000000 * 262144 / 1000000); /* in units of 2^-18 seconds */
+    uint8_t bytes[3];
+    size_t bytes_len;
+    if (rtpw_renumber(datagram, len, ids) != RTPW_OK ||
+        rtpw_write_send_time(time, bytes, sizeof bytes, &bytes_len) != RTPW_OK) {
         return false;
     }
-    int32_t status = rtpw_set_element(datagram, len, 2, bytes, sizeof bytes);
+    int32_t status = rtpw_set_element(datagram, len, 2, bytes, bytes_len);
     return status == RTPW_OK || status == RTPW_NONE; /* it has none */
 }
 

@@ -1,7 +1,9 @@
 /*
  * Reads datagrams from standard input, one a line in hexadecimal, and prints of each its header, the
  * values of its extensions, and whether a receiver takes it. Each SSRC has a receiver of its own. Lines
- * `map ID URI` before the first datagram say which extension an id means.
+ * `map ID URI` before the first datagram say which extension an id means. It prints what the program rtp_lines does:
+ * a mid and a stream id with an underscore for each character that isn't a letter or a digit. To compare one with that
+ * of an SDP take the element's data (rtpw_last_element, rtpw_is_token).
  */
 #define _POSIX_C_SOURCE 200809L
 #include "utf8.h"
@@ -40,8 +42,13 @@ static int is_map_line(const char *line, size_t len) {
     unsigned long id = strtoul(line + 4, NULL, 10);
     const uint8_t *uri = (const uint8_t *)line + 4 + digits + 1;
     size_t uri_len = len - 4 - digits - 1;
-    return id <= 255 && uri_len != 0 && is_utf8(uri, uri_len) &&
-           rtpw_map_set(&map, (uint8_t)id, rtpw_kind_of_uri(uri, uri_len)) == RTPW_OK;
+    if (id == 0 || id > 255 || uri_len == 0 || !is_utf8(uri, uri_len)) {
+        return 0;
+    }
+    if (rtpw_map_set(&map, (uint8_t)id, rtpw_kind_of_uri(uri, uri_len)) != RTPW_OK) {
+        rtpw_map_remove(&map, (uint8_t)id); /* a URI that isn't known: no value is read of its elements */
+    }
+    return 1;
 }
 
 /* How many bytes the line spells, which then stand at its beginning; -1 where it isn't hexadecimal. */

@@ -23,10 +23,13 @@ bool map_line(const std::string &line, rtpw_map &map) {
     const unsigned long id = std::stoul(line.substr(4, end - 4));
     const std::string uri = line.substr(end + 1);
     const auto *bytes = reinterpret_cast<const std::uint8_t *>(uri.data());
-    if (id > 255 || uri.empty() || !is_utf8(bytes, uri.size())) {
+    if (id == 0 || id > 255 || uri.empty() || !is_utf8(bytes, uri.size())) {
         return false;
     }
-    return rtpw_map_set(&map, static_cast<std::uint8_t>(id), rtpw_kind_of_uri(bytes, uri.size())) == RTPW_OK;
+    if (rtpw_map_set(&map, static_cast<std::uint8_t>(id), rtpw_kind_of_uri(bytes, uri.size())) != RTPW_OK) {
+        rtpw_map_remove(&map, static_cast<std::uint8_t>(id)); // a URI that isn't known: no value is read of its elements
+    }
+    return true;
 }
 
 // The bytes that the text spells, and whether it is hexadecimal.

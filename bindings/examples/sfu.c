@@ -57,10 +57,10 @@ typedef struct {
 } passing;
 
 /* What a receiver gets: fields, and data: the mid of the stream, the next number of the transport, and the time. */
-static rtpw_routed_header header_for(sfu *sfu, size_t receiver, const sfu_terms *terms, const passing *it, size_t at) {
+static rtpw_routed_header header_for(sfu *sfu, size_t receiver, const sfu_terms *terms, const passing *it) {
     sfu_route *route = &sfu->routes[receiver];
     uint8_t *data = sfu->data[receiver] + terms->mid_len;
-    rtpw_routed_header header = {.data_at = receiver * SFU_DATA, .at = at};
+    rtpw_routed_header header = {.data_at = receiver * SFU_DATA};
     header.fields.has_ssrc = header.fields.has_sequence_number = 1;
     header.fields.ssrc = route->peer.first_ssrc + (uint32_t)it->stream;
     header.fields.sequence_number = (uint16_t)(it->datagram->packet.sequence_number + route->peer.number_offset);
@@ -76,7 +76,7 @@ static rtpw_routed_header header_for(sfu *sfu, size_t receiver, const sfu_terms 
 }
 
 /* Sends the packet to a group. A one-byte block can't carry ids above 14: so it becomes a two-byte one first. One of
- * another form has no elements, and stays. */
+ * another form has no elements, and stays. P stays too, and so the payload goes on with its padding. */
 static void send_to(sfu *sfu, const sfu_group *group, const passing *it, sfu_output *out) {
     uint8_t common[SFU_HEADER], wide[SFU_HEADER];
     const rtpw_packet *packet = &it->datagram->packet;
@@ -93,11 +93,12 @@ static void send_to(sfu *sfu, const sfu_group *group, const passing *it, sfu_out
     int32_t status = rtpw_make_template(header, len, &group->terms.ids, sfu->data[group->receivers[0]], SFU_DATA,
                                         group->elements, element_count, allowed, common, sizeof common, &made);
     for (size_t i = 0; i < group->receiver_count; i++) {
-        receivers[i] = header_for(sfu, group->receivers[i], &group->terms, it, out->headers_len + i * made.header_len);
+        receivers[i] = header_for(sfu, group->receivers[i], &group->terms, it);
     }
+    uint8_t *headers = out->headers + out->headers_len;
     if (status == RTPW_OK) {
         status = rtpw_write_headers(&made, common, sizeof common, sfu->data[0], sizeof sfu->data, receivers,
-                                    group->receiver_count, out->headers, sizeof out->headers);
+                                    group->receiver_count, headers, sizeof out->headers - out->headers_len);
     }
     for (size_t i = 0; i < group->receiver_count; i++) {
         if (status != RTPW_OK || receivers[i].status != RTPW_OK) {
@@ -105,8 +106,8 @@ static void send_to(sfu *sfu, const sfu_group *group, const passing *it, sfu_out
             continue;
         }
         sfu->counts.sent++;
-        out->headers_len += made.header_len;
-        out->packets[out->count++] = (sfu_packet){group->receivers[i], out->headers + receivers[i].at, made.header_len,
+        out->headers_len += receivers[i].len;
+        out->packets[out->count++] = (sfu_packet){group->receivers[i], headers + receivers[i].at, receivers[i].len,
                                                   datagram + packet->payload_at, packet->payload_len};
     }
 }

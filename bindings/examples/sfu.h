@@ -86,7 +86,7 @@ typedef struct {
     size_t receiver;
     const uint8_t *header;
     size_t header_len;
-    const uint8_t *payload;
+    const uint8_t *payload; /* with the padding that it came with, which isn't media: P of the header stays set */
     size_t payload_len;
 } sfu_packet;
 

@@ -176,8 +176,11 @@ for program in "$folder"/lines_*; do
 done
 
 if [ -e "$folder/receive" ]; then
-    # 5 with the rollover count 1 is 65,541.
-    printf '%s\n' '65541: -10 dB, 2 bytes' 'a replay, or too old' 'no RTP packet' 'no RTP packet' >"$scratch/expected"
+    # 5 with the rollover count 1 is 65,541. Of the sixth packet's six bytes three are padding. Two numbers in a row
+    # outside of the stream are one of a sender that has started again, whose rollover count is 2 more: 3 * 65,536 + 40,001.
+    refused='a replay, too old, or not of the stream yet'
+    printf '%s\n' '65541: -10 dB, 2 bytes' "$refused" 'no RTP packet' 'no RTP packet' '65542: -11 dB, 3 bytes' "$refused" \
+        'the sender has started again' '236609: -10 dB, 2 bytes' '236610: -10 dB, 2 bytes' >"$scratch/expected"
     "$folder/receive" | diff "$scratch/expected" - >&2 || fail receive
 fi
 if [ -e "$folder/receive_rust" ]; then
@@ -223,6 +226,16 @@ forwards() {
     printf '%s\n' 9000000B000000010000004DBEDE000122280000 9000000B000000010000004DBEDE000223AABBCCDD000000 \
         9000000B000000010000004DABAC000142AABBCC 9000000B000000010000004DBEDE000122283D70 |
         diff - "$scratch/forwarded" >&2 || fail 'the forwarder, numbers with zeros'
+    # A URI that the library doesn't know has a number in both maps: its id 6 becomes 5. P and the padding stay.
+    printf '%s\n' B0000001000000010000002CBEDE00026165663130000000090003 | "$folder/forward" 77 0 5 >"$scratch/forwarded"
+    echo B0000001000000010000004DBEDE00025165660000000000090003 | cmp - "$scratch/forwarded" >&2 || fail 'the forwarder, a URI of its own'
+    # Of forty elements, each of one byte, those of the ids 3 and 7 to 14 become padding.
+    elements=$(for ((i = 0; i < 40; i++)); do printf '%X0%02X' $((i % 14 + 1)) $i; done)
+    wanted=$(for ((i = 0; i < 40; i++)); do
+        case $((i % 14 + 1)) in 4) printf '20%02X' $i ;; 6) printf '50%02X' $i ;; *) printf 0000 ;; esac
+    done)
+    echo "90000001000000010000002CBEDE0014${elements}AB" | "$folder/forward" 77 0 5 >"$scratch/forwarded"
+    echo "90000001000000010000004DBEDE0014${wanted}AB" | cmp - "$scratch/forwarded" >&2 || fail 'the forwarder, forty elements'
     # Each byte.
     printf '%s' 80000001000000010000002C "$lowercase" "$uppercase" | "$folder/forward" 44 0 0 >"$scratch/forwarded"
     echo "80000001000000010000002C$uppercase$uppercase" | cmp - "$scratch/forwarded" >&2 || fail 'the forwarder, each byte'
@@ -328,6 +341,24 @@ printf '%s\n' 1\ 9000000100000001000003E8BEDE0003908A216D3051000072000000 \
 printf '%s\n' 90E000CE00015F900000002CABAC0001E58B3C40 806F00CF000000A00000002C >"$scratch/camera.lines"
 printf '%s\n' 1\ 90E000CE00015F90000003E8ABAC0001E58B3C40 \
     1\ 906F00CF000000A0000003E8BEDE0003216D305100007200147A0000 >"$scratch/camera.expected"
+# A URI that the library doesn't know has a number in the maps of the sender and of two receivers: its id 6 becomes the
+# first one's 12, and goes nowhere at the third one, which hasn't agreed to it. The second packet has padding, as it is
+# sent on; 20 ms are 5,242.88 units (0x147A).
+printf '%s\n' 'map 6 urn:example:seat' 'map 7 urn:example:seats' 90000001000000010000002CBEDE000261AABB71CCDD000009 \
+    B0000002000000010000002CBEDE000161AABB00090002 >"$scratch/own.lines"
+printf '%s\n' 1\ 9000000100000001000003E8BEDE0004C1AABB216D305100007200000000000009 \
+    1\ B000000200000001000003E8BEDE0004C1AABB216D305100017200147A000000090002 >"$scratch/own.expected"
+if [ -e "$folder/sfu_c" ]; then
+    "$folder/sfu_c" <"$scratch/own.lines" >"$scratch/said"
+    grep '^1 ' "$scratch/said" | diff "$scratch/own.expected" - >&2 || fail 'the SFU, a URI of its own'
+    [ "$(grep -c '^2 .*FE02AABB' "$scratch/said")" = 2 ] || fail 'the SFU, a URI of its own in the two-byte form'
+    ! grep -q '^3 .*AABB' "$scratch/said" || fail 'the SFU, a URI that a receiver has not agreed to'
+    # As many URIs as ids: the last of them have no number, and are no fault.
+    for ((id = 1; id < 256; id++)); do echo "map $id urn:example:$id"; done >"$scratch/uris.lines"
+    echo 80000001000000010000002C >>"$scratch/uris.lines"
+    "$folder/sfu_c" <"$scratch/uris.lines" | tail -n 1 >"$scratch/said"
+    echo 'taken 1 replays 0 late 0 rtcp 0 unreadable 0 strangers 0 sent 3 unsent 0' | cmp - "$scratch/said" >&2 || fail 'the SFU, many URIs'
+fi
 # No bytes are no packet. The last line needs no line feed, and each byte of a payload stays.
 printf '\n\r\n\n80000001000000010000002C%s%s' "$lowercase" "$uppercase" >"$scratch/payload.lines"
 # 60 ms are 15,728.64 units (0x3D70).

@@ -23,6 +23,8 @@ static place random_place(size_t size) {
     case 2: it.len = SIZE_MAX - random_below(it.at + 2); break;
     case 3: it.at = SIZE_MAX - random_below(16), it.len = random_below(64); break;
     case 4: it.at = SIZE_MAX, it.len = SIZE_MAX; break;
+    case 5:
+    case 6: it.len = size - it.at; break; /* to the end of the buffer */
     default: it.len = random_below(size - it.at + 1); break;
     }
     return it;

@@ -1,12 +1,13 @@
-/* rtpw_kind_of_uri, rtpw_uri_of_kind, rtpw_map_set, rtpw_map_get, rtpw_map_standard, rtpw_id_of, rtpw_new_ids_between,
- * rtpw_renumber, rtpw_new_ids_to_retransmission, rtpw_new_ids_from_retransmission, rtpw_to_retransmission,
+/* rtpw_kind_of_uri, rtpw_uri_of_kind, rtpw_map_set, rtpw_map_remove, rtpw_map_get, rtpw_map_standard, rtpw_id_of,
+ * rtpw_new_ids_between, rtpw_renumber, rtpw_new_ids_to_retransmission, rtpw_new_ids_from_retransmission, rtpw_to_retransmission,
  * rtpw_from_retransmission */
 #include "hostile.h"
 
 #include "walk_values.h"
 
 /* The URIs of the kinds, by their numbers. */
-static const char *const URIS[16] = {
+enum { LAST_KIND = 20 };
+static const char *const URIS[LAST_KIND + 1] = {
     "",
     "http://www.webrtc.org/experiments/rtp-hdrext/abs-send-time",
     "http://www.webrtc.org/experiments/rtp-hdrext/abs-capture-time",
@@ -23,6 +24,11 @@ static const char *const URIS[16] = {
     "http://tools.ietf.org/html/draft-ietf-avtext-framemarking-07",
     "http://www.webrtc.org/experiments/rtp-hdrext/color-space",
     "http://www.webrtc.org/experiments/rtp-hdrext/video-layers-allocation00",
+    "urn:ietf:params:rtp-hdrext:csrc-audio-level",
+    "http://www.webrtc.org/experiments/rtp-hdrext/transport-wide-cc-02",
+    "https://aomediacodec.github.io/av1-rtp-spec/#dependency-descriptor-rtp-header-extension",
+    "urn:ietf:params:rtp-hdrext:ntp-64",
+    "urn:ietf:params:rtp-hdrext:ntp-56",
 };
 
 static memory datagrams, uris, maps, other_maps, tables, lengths, lengths;
@@ -31,7 +37,7 @@ static memory datagrams, uris, maps, other_maps, tables, lengths, lengths;
 static void uri(void) {
     static uint8_t copy[200];
     uint64_t x = random_u64();
-    const char *known = URIS[x % 16];
+    const char *known = URIS[x / 128 % (LAST_KIND + 1)];
     size_t len = strlen(known);
     memset(copy, 0, sizeof copy);
     memcpy(copy, known, len);
@@ -45,7 +51,7 @@ static void uri(void) {
         len = random_below(len + 2); /* with a zero behind it, say */
     }
     uint8_t kind = 0;
-    for (uint8_t i = 1; i < 16; i++) {
+    for (uint8_t i = 1; i <= LAST_KIND; i++) {
         if (strlen(URIS[i]) == len && memcmp(URIS[i], copy, len) == 0) {
             kind = i;
         }
@@ -60,8 +66,8 @@ static void uri(void) {
 static void uri_of(void) {
     static uint8_t before[100];
     uint64_t x = random_u64();
-    uint8_t kind = (uint8_t)(x % 4 == 0 ? x >> 8 : 1 + x / 4 % 15);
-    bool is_kind = kind >= 1 && kind <= 15;
+    uint8_t kind = (uint8_t)(x % 4 == 0 ? x >> 8 : 1 + x / 1024 % LAST_KIND);
+    bool is_kind = kind >= 1 && kind <= LAST_KIND;
     size_t wanted = is_kind ? strlen(URIS[kind]) : 0, size = x / 64 % 4 == 0 ? random_below(wanted + 1) : wanted + x / 256 % 8;
     uint8_t *bytes = block_in(&uris, size);
     fill(bytes, size);
@@ -79,7 +85,7 @@ static void uri_of(void) {
 
 /* The number of a kind, or one of the caller's own. */
 static bool is_named(uint8_t kind) {
-    return (kind >= 1 && kind <= 15) || kind >= 128;
+    return (kind >= 1 && kind <= LAST_KIND) || kind >= 128;
 }
 
 /* The lowest id that means the kind, which names something; 0 where none does. */
@@ -92,12 +98,18 @@ static void map_calls(rtpw_map *map) {
     rtpw_map expected;
     memcpy(&expected, map, sizeof expected);
     uint64_t x = random_u64();
-    uint8_t id = (uint8_t)(x % 8 == 0 ? 0 : x / 8), kind = (uint8_t)(x / 65536 % 4 == 0 ? x >> 32 : x >> 32 & 15);
+    uint8_t id = (uint8_t)(x % 8 == 0 ? 0 : x / 8), kind = (uint8_t)(x / 65536 % 4 == 0 ? x >> 32 : (x >> 32) % 22);
     uint8_t held = id != 0 && is_named(map->kind[id]) ? map->kind[id] : 0;
     CHECK(rtpw_map_get(map, id) == held);
     CHECK(rtpw_id_of(map, kind) == lowest_id(map, kind));
     CHECK(rtpw_id_of(map, map->kind[id]) == lowest_id(map, map->kind[id]));
-    bool is_set = id != 0 && (kind == 0 || is_named(kind));
+    if (x / 1048576 % 4 == 0) {
+        rtpw_map_remove(map, id);
+        CHECK(rtpw_map_get(map, id) == 0);
+        expected.kind[id] = id != 0 ? 0 : map->kind[0];
+        CHECK(memcmp(map, &expected, sizeof expected) == 0);
+    }
+    bool is_set = id != 0 && is_named(kind);
     CHECK(rtpw_map_set(map, id, kind) == (is_set ? RTPW_OK : RTPW_BAD_FIELD));
     if (is_set) {
         expected.kind[id] = kind;

@@ -15,7 +15,7 @@ typedef struct {
 static part parts[LONGEST + 20];
 static size_t part_count;
 static uint8_t packet_before[LONGEST], data_before[DATA], expected[LONGEST + 16 * 264], room_before[LONGEST], headers_expected[4 * LONGEST];
-static memory packets, ids_memory, datas, element_memory, rooms, mades, receiver_memory, outputs;
+static memory packets, ids_memory, datas, element_memory, rooms, mades, receiver_memory, outputs, copies;
 
 static size_t header_of(int form) {
     return form == 1 ? 1 : 2;
@@ -265,10 +265,61 @@ static void repeat(uint8_t *bytes, size_t len, uint16_t original_number) {
     bytes[len + 1] = (uint8_t)original_number;
 }
 
+/* Where a receiver's data begin: at times so that they end with all data, and at times past that. */
 static size_t random_place(size_t size, size_t len) {
     uint64_t x = random_u64();
     size_t last = size >= len ? size - len : 0;
-    return x % 16 == 0 ? SIZE_MAX - x / 16 % 40 : x % 16 == 1 ? last + 1 + x / 16 % 8 : random_below(last + 1);
+    switch (x % 16) {
+    case 0: return SIZE_MAX - x / 16 % 40;
+    case 1: return last + 1 + x / 16 % 8;
+    case 2:
+    case 3:
+    case 4: return last;
+    default: return random_below(last + 1);
+    }
+}
+
+static void random_receivers(rtpw_routed_header *receivers, size_t count, const rtpw_template *made, size_t data_len) {
+    for (size_t i = 0; i < count; i++) {
+        fill(&receivers[i], sizeof *receivers);
+        receivers[i].data_at = random_place(data_len, made->data_total);
+        receivers[i].is_retransmission = (uint8_t)(random_u64() % 2 == 0 ? random_u64() : 0);
+        receivers[i].clears_padding = (uint8_t)(random_u64() % 2 == 0 ? random_u64() : 0);
+        random_fields(&receivers[i].fields);
+    }
+}
+
+/* The header of one receiver behind those before it: what is told of it, and how many bytes it takes. */
+static size_t write_header(const rtpw_template *made, const uint8_t *header, const uint8_t *data, size_t data_len,
+                           rtpw_routed_header *it, size_t at, size_t size) {
+    size_t own = it->data_at, needed = (size_t)made->header_len + (it->is_retransmission != 0 ? 2 : 0);
+    uint8_t *to = headers_expected + at;
+    it->at = at;
+    it->len = 0;
+    it->status = RTPW_OK;
+    if ((it->fields.has_payload_type && it->fields.payload_type > 127) || own > data_len ||
+        made->data_total > data_len - own) {
+        it->status = RTPW_BAD_FIELD;
+    } else if (needed > size - at) {
+        it->status = RTPW_SHORT_BUFFER;
+    }
+    if (it->status != RTPW_OK) {
+        return 0;
+    }
+    it->len = (uint32_t)needed;
+    memcpy(to, header, made->header_len);
+    set_fields(to, &it->fields);
+    for (size_t j = 0; j < made->count; j++) {
+        memcpy(to + made->data_at[j], data + own, made->data_len[j]);
+        own += made->data_len[j];
+    }
+    if (it->clears_padding != 0) {
+        to[0] &= 0xDF;
+    }
+    if (it->is_retransmission != 0) {
+        repeat(to, made->header_len, it->original_number);
+    }
+    return needed;
 }
 
 /* Writes headers for receivers with the template, which may be torn, and the header, which may be any bytes. */
@@ -276,52 +327,33 @@ static void write_headers(const rtpw_template *made, const uint8_t *header, size
                           size_t data_len) {
     static rtpw_routed_header before[MOST];
     size_t count = random_below(MOST + 1), len = made->header_len < 4000 ? made->header_len : 40;
-    size_t size = random_below(4 * len + 2);
+    size_t size = random_below(4 * len + 2), at = 0;
     uint8_t *buf = block_in(&outputs, size);
     rtpw_routed_header *receivers = block_in(&receiver_memory, count * sizeof *receivers);
     fill(buf, size);
     if (size > 0) {
         memcpy(headers_expected, buf, size);
     }
-    for (size_t i = 0; i < count; i++) {
-        memset(&receivers[i], 0, sizeof *receivers);
-        receivers[i].data_at = random_place(data_len, made->data_total);
-        /* also where the header has room, and not the number behind it */
-        receivers[i].at = random_place(size, len + random_u64() % 3);
-        receivers[i].status = (int32_t)random_u64();
-        receivers[i].original_number = (uint16_t)random_u64();
-        receivers[i].is_retransmission = (uint8_t)(random_u64() % 2 == 0 ? random_u64() : 0);
-        random_fields(&receivers[i].fields);
-    }
+    random_receivers(receivers, count, made, data_len);
     if (count > 0) {
         memcpy(before, receivers, count * sizeof *receivers);
     }
     int32_t status = template_status(made, header, header_size);
     CHECK(rtpw_write_headers(made, header, header_size, data, data_len, receivers, count, buf, size) == status);
     for (size_t i = 0; i < count && status == RTPW_OK; i++) {
-        const rtpw_routed_header *it = &before[i];
-        size_t own = it->data_at, needed = (size_t)made->header_len + (it->is_retransmission != 0 ? 2 : 0);
-        before[i].status = RTPW_OK;
-        if ((it->fields.has_payload_type && it->fields.payload_type > 127) || own > data_len ||
-            made->data_total > data_len - own) {
-            before[i].status = RTPW_BAD_FIELD;
-        } else if (it->at > size || needed > size - it->at) {
-            before[i].status = RTPW_SHORT_BUFFER;
-        } else {
-            uint8_t *to = headers_expected + it->at;
-            memcpy(to, header, made->header_len);
-            set_fields(to, &it->fields);
-            for (size_t j = 0; j < made->count; j++) {
-                memcpy(to + made->data_at[j], data + own, made->data_len[j]);
-                own += made->data_len[j];
-            }
-            if (it->is_retransmission != 0) {
-                repeat(to, made->header_len, it->original_number);
-            }
-        }
+        at += write_header(made, header, data, data_len, &before[i], at, size);
     }
     CHECK(count == 0 || memcmp(receivers, before, count * sizeof *receivers) == 0);
     CHECK(size == 0 || memcmp(buf, headers_expected, size) == 0);
+}
+
+/* The header alone, of which the last byte is the last of its room. */
+static const uint8_t *header_alone(const uint8_t *header, size_t len) {
+    uint8_t *copy = block_in(&copies, len);
+    if (len > 0) {
+        memcpy(copy, header, len);
+    }
+    return copy;
 }
 
 /* What a receiver gets as a retransmission is what is made of the packet that it got, with whose header the buffer begins. */
@@ -374,9 +406,10 @@ static void as_the_calls_do(const rtpw_template *made, const uint8_t *header, si
     }
     CHECK(by_calls(it.header_len, &receiver.fields, ids, data, elements, data_at, count, allowed, by_hand,
                    sizeof by_hand, &hand_len) == RTPW_OK);
+    header = header_alone(header, made->header_len);
     CHECK(rtpw_write_headers(made, header, made->header_len, data, data_len, &receiver, 1, written, sizeof written) ==
           RTPW_OK);
-    CHECK(receiver.status == RTPW_OK && hand_len == made->header_len);
+    CHECK(receiver.status == RTPW_OK && receiver.at == 0 && receiver.len == hand_len && hand_len == made->header_len);
     CHECK(memcmp(written, by_hand, hand_len) == 0);
     as_it_is_sent_again(made, header, &receiver, data, data_len, by_hand, sizeof by_hand, hand_len);
 }
@@ -398,6 +431,19 @@ static void tear(rtpw_template *made, uint8_t *header, size_t size) {
     }
 }
 
+/* An element that is put, mostly of an id of its own: at times its data end with all data. */
+static void random_element(rtpw_element *element, size_t data_len, size_t i) {
+    uint64_t x = random_u64();
+    fill(element, sizeof *element);
+    element->data_at = x % 32 == 0 ? random_u64() : random_below(data_len + 1);
+    element->data_len = random_below((element->data_at <= data_len ? data_len - element->data_at : 0) + 1);
+    element->data_len = x / 32 % 64 == 0 ? element->data_len + random_below(300) : element->data_len % 20;
+    if (x / 2048 % 4 == 0 && element->data_len <= data_len) {
+        element->data_at = data_len - element->data_len;
+    }
+    element->id = (uint8_t)(x / 8192 % 32 == 0 ? random_id() : 1 + random_below(6) + 6 * i);
+}
+
 void routed_round(void) {
     if (packets.size == 0) {
         packets = memory_of(LONGEST);
@@ -408,6 +454,7 @@ void routed_round(void) {
         mades = memory_of(sizeof(rtpw_template));
         receiver_memory = memory_of(MOST * sizeof(rtpw_routed_header));
         outputs = memory_of(4 * LONGEST);
+        copies = memory_of(LONGEST + 16 * 264);
     }
     uint64_t x = random_u64();
     size_t len = random_len(), data_len = random_below(x % 64 == 0 ? DATA : 60);
@@ -415,14 +462,18 @@ void routed_round(void) {
     size_t size = len + (x / 4096 % 4 == 0 ? random_below(30) : random_below(16 * 264));
     size = x / 16384 % 16 == 0 ? random_below(40) : size < LONGEST ? size : LONGEST;
     uint8_t allowed = (uint8_t)(x / 262144 % 32 == 0 ? x >> 56 : x / 8388608 % 3);
+    random_packet(packet_before, len);
+    walked it = walk(packet_before, len);
+    if (it.cause == 0 && x >> 59 % 2 == 0) {
+        len = it.header_len; /* which is all that is looked at */
+    }
     uint8_t *packet = block_in(&packets, len), *data = block_in(&datas, data_len), *buf = block_in(&rooms, size);
     rtpw_new_ids *ids = block_in(&ids_memory, sizeof *ids), same_ids;
     rtpw_element *elements = block_in(&element_memory, count * sizeof *elements);
     rtpw_template *made = block_in(&mades, sizeof *made), wanted, before;
-    random_packet(packet, len);
     fill(data, data_len);
     if (len > 0) {
-        memcpy(packet_before, packet, len);
+        memcpy(packet, packet_before, len);
     }
     if (data_len > 0) {
         memcpy(data_before, data, data_len);
@@ -433,11 +484,7 @@ void routed_round(void) {
     }
     memcpy(&same_ids, ids, sizeof same_ids);
     for (size_t i = 0; i < count; i++) {
-        fill(&elements[i], sizeof *elements);
-        elements[i].data_at = random_u64() % 32 == 0 ? random_u64() : random_below(data_len + 1);
-        elements[i].data_len = random_below((elements[i].data_at <= data_len ? data_len - elements[i].data_at : 0) + 1);
-        elements[i].data_len = random_u64() % 64 == 0 ? elements[i].data_len + random_below(300) : elements[i].data_len % 20;
-        elements[i].id = (uint8_t)(random_u64() % 32 == 0 ? random_id() : 1 + random_below(6) + 6 * i);
+        random_element(&elements[i], data_len, i);
     }
     fill(buf, size);
     fill(made, sizeof *made);

@@ -2,6 +2,8 @@
  * file's own. */
 #include "hostile.h"
 
+#include "walk_values.h"
+
 static memory inputs, given, outputs, buffers, lengths;
 
 /* The bytes that are read, or the buffer that is written into, as they were. */
@@ -76,6 +78,42 @@ static bool was_written(room it, int32_t status, bool has_data, const uint8_t *d
     return status == (!has_data ? RTPW_BAD_FIELD : has_room ? RTPW_OK : RTPW_SHORT_BUFFER)
         && *it.len == (status == RTPW_OK ? data_len : it.same_len)
         && (it.size == 0 || memcmp(it.buf, before, it.size) == 0);
+}
+
+static void send_time(void) {
+    size_t len;
+    const uint8_t *data = data_to_read(&len);
+    uint32_t same, *units = some_struct(&outputs, &same, sizeof same);
+    int32_t status = rtpw_read_send_time(data, len, units);
+    CHECK(status == (len == 3 ? RTPW_OK : RTPW_BAD_FIELD) && are_unread(data, len));
+    CHECK(*units == (len == 3 ? before[0] * 65536u + number_at(before + 1) : same));
+
+    room it = some_room();
+    static const uint32_t ends[] = {0, 1, 16777215, 16777216, UINT32_MAX};
+    uint64_t x = random_u64();
+    uint32_t wanted = x % 4 == 0 ? ends[x / 4 % 5] : x % 4 == 1 ? (uint32_t)(x >> 32) : (uint32_t)(x >> 40);
+    uint8_t bytes[3] = {(uint8_t)(wanted / 65536), (uint8_t)(wanted / 256), (uint8_t)wanted};
+    status = rtpw_write_send_time(wanted, it.buf, it.size, it.len);
+    CHECK(was_written(it, status, wanted < 16777216, bytes, 3));
+}
+
+/* Of the times that end in the bits of `low` one that is nearest to another; of two the later one. */
+static void is_nearest(uint64_t time, uint64_t about, uint64_t low, uint64_t rollover) {
+    uint64_t ahead = time - about, behind = about - time;
+    uint64_t apart = ahead < behind ? ahead : behind;
+    CHECK(time % rollover == low % rollover && apart <= rollover / 2);
+    CHECK(apart < rollover / 2 || apart == ahead);
+}
+
+static void extend_send_time(void) {
+    const uint64_t rollover = (uint64_t)1 << 38;
+    uint64_t about = random_u64(), x = random_u64();
+    uint32_t units = (uint32_t)(x >> 32);
+    if (x % 4 == 0) { /* in the middle, or a unit beside it */
+        about = about / 16384 * 16384 + x / 4 % 3 - 1;
+        units = (uint32_t)((about + rollover / 2) / 16384 + x / 16 % 3 - 1);
+    }
+    is_nearest(rtpw_extend_send_time(about, units), about, (uint64_t)units % 16777216 * 16384, rollover);
 }
 
 static void transmission_offset(void) {
@@ -195,6 +233,25 @@ static void token(void) {
     CHECK(rtpw_is_token(data, len) == is_token && are_unread(data, len));
 }
 
+static void stream_id(void) {
+    size_t len;
+    uint8_t *data = some_bytes(&inputs, &len);
+    bool is_id = len >= 1 && len <= 255;
+    if (random_u64() % 2 == 0) {
+        for (size_t i = 0; i < len; i++) {
+            data[i] = before[i] = (uint8_t)("AZaz09"[data[i] % 6]);
+        }
+        if (len > 0 && random_u64() % 2 == 0) { /* one of any byte, as those beside letters and digits */
+            size_t at = random_below(len);
+            data[at] = before[at] = random_u64() % 2 == 0 ? (uint8_t)"@[`{/:-_"[random_below(8)] : (uint8_t)random_u64();
+        }
+    }
+    for (size_t i = 0; i < len; i++) {
+        is_id = is_id && is_letter_or_digit(data[i]);
+    }
+    CHECK(rtpw_is_stream_id(data, len) == is_id && are_unread(data, len));
+}
+
 static void timing(void) {
     size_t len;
     const uint8_t *data = data_to_read(&len);
@@ -244,7 +301,7 @@ static void transport_number(void) {
     if (status == RTPW_OK) {
         memset(&same, 0, sizeof same);
         same.number = (uint16_t)number_at(before);
-        if (len == 4 && number_at(before + 2) % 32768 != 0) {
+        if (len == 4) {
             same.has_request = 1;
             same.timestamps = before[2] / 128;
             same.packets = (uint16_t)(number_at(before + 2) % 32768);
@@ -265,7 +322,7 @@ static void transport_number(void) {
         at = put_number(bytes, at, ((same.timestamps != 0) * 32768u + same.packets) % 65536);
     }
     status = rtpw_write_transport_number(sent, it.buf, it.size, it.len);
-    bool is_request = same.has_request == 0 || (same.packets >= 1 && same.packets <= 32767);
+    bool is_request = same.has_request == 0 || same.packets <= 32767;
     CHECK(was_written(it, status, is_request, bytes, at) && memcmp(sent, &same, sizeof same) == 0);
 }
 
@@ -284,7 +341,7 @@ static void mixer_levels(void) {
     size_t count = random_below(20);
     int8_t same_levels[20], *levels = block_in(&given, count);
     uint8_t bytes[20];
-    bool are_levels = true;
+    bool are_levels = count <= 15;
     x = random_u64();
     for (size_t i = 0; i < count; i++) {
         int level = x % 16 == 0 ? (int)(random_u64() % 256) - 128 : -(int)random_below(128);
@@ -332,11 +389,7 @@ static void extend_ntp_56(void) {
     if (x % 4 == 0) { /* as near as can be to the middle */
         low = about + rollover / 2 + x / 4 % 3 - 1;
     }
-    uint64_t time = rtpw_extend_ntp_56(about, low);
-    uint64_t ahead = time - about, behind = about - time;
-    uint64_t apart = ahead < behind ? ahead : behind;
-    CHECK(time % rollover == low % rollover && apart <= rollover / 2);
-    CHECK(apart < rollover / 2 || apart == ahead);
+    is_nearest(rtpw_extend_ntp_56(about, low), about, low, rollover);
 }
 
 static rtpw_chromaticity point_at(const uint8_t *bytes) {
@@ -444,10 +497,13 @@ void standard_round(void) {
         outputs = memory_of(sizeof(rtpw_color_space));
         lengths = memory_of(sizeof(size_t));
     }
+    send_time();
+    extend_send_time();
     transmission_offset();
     frame_marking();
     orientation();
     token();
+    stream_id();
     timing();
     transport_number();
     mixer_levels();

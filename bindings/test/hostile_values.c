@@ -6,7 +6,7 @@
 void random_map(rtpw_map *map) {
     fill(map, sizeof *map);
     for (size_t i = 0; i < 256; i++) {
-        map->kind[i] = map->kind[i] % 8 == 0 ? map->kind[i] : map->kind[i] / 8 % 16;
+        map->kind[i] = map->kind[i] % 8 == 0 ? map->kind[i] : map->kind[i] / 8 % 22;
     }
 }
 

@@ -54,6 +54,9 @@ static void random_values(rtpw_values *values) {
     random_text(values->mid, sizeof values->mid);
     random_text(values->rid, sizeof values->rid);
     random_text(values->repaired_rid, sizeof values->repaired_rid);
+    if (random_u64() % 16 != 0) {
+        values->audio_level = (int8_t)-(int)random_below(128);
+    }
     if (values->video_orientation % 64 != 0) {
         values->video_orientation = degrees[values->video_orientation % 4];
     }
@@ -83,7 +86,7 @@ void sparse_map(rtpw_map *map) {
     size_t count = x / 8 % 12;
     for (size_t i = 0; i < count; i++) {
         size_t id = x / 128 % 2 == 0 ? random_below(15) : random_below(256);
-        map->kind[id] = (uint8_t)(x / 256 % 2 == 0 ? random_below(15) : random_below(20));
+        map->kind[id] = (uint8_t)(x / 256 % 2 == 0 ? random_below(15) : random_below(23));
     }
 }
 
@@ -100,6 +103,7 @@ static bool is_text(const char *text, size_t room) {
 static bool are_given(const rtpw_values *it) {
     uint16_t turn = it->video_orientation;
     return (it->has_video_orientation == 0 || turn == 0 || turn == 90 || turn == 180 || turn == 270) &&
+           (it->has_audio_level == 0 || (it->audio_level <= 0 && it->audio_level >= -127)) &&
            (it->has_playout_delay_min == 0 || it->playout_delay_min.hertz != 0) &&
            (it->has_playout_delay_max == 0 || it->playout_delay_max.hertz != 0) &&
            (it->has_mid == 0 || is_text(it->mid, sizeof it->mid)) &&
@@ -167,8 +171,7 @@ static int data_of(uint8_t kind, const rtpw_values *it, uint8_t data[17]) {
         return text_of(kind, it, data);
     }
     if (kind == RTPW_KIND_AUDIO_LEVEL && it->has_audio_level && it->has_voice_activity) {
-        int magnitude = it->audio_level < 0 ? -it->audio_level : it->audio_level;
-        data[0] = (uint8_t)((it->voice_activity != 0 ? 128 : 0) + magnitude % 128);
+        data[0] = (uint8_t)((it->voice_activity != 0 ? 128 : 0) - it->audio_level);
         return 1;
     }
     if (kind == RTPW_KIND_VIDEO_ORIENTATION && it->has_video_orientation) {
@@ -284,8 +287,7 @@ static void times_are_read(const rtpw_values *given, const rtpw_map *map, const 
 
 static void values_are_read(const rtpw_values *given, const rtpw_map *map, const rtpw_values *read) {
     bool has_level = given->has_audio_level && given->has_voice_activity;
-    int magnitude = given->audio_level < 0 ? -given->audio_level : given->audio_level;
-    IS_READ(audio_level, RTPW_KIND_AUDIO_LEVEL, has_level, -(magnitude % 128));
+    IS_READ(audio_level, RTPW_KIND_AUDIO_LEVEL, has_level, given->audio_level);
     IS_READ(voice_activity, RTPW_KIND_AUDIO_LEVEL, has_level, given->voice_activity != 0);
     IS_READ(frame_marking, RTPW_KIND_FRAME_MARKING, given->has_frame_marking, given->frame_marking);
     IS_READ(transport_number, RTPW_KIND_TRANSPORT_NUMBER, given->has_transport_number, given->transport_number);
@@ -375,10 +377,10 @@ static size_t *length(size_t *before) {
 static void one_value(const rtpw_values *values) {
     uint8_t written[17], expected[24];
     uint64_t x = random_u64();
-    uint8_t kind = (uint8_t)(x % 8 == 0 ? x >> 8 : 1 + x / 8 % 15);
+    uint8_t kind = (uint8_t)(x % 8 == 0 ? x >> 8 : 1 + x / 1024 % 21);
     int32_t due = RTPW_BAD_FIELD;
     size_t wanted = 0;
-    if (kind != 0 && (kind <= 15 || kind >= 128) && are_given(values)) {
+    if (kind != 0 && (kind <= 20 || kind >= 128) && are_given(values)) {
         int len = data_of(kind, values, written);
         due = len < 0 ? RTPW_NONE : RTPW_OK;
         wanted = len < 0 ? 0 : (size_t)len;

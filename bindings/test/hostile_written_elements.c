@@ -23,7 +23,7 @@ static size_t random_elements(rtpw_element elements[MOST], size_t data_len) {
         it->id = y % 32 == 0 ? (uint8_t)(y >> 8) : (uint8_t)(1 + y / 32 % 14);
         it->data_len = random_below(longest + 1);
         it->data_len = it->data_len < data_len ? it->data_len : data_len;
-        it->data_at = random_below(data_len - it->data_len + 1);
+        it->data_at = y / 16384 % 4 == 0 ? data_len - it->data_len : random_below(data_len - it->data_len + 1);
         if (y >> 56 == 0) {
             it->data_at += (size_t)(random_u64() >> random_below(64));
         }

@@ -34,7 +34,7 @@ static rtpw_datagram_header datagram_headers[2] = {{.len = sizeof datagram}, {.a
 static rtpw_arrival arrivals[3] = {{.sequence_number = 99}, {.sequence_number = 98}, {.receiver = 1}};
 static rtpw_template made;
 static uint8_t headers[12 + 60 + 4 + 262140 + 16 * 264], written_headers[sizeof headers], zeros[16];
-static rtpw_routed_header routed[3] = {{.at = 0}, {.at = SIZE_MAX}, {.is_retransmission = 1}};
+static rtpw_routed_header routed[3] = {{.clears_padding = 1}, {.data_at = SIZE_MAX}, {.is_retransmission = 1}};
 static rtpw_map map;
 static rtpw_values values;
 static rtpw_header header, given;
@@ -45,7 +45,7 @@ static rtpw_element many[255];
 static uint64_t number;
 static uint16_t original;
 static size_t count;
-static uint32_t kinds;
+static uint32_t kinds, units;
 static int32_t status; /* looked at by nobody */
 static const uint8_t data[1] = {7};
 static rtpw_frame_marking marking = {1, 1, 1, 1, 1, 1, 7, 9, 1, 9};
@@ -185,6 +185,7 @@ static void uri_of_kind(void) {
     status = rtpw_uri_of_kind(RTPW_KIND_LAYERS, datagram, sizeof datagram, &count);
 }
 static void map_set(void) { status = rtpw_map_set(&usual, 255, RTPW_KIND_MID); }
+static void map_remove(void) { rtpw_map_remove(&usual, 255); }
 static void map_get(void) { number = rtpw_map_get(&map, 3); }
 static void id_of(void) { number = rtpw_id_of(&map, 255); }
 static void data_of(void) { status = rtpw_data_of(RTPW_KIND_MID, &given.values, datagram, sizeof datagram, &count); }
@@ -224,6 +225,9 @@ static void from_retransmission(void) {
     status = rtpw_from_retransmission(datagram, sizeof datagram, &count, 7, 8, &ids);
 }
 static void version(void) { number = rtpw_version(); }
+static void read_send_time(void) { status = rtpw_read_send_time(bytes, 3, &units); }
+static void write_send_time(void) { status = rtpw_write_send_time(0xFEDCBA, written, 3, &count); }
+static void extend_send_time(void) { number = rtpw_extend_send_time((uint64_t)1 << 63, 7); }
 static void read_transmission_offset(void) { status = rtpw_read_transmission_offset(bytes, 3, &offset); }
 static void write_transmission_offset(void) { status = rtpw_write_transmission_offset(-90, written, 3, &count); }
 static void read_frame_marking(void) { status = rtpw_read_frame_marking(bytes, 3, &marking); }
@@ -231,6 +235,7 @@ static void write_frame_marking(void) { status = rtpw_write_frame_marking(&marki
 static void read_orientation(void) { status = rtpw_read_orientation(bytes, 1, &orientation); }
 static void write_orientation(void) { status = rtpw_write_orientation(&orientation, written, 1, &count); }
 static void is_token(void) { number = rtpw_is_token((const uint8_t *)LAST_URI, sizeof LAST_URI - 1); }
+static void is_stream_id(void) { number = rtpw_is_stream_id((const uint8_t *)LAST_URI, sizeof LAST_URI - 1); }
 static void read_timing(void) { status = rtpw_read_timing(bytes, 13, &timing); }
 static void write_timing(void) { status = rtpw_write_timing(&timing, written, 13, &count); }
 static void read_transport_number(void) { status = rtpw_read_transport_number(bytes, 4, &transport_number); }
@@ -293,7 +298,7 @@ int main(void) {
         CALL(receiver_standing_of), CALL(wide_receiver_standing_of), CALL(reception_record),
         CALL(reception_report), CALL(write_report), CALL(extend_u16),
         CALL(extend_u8), CALL(extend_u15), CALL(extend_u32), CALL(is_rtcp), CALL(set_padding), CALL(remove_padding),
-        CALL(values_read), CALL(kind_of_uri), CALL(uri_of_kind), CALL(map_set), CALL(map_get), CALL(map_standard), CALL(id_of), CALL(data_of),
+        CALL(values_read), CALL(kind_of_uri), CALL(uri_of_kind), CALL(map_set), CALL(map_remove), CALL(map_get), CALL(map_standard), CALL(id_of), CALL(data_of),
         CALL(parse),
         CALL(parse_layers), CALL(wire_len), CALL(write), CALL(wire_len_layers), CALL(write_layers), CALL(left_out), CALL(left_out_layers), CALL(write_with), CALL(write_with_form),
         CALL(write_elements),
@@ -301,8 +306,9 @@ int main(void) {
         CALL(new_ids_to_retransmission), CALL(new_ids_from_retransmission), CALL(to_retransmission),
         CALL(from_retransmission), CALL(packet_parse_many), CALL(parse_many), CALL(receive_many),
         CALL(make_template), CALL(make_template_long), CALL(write_headers),
+        CALL(read_send_time), CALL(write_send_time), CALL(extend_send_time),
         CALL(read_transmission_offset), CALL(write_transmission_offset), CALL(read_frame_marking), CALL(write_frame_marking),
-        CALL(read_orientation), CALL(write_orientation), CALL(is_token), CALL(read_timing), CALL(write_timing),
+        CALL(read_orientation), CALL(write_orientation), CALL(is_token), CALL(is_stream_id), CALL(read_timing), CALL(write_timing),
         CALL(read_transport_number), CALL(write_transport_number), CALL(read_mixer_level), CALL(write_mixer_levels),
         CALL(read_ntp_64), CALL(write_ntp_64), CALL(read_ntp_56), CALL(write_ntp_56), CALL(extend_ntp_56),
         CALL(read_color_space), CALL(write_color_space), CALL(read_dependency_descriptor),

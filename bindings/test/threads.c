@@ -1,5 +1,5 @@
 /* Four threads read one const packet under one const map, and write one const header, at once. Each has a
- * receiver and a buffer of its own. */
+ * receiver and a buffer of its own; with an argument they have one receiver, which ThreadSanitizer has to report. */
 #include "../c/rtp_wire.h"
 
 #include <pthread.h>
@@ -27,8 +27,11 @@ static int is_written(void) {
            rtpw_renumber(buf, len, &IDS) == RTPW_OK && buf[16] == 0x20 && buf[18] == 0x11;
 }
 
+static rtpw_receiver shared;
+static int is_shared;
+
 static void *reads(void *failed) {
-    rtpw_receiver receiver = {0, 0, 0, 0};
+    rtpw_receiver own = {0, 0, 0, 0}, *receiver = is_shared ? &shared : &own;
     for (int i = 0; i < ROUNDS; i++) {
         rtpw_packet packet;
         rtpw_element element;
@@ -40,7 +43,7 @@ static void *reads(void *failed) {
             element.data_at != 3 || element.data_len != 2 ||
             rtpw_values_read(DATAGRAM + packet.body_at, packet.body_len, packet.block_form, &MAP, &values) != RTPW_OK ||
             values.audio_level != -42 || values.voice_activity != 1 || values.transport_number != 0xBBCC ||
-            rtpw_receiver_receive(&receiver, (uint16_t)i, &number) != RTPW_OK || number != (uint64_t)i ||
+            rtpw_receiver_receive(receiver, (uint16_t)i, &number) != RTPW_OK || number != (uint64_t)i ||
             !is_written()) {
             *(int *)failed = 1;
         }
@@ -48,7 +51,9 @@ static void *reads(void *failed) {
     return NULL;
 }
 
-int main(void) {
+int main(int argc, char **argv) {
+    (void)argv;
+    is_shared = argc > 1;
     pthread_t threads[THREADS];
     int failed[THREADS] = {0, 0, 0, 0};
     for (int i = 0; i < THREADS; i++) {

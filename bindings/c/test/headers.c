@@ -120,6 +120,47 @@ static void is_written(void) {
     CHECK(rtpw_write(&map, &header, buf, sizeof buf, &len) == RTPW_OK && len == 48);
 }
 
+/* A level is seven bits without a sign, of which 0 is the loudest (RFC 6464, 3): one that isn't is refused, mapped or
+ * not, and not cut. */
+static void levels_out_of_range(void) {
+    static const int8_t wrong[] = {1, 30, 127, -128};
+    rtpw_map none, levels;
+    rtpw_header header;
+    rtpw_layers layers;
+    uint32_t kinds = 7;
+    uint8_t buf[40];
+    size_t len = 7, i;
+    memset(&none, 0, sizeof none);
+    memset(&levels, 0, sizeof levels);
+    memset(&header, 0, sizeof header);
+    memset(&layers, 0, sizeof layers);
+    memset(buf, 0xEE, sizeof buf);
+    levels.kind[1] = RTPW_KIND_AUDIO_LEVEL;
+    header.has_extension = header.values.has_audio_level = header.values.has_voice_activity = 1;
+    header.values.voice_activity = header.values.has_transport_number = 1;
+    for (i = 0; i < sizeof wrong; i++) {
+        header.values.audio_level = wrong[i];
+        CHECK(rtpw_write(&levels, &header, buf, sizeof buf, &len) == RTPW_BAD_FIELD);
+        CHECK(rtpw_write(&none, &header, buf, 0, &len) == RTPW_BAD_FIELD);
+        CHECK(rtpw_wire_len(&levels, &header, &len) == RTPW_BAD_FIELD);
+        CHECK(rtpw_write_layers(&levels, &header, &layers, buf, sizeof buf, &len) == RTPW_BAD_FIELD);
+        CHECK(rtpw_wire_len_layers(&none, &header, &layers, &len) == RTPW_BAD_FIELD);
+        CHECK(rtpw_left_out(&levels, &header, &kinds) == RTPW_BAD_FIELD);
+        CHECK(rtpw_left_out_layers(&levels, &header, &layers, &kinds) == RTPW_BAD_FIELD && kinds == 7);
+        CHECK(rtpw_data_of(RTPW_KIND_AUDIO_LEVEL, &header.values, buf, sizeof buf, &len) == RTPW_BAD_FIELD);
+        CHECK(rtpw_data_of(RTPW_KIND_TRANSPORT_NUMBER, &header.values, buf, 0, &len) == RTPW_BAD_FIELD);
+        CHECK(len == 7 && buf[0] == 0xEE);
+        header.values.has_audio_level = 0; /* what isn't there isn't looked at */
+        CHECK(rtpw_data_of(RTPW_KIND_TRANSPORT_NUMBER, &header.values, buf + 20, 2, &len) == RTPW_OK);
+        header.values.has_audio_level = 1;
+        len = 7;
+    }
+    header.values.audio_level = -127;
+    CHECK(rtpw_data_of(RTPW_KIND_AUDIO_LEVEL, &header.values, buf, 1, &len) == RTPW_OK && buf[0] == 0xFF);
+    header.values.audio_level = 0;
+    CHECK(rtpw_data_of(RTPW_KIND_AUDIO_LEVEL, &header.values, buf, 1, &len) == RTPW_OK && buf[0] == 0x80);
+}
+
 /* One-byte form: the streams 0 and 1, the second is the packet's own; 640 * 360 at 30; 5 and 300 kbit/s. */
 static void layers_are_read(void) {
     static const uint8_t datagram[28] = {0x90, 0, 0, 1,    0, 0, 0, 2,    0, 0, 0,   3, 0xBE, 0xDE,
@@ -403,22 +444,61 @@ static void maps_are_filled(void) {
     CHECK(kind_of("urn:ietf:params:rtp-hdrext:sdes:MID") == RTPW_KIND_NONE);
     CHECK(kind_of("") == RTPW_KIND_NONE);
     CHECK(rtpw_map_set(&map, 0, RTPW_KIND_MID) == RTPW_BAD_FIELD);
-    CHECK(rtpw_map_set(&map, 255, 16) == RTPW_BAD_FIELD);
+    CHECK(rtpw_map_set(&map, 255, 21) == RTPW_BAD_FIELD && rtpw_map_set(&map, 255, 127) == RTPW_BAD_FIELD);
     CHECK(rtpw_map_set(&map, 255, RTPW_KIND_LAYERS) == RTPW_OK);
     CHECK(rtpw_map_get(&map, 255) == RTPW_KIND_LAYERS);
-    CHECK(rtpw_map_set(&map, 255, RTPW_KIND_NONE) == RTPW_OK);
-    CHECK(rtpw_map_get(&map, 255) == RTPW_KIND_NONE);
+    /* a URI that is misspelled names none, and then nothing changes */
+    CHECK(rtpw_map_set(&map, 255, kind_of("urn:ietf:params:rtp-hdrext:sdes:midd")) == RTPW_BAD_FIELD);
+    CHECK(rtpw_map_get(&map, 255) == RTPW_KIND_LAYERS);
+    CHECK(rtpw_map_set(&map, 254, RTPW_KIND_NTP_56) == RTPW_OK && rtpw_id_of(&map, RTPW_KIND_NTP_56) == 254);
+    rtpw_map_remove(&map, 255);
+    CHECK(rtpw_map_get(&map, 255) == RTPW_KIND_NONE && rtpw_map_get(&map, 254) == RTPW_KIND_NTP_56);
+    rtpw_map_remove(&map, 255);
+    rtpw_map_remove(&map, 0);
+    CHECK(rtpw_map_get(&map, 254) == RTPW_KIND_NTP_56 && rtpw_id_of(&map, RTPW_KIND_LAYERS) == 0);
     map.kind[0] = RTPW_KIND_MID;
-    map.kind[9] = 16;
+    map.kind[9] = 21;
     CHECK(rtpw_map_get(&map, 0) == RTPW_KIND_NONE && rtpw_map_get(&map, 9) == RTPW_KIND_NONE);
     rtpw_map_standard(&map);
     CHECK(rtpw_map_get(&map, 1) == RTPW_KIND_AUDIO_LEVEL && rtpw_map_get(&map, 9) == RTPW_KIND_NONE);
     CHECK(rtpw_map_get(&map, 13) == RTPW_KIND_VIDEO_ORIENTATION);
 }
 
-/* A dependency descriptor has no value here: it has a number of the caller's own in both maps. */
+/* A kind of this library without a field, and one of the caller's own, go from one map to the other, and no value is
+ * read or written of them. */
+static void kinds_without_a_field(void) {
+    static const uint8_t kinds[] = {16, 17, 18, 19, 20, RTPW_KIND_OWN, 255};
+    static const uint8_t wanted[24] = {0x90, 0,    0, 1, 0,    0, 0, 2, 0,    0,    0,    3,
+                                       0xBE, 0xDE, 0, 2, 0x22, 9, 8, 7, 0x00, 0x00, 0x90, 1};
+    size_t i;
+    for (i = 0; i < sizeof kinds; i++) {
+        uint8_t bytes[24] = {0x90, 0,    0, 1, 0,    0, 0, 2, 0,    0,    0,    3,
+                             0xBE, 0xDE, 0, 2, 0x72, 9, 8, 7, 0x10, 0x8A, 0x30, 1};
+        rtpw_map from, to;
+        rtpw_new_ids ids;
+        rtpw_header header;
+        rtpw_values no_values;
+        size_t len = 7;
+        memset(&from, 0, sizeof from);
+        memset(&to, 0, sizeof to);
+        memset(&no_values, 0, sizeof no_values);
+        CHECK(rtpw_map_set(&from, 7, kinds[i]) == RTPW_OK && rtpw_map_get(&from, 7) == kinds[i]);
+        CHECK(rtpw_map_set(&from, 3, RTPW_KIND_VIDEO_CONTENT_TYPE) == RTPW_OK);
+        CHECK(rtpw_map_set(&to, 2, kinds[i]) == RTPW_OK && rtpw_map_set(&to, 4, kinds[i]) == RTPW_OK);
+        CHECK(rtpw_map_set(&to, 9, RTPW_KIND_VIDEO_CONTENT_TYPE) == RTPW_OK && rtpw_id_of(&to, kinds[i]) == 2);
+        CHECK(rtpw_parse(bytes, sizeof bytes, &from, &header) == RTPW_OK);
+        CHECK(header.values.has_video_content_type == 1 && header.values.video_content_type == 1);
+        no_values.has_video_content_type = no_values.video_content_type = 1;
+        CHECK(memcmp(&header.values, &no_values, sizeof no_values) == 0);
+        CHECK(rtpw_data_of(kinds[i], &header.values, bytes, sizeof bytes, &len) == RTPW_NONE && len == 7);
+        rtpw_new_ids_between(&from, &to, &ids);
+        CHECK(rtpw_renumber(bytes, sizeof bytes, &ids) == RTPW_OK && memcmp(bytes, wanted, sizeof wanted) == 0);
+    }
+}
+
+/* The caller's own kinds, and numbers that mean nothing. */
 static void own_kinds_are_kept(void) {
-    enum { DEPENDENCY_DESCRIPTOR = RTPW_KIND_OWN, UNKNOWN_TO_ALL = 255 };
+    enum { ITS_OWN = RTPW_KIND_OWN, UNKNOWN_TO_ALL = 255 };
     uint8_t bytes[24] = {0x90, 0, 0, 1, 0, 0, 0, 2, 0,    0,    0,    3,
                          0xBE, 0xDE, 0, 2, 0x72, 9, 8, 7, 0x10, 0x8A, 0x90, 1};
     rtpw_map from, to;
@@ -427,15 +507,15 @@ static void own_kinds_are_kept(void) {
     size_t len = 0;
     memset(&from, 0, sizeof from);
     memset(&to, 0, sizeof to);
-    CHECK(rtpw_map_set(&from, 7, DEPENDENCY_DESCRIPTOR) == RTPW_OK);
+    CHECK(rtpw_map_set(&from, 7, ITS_OWN) == RTPW_OK);
     CHECK(rtpw_map_set(&from, 9, UNKNOWN_TO_ALL) == RTPW_OK);
     CHECK(rtpw_map_set(&from, 1, RTPW_KIND_AUDIO_LEVEL) == RTPW_OK);
     CHECK(rtpw_map_set(&from, 2, 127) == RTPW_BAD_FIELD && rtpw_map_set(&from, 0, 128) == RTPW_BAD_FIELD);
     CHECK(rtpw_map_get(&from, 7) == 128 && rtpw_map_get(&from, 9) == 255 && rtpw_map_get(&from, 2) == 0);
-    to.kind[4] = to.kind[12] = DEPENDENCY_DESCRIPTOR;
+    to.kind[4] = to.kind[12] = ITS_OWN;
     to.kind[3] = RTPW_KIND_AUDIO_LEVEL;
     to.kind[5] = from.kind[5] = 100; /* means nothing on either side */
-    CHECK(rtpw_id_of(&to, DEPENDENCY_DESCRIPTOR) == 4 && rtpw_id_of(&to, RTPW_KIND_AUDIO_LEVEL) == 3);
+    CHECK(rtpw_id_of(&to, ITS_OWN) == 4 && rtpw_id_of(&to, RTPW_KIND_AUDIO_LEVEL) == 3);
     CHECK(rtpw_id_of(&to, UNKNOWN_TO_ALL) == 0 && rtpw_id_of(&to, RTPW_KIND_MID) == 0);
     CHECK(rtpw_id_of(&to, 100) == 0 && rtpw_id_of(&to, RTPW_KIND_NONE) == 0);
     rtpw_new_ids_between(&from, &to, &ids);
@@ -485,6 +565,7 @@ static void data_are_written(void) {
     CHECK(rtpw_data_of(RTPW_KIND_COLOR_SPACE, &values, data, sizeof data, &len) == RTPW_NONE);
     CHECK(rtpw_data_of(RTPW_KIND_OWN, &values, data, sizeof data, &len) == RTPW_NONE);
     CHECK(rtpw_data_of(RTPW_KIND_NONE, &values, data, sizeof data, &len) == RTPW_BAD_FIELD);
+    CHECK(rtpw_data_of(21, &values, data, sizeof data, &len) == RTPW_BAD_FIELD);
     CHECK(rtpw_data_of(127, &values, data, sizeof data, &len) == RTPW_BAD_FIELD);
     values.mid[0] = '-';
     CHECK(rtpw_data_of(RTPW_KIND_ABS_SEND_TIME, &values, data, 2, &len) == RTPW_BAD_FIELD);
@@ -520,6 +601,7 @@ int main(void) {
     is_parsed();
     is_not_parsed();
     is_written();
+    levels_out_of_range();
     layers_are_read();
     layers_are_written();
     what_is_left_out_is_told();
@@ -528,6 +610,7 @@ int main(void) {
     elements_are_written_in_one_form();
     maps_are_filled();
     is_renumbered();
+    kinds_without_a_field();
     own_kinds_are_kept();
     data_are_written();
     return failed;

@@ -215,20 +215,33 @@ static void why_an_element_is_not_put(void) {
     CHECK(rtpw_put_element(one, 24, &len, 15, DATA, 1, RTPW_ANY_FORM) == RTPW_OK && len == 24);
 }
 
-/* Each kind has a URI, which names it again. */
+/* Each kind has a URI, which names it again; the five without a field as their documents have them: RFC 6465, 5, WebRTC's
+ * transport-wide-cc-02, AV1's RTP payload format, A.6, and RFC 6051, 3.3. */
 static void kinds_have_uris(void) {
+    static const char *const without_a_field[] = {
+        "urn:ietf:params:rtp-hdrext:csrc-audio-level",
+        "http://www.webrtc.org/experiments/rtp-hdrext/transport-wide-cc-02",
+        "https://aomediacodec.github.io/av1-rtp-spec/#dependency-descriptor-rtp-header-extension",
+        "urn:ietf:params:rtp-hdrext:ntp-64",
+        "urn:ietf:params:rtp-hdrext:ntp-56",
+    };
     uint8_t uri[RTPW_URI_SIZE];
     size_t len = 0, longest = 0;
     unsigned kind;
-    for (kind = RTPW_KIND_ABS_SEND_TIME; kind <= RTPW_KIND_LAYERS; kind++) {
+    for (kind = RTPW_KIND_ABS_SEND_TIME; kind <= RTPW_KIND_NTP_56; kind++) {
         CHECK(rtpw_uri_of_kind((uint8_t)kind, uri, sizeof uri, &len) == RTPW_OK && rtpw_kind_of_uri(uri, len) == kind);
         longest = len > longest ? len : longest;
         CHECK(rtpw_uri_of_kind((uint8_t)kind, uri, len - 1, &len) == RTPW_SHORT_BUFFER);
     }
-    CHECK(longest == RTPW_URI_SIZE);
+    CHECK(longest == RTPW_URI_SIZE && longest == 87);
+    for (kind = RTPW_KIND_MIXER_LEVELS; kind <= RTPW_KIND_NTP_56; kind++) {
+        const char *text = without_a_field[kind - RTPW_KIND_MIXER_LEVELS];
+        CHECK(rtpw_uri_of_kind((uint8_t)kind, uri, sizeof uri, &len) == RTPW_OK && len == strlen(text));
+        CHECK(memcmp(uri, text, len) == 0 && rtpw_kind_of_uri((const uint8_t *)text, len - 1) == RTPW_KIND_NONE);
+    }
     CHECK(rtpw_uri_of_kind(RTPW_KIND_MID, uri, sizeof uri, &len) == RTPW_OK && len == 35);
     CHECK(memcmp(uri, "urn:ietf:params:rtp-hdrext:sdes:mid", 35) == 0);
-    for (kind = RTPW_KIND_LAYERS + 1; kind < 256; kind++) {
+    for (kind = RTPW_KIND_NTP_56 + 1; kind < 256; kind++) {
         CHECK(rtpw_uri_of_kind((uint8_t)kind, uri, sizeof uri, &len) == RTPW_NONE && len == 35);
     }
     CHECK(rtpw_uri_of_kind(RTPW_KIND_NONE, uri, sizeof uri, &len) == RTPW_NONE);

@@ -80,7 +80,7 @@ static void two_receivers(void) {
         CHECK(made.data_at[i] == 0 && made.data_len[i] == 0);
     }
     memset(receivers, 0, sizeof receivers);
-    receivers[0].at = 25;
+    receivers[0].at = receivers[1].at = 25; /* they aren't looked at */
     receivers[0].fields.has_sequence_number = receivers[0].fields.has_ssrc = 1;
     receivers[0].fields.sequence_number = 9;
     receivers[0].fields.ssrc = 45;
@@ -94,9 +94,10 @@ static void two_receivers(void) {
     CHECK(rtpw_write_headers(&made, header, sizeof header, NUMBERS, sizeof NUMBERS, receivers, 2, headers,
                              sizeof headers) == RTPW_OK);
     CHECK(receivers[0].status == RTPW_OK && receivers[1].status == RTPW_OK);
-    CHECK(memcmp(headers + 25, first, sizeof first) == 0 && memcmp(headers, second, sizeof second) == 0);
-    CHECK(headers[24] == 0xEE && headers[49] == 0xEE);
-    CHECK(receivers[1].data_at == 2 && receivers[1].at == 0 && receivers[0].fields.ssrc == 45);
+    CHECK(memcmp(headers, first, sizeof first) == 0 && memcmp(headers + 24, second, sizeof second) == 0);
+    CHECK(headers[48] == 0xEE && headers[49] == 0xEE);
+    CHECK(receivers[0].at == 0 && receivers[0].len == 24 && receivers[1].at == 24 && receivers[1].len == 24);
+    CHECK(receivers[1].data_at == 2 && receivers[0].fields.ssrc == 45);
 }
 
 /* Three receivers, of which the first and the last get a retransmission of a packet with padding. */
@@ -121,9 +122,7 @@ static void retransmissions(void) {
     receivers[0].fields.payload_type = 97;
     receivers[0].is_retransmission = 1;
     receivers[0].original_number = 5;
-    receivers[1].at = 26;
     receivers[1].original_number = 77; /* it isn't looked at */
-    receivers[2].at = 50;
     receivers[2].is_retransmission = 255;
     receivers[2].original_number = 0x1234;
     memset(headers, 0xEE, sizeof headers);
@@ -132,6 +131,8 @@ static void retransmissions(void) {
     CHECK(receivers[0].status == RTPW_OK && receivers[1].status == RTPW_OK && receivers[2].status == RTPW_OK);
     CHECK(memcmp(headers, first, sizeof first) == 0 && memcmp(headers + 26, second, sizeof second) == 0);
     CHECK(memcmp(headers + 50, third, sizeof third) == 0);
+    CHECK(receivers[0].at == 0 && receivers[1].at == 26 && receivers[2].at == 50);
+    CHECK(receivers[0].len == 26 && receivers[1].len == 24 && receivers[2].len == 26);
     CHECK(receivers[0].is_retransmission == 1 && receivers[2].original_number == 0x1234);
     /* the header has room, and the number behind it hasn't */
     for (size = 0; size < 26; size++) {
@@ -139,7 +140,7 @@ static void retransmissions(void) {
         memset(headers, 0xEE, sizeof headers);
         CHECK(rtpw_write_headers(&made, header, sizeof header, NUMBERS, sizeof NUMBERS, receivers, 1, headers, size) ==
               RTPW_OK);
-        CHECK(receivers[0].status == RTPW_SHORT_BUFFER);
+        CHECK(receivers[0].status == RTPW_SHORT_BUFFER && receivers[0].at == 0 && receivers[0].len == 0);
         for (i = 0; i < sizeof headers; i++) {
             CHECK(headers[i] == 0xEE);
         }
@@ -151,6 +152,8 @@ static void retransmissions(void) {
     CHECK(rtpw_write_headers(&made, header, sizeof header, NUMBERS, sizeof NUMBERS, receivers, 3, headers,
                              sizeof headers) == RTPW_OK);
     CHECK(receivers[0].status == RTPW_BAD_FIELD && receivers[1].status == RTPW_OK && receivers[2].status == RTPW_BAD_FIELD);
+    CHECK(receivers[0].len == 0 && receivers[1].at == 0 && receivers[1].len == 24);
+    CHECK(receivers[2].at == 24 && receivers[2].len == 0);
     /* it is what the second receiver's packet becomes, whose payload has two bytes of padding */
     memset(&same, 0, sizeof same);
     for (i = 1; i < 256; i++) {
@@ -271,35 +274,61 @@ static void refusals(void) {
     CHECK(status_of(SAMPLE, sizeof SAMPLE, &ids, elements, 2, RTPW_ONE_BYTE_FORM, 20) == RTPW_LONG_ID);
 }
 
-/* Twenty receivers, of which the ninth can't be served, each for another cause; and places that overlap. */
-static void many(void) {
-    enum { COUNT = 20, LEN = 24 };
+/* P is the packet's, and clear where that is asked for, and of a retransmission. */
+static void without_padding(void) {
+    static const uint8_t packet[] = {0xB0, 0xE0, 0, 5, REST, 0xBE, 0xDE, 0, 1, 0x10, 0xAA, 0, 0, 'p', 'q', 0, 2};
+    const rtpw_new_ids ids = ids_of(1, 3);
+    rtpw_routed_header receivers[4];
+    uint8_t headers[82];
+    memset(receivers, 0, sizeof receivers);
+    receivers[1].clears_padding = 1;
+    receivers[2].clears_padding = 255;
+    receivers[3].is_retransmission = 1;
+    CHECK(rtpw_make_template(packet, sizeof packet, &ids, NULL, 0, NULL, 0, RTPW_ANY_FORM, header, sizeof header, &made) ==
+          RTPW_OK);
+    CHECK(rtpw_write_headers(&made, header, sizeof header, NULL, 0, receivers, 4, headers, sizeof headers) == RTPW_OK);
+    CHECK(headers[0] == 0xB0 && headers[20] == 0x90 && headers[40] == 0x90 && headers[60] == 0x90);
+    CHECK(memcmp(headers + 1, headers + 21, 19) == 0 && memcmp(headers + 1, headers + 41, 19) == 0);
+    CHECK(receivers[1].clears_padding == 1 && receivers[2].clears_padding == 255);
+    /* where P is clear it stays so */
+    CHECK(rtpw_make_template(SAMPLE, sizeof SAMPLE, &ids, NULL, 0, NULL, 0, RTPW_ANY_FORM, header, sizeof header, &made) ==
+          RTPW_OK);
+    CHECK(rtpw_write_headers(&made, header, sizeof header, NULL, 0, receivers, 2, headers, sizeof headers) == RTPW_OK);
+    CHECK(headers[0] == 0x90 && headers[20] == 0x90);
+}
+
+/* A template of two bytes of data, and receivers of it with numbers from 1,000 on. */
+enum { COUNT = 20, LEN = 24 };
+static void many_receivers(rtpw_routed_header receivers[COUNT], uint8_t data[2 * COUNT]) {
     const rtpw_new_ids ids = ids_of(1, 3);
     const rtpw_element element = element_of(0, 2, 4);
-    rtpw_routed_header receivers[COUNT], before[COUNT];
-    uint8_t headers[COUNT * LEN], expected[LEN], data[2 * COUNT];
-    size_t i, cause;
+    size_t i;
     CHECK(rtpw_make_template(SAMPLE, sizeof SAMPLE, &ids, NUMBERS, sizeof NUMBERS, &element, 1, RTPW_ANY_FORM, header,
                              sizeof header, &made) == RTPW_OK);
-    for (i = 0; i < sizeof data; i++) {
-        data[i] = (uint8_t)(i + 100);
+    memset(receivers, 0, COUNT * sizeof *receivers);
+    for (i = 0; i < COUNT; i++) {
+        data[2 * i] = (uint8_t)(2 * i + 100);
+        data[2 * i + 1] = (uint8_t)(2 * i + 101);
+        receivers[i].data_at = 2 * i;
+        receivers[i].fields.has_sequence_number = 1;
+        receivers[i].fields.sequence_number = (uint16_t)(1000 + i);
+        receivers[i].fields.payload_type = 128; /* it isn't given */
+        receivers[i].status = 77;
     }
-    for (cause = 0; cause < 6; cause++) {
-        memset(receivers, 0, sizeof receivers);
-        for (i = 0; i < COUNT; i++) {
-            receivers[i].data_at = 2 * i;
-            receivers[i].at = LEN * i;
-            receivers[i].fields.has_sequence_number = 1;
-            receivers[i].fields.sequence_number = (uint16_t)(1000 + i);
-            receivers[i].fields.payload_type = 128; /* it isn't given */
-            receivers[i].status = 77;
-        }
+}
+
+/* Twenty receivers, of which the ninth can't be served, each for another cause: those after it take its place. */
+static void many(void) {
+    rtpw_routed_header receivers[COUNT], before[COUNT];
+    uint8_t headers[COUNT * LEN + 1], expected[LEN], data[2 * COUNT];
+    size_t i, cause;
+    for (cause = 0; cause < 4; cause++) {
+        size_t end = 0;
+        many_receivers(receivers, data);
         switch (cause) {
         case 0: receivers[8].fields.has_payload_type = 1; break;
         case 1: receivers[8].data_at = 2 * COUNT - 1; break;
         case 2: receivers[8].data_at = (size_t)-1; break;
-        case 3: receivers[8].at = LEN * (COUNT - 1) + 1; break;
-        case 4: receivers[8].at = (size_t)-1; break;
         default: break;
         }
         memcpy(before, receivers, sizeof before);
@@ -307,36 +336,64 @@ static void many(void) {
         CHECK(rtpw_write_headers(&made, header, sizeof header, data, sizeof data, receivers, COUNT, headers,
                                  sizeof headers) == RTPW_OK);
         for (i = 0; i < COUNT; i++) {
-            const int32_t refused = cause < 3 ? RTPW_BAD_FIELD : RTPW_SHORT_BUFFER;
-            const int is_refused = i == 8 && cause < 5;
+            const int is_refused = i == 8 && cause < 3;
+            before[i].status = is_refused ? RTPW_BAD_FIELD : RTPW_OK;
+            before[i].at = end;
+            before[i].len = is_refused ? 0 : LEN;
+            CHECK(memcmp(&receivers[i], &before[i], sizeof before[i]) == 0);
             memcpy(expected, header, LEN);
             expected[2] = (uint8_t)((1000 + i) >> 8);
             expected[3] = (uint8_t)(1000 + i);
             expected[19] = data[2 * i];
             expected[20] = data[2 * i + 1];
-            if (is_refused) {
-                memset(expected, 0xEE, LEN);
-            }
-            CHECK(receivers[i].status == (is_refused ? refused : RTPW_OK));
-            CHECK(memcmp(headers + LEN * i, expected, LEN) == 0);
-            before[i].status = receivers[i].status;
-            CHECK(memcmp(&receivers[i], &before[i], sizeof before[i]) == 0);
+            CHECK(is_refused || memcmp(headers + end, expected, LEN) == 0);
+            end += before[i].len;
         }
+        CHECK(end == LEN * (cause < 3 ? COUNT - 1 : COUNT) && headers[end] == 0xEE && headers[COUNT * LEN] == 0xEE);
     }
-    /* the second one over the end of the first, and the third over both, with no room but its own */
-    receivers[0].at = 0;
-    receivers[1].at = 10;
-    receivers[2].at = 5;
-    memset(headers, 0xEE, sizeof headers);
-    CHECK(rtpw_write_headers(&made, header, LEN, data, sizeof data, receivers, 3, headers, 34) == RTPW_OK);
-    CHECK(headers[0] == 0x90 && headers[3] == (uint8_t)1000 && headers[4] == 0);
-    CHECK(headers[5] == 0x90 && headers[8] == (uint8_t)1002 && headers[24] == data[4] && headers[25] == data[5]);
-    CHECK(headers[29] == data[2] && headers[30] == data[3] && headers[33] == 0 && headers[34] == 0xEE);
-    CHECK(rtpw_write_headers(&made, header, LEN, data, sizeof data, receivers, 3, headers, 33) == RTPW_OK);
-    CHECK(receivers[0].status == RTPW_OK && receivers[1].status == RTPW_SHORT_BUFFER && receivers[2].status == RTPW_OK);
+}
+
+/* As many as there is room for: the second one is a retransmission, and where it has none the third one has. */
+static void as_many_as_fit(void) {
+    rtpw_routed_header receivers[COUNT];
+    uint8_t headers[101], data[2 * COUNT];
+    size_t i, size;
+    many_receivers(receivers, data);
+    receivers[1].is_retransmission = 1;
+    for (size = 0; size < 100; size++) {
+        const int has[] = {size >= 24, size >= 50, (size >= 48 && size < 50) || size >= 74};
+        memset(headers, 0xEE, sizeof headers);
+        CHECK(rtpw_write_headers(&made, header, LEN, data, sizeof data, receivers, 3, headers, size) == RTPW_OK);
+        for (i = 0; i < 3; i++) {
+            CHECK(receivers[i].status == (has[i] ? RTPW_OK : RTPW_SHORT_BUFFER));
+            CHECK(receivers[i].len == (has[i] ? (i == 1 ? 26u : 24u) : 0));
+            CHECK(receivers[i].at == (i == 0 ? 0 : receivers[i - 1].at + receivers[i - 1].len));
+        }
+        CHECK(headers[receivers[2].at + receivers[2].len] == 0xEE);
+    }
     CHECK(rtpw_write_headers(&made, header, LEN, NULL, 0, receivers, 3, headers, 33) == RTPW_OK);
-    CHECK(receivers[0].status == RTPW_BAD_FIELD && receivers[1].status == RTPW_BAD_FIELD);
+    CHECK(receivers[0].status == RTPW_BAD_FIELD && receivers[1].status == RTPW_BAD_FIELD && receivers[2].at == 0);
     CHECK(rtpw_write_headers(&made, header, LEN, NULL, 0, NULL, 0, NULL, 0) == RTPW_OK);
+}
+
+/* Of a template that none made the data lie over the fields, and P is cleared last of all. */
+static void data_over_fields(void) {
+    static const uint8_t plain[12] = {0xA0, 96, 0, 5, REST};
+    static const uint8_t wanted[12] = {0x80, 0x7F, 0, 5, REST_45}, kept[12] = {0xA0, 0x7F, 0, 5, REST_45};
+    rtpw_routed_header receivers[2];
+    rtpw_template it;
+    uint8_t headers[24];
+    memset(&it, 0, sizeof it);
+    memset(receivers, 0, sizeof receivers);
+    it.header_len = 12;
+    it.count = 1;
+    it.data_len[0] = it.data_total = 2;
+    receivers[0].fields.has_ssrc = receivers[1].fields.has_ssrc = receivers[0].fields.has_marker = 1;
+    receivers[0].fields.ssrc = receivers[1].fields.ssrc = 45;
+    receivers[0].fields.marker = 1;
+    receivers[0].clears_padding = 1;
+    CHECK(rtpw_write_headers(&it, plain, 12, (const uint8_t *)"\xA0\x7F", 2, receivers, 2, headers, 24) == RTPW_OK);
+    CHECK(memcmp(headers, wanted, 12) == 0 && memcmp(headers + 12, kept, 12) == 0);
 }
 
 /* What is none of a template and a header: nothing is written, and no status either. */
@@ -400,7 +457,10 @@ int main(void) {
     retransmissions();
     groups();
     refusals();
+    without_padding();
     many();
+    as_many_as_fit();
+    data_over_fields();
     torn();
     return failed;
 }

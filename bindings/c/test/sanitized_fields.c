@@ -1,19 +1,11 @@
-/* What MemorySanitizer tells of the fields of the structs that the calls of rtp_wire.h are given: of the first and of
- * the last byte of a field that a call looks at, where it isn't set, and of no other field. Which are looked at is what
- * rtp_wire.h says of each struct. Prints how many fields were tried, or the first of which it is told wrongly. */
-#include <sanitizer/msan_interface.h>
+/* What MemorySanitizer tells of the fields of the structs that the calls of rtp_wire.h are given: of each byte of a
+ * field that a call looks at, where that byte alone isn't set, and of no other field. Which are looked at is what
+ * rtp_wire.h says of each struct. Prints how many bytes were tried, or the first of which it is told wrongly. */
 #include <stddef.h>
-#include <stdio.h>
 #include <string.h>
-#include <sys/wait.h>
-#include <unistd.h>
 
 #include "../rtp_wire.h"
-
-const char *__msan_default_options(void);
-const char *__msan_default_options(void) {
-    return "exitcode=9:symbolize=0";
-}
+#include "told.h"
 
 /* One source, a block of the one-byte form with the element 3 of two bytes, and a payload of 3 bytes, with padding
  * of 1. */
@@ -23,32 +15,17 @@ enum { LEN = sizeof datagram };
 static uint8_t buf[64];
 static int tried;
 
-/* Whether it is told of these bytes, which aren't set, where the call is made in another process. */
-static int is_told(const void *at, size_t size, void (*call)(void)) {
-    int status = 0;
-    pid_t child;
-    __msan_poison(at, size);
-    child = fork();
-    if (child == 0) {
-        if (freopen("/dev/null", "w", stderr) == NULL) {
-            _exit(2);
-        }
-        call();
-        _exit(0);
-    }
-    waitpid(child, &status, 0);
-    __msan_unpoison(at, size);
-    return WEXITSTATUS(status) == 9 ? 1 : status == 0 ? 0 : 2;
-}
-
-/* It is told of both ends of these bytes, or of none of them. */
+/* It is told of each of these bytes, or of none of them. */
 static void bytes(const char *name, const void *at, size_t size, void (*call)(void), int told) {
-    const uint8_t *last = (const uint8_t *)at + size - 1;
-    tried++;
-    if (told ? is_told(at, 1, call) != 1 || (size > 1 && is_told(last, 1, call) != 1) : is_told(at, size, call) != 0) {
-        printf("%s: %s told of it\n", name, told ? "it isn't" : "it is");
-        fflush(stdout);
-        _exit(1);
+    for (size_t i = 0; i < size; i++) {
+        const uint8_t *byte = (const uint8_t *)at + i;
+        tried++;
+        __msan_poison(byte, 1);
+        if (is_told(call) != told) {
+            printf("%s, the byte %d: %s told of it\n", name, (int)i, told ? "it isn't" : "it is");
+            exit(1);
+        }
+        __msan_unpoison(byte, 1);
     }
 }
 #define TOLD(field, call) bytes(#field ", " #call, &(field), sizeof(field), call, 1)
@@ -74,7 +51,6 @@ static rtpw_receiver receiver;
 static rtpw_wide_receiver wide;
 static uint64_t words[2];
 static rtpw_report report;
-static size_t len;
 
 static void set_fields(void) {
     ignore(rtpw_set_fields(buf, LEN, &fields));
@@ -109,18 +85,80 @@ WRITES(number, transport_number)
 WRITES(space, color_space)
 WRITES(orientation, orientation)
 WRITES(descriptor, dependency_descriptor)
+static const uint8_t template_header[24] = {0x90, 96,   0, 5, 0,    0,    0,    100, 0, 0, 0, 44,
+                                            0xBE, 0xDE, 0, 2, 0x30, 0xAA, 0x41, 0,   7, 0, 0, 0};
+static rtpw_template made;
+static rtpw_routed_header routed[2];
+static uint8_t given[256];
+static void write_headers(void) {
+    uint8_t headers[50];
+    ignore(rtpw_write_headers(&made, template_header, 24, given, 4, routed, 2, headers, sizeof headers));
+}
+static void make_template(void) {
+    uint8_t to[400];
+    rtpw_template it;
+    ignore(rtpw_make_template(datagram, LEN, &ids, given, 4, &element, 1, RTPW_ANY_FORM, to, sizeof to, &it));
+}
+static void write_given(void) {
+    size_t to;
+    ignore(rtpw_write_elements(given, 4, &element, 1, RTPW_ONE_BYTE_FORM, buf, sizeof buf, &to));
+}
+static void write_with(void) {
+    size_t to;
+    ignore(rtpw_write_with(&header, given, 4, &element, 1, buf, sizeof buf, &to));
+}
+static void put_given(void) {
+    uint8_t packet[LEN + 8];
+    size_t to = LEN;
+    memcpy(packet, datagram, LEN);
+    ignore(rtpw_put_element(packet, sizeof packet, &to, 3, given, 4, RTPW_ANY_FORM));
+}
+static void put_block(void) {
+    uint8_t packet[LEN + 8];
+    size_t to = LEN;
+    memcpy(packet, datagram, LEN);
+    ignore(rtpw_put_block(packet, sizeof packet, &to, 0xabac, given, 4));
+}
+static size_t given_len;
+static void is_token(void) {
+    (void)rtpw_is_token(given, given_len);
+}
+static void is_stream_id(void) {
+    (void)rtpw_is_stream_id(given, given_len);
+}
 static void accepts(void) {
     (void)rtpw_receiver_accepts(&receiver, 5);
 }
 static void wide_accepts(void) {
     (void)rtpw_wide_receiver_accepts(&wide, words, 2, 5);
 }
+static void wide_standing(void) {
+    (void)rtpw_wide_receiver_standing_of(&wide, words, 2, 5);
+}
+static void wide_record(void) {
+    rtpw_wide_receiver it = wide;
+    ignore(rtpw_wide_receiver_record(&it, words, 2, 5));
+}
+static void wide_receive(void) {
+    rtpw_wide_receiver it = wide;
+    uint64_t to;
+    ignore(rtpw_wide_receiver_receive(&it, words, 2, 5, &to));
+}
+static rtpw_wide_restarting_receiver restarting;
+static void wide_restarting(void) {
+    rtpw_wide_restarting_receiver it = restarting;
+    uint64_t to;
+    ignore(rtpw_wide_restarting_receive(&it, words, 2, 5, &to));
+}
 static void write_report(void) {
     size_t to;
     ignore(rtpw_write_report(&report, 1, 2, 3, buf, sizeof buf, &to));
 }
 static void from_retransmission(void) {
-    ignore(rtpw_from_retransmission(buf, LEN, &len, 1, 2, &ids));
+    uint8_t packet[LEN];
+    size_t to = LEN;
+    memcpy(packet, buf, LEN); /* also what isn't set of them */
+    ignore(rtpw_from_retransmission(packet, LEN, &to, 1, 2, &ids));
 }
 
 static void fields_of_a_packet(void) {
@@ -256,25 +294,79 @@ static void standards(void) {
     TOLD(report.jitter, write_report);
 }
 
-static void others(void) {
-    element.data_len = 1;
+/* Of elements that are written, and of what they are. */
+static void elements(void) {
+    element.data_len = 2;
+    element.data_at = 1;
     element.id = 3;
     TOLD(element.data_at, write_elements);
     TOLD(element.data_len, write_elements);
     TOLD(element.id, write_elements);
     QUIET(element.end, write_elements);
+    void (*const calls[])(void) = {write_given, write_with, make_template};
+    for (size_t i = 0; i < sizeof calls / sizeof *calls; i++) {
+        bytes("before the data", given, 1, calls[i], 0);
+        bytes("the data", given + 1, 2, calls[i], 1);
+        bytes("behind the data", given + 3, 1, calls[i], 0);
+    }
+    bytes("data of an element that is put", given, 4, put_given, 1);
+    bytes("a body", given, 4, put_block, 1);
+    memset(given, 'a', sizeof given);
+    void (*const texts[])(void) = {is_token, is_stream_id};
+    for (size_t i = 0; i < 2; i++) {
+        given_len = 255;
+        bytes("a text", given, 255, texts[i], 1);
+        given_len = 256;
+        bytes("one that is too long", given, 256, texts[i], 0);
+    }
+}
+
+/* Of each receiver of a group. */
+static void receivers_of_a_group(void) {
+    made.header_len = 24;
+    made.data_at[0] = 19;
+    made.data_len[0] = 2;
+    made.data_total = 2;
+    made.count = 1;
+    routed[1].data_at = 2;
+    for (int has = 0; has <= 1; has++) {
+        routed[1].is_retransmission = routed[1].fields.has_ssrc = (uint8_t)has;
+        TOLD(routed[1].data_at, write_headers);
+        TOLD(routed[1].fields.has_ssrc, write_headers);
+        bytes("ssrc", &routed[1].fields.ssrc, 4, write_headers, has);
+        bytes("original_number", &routed[1].original_number, 2, write_headers, has);
+        TOLD(routed[1].is_retransmission, write_headers);
+        TOLD(routed[1].clears_padding, write_headers);
+        QUIET(routed[1].at, write_headers); /* these three are written */
+        QUIET(routed[1].status, write_headers);
+        QUIET(routed[1].len, write_headers);
+    }
+    bytes("data of both", given, 4, write_headers, 1);
+    TOLD(made.header_len, write_headers);
+    TOLD(made.data_at[0], write_headers);
+    QUIET(made.data_at[1], write_headers);
+    TOLD(made.data_total, write_headers);
+    TOLD(made.count, write_headers);
+    TOLD(made.data_len[0], write_headers);
+    QUIET(made.data_len[1], write_headers);
+}
+
+static void receivers(void) {
+    void (*const calls[])(void) = {wide_accepts, wide_standing, wide_record, wide_receive};
     for (int started = 0; started <= 1; started++) {
-        receiver.started = wide.started = (uint8_t)started;
+        receiver.started = wide.started = restarting.started = (uint8_t)started;
         TOLD(receiver.highest, accepts);
         TOLD(receiver.started, accepts);
         bytes("recorded", &receiver.recorded_low, 16, accepts, started);
         TOLD(wide.highest, wide_accepts);
         TOLD(wide.started, wide_accepts);
-        bytes("words", words, sizeof words, wide_accepts, started);
+        for (size_t i = 0; i < sizeof calls / sizeof *calls; i++) {
+            bytes("words", words, sizeof words, calls[i], started);
+        }
+        bytes("words of one that restarts", words, sizeof words, wide_restarting, started);
     }
     /* Of the payload the number, and the padding's length. */
     memcpy(buf, datagram, LEN);
-    len = LEN;
     bytes("an original number", buf + 24, 2, from_retransmission, 1);
     bytes("a padding's length", buf + 26, 1, from_retransmission, 1);
 }
@@ -285,7 +377,9 @@ int main(void) {
     values();
     streams();
     standards();
-    others();
-    printf("%d fields\n", tried);
+    elements();
+    receivers_of_a_group();
+    receivers();
+    printf("%d bytes of fields\n", tried);
     return 0;
 }

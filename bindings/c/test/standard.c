@@ -45,6 +45,48 @@ static int has_written_nothing(void) {
     return len == 77;
 }
 
+/* 24 bits without a sign, each exact both ways. */
+static void send_times(void) {
+    static const struct {
+        uint8_t data[3];
+        uint32_t units;
+    } rows[] = {
+        {{0x00, 0x00, 0x00}, 0}, {{0x00, 0x00, 0x01}, 1}, {{0x01, 0x02, 0x03}, 66051}, {{0xFF, 0xFF, 0xFF}, 16777215},
+    };
+    /* The low 38 bits are those of the units and 14 zeros: 2^38 is 64 seconds. */
+    static const struct {
+        uint64_t near;
+        uint32_t units;
+        uint64_t sent;
+    } nearest[] = {
+        {0, 1, 0x4000},
+        {0, 0xFFFFFF, 0xFFFFFFFFFFFFC000},
+        {0, 0x800000, 0x2000000000}, /* 32 seconds after it and before it: the later one */
+        {0xFFFFFFFFFFFFFFFF, 0x800000, 0xFFFFFFE000000000},
+        {1, 0x800000, 0x2000000000},
+        {0, 0xAB000002, 0x8000},                            /* of the units the low 24 bits */
+        {0xE0000000C0000000, 0xFFFFFF, 0xDFFFFFFFFFFFC000}, /* 750 ms after the units begin anew */
+        {0xE000003FC0000000, 0x000001, 0xE000004000004000}, /* 250 ms before they do */
+        {0x123456789ABCDEF0, 0x159E26, 0x1234568567898000}, /* 12.8 s after it, and not 51.2 s before it */
+    };
+    uint8_t four[4] = {1, 2, 3, 4};
+    uint32_t units = 55;
+    size_t i;
+    for (i = 0; i < sizeof rows / sizeof *rows; i++) {
+        CHECK(rtpw_read_send_time(rows[i].data, 3, &units) == RTPW_OK && units == rows[i].units);
+        CHECK(rtpw_write_send_time(rows[i].units, buf, room_of(3), &len) == RTPW_OK && has_written(rows[i].data, 3));
+        CHECK(rtpw_write_send_time(rows[i].units, buf, room_of(2), &len) == RTPW_SHORT_BUFFER && has_written_nothing());
+    }
+    units = 55;
+    CHECK(rtpw_read_send_time(four, 4, &units) == RTPW_BAD_FIELD && units == 55);
+    CHECK(rtpw_read_send_time(four, 2, &units) == RTPW_BAD_FIELD && rtpw_read_send_time(NULL, 0, &units) == RTPW_BAD_FIELD);
+    CHECK(rtpw_write_send_time(0x1000000, buf, room_of(2), &len) == RTPW_BAD_FIELD && has_written_nothing());
+    CHECK(rtpw_write_send_time(0xFFFFFFFF, buf, room_of(40), &len) == RTPW_BAD_FIELD && has_written_nothing());
+    for (i = 0; i < sizeof nearest / sizeof *nearest; i++) {
+        CHECK(rtpw_extend_send_time(nearest[i].near, nearest[i].units) == nearest[i].sent);
+    }
+}
+
 /* 24 bits in two's complement. */
 static void transmission_offsets(void) {
     static const struct {
@@ -165,6 +207,29 @@ static void tokens(void) {
     CHECK(!rtpw_is_token((const uint8_t *)"a", 2)); /* the zero behind it */
 }
 
+/* RFC 8852, 3: ASCII letters and digits alone, where a=rid also takes - and _ (RFC 8851, 10). */
+static void stream_ids(void) {
+    static const char others[] = "\x01 !#*+-./:;<=>?@[\\]^_`{|}~\x7F\x80\xFF";
+    static const char taken[] = "0189AMZamz";
+    char text[2] = {0, 0};
+    uint8_t long_one[256];
+    size_t i;
+    for (i = 0; others[i] != '\0'; i++) {
+        text[0] = others[i];
+        CHECK(!rtpw_is_stream_id((const uint8_t *)text, 1));
+    }
+    for (i = 0; taken[i] != '\0'; i++) {
+        text[0] = taken[i];
+        CHECK(rtpw_is_stream_id((const uint8_t *)text, 1));
+    }
+    memset(long_one, '7', sizeof long_one);
+    CHECK(!rtpw_is_stream_id(NULL, 0) && rtpw_is_stream_id(long_one, 255) && !rtpw_is_stream_id(long_one, 256));
+    CHECK(!rtpw_is_stream_id((const uint8_t *)"cam-1", 5) && rtpw_is_stream_id((const uint8_t *)"cam1", 4));
+    CHECK(!rtpw_is_stream_id((const uint8_t *)"a", 2)); /* the zero behind it */
+    long_one[254] = '-';
+    CHECK(!rtpw_is_stream_id(long_one, 255) && rtpw_is_stream_id(long_one, 254));
+}
+
 /* Six times of two bytes, after a byte of flags or without. */
 static void timings(void) {
     static const uint8_t data[13] = {0x02, 0, 1, 0, 2, 0x12, 0x34, 0, 4, 0, 5, 0xFF, 0xFE};
@@ -200,7 +265,9 @@ static void transport_numbers(void) {
     CHECK(it.has_request == 0 && it.timestamps == 0 && it.packets == 0);
     memset(&it, 0xEE, sizeof it);
     CHECK(rtpw_read_transport_number(none, 4, &it) == RTPW_OK && it.number == 0x1234);
-    CHECK(it.has_request == 0 && it.timestamps == 0 && it.packets == 0);
+    CHECK(it.has_request == 1 && it.timestamps == 1 && it.packets == 0);
+    CHECK(rtpw_write_transport_number(&it, buf, room_of(4), &len) == RTPW_OK && has_written(none, 4));
+    it.has_request = 0;
     it.packets = 40000; /* not looked at */
     CHECK(rtpw_write_transport_number(&it, buf, room_of(2), &len) == RTPW_OK && has_written(data, 2));
     CHECK(rtpw_read_transport_number(most, 4, &it) == RTPW_OK && it.number == 0xFFFE);
@@ -208,8 +275,10 @@ static void transport_numbers(void) {
     CHECK(rtpw_write_transport_number(&it, buf, room_of(40), &len) == RTPW_OK && has_written(most, 4));
     it.packets = 32768;
     CHECK(rtpw_write_transport_number(&it, buf, room_of(4), &len) == RTPW_BAD_FIELD && has_written_nothing());
-    it.packets = 0;
+    it.packets = 65535;
     CHECK(rtpw_write_transport_number(&it, buf, room_of(3), &len) == RTPW_BAD_FIELD && has_written_nothing());
+    it.packets = 0;
+    CHECK(rtpw_write_transport_number(&it, buf, room_of(3), &len) == RTPW_SHORT_BUFFER && has_written_nothing());
     it.number = 9;
     CHECK(rtpw_read_transport_number(data, 3, &it) == RTPW_BAD_FIELD && it.number == 9);
 }
@@ -218,6 +287,7 @@ static void transport_numbers(void) {
 static void mixer_levels(void) {
     static const uint8_t data[4] = {0x7F, 0x8A, 0x00, 0x05}, written[3] = {0x7F, 0x0A, 0x00};
     static const int8_t levels[3] = {-127, -10, 0}, loud[2] = {-1, 1}, low[2] = {-128, -1};
+    static const int8_t many[256] = {-1, -2, -3, -4, -5, -6, -7, -8, -9, -10, -11, -12, -13, -14, -15};
     int8_t level = 55;
     CHECK(rtpw_read_mixer_level(data, 4, 3, 0, &level) == RTPW_OK && level == -127);
     CHECK(rtpw_read_mixer_level(data, 4, 3, 1, &level) == RTPW_OK && level == -10);
@@ -231,6 +301,10 @@ static void mixer_levels(void) {
     CHECK(rtpw_write_mixer_levels(loud, 2, buf, room_of(2), &len) == RTPW_BAD_FIELD && has_written_nothing());
     CHECK(rtpw_write_mixer_levels(low, 2, buf, room_of(1), &len) == RTPW_BAD_FIELD && has_written_nothing());
     CHECK(rtpw_write_mixer_levels(NULL, 0, buf, room_of(0), &len) == RTPW_OK && has_written(written, 0));
+    /* a packet has at most 15 sources */
+    CHECK(rtpw_write_mixer_levels(many, 15, buf, room_of(40), &len) == RTPW_OK && len == 15 && buf[14] == 15);
+    CHECK(rtpw_write_mixer_levels(many, 16, buf, room_of(40), &len) == RTPW_BAD_FIELD && has_written_nothing());
+    CHECK(rtpw_write_mixer_levels(many, 256, buf, room_of(0), &len) == RTPW_BAD_FIELD && has_written_nothing());
 }
 
 /* The first moment of 1970, and one half of a second and 2^-32 seconds after it. */
@@ -336,10 +410,12 @@ static void in_a_packet(void) {
 }
 
 int main(void) {
+    send_times();
     transmission_offsets();
     frame_markings();
     orientations();
     tokens();
+    stream_ids();
     timings();
     transport_numbers();
     mixer_levels();

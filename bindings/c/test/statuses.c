@@ -53,12 +53,13 @@ static void statuses_are_told(void) {
 
 static void versions_agree(void) {
     unsigned major, minor, patch;
-    char rest;
-    CHECK(strcmp(RTPW_VERSION, "1.0.0") == 0);
-    CHECK(sscanf(RTPW_VERSION, "%u.%u.%u%c", &major, &minor, &patch, &rest) == 3);
+    char rest[6] = "";
+    CHECK(strcmp(RTPW_VERSION, "1.1.0-dev") == 0);
+    CHECK(sscanf(RTPW_VERSION, "%u.%u.%u%5s", &major, &minor, &patch, rest) >= 3);
+    CHECK(strcmp(rest, "") == 0 || strcmp(rest, "-dev") == 0);
     CHECK(rtpw_version() == 65536 * major + 256 * minor + patch);
-    CHECK(rtpw_version() == 65536);
-    CHECK(RTPW_VERSION_NUMBER == 65536);
+    CHECK(rtpw_version() == 65792);
+    CHECK(RTPW_VERSION_NUMBER == 65792);
 }
 
 int main(void) {

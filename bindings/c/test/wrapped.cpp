@@ -59,7 +59,7 @@ void reads() {
     CHECK(data && same(*data, {0x8a}));
     CHECK(!rtpw::data_of_element(datagram, *packet, 4));
     CHECK(!rtpw::token(datagram, *packet, 3) && !rtpw::token(datagram, *packet, 4));
-    CHECK(rtpw::last_element(rtpw::body(datagram, *packet), RTPW_ONE_BYTE_FORM, 3)->data_at == 1);
+    CHECK((*rtpw::last_element(rtpw::body(datagram, *packet), RTPW_ONE_BYTE_FORM, 3)).data_at == 1);
     CHECK(rtpw::next_element(rtpw::body(datagram, *packet), RTPW_ONE_BYTE_FORM, 2).status() == status::none);
 
     const auto cut = rtpw::packet_parse({datagram.data(), 11});
@@ -171,7 +171,8 @@ void writes() {
     std::uint8_t uri[RTPW_URI_SIZE];
     CHECK(*rtpw::uri_of_kind(RTPW_KIND_MID, uri) == "urn:ietf:params:rtp-hdrext:sdes:mid");
     CHECK(rtpw::uri_of_kind(RTPW_KIND_MID, {uri, 34}).status() == status::short_buffer);
-    CHECK(rtpw::uri_of_kind(16, uri).status() == status::none);
+    CHECK(*rtpw::uri_of_kind(16, uri) == "urn:ietf:params:rtp-hdrext:csrc-audio-level");
+    CHECK(rtpw::uri_of_kind(21, uri).status() == status::none);
     rtpw_map changed = map;
     CHECK(rtpw::map_set(changed, 0, RTPW_KIND_MID) == status::bad_field);
 
@@ -207,7 +208,7 @@ void writes() {
     CHECK(*rtpw::left_out_layers(changed, header, layers) == *rtpw::left_out(changed, header));
     CHECK(*rtpw::left_out_layers(map, header, layers) == (*rtpw::left_out(map, header) | 1u << RTPW_KIND_LAYERS));
     rtpw_layers read;
-    CHECK(rtpw::parse_layers({buf, *with_layers}, changed, read)->values.has_layers);
+    CHECK((*rtpw::parse_layers({buf, *with_layers}, changed, read)).values.has_layers);
     CHECK(read.count == 1 && read.streams[0].layers[0].kbps[0] == 300);
 
     const std::uint8_t level[] = {9};
@@ -309,22 +310,32 @@ void standards() {
 
     const std::uint8_t text[] = {'c', '-', '1', ' '};
     CHECK(rtpw::is_token({text, 3}) && !rtpw::is_token(text) && !rtpw::is_token({}));
+    CHECK(rtpw::is_stream_id({text, 1}) && !rtpw::is_stream_id({text, 2}) && !rtpw::is_stream_id({}));
+
+    // 2 seconds and a quarter are 9 * 2^16 units; at 64 seconds and 2^-18 they begin anew.
+    const std::uint8_t sent[] = {9, 0, 0, 1};
+    CHECK(*rtpw::read_send_time({sent, 3}) == 0x090000 && *rtpw::read_send_time({sent + 1, 3}) == 1);
+    CHECK(rtpw::read_send_time(sent).status() == status::bad_field);
+    CHECK(*rtpw::write_send_time(0xfedcba, buf) == 3 && same({buf, 3}, {0xfe, 0xdc, 0xba}));
+    CHECK(rtpw::write_send_time(0x1000000, buf).status() == status::bad_field);
+    CHECK(rtpw::extend_send_time(0xe0000000c0000000, 0xffffff) == 0xdfffffffffffc000);
 
     const std::uint8_t times[] = {1, 0, 2, 0, 3, 1, 4, 0, 5, 0, 6, 0, 7};
     rtpw_timing timing = *rtpw::read_timing(times);
     CHECK(timing.flags == 1 && timing.has_flags == 1 && timing.encode_start == 2 && timing.encode_finish == 3);
     CHECK(timing.packetize_complete == 260 && timing.last_left_pacer == 5);
     CHECK(timing.network == 6 && timing.network2 == 7);
-    CHECK(!rtpw::read_timing({times + 1, 12})->has_flags);
+    CHECK(!(*rtpw::read_timing({times + 1, 12})).has_flags);
     timing.has_flags = 0;
     CHECK(*rtpw::write_timing(timing, buf) == 12 && same({buf, 12}, {0, 2, 0, 3, 1, 4, 0, 5, 0, 6, 0, 7}));
 
     const std::uint8_t requested[] = {1, 2, 0x80, 5};
     const auto number = rtpw::read_transport_number(requested);
     CHECK(number->number == 258 && number->has_request == 1 && number->timestamps == 1 && number->packets == 5);
-    CHECK(!rtpw::read_transport_number({requested, 2})->has_request);
+    CHECK(!(*rtpw::read_transport_number({requested, 2})).has_request);
     CHECK(*rtpw::write_transport_number({772, 6, 1, 0}, buf) == 4 && same({buf, 4}, {3, 4, 0, 6}));
-    CHECK(rtpw::write_transport_number({772, 0, 1, 0}, buf).status() == status::bad_field);
+    CHECK(*rtpw::write_transport_number({772, 0, 1, 1}, buf) == 4 && same({buf, 4}, {3, 4, 0x80, 0}));
+    CHECK(rtpw::write_transport_number({772, 32768, 1, 0}, buf).status() == status::bad_field);
 
     // Of two sources; the third byte is padding.
     const std::uint8_t mixed[] = {0x8a, 5, 0};
@@ -333,6 +344,8 @@ void standards() {
     const std::vector<std::int8_t> levels = {-1, -20, 0};
     CHECK(*rtpw::write_mixer_levels(levels, buf) == 3 && same({buf, 3}, {1, 20, 0}));
     CHECK(*rtpw::write_mixer_levels({levels.data(), 2}, buf) == 2 && *rtpw::write_mixer_levels({}, buf) == 0);
+    const std::vector<std::int8_t> of_16(16);
+    CHECK(rtpw::write_mixer_levels(of_16, buf).status() == status::bad_field);
 
     const std::uint8_t time[] = {1, 2, 3, 4, 5, 6, 7, 8};
     CHECK(*rtpw::read_ntp_64(time) == 0x0102030405060708);
@@ -416,17 +429,19 @@ void routes() {
     CHECK(rtpw::make_template(packet, ids, data, elements, {header, 19}).status() == status::short_buffer);
     std::array<rtpw_routed_header, 2> receivers{};
     receivers[1].data_at = 2;
-    receivers[1].at = 24;
     receivers[1].fields.has_ssrc = 1;
     receivers[1].fields.ssrc = 46;
     std::uint8_t headers[48];
-    CHECK(rtpw::make_template(packet, ids, data, elements, header, RTPW_TWO_BYTE_FORM)->data_at[0] == 21);
+    CHECK((*rtpw::make_template(packet, ids, data, elements, header, RTPW_TWO_BYTE_FORM)).data_at[0] == 21);
     CHECK(same({header + 12, 12}, {0x10, 0, 0, 2, 3, 1, 0xAA, 4, 2, 0, 7, 0}));
     CHECK(rtpw::make_template(packet, ids, data, elements, header).status() == status::ok);
     CHECK(rtpw::write_headers(*made, header, data, receivers, headers) == status::ok);
     CHECK(same({headers + 24, 24},
                {0x90, 96, 0, 5, 0, 0, 0, 100, 0, 0, 0, 46, 0xBE, 0xDE, 0, 2, 0x30, 0xAA, 0x41, 0, 8, 0, 0, 0}));
-    CHECK(status(receivers[0].status) == status::ok);
+    CHECK(same({headers, 24},
+               {0x90, 96, 0, 5, 0, 0, 0, 100, 0, 0, 0, 44, 0xBE, 0xDE, 0, 2, 0x30, 0xAA, 0x41, 0, 7, 0, 0, 0}));
+    CHECK(status(receivers[0].status) == status::ok && receivers[0].at == 0 && receivers[0].len == 24);
+    CHECK(status(receivers[1].status) == status::ok && receivers[1].at == 24 && receivers[1].len == 24);
     CHECK(rtpw::write_headers(*made, {header, 23}, data, receivers, headers) == status::bad_field);
 
     // The first gets a retransmission (RFC 4588, 4) of the packet 0x0102, and for its number there are two bytes more.
@@ -434,15 +449,19 @@ void routes() {
     receivers[0].fields.sequence_number = 9;
     receivers[0].original_number = 0x0102;
     receivers[0].is_retransmission = 1;
-    receivers[1].at = 26;
     std::array<std::uint8_t, 50> both{};
     packet[0] |= 0x20; // P, which stays in the other one
     CHECK(rtpw::make_template(packet, ids, data, elements, header).status() == status::ok);
     CHECK(rtpw::write_headers(*made, header, data, receivers, both) == status::ok);
     CHECK(same({both.data(), 27}, {0x90, 96, 0,    9,    0,    0, 0, 100, 0, 0, 0, 44, 0xBE, 0xDE,
                                    0,    2,  0x30, 0xAA, 0x41, 0, 7, 0,   0, 0, 1, 2,  0xB0}));
+    CHECK(receivers[0].at == 0 && receivers[0].len == 26 && receivers[1].at == 26 && receivers[1].len == 24);
+    receivers[1].clears_padding = 1;
+    CHECK(rtpw::write_headers(*made, header, data, receivers, both) == status::ok && both[26] == 0x90);
+    // Where the first one has no room, the other one begins at the front.
     CHECK(rtpw::write_headers(*made, header, data, receivers, {both.data(), 25}) == status::ok);
-    CHECK(status(receivers[0].status) == status::short_buffer);
+    CHECK(status(receivers[0].status) == status::short_buffer && receivers[0].len == 0 && receivers[1].at == 0);
+    CHECK(status(receivers[1].status) == status::ok && both[11] == 46);
 }
 
 // What a call doesn't write is zeros, whatever stood in the memory; and so is what it wrote before it was refused.
@@ -604,8 +623,11 @@ void ids() {
     const rtpw_new_ids between = rtpw::new_ids_between(map, level_is_3());
     CHECK(between.id[5] == 0 && between.id[3] == 0 && rtpw::new_ids_between(map, map).id[6] == 6);
     CHECK(rtpw::id_of(map, RTPW_KIND_MID) == 0 && rtpw::id_of(map, RTPW_KIND_REPAIRED_RID) == 6);
-    CHECK(rtpw::map_get(map, 7) == RTPW_KIND_NONE && rtpw::map_set(map, 5, 16) == status::bad_field);
-    CHECK(rtpw::map_set(map, 5, RTPW_KIND_NONE) == status::ok && rtpw::map_get(map, 5) == RTPW_KIND_NONE);
+    CHECK(rtpw::map_get(map, 7) == RTPW_KIND_NONE && rtpw::map_set(map, 5, 21) == status::bad_field);
+    CHECK(rtpw::map_set(map, 5, RTPW_KIND_NONE) == status::bad_field && rtpw::map_get(map, 5) == RTPW_KIND_RID);
+    CHECK(rtpw::map_set(map, 5, RTPW_KIND_NTP_56) == status::ok && rtpw::map_get(map, 5) == RTPW_KIND_NTP_56);
+    rtpw::map_remove(map, 5);
+    CHECK(rtpw::map_get(map, 5) == RTPW_KIND_NONE && rtpw::map_get(map, 6) == RTPW_KIND_REPAIRED_RID);
 }
 
 // A header has a block for values that can't be written too, and each text has a place and a length of its own.
@@ -673,11 +695,11 @@ void bits_of_numbers() {
     const std::uint8_t body[] = {3, 1, 0x8a, 0};
     const auto values = rtpw::values_read(body, RTPW_TWO_BYTE_FORM, level_is_3());
     CHECK(values && values->has_audio_level && values->audio_level == -10);
-    CHECK(!rtpw::values_read(body, RTPW_ONE_BYTE_FORM, level_is_3())->has_audio_level);
+    CHECK(!(*rtpw::values_read(body, RTPW_ONE_BYTE_FORM, level_is_3())).has_audio_level);
     CHECK(rtpw::values_read(body, RTPW_OTHER_FORM, level_is_3()).status() == status::bad_field);
-    CHECK(rtpw::next_element(body, RTPW_TWO_BYTE_FORM, 0)->end == 3);
+    CHECK((*rtpw::next_element(body, RTPW_TWO_BYTE_FORM, 0)).end == 3);
     CHECK(rtpw::next_element(body, RTPW_TWO_BYTE_FORM, 3).status() == status::none);
-    CHECK(rtpw::last_element(body, RTPW_TWO_BYTE_FORM, 3)->data_at == 2);
+    CHECK((*rtpw::last_element(body, RTPW_TWO_BYTE_FORM, 3)).data_at == 2);
 
     const std::uint64_t count = 0x8765'4321'0fed;
     rtpw_receiver receiver = *rtpw::receiver_start(count);
@@ -707,6 +729,29 @@ void bits_of_numbers() {
     CHECK(same({buf.data(), 12}, {0x91, 127, 0xe1, 0xe2, 0, 0, 3, 4, 0xd1, 0xd2, 0xd3, 0xd4}));
     CHECK(rtpw::from_retransmission(buf, len, 0xf1f2f3f4, 126, none) == status::ok);
     CHECK(same({buf.data(), 12}, {0x91, 126, 1, 2, 0, 0, 3, 4, 0xf1, 0xf2, 0xf3, 0xf4}));
+}
+
+// URIs that the library doesn't know have the same numbers in each map, and their elements go on.
+void own_uris() {
+    rtpw::own_uris uris;
+    rtpw_map publisher{}, subscriber{};
+    CHECK(uris.set(publisher, 1, "urn:example:one") == status::ok);
+    CHECK(uris.set(publisher, 2, "urn:ietf:params:rtp-hdrext:sdes:mid") == status::ok);
+    CHECK(uris.set(publisher, 3, "urn:example:two") == status::ok);
+    CHECK(uris.set(subscriber, 7, "urn:example:two") == status::ok);
+    CHECK(uris.set(subscriber, 8, "urn:example:one") == status::ok);
+    CHECK(publisher.kind[1] == RTPW_KIND_OWN && publisher.kind[2] == RTPW_KIND_MID && publisher.kind[3] == 129);
+    const rtpw_new_ids between = rtpw::new_ids_between(publisher, subscriber);
+    CHECK(between.id[1] == 8 && between.id[2] == 0 && between.id[3] == 7);
+    CHECK((uris.unknown() == std::vector<std::string>{"urn:example:one", "urn:example:two"}));
+    CHECK(uris.kind_of("urn:example:two") == 129 && uris.kind_of("urn:example:three") == RTPW_KIND_NONE);
+    CHECK(uris.kind_of("urn:3gpp:video-orientation") == RTPW_KIND_VIDEO_ORIENTATION);
+    CHECK(uris.set(publisher, 0, "urn:example:three") == status::bad_field && uris.unknown().size() == 2);
+    for (int i = 2; i < 128; i++) {
+        CHECK(uris.set(publisher, 4, std::to_string(i)) == status::ok && publisher.kind[4] == RTPW_KIND_OWN + i);
+    }
+    CHECK(uris.set(publisher, 5, "128") == status::bad_field && publisher.kind[5] == RTPW_KIND_NONE);
+    CHECK(uris.set(publisher, 5, "127") == status::ok && publisher.kind[5] == 255);
 }
 
 // Spans are made of what has values, and of none.
@@ -742,5 +787,6 @@ int main() {
     headers_with_values();
     windows();
     bits_of_numbers();
+    own_uris();
     spans();
 }

@@ -182,6 +182,7 @@ void alike_numbers() {
     CHECK(rtpw::extend_u16(one, u16) == rtpw_extend_u16(one, u16) &&
           rtpw::extend_u32(one, u32) == rtpw_extend_u32(one, u32));
     CHECK(rtpw::extend_ntp_56(one, other) == rtpw_extend_ntp_56(one, other));
+    CHECK(rtpw::extend_send_time(one, u32) == rtpw_extend_send_time(one, u32));
     rtpw_receiver receiver{}, its;
     alike(rtpw::result<std::int32_t>([&](std::int32_t *it) { return *it = 1, rtpw_receiver_start(&receiver, one); }),
           static_cast<std::int32_t>(rtpw::receiver_start(one).status()), std::int32_t{1});
@@ -248,6 +249,8 @@ void alike_values() {
     alike_written( \
         below(32), [&](buffer to) { return rtpw::write_##name(value, to); }, \
         [&](std::uint8_t *to, std::size_t n, std::size_t *len) { return rtpw_write_##name(passed, to, n, len); })
+    WRITTEN(send_time, static_cast<std::uint32_t>(time), static_cast<std::uint32_t>(time));
+    WRITTEN(send_time, u16, u16);
     WRITTEN(transmission_offset, static_cast<std::int32_t>(time), static_cast<std::int32_t>(time));
     WRITTEN(ntp_64, time, time);
     WRITTEN(ntp_56, time, time);
@@ -276,7 +279,10 @@ void alike_values() {
     std::uint16_t original = 0;
     const std::size_t count = static_cast<std::size_t>(number()),
                       index = below(3) == 0 ? static_cast<std::size_t>(number()) : below(16);
-    std::int32_t is = rtpw_read_transmission_offset(bytes, size, &offset);
+    std::uint32_t units = 0;
+    std::int32_t is = rtpw_read_send_time(bytes, size, &units);
+    alike(rtpw::read_send_time(data), is, units);
+    is = rtpw_read_transmission_offset(bytes, size, &offset);
     alike(rtpw::read_transmission_offset(data), is, offset);
     is = rtpw_read_ntp_64(bytes, size, &read);
     alike(rtpw::read_ntp_64(data), is, read);
@@ -286,6 +292,7 @@ void alike_values() {
     alike(rtpw::read_mixer_level(data, count, index), is, level);
     is = rtpw_read_original(bytes, size, &original);
     alike(rtpw::read_original(data), is, original);
+    CHECK(rtpw::is_stream_id(data) == rtpw_is_stream_id(bytes, size));
     CHECK(rtpw::is_token(data) == rtpw_is_token(bytes, size) &&
           rtpw::has_structure(data) == rtpw_has_structure(bytes, size));
     CHECK(rtpw::is_rtcp(data) == rtpw_is_rtcp(bytes, size));
@@ -304,7 +311,7 @@ void alike_values() {
     layers.count = layers.streams[0].count = layers.streams[0].layers[0].rates = 1;
     layers.streams[0].layers[0].kbps[0] = time;
     const std::size_t room = below(300);
-    const auto kind = static_cast<std::uint8_t>(below(18));
+    const auto kind = static_cast<std::uint8_t>(below(23));
     alike_written(
         room, [&](buffer to) { return rtpw::write(map, header, to); },
         [&](std::uint8_t *to, std::size_t n, std::size_t *len) { return rtpw_write(&map, &header, to, n, len); });
@@ -358,6 +365,9 @@ void alike_values() {
     CHECK(static_cast<std::int32_t>(rtpw::map_set(one, id, any)) == rtpw_map_set(&other, id, any));
     CHECK(std::memcmp(&one, &other, sizeof one) == 0 && rtpw::map_get(one, id) == rtpw_map_get(&other, id));
     CHECK(rtpw::id_of(one, any) == rtpw_id_of(&other, any));
+    rtpw::map_remove(one, id);
+    rtpw_map_remove(&other, id);
+    CHECK(std::memcmp(&one, &other, sizeof one) == 0);
     const rtpw_new_ids ids[] = {rtpw::new_ids_between(map, one), rtpw::new_ids_to_retransmission(one),
                                 rtpw::new_ids_from_retransmission(one)};
     rtpw_new_ids others[3];
@@ -443,12 +453,12 @@ void alike_routes() {
     std::array<rtpw_routed_header, 3> receivers{};
     for (rtpw_routed_header &it : receivers) {
         it.data_at = below(40);
-        it.at = below(500);
         it.fields.ssrc = static_cast<std::uint32_t>(draw());
         it.fields.payload_type = static_cast<std::uint8_t>(below(140));
         it.fields.has_ssrc = it.fields.has_payload_type = static_cast<std::uint8_t>(below(2));
         it.original_number = static_cast<std::uint16_t>(draw());
         it.is_retransmission = static_cast<std::uint8_t>(below(3) == 0 ? draw() : 0);
+        it.clears_padding = static_cast<std::uint8_t>(below(2));
         it.status = 77;
     }
     auto their_receivers = receivers;
@@ -461,6 +471,7 @@ void alike_routes() {
     CHECK(headers == their_headers);
     for (std::size_t i = 0; i < 3; i++) {
         CHECK(receivers[i].status == their_receivers[i].status);
+        CHECK(receivers[i].at == their_receivers[i].at && receivers[i].len == their_receivers[i].len);
     }
 }
 

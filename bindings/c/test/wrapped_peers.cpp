@@ -146,7 +146,7 @@ void blocks_are_changed() {
     CHECK(rtpw::renumber(buf, ids) == status::ok);
     CHECK(buf == joined(with, {0x10, 0, 0, 2, 200, 1, 0xAA, 15, 1, 0xBB, 0, 0, 9}));
     CHECK(rtpw::remove_element(buf, 200) == status::ok && rtpw::remove_element(buf, 15) == status::ok);
-    CHECK(rtpw::compact(buf, len) == status::ok && len == 17 && rtpw::packet_parse({buf.data(), len})->body_len == 0);
+    CHECK(rtpw::compact(buf, len) == status::ok && len == 17 && (*rtpw::packet_parse({buf.data(), len})).body_len == 0);
     CHECK(rtpw::remove_block(buf, len) == status::ok && len == 13);
     buf.resize(len);
     CHECK(buf == joined(without, {9}));
@@ -154,7 +154,7 @@ void blocks_are_changed() {
 
 void kinds_have_uris() {
     std::uint8_t uri[RTPW_URI_SIZE];
-    for (std::uint8_t kind = RTPW_KIND_ABS_SEND_TIME; kind <= RTPW_KIND_LAYERS; kind++) {
+    for (std::uint8_t kind = RTPW_KIND_ABS_SEND_TIME; kind <= RTPW_KIND_NTP_56; kind++) {
         const auto told = rtpw::uri_of_kind(kind, uri);
         CHECK(told && rtpw::kind_of_uri(*told) == kind);
     }
