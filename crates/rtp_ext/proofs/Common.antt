@@ -46,9 +46,9 @@ pub use Rattle.rtp_ext.specs.ElementsInPlace.{HasNone, HasLast, SetsLast, CanRen
 pub use Rattle.rtp_ext.specs.ExtensionMap.{Entry, Slots, IsEmpty, IsId, ListsItems, Sets, entry_at, extension_at, extension_of, is_of_medium, of_medium, unlocked, items_from, mapped_count, IsLocked, IsUnlocked, IsRising, HasNoIdAbove, Exchanges, IsRenumbered, IsLockedAt, locked, IsLowest, Remaps, AreRemapped, same_slot, moved, HasNoText, IsUnmapped, IsOnlyId, item_text, items_text, locked_elsewhere}
 pub use Rattle.rtp_ext.specs.IdChanges.{carries_id, ids_of, HasOtherIds, HasOtherIdsTo}
 pub use Rattle.rtp_ext.specs.KindsById.{entry_of_kind, slots_of, is_layers, layers_count, known_alone, known_entry, known_slots, is_long_item, has_long_data, has_empty}
-pub use Rattle.rtp_ext.specs.LastAllocation.{IsLastAllocation, last_is, none_is, EndsRow, IsReadTo}
+pub use Rattle.rtp_ext.specs.LastAllocation.{IsLastAllocation, last_is, none_is, EndsRow, EndsBefore, IsPastRow, IsReadTo, IsReadPastRow}
 pub use Rattle.rtp_ext.specs.MapSlots.{IsMapped, mapped_ids, updated, Puts, Swaps, items_at, inserted, RiseAbove}
-pub use Rattle.rtp_ext.specs.Memory.{HasAllocation, ReadUntilRefused, IsStopped}
+pub use Rattle.rtp_ext.specs.Memory.{IsAllocation, HasAllocation, ReadUntilRefused, IsStopped}
 pub use Rattle.rtp_ext.specs.NewIds.{IsNewId, id_in_byte, byte_of_id, AreNewBytes, new_id, AreNewIds, CarriesExtensions, ids_in_bytes, IsRenamedId, AreRenamedIds, Renames}
 pub use Rattle.rtp_ext.specs.PutElement.{has_id, without, put_element, row_to, IsSole}
 pub use Rattle.rtp_ext.specs.WrittenBlock.{needs_two, form_of, written_elements, image_values, fields_of_items, mapped_fields, TakesAtMost17Each, HasFewData}

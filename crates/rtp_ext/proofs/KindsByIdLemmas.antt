@@ -1,5 +1,5 @@
 -- The known extensions by their ids: what a table of kinds shows, and what the known extensions of a map read.
-use Rattle.rtp_ext.proofs.Common.{◌≡◌, ℕ, ◌+◌, ◌-◌, suc, zero, List, [], ◌∷◌, length, map, replicate, set, get_or, Option, Some, None, All, arith, ap, refl, sym, ◌∙◌, subst, get_or-map, map-set, Extension, UnknownUri, KnownKind, ExtensionValues, IsKnown, IsWellFormed, one_kind, Element, Entry, Slots, IsEmpty, IsId, entry_at, extension_at, extension_of, entry_of_kind, slots_of, known_alone, known_entry, known_slots, IsMapped, Carries, AreFields, last, none, AreValues, ReadElements, HasAllocation, ReadUntilRefused, All-weaker}
+use Rattle.rtp_ext.proofs.Common.{◌≡◌, ℕ, ◌+◌, ◌-◌, suc, zero, List, [], ◌∷◌, length, map, replicate, set, get_or, Option, Some, None, All, arith, ap, refl, sym, ◌∙◌, subst, get_or-map, map-set, Extension, UnknownUri, VideoLayersAllocation, KnownKind, ExtensionValues, IsKnown, IsWellFormed, one_kind, Element, Entry, Slots, IsEmpty, IsId, entry_at, extension_at, extension_of, entry_of_kind, slots_of, known_alone, known_entry, known_slots, IsMapped, Carries, AreFields, last, none, AreValues, ReadElements, HasAllocation, ReadUntilRefused, All-weaker}
 use Rattle.rtp_ext.proofs.MapLemmas.{entry_at-map}
 
 -- ---- the table
@@ -132,6 +132,10 @@ HasAllocation-known exts known elements is has = record {
   is_allocation = (
     known_slots-back exts has.element.0 _ (ap (λ (slots : Slots). extension_at slots has.element.0) (sym is) ∙ has.is_allocation.0),
     has.is_allocation.1,
+  );
+  begins_row = λ earlier previous in_front allocation. has.begins_row earlier previous in_front (
+    ap (λ (slots : Slots). extension_at slots previous.0) is ∙ known_slots-keep exts previous.0 VideoLayersAllocation tt allocation.0,
+    allocation.1,
   );
 }
 

@@ -1,5 +1,5 @@
 -- Rows of layer allocations, and the values once the last of a row was read in place of all.
-use Rattle.rtp_ext.proofs.Common.{◌≡◌, ◌≢◌, ◌≤◌, ℕ, inl, inr, ◌↔◌, Bool, false, not, IsTrue, List, ◌∷◌, ◌++◌, length, Option, Some, None, Result, Ok, Err, IsOk, IfOk, All, append-nil, ap, refl, sym, ◌∙◌, subst, [], option_map, option_eq, sameb, false≢true, the_type, AllocError, All-append, All-cons, All-push, All-nil, append_assoc, Extension, VideoLayersAllocation, KnownKind, extension_of_kind, ExtensionValues, Reads, SameFields, IsWellFormed, ReadsInto, Reads-same, SameFields-refl, SameFields-trans, SameFields-others, same_or_not, one_kind, Element, Slots, extension_at, Carries, AreFields, last, none, ReadElements, ReadUntilRefused, IsLastAllocation, last_is, none_is, EndsRow, IsReadTo}
+use Rattle.rtp_ext.proofs.Common.{◌≡◌, ◌≢◌, ◌≤◌, ◌<◌, arith, drop, length-append, cases_lt, nil_from_length, ℕ, inl, inr, ◌↔◌, Bool, false, not, IsTrue, List, ◌∷◌, ◌++◌, length, Option, Some, None, Result, Ok, Err, IsOk, IfOk, All, append-nil, ap, refl, sym, ◌∙◌, subst, [], option_map, option_eq, sameb, false≢true, the_type, AllocError, All-append, All-cons, All-push, All-nil, append_assoc, Extension, VideoLayersAllocation, KnownKind, extension_of_kind, ExtensionValues, Reads, SameFields, IsWellFormed, ReadsInto, Reads-same, SameFields-refl, SameFields-trans, SameFields-others, same_or_not, one_kind, Element, Slots, extension_at, Carries, AreFields, last, none, ReadElements, ReadUntilRefused, IsAllocation, IsLastAllocation, last_is, none_is, EndsRow, EndsBefore, IsPastRow, IsReadTo, IsReadPastRow}
 use Rattle.rtp_values.specs.declared.known_kind.KnownKind.TheVariants as known
 use Rattle.rtp_ext.proofs.ValuesLaws.{ReadElements-none}
 
@@ -187,17 +187,73 @@ IsReadTo-end Shows exts elements left old new ended was =
     subst (λ es. ReadElements Shows exts es old new)
     (sym (was.elements_are ∙ ap (λ es. was.done ++ es) ended ∙ append-nil was.done)) was.values_are
 
+-- ---- where memory is taken: once for a row
+
+-- the last of the elements is the last of those behind the first ones
+last-behind : (done others earlier : List Element) (first previous : Element) → done ++ first ∷ others ≡ earlier ++ previous ∷ []
+    → (between : List Element) × (first ∷ others ≡ between ++ previous ∷ [])
+last-behind [] others earlier first previous is = (earlier, is)
+last-behind (x ∷ done) others [] first previous is =
+    absurd (omega (arith, ap length is, length-append done (first ∷ others)))
+last-behind (x ∷ done) others (y ∷ earlier) first previous is =
+    last-behind done others earlier first previous (ap (drop 1) is)
+
+-- the last of one element is that element
+only-last : (earlier : List Element) (element previous : Element) → element ∷ [] ≡ earlier ++ previous ∷ [] → previous ≡ element
+only-last [] element previous is = cc
+only-last (x ∷ earlier) element previous is = absurd (omega (arith, ap length is, length-append earlier (previous ∷ [])))
+
+-- nothing was passed
+IsPastRow-start : (exts : Slots) (left : List Element) → IsPastRow exts [] left
+IsPastRow-start exts left earlier previous is allocation = absurd (omega (arith, ap length is, length-append earlier (previous ∷ [])))
+
+-- an element that takes no memory was passed
+pub IsPastRow-other : (exts : Slots) (left : List Element) (element : Element) → (IsAllocation exts element → ⊥) → IsPastRow exts (element ∷ []) left
+IsPastRow-other exts left element not_one earlier previous is allocation =
+    absurd (not_one (subst (IsAllocation exts) (only-last earlier element previous is) allocation))
+
+-- a row was passed, which its first element alone makes where that takes no memory
+pub IsPastRow-row : (exts : Slots) (elements row left : List Element) (element : Element) → elements ≡ row ++ left
+    → (2 ≤ length element.1 → EndsBefore exts left) → (length element.1 < 2 → left ≡ elements) → IsPastRow exts (element ∷ row) left
+IsPastRow-row exts elements row left element parts whole short = elim (cases_lt (length element.1) 2) [
+  | inl few ↦
+      let alone : row ≡ [] = nil_from_length row (omega (arith, ap length parts, ap length (short few), length-append row left)) in
+      subst (λ es. IsPastRow exts (element ∷ es) left) (sym alone) (IsPastRow-other exts left element (λ allocation. omega (arith, few, allocation.1.1)))
+  | inr many ↦ λ earlier previous is allocation. whole (omega (arith, many))
+]
+
+pub IsReadPastRow-start : {V : Type 0} (Shows : V → ExtensionValues → Type 0) (exts : Slots) (elements : List Element) (old : V)
+    → IsReadPastRow Shows exts elements elements old old
+unfolding IsReadTo-start
+IsReadPastRow-start Shows exts elements old = record {
+  is_read = IsReadTo-start Shows exts elements old;
+  past_row = IsPastRow-start exts elements;
+}
+
+-- these elements are passed too
+pub IsReadPastRow-more : {V : Type 0} (Shows : V → ExtensionValues → Type 0) (exts : Slots) (elements left next others : List Element) (first : Element) (old between new : V)
+    → left ≡ (first ∷ others) ++ next → ReadElements Shows exts (first ∷ others) between new → IsPastRow exts (first ∷ others) next
+    → IsReadPastRow Shows exts elements left old between → IsReadPastRow Shows exts elements next old new
+unfolding IsReadTo-more
+IsReadPastRow-more Shows exts elements left next others first old between new is reads past was = record {
+  is_read = IsReadTo-more Shows exts elements left next (first ∷ others) old between new is reads was.is_read;
+  past_row = λ earlier previous last_is allocation.
+      let behind = last-behind was.is_read.done others earlier first previous last_is in
+      past behind.0 previous behind.1 allocation;
+}
+
 -- memory was refused to an allocation
-pub IsReadTo-refused : {V : Type 0} (Shows : V → ExtensionValues → Type 0) (exts : Slots) (elements left next : List Element) (element : Element) (old between new : V)
+pub IsReadPastRow-refused : {V : Type 0} (Shows : V → ExtensionValues → Type 0) (exts : Slots) (elements left next : List Element) (element : Element) (old between new : V)
     → left ≡ element ∷ next → extension_at exts element.0 ≡ Some VideoLayersAllocation → 2 ≤ length element.1 → new ≡ between
-    → IsReadTo Shows exts elements left old between → ReadUntilRefused Shows exts elements old new
-IsReadTo-refused Shows exts elements left next element old between new is mapped long unchanged was = record {
+    → IsReadPastRow Shows exts elements left old between → ReadUntilRefused Shows exts elements old new
+IsReadPastRow-refused Shows exts elements left next element old between new is mapped long unchanged was = record {
   at = record {
-    before = was.done;
+    before = was.is_read.done;
     element = element;
     after = next;
-    elements_are = was.elements_are ∙ ap (λ es. was.done ++ es) is;
+    elements_are = was.is_read.elements_are ∙ ap (λ es. was.is_read.done ++ es) is;
     is_allocation = (mapped, (refl, long));
+    begins_row = λ earlier previous last_is allocation. was.past_row earlier previous last_is allocation element next is mapped;
   };
-  values_are = subst (λ v. ReadElements Shows exts was.done old v) (sym unchanged) was.values_are;
+  values_are = subst (λ v. ReadElements Shows exts was.is_read.done old v) (sym unchanged) was.is_read.values_are;
 }

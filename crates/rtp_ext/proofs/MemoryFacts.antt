@@ -1,5 +1,6 @@
--- Worked rows of maps whose copy takes no memory, computed from the definitions.
-use Rattle.rtp_ext.proofs.Common.{List, ℕ, zero, suc, [], ◌∷◌, Some, None, refl, ap, subst, AudioLevel, ColorSpace, UnknownUri, IsKnown, one_kind, Slots, HasNoText, IsEmpty, extension_of, locked, unlocked}
+-- Worked rows of memory, computed from the definitions: maps whose copy takes none, and rows of allocations.
+use Rattle.rtp_ext.proofs.Common.{List, ℕ, zero, suc, [], ◌∷◌, Some, None, refl, ap, subst, AudioLevel, ColorSpace, UnknownUri, IsKnown, one_kind, Slots, HasNoText, IsEmpty, extension_of, locked, unlocked, arith, VideoLayersAllocation}
+use Rattle.rtp_ext.specs.Memory.{BeginsRow}
 
 -- an empty map
 empty_row : (map : Slots) → IsEmpty map → HasNoText map
@@ -19,3 +20,7 @@ unknown_row uri all = all 2 (UnknownUri uri) refl
 
 locked_unknown_row : (uri : List ℕ) → HasNoText (None ∷ Some (locked (UnknownUri uri)) ∷ []) → ⊥
 locked_unknown_row uri all = all 2 (UnknownUri uri) refl
+
+-- of two allocations that follow one another the second begins no row
+second_row : BeginsRow (Some (unlocked VideoLayersAllocation) ∷ []) ((1, 0 ∷ 1 ∷ []) ∷ []) → ⊥
+second_row begins = begins [] (1, 0 ∷ 1 ∷ []) refl (refl, (refl, omega arith))

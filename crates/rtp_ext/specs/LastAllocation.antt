@@ -1,11 +1,12 @@
 -- A row of layer allocations in a block: the last well-formed one is read in place of all of them.
-use Rattle.std.specs.Prelude.{◌≡◌, ◌≢◌, ◌≤◌, List, ◌∷◌, ◌++◌, ℕ, length, All, Some}
+use Rattle.std.specs.Prelude.{◌≡◌, ◌≢◌, ◌≤◌, List, [], ◌∷◌, ◌++◌, ℕ, length, All, Some}
 use Rattle.rtp_values.specs.declared.kind.Extension.{Extension}
 use Rattle.rtp_values.specs.declared.kind.Extension.TheVariants.{VideoLayersAllocation}
 use Rattle.rtp_values.specs.declared.value.values.ExtensionValues.{ExtensionValues}
 use Rattle.rtp_ext.specs.Elements.{Element}
 use Rattle.rtp_ext.specs.ExtensionMap.{Slots, extension_at}
 use Rattle.rtp_ext.specs.BlockValues.{Carries, ReadElements}
+use Rattle.rtp_ext.specs.Memory.{IsAllocation}
 
 -- the bytes are the data of the last element that carries an allocation, and the first data where none does
 pub data IsLastAllocation (exts : Slots) (elements : List Element) (first bytes : List ℕ) : Type 0 where
@@ -30,8 +31,18 @@ abbrev pub EndsBefore : Slots → List Element → Type 0
 EndsBefore exts left = (element : Element) (after : List Element) → left ≡ element ∷ after
     → extension_at exts element.0 ≢ Some VideoLayersAllocation
 
+-- where the last of the elements that were passed takes memory, its row has ended before those that are left
+abbrev pub IsPastRow : Slots → List Element → List Element → Type 0
+IsPastRow exts done left = (earlier : List Element) (previous : Element) → done ≡ earlier ++ previous ∷ []
+    → IsAllocation exts previous → EndsBefore exts left
+
 -- the elements up to those that are left were read into the values
 pub record IsReadTo {V : Type 0} (Shows : V → ExtensionValues → Type 0) (exts : Slots) (elements left : List Element) (old new : V) : Type 0 where
   pub done : List Element
   pub elements_are : elements ≡ done ++ left
   pub values_are : ReadElements Shows exts done old new
+
+-- the same, and no row of allocations goes on in those that are left
+pub record IsReadPastRow {V : Type 0} (Shows : V → ExtensionValues → Type 0) (exts : Slots) (elements left : List Element) (old new : V) : Type 0 where
+  pub is_read : IsReadTo Shows exts elements left old new
+  pub past_row : IsPastRow exts is_read.done left

@@ -1,6 +1,6 @@
 //! The values of a block of header extensions, as the map's kinds read them.
 
-ghost use Rattle.std.specs.Prelude.{◌≡◌, ◌≤◌, ◌∷◌, ℕ, List, true, false, length, is_some, Some, IsOk, IsErr, IfOk, IfSome, OnOk, OnErr, IsTrue, ◌↔◌};
+ghost use Rattle.std.specs.Prelude.{◌≡◌, ◌<◌, ◌≤◌, ◌∷◌, ℕ, List, true, false, length, is_some, Some, IsOk, IsErr, IfOk, IfSome, OnOk, OnErr, IsTrue, ◌↔◌};
 ghost use Rattle.std.specs.Bool.{OnTrue, OnFalse};
 ghost use Rattle.rtp_ext.specs.Elements.{Element, AreElements};
 ghost use Rattle.rtp_ext.specs.Memory.{HasAllocation, IsStopped, ReadUntilRefused};
@@ -82,6 +82,7 @@ fn read_in<K: Kinds, V: SetValues>(
 fn last_in_row<'a, K: Kinds>(exts: &K, first: &'a [u8], elements: &mut Elements<'a>) -> &'a [u8]
     ensures row { EndsRow (K.known exts.now) first.now elements.old elements.new result.now }
     ensures whole { 2 ≤ length first.now → EndsBefore (K.known exts.now) elements.new }
+    ensures short { length first.now < 2 → elements.new ≡ elements.old }
 {
     let mut last = first;
     if first.len() < 2 {
@@ -243,8 +244,9 @@ impl ExtensionMap {
     /// read all the same.
     ///
     /// Only an element of two bytes or more whose id is mapped to the layer allocation takes
-    /// memory. Where the call returns the error, the values are those that the elements before one
-    /// such element give.
+    /// memory, and of such elements that follow one another one alone. Where the call returns the
+    /// error, the values are those that the elements before one such element give, which is the
+    /// first of those that follow one another.
     ///
     /// With id 1 mapped to the audio level, the body `10 AA 37 00` of the one-byte form sets a
     /// level of -42 with voice. The element of id 3 is cut short.

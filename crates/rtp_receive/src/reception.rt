@@ -1,6 +1,6 @@
 //! Statistics of the packets that came from a source, and what is reported of them.
 
-ghost use Rattle.std.specs.Prelude.{◌≡◌, ◌+◌, ◌-◌, ◌*◌, ◌/◌, ◌^◌, ◌<◌, ◌≤◌, ◌↔◌, List, [], ◌∷◌, None, IfSome, pos, ◌-ℤ◌};
+ghost use Rattle.std.specs.Prelude.{◌≡◌, ◌+◌, ◌-◌, ◌*◌, ◌/◌, ◌^◌, ◌<◌, ◌≤◌, ◌↔◌, List, [], ◌∷◌, length, None, IfSome, pos, ◌-ℤ◌};
 ghost use Rattle.rtp_receive.specs.Reception.{ReceivedPacket, IsFractionLost, in_24_bits, extended_from, difference, IsReportOn};
 ghost use Rattle.rtp_receive.specs.ReceptionState.{AreOf};
 
@@ -116,8 +116,9 @@ impl ReceptionStatistics {
     }
 
     /// Reports on the packets that were recorded, and begins the interval of the next report.
-    /// `None` where none was recorded since the last report, since no report on the source is owed
-    /// then (6.4); nothing changes.
+    /// `None` where none was counted since the last report, since no report on the source is owed
+    /// then (6.4); nothing changes. Once a report was made on 2^64 - 1 packets or more, the count
+    /// doesn't rise, and it is always `None`.
     pub fn report(&mut self) -> Option<ReceptionReport>
         ensures report { (packets reported : List ReceivedPacket) →
             AreOf packets reported self.old →
@@ -129,6 +130,10 @@ impl ReceptionStatistics {
         // `received` is how many came, and `received_before` how many by the last report.
         ensures none { (result ≡ None) ↔ (self.old.received ≡ self.old.received_before) }
         ensures unchanged { result ≡ None → self.new ≡ self.old }
+
+        // Where 2^64 - 1 were counted by the last report, no later one adds to the count.
+        ensures ended { (packets reported : List ReceivedPacket) →
+            AreOf packets reported self.old → 2 ^ 64 - 1 ≤ length reported → result ≡ None }
     {
         if self.received == self.received_before {
             return None;

@@ -1,8 +1,9 @@
 //! Padding that is put behind the payload of a packet in a buffer.
 
-ghost use Rattle.std.specs.Prelude.{◌≡◌, ◌+◌, ◌<◌, ℕ, length, drop, true, false, IsNone, IfSome, IfNone};
+ghost use Rattle.std.specs.Prelude.{◌≡◌, ◌+◌, ◌<◌, ℕ, length, drop, true, false, Some, IsNone, IfSome, IfNone};
+ghost use Rattle.rtp_base.specs.Overwriting.{overwritten};
 ghost use Rattle.rtp_wire.specs.AddedPadding.{with_padding, IsAddedCount};
-ghost use Rattle.rtp_wire.specs.Padding.{IsPaddingLength};
+ghost use Rattle.rtp_wire.specs.Padding.{padding_bytes, with_padding_bit, IsPaddingLength};
 
 use super::RtpPacketBuf;
 use crate::payload::try_create_padding_packet;
@@ -24,9 +25,17 @@ impl<'a> RtpPacketBuf<'a> {
             parts_within self.new ≡ with_padding count (parts_within self.old)) }
         ensures count { IfSome result (IsAddedCount pad_len block_size) }
         ensures length { IfSome result (λ count. len_of self.new ≡ len_of self.old + count) }
+        ensures written { IfSome result (λ count. 0 < pad_len → (whole_of self.new).now
+            ≡ overwritten (with_padding_bit (whole_of self.old).now) (len_of self.old)
+            (padding_bytes count)) }
         ensures behind { IfSome result (λ _. drop (len_of self.new) (whole_of self.new).now
             ≡ drop (len_of self.new) (whole_of self.old).now) }
         ensures padded { (parts_within self.old).has_padding ≡ true → IsNone result }
+        ensures nothing { (parts_within self.old).has_padding ≡ false → pad_len ≡ 0 →
+            result ≡ Some 0 }
+        ensures same { pad_len ≡ 0 → StaysWhole self.old self.new }
+
+        // With a block size of 0 there is no such length.
         ensures refused { IfNone result ((parts_within self.old).has_padding ≡ false → (n : ℕ) →
             IsPaddingLength pad_len block_size n →
             length (whole_of self.old).now < len_of self.old + n) }

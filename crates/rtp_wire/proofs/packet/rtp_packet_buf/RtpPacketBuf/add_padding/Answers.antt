@@ -29,3 +29,9 @@ pub returns-clause-behind : goal.returns-clause-behind
 returns-clause-behind c =
     behind-all c.args.self.now.buf.now c.try_create_padding_packet.new.buf c.args.self.now.len c.in_ok-count.count c.args.pad_len c.args.block_size
     (λ none. same_Some _ _ (c.in_ok-count.ensures.nothing none)) c.in_ok-count.ensures.same c.in_ok-count.ensures.length c.in_ok-count.ensures.written c.in_ok-count.ensures.room c.args.self.now.room c.as_packet.ensures.is_packet
+
+pub returns-clause-same : goal.returns-clause-same
+returns-clause-same c none = record {
+  len_is = omega (arith, same_Some _ _ (c.in_ok-count.ensures.nothing none));
+  bytes_are = c.in_ok-count.ensures.same none;
+}
