@@ -1,6 +1,5 @@
 use Rattle.rtp_c.proofs.Common.{arith}
 use Rattle.rtp_route.specs.Calls as calls
-use Rattle.rtp_c.specs.StoredTemplate.{slots_of}
 use Rattle.rtp_c.proofs.InTurnLemmas.{AreHeadersWrittenTo-next, AreHeadersWrittenTo-end, are-apart, end-within}
 use Rattle.rtp_c.proofs.routed_headers.rtpw_write_headers.Goals as goal
 

@@ -1,4 +1,4 @@
-use Rattle.rtp_c.proofs.Common.{◌≡◌, ℕ, ◌+◌, ◌-◌, ◌++◌, length, take, drop, refl, ap, ◌∙◌, arith, length-take, length-drop}
+use Rattle.rtp_c.proofs.Common.{◌≡◌, ℕ, ◌+◌, ◌-◌, ◌++◌, length, take, drop, ap, ◌∙◌, arith, length-take, length-drop}
 use Rattle.rtp_base.proofs.OverwritingLemmas.{overwritten-copied}
 use Rattle.rtp_route.specs.Calls as calls
 use Rattle.rtp_route.proofs.ByCallsLemmas.{header_in-length}

@@ -7,7 +7,7 @@ use Rattle.rtp_wire.proofs.PartsLemmas.{length-packet}
 use Rattle.rtp_route.specs.Calls as calls
 use Rattle.rtp_route.specs.Template.{slot_lengths, total_of, pieces}
 use Rattle.rtp_c.specs.PacketView.{slice_at}
-use Rattle.rtp_c.specs.RoutedHeaders.{IsReceivers, IsReceiversAgain, IsServed, data_of, len_for}
+use Rattle.rtp_c.specs.RoutedHeaders.{IsReceivers, IsReceiversAgain, data_of, len_for}
 use Rattle.rtp_c.specs.SetFields.{fields_given, CanBeSet}
 use Rattle.rtp_c.specs.StoredTemplate.{slots_of}
 use Rattle.rtp_route.proofs.ByCallsLemmas.{alone_parts, header-is, header-alone, header_in-length}
