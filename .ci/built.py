@@ -10,7 +10,7 @@ from pathlib import Path
 
 TOP = Path(__file__).resolve().parent.parent
 # What comes of the proved code, or of a build: nothing here is about it.
-MADE = re.compile(r"(rtp_wire\.h|\.s|\.S|\.so|\.prefix)$|(^|/)(out|target|__pycache__|wrong)/")
+MADE = re.compile(r"(rtp_wire\.h|names\.h|\.s|\.S|\.so|\.prefix)$|(^|/)(out|target|__pycache__|wrong)/")
 COMMON = ("bindings/c/rtp_wire.h", "bindings/c/rtp_wire_sanitized.h", "bindings/test", "captures")
 # What the examples are compared by.
 BESIDE = ("captures", *(f"bindings/test/{it}" for it in ("examples.sh", "sanitized.sh", "sfu_*.c", "by_hand.*")))

@@ -136,7 +136,9 @@ if [ -n "$proves" ]; then
     # The packages with the text of what was proved now.
     mkdir -p "$scratch/bindings/rust"
     cp -r "$go" "$scratch/bindings"
-    cp "$here/out/build-x86_64-unknown-linux-gnu/rtp_wire.s" "$scratch/$go/rtp_wire_linux_amd64.S"
+    # shellcheck source=generated/copies.sh
+    (top=$PWD && . generated/copies.sh && copy_of bindings/out/build-x86_64-unknown-linux-gnu/rtp_wire.s "$go/rtp_wire_linux_amd64.S") \
+        >"$scratch/$go/rtp_wire_linux_amd64.S"
     go=$scratch/$go
     cp -r "$rust" "$scratch/bindings/rust"
     for it in s prefix; do

@@ -10,6 +10,7 @@ generated/rtp_wire-aarch64.s bindings/rust/rtp-wire/assembly/rtp_wire-aarch64.s
 generated/rtp_wire-aarch64.s bindings/rust/rtp-wire/assembly/rtp_wire-aarch64.prefix
 bindings/c/rtp_wire.h bindings/rust/rtp-wire/tests/rtp_wire.h
 bindings/c/rtp_wire.h bindings/go/rtp_wire.h
+bindings/c/rtp_wire.h bindings/go/names.h
 generated/rtp_wire-x86_64.s bindings/go/rtp_wire_linux_amd64.S
 generated/rtp_wire-aarch64.s bindings/go/rtp_wire_linux_arm64.S
 LICENSE-APACHE bindings/rust/rtp-wire/LICENSE-APACHE
@@ -27,7 +28,17 @@ prefix_of() { # text
     printf 'rtp_%.8s_' "$(sha256sum <"$top/$1")"
 }
 
-# What a copy has: the file, or in a text for Rust other names and labels, and beside it what these begin with.
+# The names of the functions in the package for Go, which its texts and its calls both read: with a digest of the texts,
+# for the same reason.
+go_names() { # header file
+    local texts
+    texts=$(cat -- "$top"/generated/rtp_wire-*.s | sha256sum)
+    echo '/* The names of the functions in this package. Made by: generated/make --copies */'
+    sed -nE "/^static /!s/^[A-Za-z].*\\<rtpw_([a-z0-9_]+)\\(.*/#define rtpw_\\1 rtpw_go_${texts:0:8}_\\1/p" -- "$top/$1"
+}
+
+# What a copy has: the file, or in a text for Rust other names and labels, and beside it what these begin with, and in one
+# for Go first the names.
 copy_of() { # file, its copy
     local prefix
     case $2 in
@@ -37,6 +48,8 @@ copy_of() { # file, its copy
         sed -E -e "/^\t\.(ascii|section)\t/!s/\"([^\"]*)\"/\"$prefix\1\"/g" \
             -e "/^\t\.(ascii|section)\t/!{s/\.Lrtp_/.L$prefix/g; s/\<(rtpw|rtp_proved)_([a-z])/$prefix\1_\2/g}" -- "$top/$1"
         ;;
+    bindings/go/names.h) go_names "$1" ;;
+    bindings/go/*.S) echo '#include "names.h"' && cat -- "$top/$1" ;;
     *) cat -- "$top/$1" ;;
     esac
 }

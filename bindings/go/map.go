@@ -110,7 +110,8 @@ func (m *Map) Set(id uint8, kind Kind) error {
 // the library doesn't know has a kind of its own ([Kind.IsOwn]), the same in all maps of the program that are made so:
 // its elements go from one to the other ([NewIDsBetween]). There is room for 128 such URIs, and any further one makes
 // the id mean nothing, and KindNone is returned: so a server whose peers are strangers has [OwnURIs] for each call. It
-// returns ErrBadField, and changes nothing, where the id is 0.
+// returns ErrBadField, and changes nothing, where the id is 0, or [OwnURIs.SetURI] gave the map kinds of its own and the
+// URI isn't known.
 func (m *Map) SetURI(id uint8, uri string) (Kind, error) {
 	return ownURIs.SetURI(m, id, uri)
 }
