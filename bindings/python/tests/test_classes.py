@@ -417,7 +417,7 @@ class Calls(unittest.TestCase):
                 self.assertIs(Kind.from_uri(uri), Kind.NONE, repr(uri))
                 own = OwnUris()
                 map = Map.from_uris({4: uri, 5: level}, own)
-                self.assertEqual((map, list(own)), (Map({4: Kind.OWN, 5: Kind.AUDIO_LEVEL}), [uri]))
+                self.assertEqual((map, list(own)), (Map({4: Kind(255), 5: Kind.AUDIO_LEVEL}), [uri]))
         self.assertIs(Kind.from_uri(MID), Kind.MID)
         self.assertIs(Kind.from_uri("urn:\u0131etf:params:rtp-hdrext:sdes:mid"), Kind.NONE)
         for other, told in ((5, "int"), (None, "NoneType"), (b"urn:x", "bytes")):

@@ -83,8 +83,8 @@ class Passing(unittest.TestCase):
 class Tables(unittest.TestCase):
     def test_each_has_128_numbers(self) -> None:
         own, uris = OwnUris(), of_many(128)
-        self.assertEqual([int(own.kind_of(uri)) for uri in uris], list(range(128, 256)))
-        self.assertEqual([int(own.kind_of(uri)) for uri in reversed(uris)], list(range(255, 127, -1)))
+        self.assertEqual([int(own.kind_of(uri)) for uri in uris], list(range(255, 127, -1)))
+        self.assertEqual([int(own.kind_of(uri)) for uri in reversed(uris)], list(range(128, 256)))
         self.assertEqual((own.kind_of("urn:y"), own.kind_of(MID), len(own)), (Kind.NONE, Kind.MID, 128))
         self.assertEqual(list(own), uris)
         self.assertEqual(repr(OwnUris(["urn:y", MID, "urn:z"])), "OwnUris(['urn:y', 'urn:z'])")
@@ -96,7 +96,7 @@ class Tables(unittest.TestCase):
         with self.assertWarnsRegex(RuntimeWarning, r"ids have no entry \(Map.left_out\)") as warned:
             map = Map.from_uris({1: "urn:y", 2: MID, 3: "urn:z", 4: "urn:x:5", 5: "urn:y"}, own)
         self.assertEqual(warned.filename, __file__)
-        self.assertEqual(dict(map), {1: 255, 2: Kind.MID, 4: 133, 5: 255})
+        self.assertEqual(dict(map), {1: 128, 2: Kind.MID, 4: 250, 5: 128})
         wanted = {1: "urn:y", 4: "urn:x:5", 5: "urn:y"}
         with self.assertWarns(RuntimeWarning):
             copied = copy.copy(map)
@@ -107,7 +107,7 @@ class Tables(unittest.TestCase):
         self.assertEqual((map.left_out, map.unknown), ({}, wanted))
         with warnings.catch_warnings():
             warnings.simplefilter("error")
-            self.assertEqual(Map.from_uris({9: "urn:y"}, own)[9], 255)
+            self.assertEqual(Map.from_uris({9: "urn:y"}, own)[9], 128)
 
     def test_one_for_each_call(self) -> None:
         # what strangers say in one call takes no number of another one's
@@ -115,7 +115,7 @@ class Tables(unittest.TestCase):
             for _ in range(3):
                 own = OwnUris()
                 sender, receiver = Map.from_uris({1: "urn:y"}, own), Map.from_uris({2: "urn:z", 3: "urn:y"}, own)
-                self.assertEqual((NewIds.between(sender, receiver), sender[1]), (NewIds({1: 3}), Kind.OWN))
+                self.assertEqual((NewIds.between(sender, receiver), sender[1]), (NewIds({1: 3}), 255))
             with self.assertWarns(RuntimeWarning):
                 self.assertEqual(Map.from_uris({1: "urn:y"}), Map())
 
@@ -131,6 +131,14 @@ class Tables(unittest.TestCase):
             self.assertEqual(NewIds.between(Map.from_uris(offer, one), receiver), wanted)
         # a number by hand is that of whoever sets it
         self.assertEqual(NewIds.between(Map.from_uris(offer, one), Map({5: one.kind_of("urn:y")})), NewIds({2: 5}))
+
+    def test_numbers_by_hand_are_others(self) -> None:
+        # a program that gives its extensions numbers from Kind.OWN on, and lets the others have theirs
+        for own in (OwnUris(), OwnUris(of_many(100))):
+            sender = Map.from_uris({1: "urn:x:mine", 2: "urn:y", 3: "urn:z"}, own)
+            receiver = Map.from_uris({4: "urn:z", 5: "urn:x:mine", 6: "urn:y"}, own)
+            sender[1] = receiver[5] = Kind.OWN
+            self.assertEqual(NewIds.between(sender, receiver), NewIds({1: 5, 2: 6, 3: 4}))
 
     def test_what_is_refused_takes_no_number(self) -> None:
         own: Any = OwnUris()
@@ -196,7 +204,7 @@ class Copies(unittest.TestCase):
     def test_a_table_is_copied(self) -> None:
         own = OwnUris(of_many(3))
         for made in (copy.copy(own), copy.deepcopy(own), pickle.loads(pickle.dumps(own))):
-            self.assertEqual((list(made), made.kind_of("urn:y"), len(own)), (of_many(3), 131, 3))
+            self.assertEqual((list(made), made.kind_of("urn:y"), len(own)), (of_many(3), 252, 3))
         for made in (copy.copy(OWN_URIS), copy.deepcopy(OWN_URIS), pickle.loads(pickle.dumps(OWN_URIS))):
             self.assertIs(made, OWN_URIS)
 

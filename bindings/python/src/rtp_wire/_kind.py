@@ -109,17 +109,17 @@ def kind_number(kind: int) -> int:
 
 
 class OwnUris:
-    """Numbers of your own, from `Kind.OWN` on, for URIs that the library doesn't know: each gets one when it is first
-    asked for, and keeps it. So the maps of two peers have one number for what both agreed on, and its elements go from
-    one to the other. There are 128.
+    """Numbers of your own, `Kind.OWN` to `Kind(255)`, for URIs that the library doesn't know: each gets one when it is
+    first asked for, and keeps it. So the maps of two peers have one number for what both agreed on, and its elements go
+    from one to the other. There are 128, which are given from 255 down: those that you set by hand, from Kind.OWN on,
+    stay apart from them, or are asked for here.
 
     `Map.from_uris` takes those of the process, `OWN_URIS`, where it is given no others. A server that takes SDPs from
-    strangers makes one for each call: nobody's URIs then use up the numbers of all. Where you have numbers by hand too,
-    ask for them here, so that no URI gets one of these. Threads may share one.
+    strangers makes one for each call: nobody's URIs then use up the numbers of all. Threads may share one.
 
     >>> own = OwnUris()
-    >>> [own.kind_of(uri).name for uri in ("urn:x", "urn:y", "urn:x", "urn:ietf:params:rtp-hdrext:sdes:mid")]
-    ['OWN', 'OWN + 1', 'OWN', 'MID']
+    >>> [int(own.kind_of(uri)) for uri in ("urn:x", "urn:y", "urn:x", "urn:ietf:params:rtp-hdrext:sdes:mid")]
+    [255, 254, 255, 12]
     """
 
     __slots__ = ("_kinds", "_lock")
@@ -140,7 +140,7 @@ class OwnUris:
             return known
         with self._lock:
             if uri not in self._kinds and len(self._kinds) < 256 - Kind.OWN:
-                self._kinds[uri] = Kind(Kind.OWN + len(self._kinds))
+                self._kinds[uri] = Kind(255 - len(self._kinds))
             return self._kinds.get(uri, Kind.NONE)
 
     def __len__(self) -> int:
@@ -148,7 +148,7 @@ class OwnUris:
         return len(self._kinds)
 
     def __iter__(self) -> Iterator[str]:
-        """The URIs that have a number, from that of Kind.OWN on."""
+        """The URIs that have a number, from that of 255 down."""
         return iter(list(self._kinds))
 
     def __repr__(self) -> str:
