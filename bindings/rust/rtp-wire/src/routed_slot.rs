@@ -40,8 +40,9 @@ impl RoutedSlot {
         }
     }
 
-    /// A receiver that gets a retransmission ([`HeaderTemplate::write_retransmission`]) of the packet with this original
-    /// number. Its header is two bytes longer than that of the others.
+    /// A receiver that gets a retransmission of the packet with this original number
+    /// ([`HeaderTemplate::write_retransmission`](crate::HeaderTemplate::write_retransmission)). Its header is two bytes
+    /// longer than that of the others.
     ///
     /// ```
     /// use rtp_wire::{Fields, Group, HeaderTemplate, NewIds, Packet, RoutedSlot};
@@ -98,7 +99,8 @@ impl RoutedSlot {
     ///
     /// # Errors
     ///
-    /// Those of [`HeaderTemplate::write_headers`]; [`NotWritten::BadField`] also where that wasn't called yet.
+    /// Those of [`HeaderTemplate::write_headers`](crate::HeaderTemplate::write_headers); [`NotWritten::BadField`] also
+    /// where that wasn't called yet.
     #[inline]
     pub fn range(&self) -> Result<Range<usize>, NotWritten> {
         NotWritten::of_status(self.status)?;
