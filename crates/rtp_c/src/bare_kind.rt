@@ -66,18 +66,33 @@ impl BareKind {
         }
     }
 
+    // Whether this URI names the kind.
+    fn has_uri(self, uri: &str) -> bool
+        ensures { IsTrue result ↔ (bare_uri self ≡ uri.now) }
+    {
+        self.uri() == uri
+    }
+
     // The kind that this URI names.
     pub fn from_uri(uri: &str) -> Option<Self>
         ensures found { IfSome result (λ kind. bare_uri kind ≡ uri.now) }
         ensures none { IfNone result ((kind : Kind) → bare_uri kind ≢ uri.now) }
     {
-        let kinds = [
-            BareKind::MixerLevels,
-            BareKind::TransportNumber2,
-            BareKind::DependencyDescriptor,
-            BareKind::Ntp64,
-            BareKind::Ntp56,
-        ];
-        kinds.into_iter().find(|kind| kind.uri() == uri)
+        if BareKind::MixerLevels.has_uri(uri) {
+            return Some(BareKind::MixerLevels);
+        }
+        if BareKind::TransportNumber2.has_uri(uri) {
+            return Some(BareKind::TransportNumber2);
+        }
+        if BareKind::DependencyDescriptor.has_uri(uri) {
+            return Some(BareKind::DependencyDescriptor);
+        }
+        if BareKind::Ntp64.has_uri(uri) {
+            return Some(BareKind::Ntp64);
+        }
+        if BareKind::Ntp56.has_uri(uri) {
+            return Some(BareKind::Ntp56);
+        }
+        None
     }
 }

@@ -181,14 +181,25 @@ fn can_be_texts(view: &ValuesView) -> bool
         && can_be_text(view.has_repaired_rid, &view.repaired_rid)
 }
 
-// Whether each audio level, orientation, time and text that is there is one.
+// Whether the level, the orientation and the times that are there are such.
 #[inline(always)]
-pub fn can_be_given(view: &ValuesView) -> bool
-    ensures { IsTrue result ↔ CanBeGiven view.now }
+fn can_be_numbers(view: &ValuesView) -> bool
+    ensures { IsTrue result ↔ ((0 < view.now.has_audio_level → IsLevel view.now.audio_level)
+        × (0 < view.now.has_video_orientation
+        → degrees_of (turn_of view.now.video_orientation) ≡ view.now.video_orientation)
+        × (0 < view.now.has_playout_delay_min → 0 < view.now.playout_delay_min.hertz)
+        × (0 < view.now.has_playout_delay_max → 0 < view.now.playout_delay_max.hertz)) }
 {
     can_be_level(view.has_audio_level, view.audio_level)
         && can_be_orientation(view.has_video_orientation, view.video_orientation)
         && can_be_time(view.has_playout_delay_min, &view.playout_delay_min)
         && can_be_time(view.has_playout_delay_max, &view.playout_delay_max)
-        && can_be_texts(view)
+}
+
+// Whether each audio level, orientation, time and text that is there is one.
+#[inline(always)]
+pub fn can_be_given(view: &ValuesView) -> bool
+    ensures { IsTrue result ↔ CanBeGiven view.now }
+{
+    can_be_numbers(view) && can_be_texts(view)
 }

@@ -1,54 +1,81 @@
-use Rattle.std.proofs.Common.{rules, ◌≡◌, ◌<◌, ◌++◌, ◌∙◌, ℕ, List, length, drop, Some, None, refl, sym, ap, subst, arith}
-use Rattle.rtp_values.specs.declared.known_kind.KnownKind.{KnownKind}
-use Rattle.rtp_c.specs.KindNumbers.{kind_number, kind_numbered, uri_of, IsKindNumbered}
-use Rattle.rtp_c.proofs.KindNumberLemmas.{number_of_kind, numbered_is}
-use Rattle.rtp_base.proofs.OverwritingLemmas.{overwritten-front}
+use Rattle.rtp_c.proofs.Common.{rules, ◌≡◌, ◌<◌, ◌⊎◌, ◌++◌, ◌∙◌, ◌↔◌, ℕ, ℤ, pos, inl, inr, List, length, drop, Some, None, refl, sym, ap, subst, w32, to_z, of_z, ok, none, short_buffer, KnownKind}
+use Rattle.rtp_c.specs.declared.bare_kind.BareKind.{BareKind}
+use Rattle.rtp_c.specs.KindNumbers.{kind_number, kind_numbered, bare_number, NumberedKind, Known, Bare, number_of, uri_of, IsKindNumbered}
+use Rattle.rtp_c.specs.StandardData.{StandAtFront}
+use Rattle.rtp_c.proofs.KindNumberLemmas.{number_of_kind, numbered_is, one_numbered}
 use Rattle.rtp_c.proofs.map.rtpw_uri_of_kind.Goals as goal
 
--- the kind of a number is the one that has it
-found_kind : (number : ℕ) (known k : KnownKind) → Some known ≡ kind_numbered number → kind_number k ≡ number → known ≡ k
-found_kind number known k found is = let both : Some known ≡ Some k = found ∙ ap kind_numbered (sym is) ∙ number_of_kind k in cc
+-- the number of the known kind that a number has
+known_number : (number : ℕ) (known : KnownKind) → Some known ≡ kind_numbered number → kind_number known ≡ number
+known_number number known found = subst (IsKindNumbered number) (sym found) (numbered_is number)
 
-no_kind : (number : ℕ) (k : KnownKind) → None ≡ kind_numbered number → kind_number k ≡ number → ⊥
-no_kind number k found is = let both : None ≡ Some k = found ∙ ap kind_numbered (sym is) ∙ number_of_kind k in cc
+-- no kind has a number that is that of neither
+no_kind : (number : ℕ) → None ≡ kind_numbered number → ((kind : BareKind) → bare_number kind ≡ number → ⊥) → (k : NumberedKind) → number_of k ≡ number → ⊥
+no_kind number found none (Known kind) is = let both : None ≡ Some kind = found ∙ ap kind_numbered (sym is) ∙ number_of_kind kind in cc
+no_kind number found none (Bare kind) is = none kind is
 
-its_number : (number : ℕ) (known : KnownKind) → Some known ≡ kind_numbered number → kind_number known ≡ number
-its_number number known found = subst (IsKindNumbered number) (sym found) (numbered_is number)
+-- ---- the status of what was put
 
-pub returns-in_default-clause-short : goal.returns-in_default-clause-short
-returns-in_default-clause-short c k is = (λ same. cc, λ _. absurd (no_kind c.args.kind k c.in_default.ensures is))
+told : ℤ → ℤ
+told status = to_z w32 (of_z w32 status)
 
-pub returns-in_default-clause-none : goal.returns-in_default-clause-none
-returns-in_default-clause-none c = (λ _ k is. no_kind c.args.kind k c.in_default.ensures is, λ _. refl)
+is_told : (status : ℤ) → (status ≡ ok) ⊎ (status ≡ short_buffer) → told status ≡ status
+unfolding told
+is_told status (inl is) = let same : told status ≡ ok = ap told is in same ∙ sym is
+is_told status (inr is) = let same : told status ≡ short_buffer = ap told is in same ∙ sym is
 
-pub returns-then-buf-uri-clause-short : goal.returns-then-buf-uri-clause-short
-returns-then-buf-uri-clause-short c k is =
-    let uri_is : c.as_bytes-uri.result.now ≡ uri_of c.in-Some.known = search rules in
-    let same = found_kind c.args.kind c.in-Some.known k c.in-Some.ensures is in (
-      λ _. subst (λ (bytes : List ℕ). length c.args.buf.now < length bytes) (uri_is ∙ ap uri_of same) c.if-buf-uri.true,
-      λ _. refl,
-    )
+never_none : (status : ℤ) → (status ≡ ok) ⊎ (status ≡ short_buffer) → told status ≡ none → ⊥
+never_none status (inl is) same = let wrong : pos 0 ≡ pos 11 = sym is ∙ sym (is_told status (inl is)) ∙ same in cc
+never_none status (inr is) same = let wrong : pos 8 ≡ pos 11 = sym is ∙ sym (is_told status (inr is)) ∙ same in cc
 
-pub returns-then-buf-uri-clause-none : goal.returns-then-buf-uri-clause-none
-returns-then-buf-uri-clause-none c = (λ same k is. cc, λ none. absurd (none c.in-Some.known (its_number c.args.kind c.in-Some.known c.in-Some.ensures)))
+module _ (found k : NumberedKind) (bytes : List ℕ) (uri : bytes ≡ uri_of found) (same : number_of k ≡ number_of found) where
+  uri_is : bytes ≡ uri_of k
+  uri_is = uri ∙ ap uri_of (one_numbered found k (sym same))
+
+  put_uri : (old new : List ℕ) (len : ℕ) → StandAtFront bytes old new len → (new ≡ uri_of k ++ drop len old) × (len ≡ length (uri_of k))
+  put_uri old new len stand = (
+    stand.written ∙ ap (λ (them : List ℕ). them ++ drop len old) uri_is,
+    stand.len_is ∙ ap length uri_is,
+  )
+
+  short_uri : (room : ℕ) (status : ℤ) → (status ≡ ok) ⊎ (status ≡ short_buffer) → (status ≡ short_buffer) ↔ (room < length bytes)
+      → (told status ≡ short_buffer) ↔ (room < length (uri_of k))
+  short_uri room status statuses short = (
+    λ is. subst (λ (them : List ℕ). room < length them) uri_is (short.0 (sym (is_told status statuses) ∙ is)),
+    λ less. is_told status statuses ∙ short.1 (subst (λ (them : List ℕ). room < length them) (sym uri_is) less),
+  )
+
+pub returns-in-Some-numbered-clause-none : goal.returns-in-Some-numbered-clause-none
+unfolding told
+returns-in-Some-numbered-clause-none c = (
+  λ is. absurd (never_none c.put_data.result c.put_data.ensures.statuses is),
+  λ nothing. absurd (nothing (Bare c.in-Some-numbered.bare) c.in-Some-numbered.ensures.found),
+)
+
+pub returns-in-None-clause-short : goal.returns-in-None-clause-short
+returns-in-None-clause-short c k is = absurd (no_kind c.args.kind c.in_default.ensures c.in-None.ensures.none k is)
+
+pub returns-in-None-clause-none : goal.returns-in-None-clause-none
+returns-in-None-clause-none c = (λ _ k is. no_kind c.args.kind c.in_default.ensures c.in-None.ensures.none k is, λ _. refl)
 
 pub returns-clause-written : goal.returns-clause-written
-returns-clause-written c k is _ =
-    let buf = c.args.buf.now in
-    let uri = c.as_bytes-uri.result.now in
-    let uri_is : uri ≡ uri_of c.in-Some.known = search rules in
-    let bytes : uri ≡ uri_of k = uri_is ∙ ap uri_of (found_kind c.args.kind c.in-Some.known k c.in-Some.ensures is) in
-    let end : c.put.result ≡ length (uri_of k) = omega (arith, c.put.ensures.end, ap length bytes) in (
-      c.put.ensures.written ∙ overwritten-front buf uri ∙ ap (λ (them : List ℕ). them ++ drop (length them) buf) bytes
-          ∙ ap (λ (n : ℕ). uri_of k ++ drop n buf) (sym end),
-      end,
-    )
+unfolding told
+returns-clause-written c k is done =
+    let uri : c.as_bytes-2.result.now ≡ uri_of (Known c.in-Some.known) = search rules in
+    let same = is ∙ sym (known_number c.args.kind c.in-Some.known c.in-Some.ensures) in
+    put_uri (Known c.in-Some.known) k c.as_bytes-2.result.now uri same c.args.buf.now c.put_data-2.new.buf c.put_data-2.new.len
+    (c.put_data-2.ensures.written (sym (is_told c.put_data-2.result c.put_data-2.ensures.statuses) ∙ done))
 
 pub returns-clause-short : goal.returns-clause-short
+unfolding told
 returns-clause-short c k is =
-    let uri_is : c.as_bytes-uri.result.now ≡ uri_of c.in-Some.known = search rules in
-    let bytes = uri_is ∙ ap uri_of (found_kind c.args.kind c.in-Some.known k c.in-Some.ensures is) in
-    (λ same. cc, λ short. absurd (omega (arith, short, c.if-buf-uri.false, ap length bytes)))
+    let uri : c.as_bytes-2.result.now ≡ uri_of (Known c.in-Some.known) = search rules in
+    let same = is ∙ sym (known_number c.args.kind c.in-Some.known c.in-Some.ensures) in
+    short_uri (Known c.in-Some.known) k c.as_bytes-2.result.now uri same (length c.args.buf.now) c.put_data-2.result c.put_data-2.ensures.statuses c.put_data-2.ensures.short
 
 pub returns-clause-none : goal.returns-clause-none
-returns-clause-none c = (λ same k is. cc, λ none. absurd (none c.in-Some.known (its_number c.args.kind c.in-Some.known c.in-Some.ensures)))
+unfolding told
+returns-clause-none c = (
+  λ is. absurd (never_none c.put_data-2.result c.put_data-2.ensures.statuses is),
+  λ nothing. absurd (nothing (Known c.in-Some.known) (known_number c.args.kind c.in-Some.known c.in-Some.ensures)),
+)

@@ -1,4 +1,4 @@
-use Rattle.rtp_c.proofs.Common.{◌≡◌, refl, sym, ◌∙◌, map, unsigned_abs, List, ℤ, All, length-map, ok, short_buffer, bad_field}
+use Rattle.rtp_c.proofs.Common.{◌≡◌, ◌≤◌, length, arith, refl, sym, ◌∙◌, map, unsigned_abs, List, ℤ, All, length-map, ok, short_buffer, bad_field}
 use Rattle.rtp_values.specs.StandardLevels.{IsLevel}
 use Rattle.rtp_c.specs.StandardLevels.{AreLevelsData}
 use Rattle.rtp_c.proofs.StandardLemmas.{StandAtFront-put}
@@ -10,17 +10,17 @@ short_is_not same = cc
 ok_is_not : ok ≡ bad_field → ⊥
 ok_is_not same = cc
 
-data_of : (levels : List ℤ) → All IsLevel levels → AreLevelsData levels (map unsigned_abs levels)
-data_of levels are = record { are_levels = are; bytes_are = refl }
+data_of : (levels : List ℤ) → length levels ≤ 15 → All IsLevel levels → AreLevelsData levels (map unsigned_abs levels)
+data_of levels few are = record { few = few; are_levels = are; bytes_are = refl }
 
 pub returns-then-are_levels-clause-bad_field : goal.returns-then-are_levels-clause-bad_field
 returns-then-are_levels-clause-bad_field c =
-    (λ is. absurd (short_is_not is), λ nothing. absurd (nothing (map unsigned_abs c.args.levels.now) (data_of c.args.levels.now (c.if-are_levels.ensures.0 refl))))
+    (λ is. absurd (short_is_not is), λ nothing. absurd (nothing (map unsigned_abs c.args.levels.now) (data_of c.args.levels.now (omega (arith, c.if-levels-gt-MOST_SOURCES.false)) (c.if-are_levels.ensures.0 refl))))
 
 pub returns-clause-written : goal.returns-clause-written
 returns-clause-written c _ = record {
   bytes = map unsigned_abs c.args.levels.now;
-  are_data = data_of c.args.levels.now c.in-Some.ensures.result.0;
+  are_data = data_of c.args.levels.now (omega (arith, c.if-levels-gt-MOST_SOURCES.false)) c.in-Some.ensures.result.0;
   stand =
       StandAtFront-put c.args.buf.now (map unsigned_abs c.args.levels.now) c.write_mixer_audio_levels.new.buf c.in-Some.count
       (c.in-Some.ensures.result.1 ∙ sym (length-map c.args.levels.now unsigned_abs)) c.in-Some.ensures.written;
@@ -28,4 +28,4 @@ returns-clause-written c _ = record {
 
 pub returns-clause-bad_field : goal.returns-clause-bad_field
 returns-clause-bad_field c =
-    (λ is. absurd (ok_is_not is), λ nothing. absurd (nothing (map unsigned_abs c.args.levels.now) (data_of c.args.levels.now c.in-Some.ensures.result.0)))
+    (λ is. absurd (ok_is_not is), λ nothing. absurd (nothing (map unsigned_abs c.args.levels.now) (data_of c.args.levels.now (omega (arith, c.if-levels-gt-MOST_SOURCES.false)) c.in-Some.ensures.result.0)))
