@@ -1,5 +1,5 @@
 -- The numbers of the known kinds, and their URIs.
-use Rattle.rtp_c.proofs.Common.{◌≡◌, ◌≢◌, ◌↔◌, ℕ, zero, suc, ◌+◌, ◌-◌, ◌≤◌, List, [], ◌∷◌, Bool, true, false, ◌&&◌, if◌then◌else◌, nat_le, get_or, Option, None, Some, arith, refl, sym, ap, ◌∙◌, subst, nat_eq, IsUtf8, IsAscii, and_parts, leb-true, eqb-true, KnownKind, AbsoluteSendTime, AbsoluteCaptureTime, AudioLevel, TransmissionTimeOffset, VideoOrientation, TransportSequenceNumber, PlayoutDelay, VideoContentType, VideoTiming, RtpStreamId, RepairedRtpStreamId, RtpMid, FrameMarking, ColorSpace, VideoLayersAllocation}
+use Rattle.rtp_c.proofs.Common.{◌≡◌, ◌≢◌, ◌↔◌, ℕ, zero, suc, ◌+◌, ◌-◌, ◌≤◌, List, [], ◌∷◌, length, Bool, true, false, ◌&&◌, if◌then◌else◌, nat_le, get_or, Option, None, Some, arith, refl, sym, ap, ◌∙◌, subst, nat_eq, IsUtf8, IsAscii, and_parts, leb-true, eqb-true, KnownKind, AbsoluteSendTime, AbsoluteCaptureTime, AudioLevel, TransmissionTimeOffset, VideoOrientation, TransportSequenceNumber, PlayoutDelay, VideoContentType, VideoTiming, RtpStreamId, RepairedRtpStreamId, RtpMid, FrameMarking, ColorSpace, VideoLayersAllocation}
 use Rattle.std.proofs.lemmas.Str.{IsUtf8-from_ascii}
 use Rattle.rtp_c.specs.declared.bare_kind.BareKind.{BareKind}
 use Rattle.rtp_c.specs.declared.bare_kind.BareKind.TheVariants.{MixerLevels, TransportNumber2, DependencyDescriptor, Ntp64, Ntp56}
@@ -117,6 +117,16 @@ pub IsUtf8-uri : (kind : NumberedKind) → IsUtf8 (uri_of kind)
 IsUtf8-uri kind = IsUtf8-from_ascii (uri_of kind) (IsAscii-all (uri_of kind) (ascii_uri kind))
 
 -- ---- the kinds without a field beside these
+
+-- a text whose length is that of no URI of theirs is none of these
+pub no_bare_uri : (uri : List ℕ) (found : Option BareKind) → found ≡ None
+    → ((kind : BareKind) → kind ≢ Ntp56 → length (bare_uri kind) ≡ length uri → found ≡ Some kind)
+    → (kind : BareKind) → bare_uri kind ≢ uri
+no_bare_uri uri found none only MixerLevels same = let wrong : None ≡ Some MixerLevels = sym none ∙ only MixerLevels (λ is. cc) (ap length same) in cc
+no_bare_uri uri found none only TransportNumber2 same = let wrong : None ≡ Some TransportNumber2 = sym none ∙ only TransportNumber2 (λ is. cc) (ap length same) in cc
+no_bare_uri uri found none only DependencyDescriptor same = let wrong : None ≡ Some DependencyDescriptor = sym none ∙ only DependencyDescriptor (λ is. cc) (ap length same) in cc
+no_bare_uri uri found none only Ntp64 same = let wrong : None ≡ Some Ntp64 = sym none ∙ only Ntp64 (λ is. cc) (ap length same) in cc
+no_bare_uri uri found none only Ntp56 same = let wrong : None ≡ Some Ntp64 = sym none ∙ only Ntp64 (λ is. cc) (ap length same) in cc
 
 -- the kind of a number from 16 on
 abbrev bare_kinds : List BareKind

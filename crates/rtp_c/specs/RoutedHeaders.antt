@@ -52,7 +52,7 @@ pub record IsReceiversAgain (header : List ℕ) (slots : List Slot) (fields : Fi
   pub routed : (old : List ℕ) (ids : ℕ → Option ℕ) (news : List Element) (allowed : Option ExtensionsForm)
       → IsGroupHeader old ids news allowed header slots → IsRoutedAgain old fields number ids (with_data news contents) allowed new
 
--- the same with P clear, of a payload that is sent without its padding: where it is a packet, no other of its parts is another
+-- the same with P clear, before a payload that is sent without its padding: of a packet each other part stays
 pub record IsReceiversUnpadded (header : List ℕ) (slots : List Slot) (fields : Fields) (contents : List (List ℕ)) (new : List ℕ) : Type 0 where
   pub own : List ℕ
   pub receivers : IsReceivers header slots fields contents own

@@ -1,7 +1,8 @@
 //! The kinds of which no value is read or written, known by their URIs (RFC 8285, 5).
 
-ghost use Rattle.std.specs.Prelude.{◌≡◌, ◌≢◌, ◌↔◌, IsTrue, IfSome, IfNone};
+ghost use Rattle.std.specs.Prelude.{◌≡◌, ◌≢◌, ◌↔◌, length, IsTrue, Some, IfSome, IfNone};
 ghost use Rattle.rtp_c.specs.declared.bare_kind.BareKind.{BareKind as Kind};
+ghost use Rattle.rtp_c.specs.declared.bare_kind.BareKind.TheVariants.{Ntp56};
 ghost use Rattle.rtp_c.specs.KindNumbers.{bare_number, bare_uri};
 
 /// A kind of header extension that has a number and a URI, and no field among the values: its data
@@ -73,24 +74,30 @@ impl BareKind {
         self.uri() == uri
     }
 
-    // The kind that this URI names.
+    // The kind whose URI has so many bytes; of the two of NTP that of 64 bits.
+    fn as_long(len: usize) -> Option<Self>
+        ensures { (kind : Kind) → kind ≢ Ntp56 → length (bare_uri kind) ≡ len →
+            result ≡ Some kind }
+    {
+        match len {
+            33 => Some(BareKind::Ntp64),
+            43 => Some(BareKind::MixerLevels),
+            65 => Some(BareKind::TransportNumber2),
+            87 => Some(BareKind::DependencyDescriptor),
+            _ => None,
+        }
+    }
+
+    // The kind that this URI names. Its length leaves one kind, or the two of NTP.
     pub fn from_uri(uri: &str) -> Option<Self>
         ensures found { IfSome result (λ kind. bare_uri kind ≡ uri.now) }
         ensures none { IfNone result ((kind : Kind) → bare_uri kind ≢ uri.now) }
     {
-        if BareKind::MixerLevels.has_uri(uri) {
-            return Some(BareKind::MixerLevels);
+        let kind = BareKind::as_long(uri.len())?;
+        if kind.uri() == uri {
+            return Some(kind);
         }
-        if BareKind::TransportNumber2.has_uri(uri) {
-            return Some(BareKind::TransportNumber2);
-        }
-        if BareKind::DependencyDescriptor.has_uri(uri) {
-            return Some(BareKind::DependencyDescriptor);
-        }
-        if BareKind::Ntp64.has_uri(uri) {
-            return Some(BareKind::Ntp64);
-        }
-        if BareKind::Ntp56.has_uri(uri) {
+        if BareKind::Ntp56.uri() == uri {
             return Some(BareKind::Ntp56);
         }
         None
