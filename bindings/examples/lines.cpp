@@ -27,7 +27,8 @@ bool map_line(const std::string &line, rtpw_map &map) {
         return false;
     }
     if (rtpw_map_set(&map, static_cast<std::uint8_t>(id), rtpw_kind_of_uri(bytes, uri.size())) != RTPW_OK) {
-        rtpw_map_remove(&map, static_cast<std::uint8_t>(id)); // a URI that isn't known: no value is read of its elements
+        // A URI that isn't known: no value is read of its elements.
+        rtpw_map_remove(&map, static_cast<std::uint8_t>(id));
     }
     return true;
 }

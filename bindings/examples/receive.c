@@ -20,7 +20,8 @@ static void receive(stream *stream, const rtpw_map *map, const uint8_t *datagram
         puts("no RTP packet");
         return;
     }
-    int32_t status = rtpw_wide_restarting_receive(&stream->receiver, stream->words, WORDS, packet.sequence_number, &number);
+    int32_t status =
+        rtpw_wide_restarting_receive(&stream->receiver, stream->words, WORDS, packet.sequence_number, &number);
     if (status == RTPW_RESTARTED) {
         puts("the sender has started again"); /* and its packet is taken */
     } else if (status != RTPW_OK) {
@@ -33,9 +34,10 @@ static void receive(stream *stream, const rtpw_map *map, const uint8_t *datagram
 }
 
 int main(void) {
-    static const uint8_t packet[] = {0x90, 111, 0, 5, 0, 0, 0, 160, 0, 0, 0, 7, 0xBE, 0xDE, 0, 1, 0x10, 0x8A, 0, 0, 1, 2};
-    static const uint8_t padded[] = {0xB0, 111, 0,    6,    0, 0, 0,    161,  0, 0, 0, 7,
-                                     0xBE, 0xDE, 0, 1, 0x10, 0x8B, 0, 0, 1, 2, 3, 0, 0, 3};
+    static const uint8_t packet[] = {0x90, 111,  0,    5, 0, 0,    0,    160, 0, 0, 0,
+                                     7,    0xBE, 0xDE, 0, 1, 0x10, 0x8A, 0,   0, 1, 2};
+    static const uint8_t padded[] = {0xB0, 111, 0, 6,    0,    0, 0, 161, 0, 0, 0, 7, 0xBE,
+                                     0xDE, 0,   1, 0x10, 0x8B, 0, 0, 1,   2, 3, 0, 0, 3};
     static const uint8_t report[] = {0x80, 204, 0, 2, 0, 0, 0, 7, 'R', 'T', 'C', 'P'}; /* at the same port */
     uint8_t later[sizeof packet];
     rtpw_map map; /* of the ids that SDP negotiated; here the usual ones */

@@ -58,6 +58,7 @@ static rtpw_color_space color_space;
 static rtpw_dependency_descriptor descriptor;
 static uint64_t ntp;
 static int32_t offset;
+static uint32_t units;
 static int8_t level;
 
 /* Many at once: datagrams that are the packet, and the next numbers of a receiver that is put back before each call. */
@@ -129,10 +130,14 @@ static uint8_t body[BODY_LEN];
     X(rtpw_kind_of_uri, rtpw_kind_of_uri((const uint8_t *)uri, sizeof uri - 1))                                       \
     X(rtpw_uri_of_kind, rtpw_uri_of_kind(RTPW_KIND_MID, buf, sizeof buf, &len))                                        \
     X(rtpw_map_set, rtpw_map_set(&other_map, 3, RTPW_KIND_AUDIO_LEVEL))                                               \
+    X(rtpw_map_remove, (rtpw_map_remove(&other_map, 3), 0))                                                           \
     X(rtpw_map_get, rtpw_map_get(&map, 3))                                                                            \
     X(rtpw_map_standard, (rtpw_map_standard(&other_map), 0))                                                          \
     X(rtpw_id_of, rtpw_id_of(&map, RTPW_KIND_VIDEO_ORIENTATION))                                                      \
     X(rtpw_data_of, rtpw_data_of(RTPW_KIND_AUDIO_LEVEL, &written.values, buf, sizeof buf, &len))                      \
+    X(rtpw_read_send_time, rtpw_read_send_time(data, 3, &units))                                                      \
+    X(rtpw_write_send_time, rtpw_write_send_time(0xFEDCBA, buf, sizeof buf, &len))                                    \
+    X(rtpw_extend_send_time, rtpw_extend_send_time(number, units))                                                    \
     X(rtpw_read_transmission_offset, rtpw_read_transmission_offset(data, 3, &offset))                                 \
     X(rtpw_write_transmission_offset, rtpw_write_transmission_offset(-90, buf, sizeof buf, &len))                     \
     X(rtpw_read_frame_marking, rtpw_read_frame_marking(data, 3, &marking))                                            \
@@ -140,6 +145,7 @@ static uint8_t body[BODY_LEN];
     X(rtpw_read_orientation, rtpw_read_orientation(data, 1, &orientation))                                            \
     X(rtpw_write_orientation, rtpw_write_orientation(&orientation, buf, sizeof buf, &len))                            \
     X(rtpw_is_token, rtpw_is_token(packet + 26, 3))                                                                   \
+    X(rtpw_is_stream_id, rtpw_is_stream_id(packet + 26, 3))                                                           \
     X(rtpw_read_timing, rtpw_read_timing(data, 13, &timing))                                                          \
     X(rtpw_write_timing, rtpw_write_timing(&timing, buf, sizeof buf, &len))                                           \
     X(rtpw_read_transport_number, rtpw_read_transport_number(data, 4, &transport_number))                             \
@@ -254,7 +260,6 @@ int main(int argc, char **argv) {
         datagrams[i].at = datagram_headers[i].at = (size_t)i * sizeof packet;
         datagrams[i].len = datagram_headers[i].len = sizeof packet;
         arrivals[i].sequence_number = (uint16_t)(100 + i);
-        receivers[i].at = (size_t)i * sizeof packet;
         receivers[i].fields.has_ssrc = receivers[i].fields.has_sequence_number = 1;
         receivers[i].fields.has_timestamp = 1;
     }

@@ -342,9 +342,9 @@ printf '%s\n' 90E000CE00015F900000002CABAC0001E58B3C40 806F00CF000000A00000002C 
 printf '%s\n' 1\ 90E000CE00015F90000003E8ABAC0001E58B3C40 \
     1\ 906F00CF000000A0000003E8BEDE0003216D305100007200147A0000 >"$scratch/camera.expected"
 # A URI that the library doesn't know has a number in the maps of the sender and of two receivers: its id 6 becomes the
-# first one's 12, and goes nowhere at the third one, which hasn't agreed to it. The second packet has padding, as it is
-# sent on; 20 ms are 5,242.88 units (0x147A).
-printf '%s\n' 'map 6 urn:example:seat' 'map 7 urn:example:seats' 90000001000000010000002CBEDE000261AABB71CCDD000009 \
+# first one's 12, and goes nowhere at the third one, which hasn't agreed to it. Another URI, as long, has another number.
+# The second packet has padding, as it is sent on; 20 ms are 5,242.88 units (0x147A).
+printf '%s\n' 'map 6 urn:example:seat' 'map 7 urn:example:door' 90000001000000010000002CBEDE000261AABB71CCDD000009 \
     B0000002000000010000002CBEDE000161AABB00090002 >"$scratch/own.lines"
 printf '%s\n' 1\ 9000000100000001000003E8BEDE0004C1AABB216D305100007200000000000009 \
     1\ B000000200000001000003E8BEDE0004C1AABB216D305100017200147A000000090002 >"$scratch/own.expected"

@@ -1,6 +1,6 @@
 /* rtpw_kind_of_uri, rtpw_uri_of_kind, rtpw_map_set, rtpw_map_remove, rtpw_map_get, rtpw_map_standard, rtpw_id_of,
- * rtpw_new_ids_between, rtpw_renumber, rtpw_new_ids_to_retransmission, rtpw_new_ids_from_retransmission, rtpw_to_retransmission,
- * rtpw_from_retransmission */
+ * rtpw_new_ids_between, rtpw_renumber, rtpw_new_ids_to_retransmission, rtpw_new_ids_from_retransmission,
+ * rtpw_to_retransmission, rtpw_from_retransmission */
 #include "hostile.h"
 
 #include "walk_values.h"
@@ -68,7 +68,8 @@ static void uri_of(void) {
     uint64_t x = random_u64();
     uint8_t kind = (uint8_t)(x % 4 == 0 ? x >> 8 : 1 + x / 1024 % LAST_KIND);
     bool is_kind = kind >= 1 && kind <= LAST_KIND;
-    size_t wanted = is_kind ? strlen(URIS[kind]) : 0, size = x / 64 % 4 == 0 ? random_below(wanted + 1) : wanted + x / 256 % 8;
+    size_t wanted = is_kind ? strlen(URIS[kind]) : 0,
+           size = x / 64 % 4 == 0 ? random_below(wanted + 1) : wanted + x / 256 % 8;
     uint8_t *bytes = block_in(&uris, size);
     fill(bytes, size);
     memcpy(before, bytes, size);

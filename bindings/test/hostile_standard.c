@@ -75,9 +75,11 @@ static bool was_written(room it, int32_t status, bool has_data, const uint8_t *d
     if (has_data && has_room) {
         memcpy(before, data, data_len);
     }
-    return status == (!has_data ? RTPW_BAD_FIELD : has_room ? RTPW_OK : RTPW_SHORT_BUFFER)
-        && *it.len == (status == RTPW_OK ? data_len : it.same_len)
-        && (it.size == 0 || memcmp(it.buf, before, it.size) == 0);
+    return status == (!has_data  ? RTPW_BAD_FIELD
+                      : has_room ? RTPW_OK
+                                 : RTPW_SHORT_BUFFER) &&
+           *it.len == (status == RTPW_OK ? data_len : it.same_len) &&
+           (it.size == 0 || memcmp(it.buf, before, it.size) == 0);
 }
 
 static void send_time(void) {
@@ -169,8 +171,8 @@ static void frame_marking(void) {
     marking->temporal_id = marking->temporal_id < 128 ? marking->temporal_id % 9 : marking->temporal_id;
     memcpy(&same, marking, sizeof same);
     uint8_t bytes[3] = {0, same.layer_id, same.tl0_pic_idx};
-    bytes[0] = (uint8_t)((same.start != 0) * 128 + (same.end != 0) * 64 + (same.independent != 0) * 32
-                         + (same.discardable != 0) * 16);
+    bytes[0] = (uint8_t)((same.start != 0) * 128 + (same.end != 0) * 64 + (same.independent != 0) * 32 +
+                         (same.discardable != 0) * 16);
     size_t bytes_len = 1;
     if (same.has_layers != 0) {
         bytes[0] = (uint8_t)(bytes[0] + (same.base_layer_sync != 0) * 8 + same.temporal_id % 8);
@@ -243,7 +245,8 @@ static void stream_id(void) {
         }
         if (len > 0 && random_u64() % 2 == 0) { /* one of any byte, as those beside letters and digits */
             size_t at = random_below(len);
-            data[at] = before[at] = random_u64() % 2 == 0 ? (uint8_t)"@[`{/:-_"[random_below(8)] : (uint8_t)random_u64();
+            data[at] = before[at] =
+                random_u64() % 2 == 0 ? (uint8_t) "@[`{/:-_"[random_below(8)] : (uint8_t)random_u64();
         }
     }
     for (size_t i = 0; i < len; i++) {

@@ -1,5 +1,5 @@
-/* rtpw_wire_len, rtpw_write, rtpw_left_out, rtpw_data_of: against a writer that owes nothing to the library (RFC 3550, 5.1; RFC 8285, 4.2
- * and 4.3; the documents of the extensions). What was written is read again. */
+/* rtpw_wire_len, rtpw_write, rtpw_left_out, rtpw_data_of: against a writer that owes nothing to the library (RFC
+ * 3550, 5.1; RFC 8285, 4.2 and 4.3; the documents of the extensions). What was written is read again. */
 #include "hostile.h"
 
 #include "walk_values.h"
@@ -55,7 +55,7 @@ static void random_values(rtpw_values *values) {
     random_text(values->rid, sizeof values->rid);
     random_text(values->repaired_rid, sizeof values->repaired_rid);
     if (random_u64() % 16 != 0) {
-        values->audio_level = (int8_t)-(int)random_below(128);
+        values->audio_level = (int8_t) - (int)random_below(128);
     }
     if (values->video_orientation % 64 != 0) {
         values->video_orientation = degrees[values->video_orientation % 4];
@@ -292,8 +292,7 @@ static void values_are_read(const rtpw_values *given, const rtpw_map *map, const
     IS_READ(frame_marking, RTPW_KIND_FRAME_MARKING, given->has_frame_marking, given->frame_marking);
     IS_READ(transport_number, RTPW_KIND_TRANSPORT_NUMBER, given->has_transport_number, given->transport_number);
     IS_READ(video_orientation, RTPW_KIND_VIDEO_ORIENTATION, given->has_video_orientation, given->video_orientation);
-    IS_READ(video_content_type, RTPW_KIND_VIDEO_CONTENT_TYPE, given->has_video_content_type,
-            given->video_content_type);
+    IS_READ(video_content_type, RTPW_KIND_VIDEO_CONTENT_TYPE, given->has_video_content_type, given->video_content_type);
     CHECK(read->has_mid == (given->has_mid && is_mapped(map, RTPW_KIND_MID)));
     CHECK(strcmp(read->mid, read->has_mid ? given->mid : "") == 0);
     CHECK(read->has_rid == (given->has_rid && is_mapped(map, RTPW_KIND_RID)));

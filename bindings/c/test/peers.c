@@ -215,8 +215,8 @@ static void why_an_element_is_not_put(void) {
     CHECK(rtpw_put_element(one, 24, &len, 15, DATA, 1, RTPW_ANY_FORM) == RTPW_OK && len == 24);
 }
 
-/* Each kind has a URI, which names it again; the five without a field as their documents have them: RFC 6465, 5, WebRTC's
- * transport-wide-cc-02, AV1's RTP payload format, A.6, and RFC 6051, 3.3. */
+/* Each kind has a URI, which names it again; the five without a field as their documents have them: RFC 6465, 5,
+ * WebRTC's transport-wide-cc-02, AV1's RTP payload format, A.6, and RFC 6051, 3.3. */
 static void kinds_have_uris(void) {
     static const char *const without_a_field[] = {
         "urn:ietf:params:rtp-hdrext:csrc-audio-level",

@@ -494,12 +494,13 @@ static void absent_parts(void) { /* what stands beside a has_ of 0 isn't looked 
     done(rtpw_write_color_space(space, bytes, 4, &len));
 }
 static void past_the_buffer(void) { /* what isn't within the buffer isn't looked at */
-    uint8_t *it = out(12);
+    uint8_t *it = malloc(12);
     size_t len = 13;
     if (rtpw_compact(it, 12, &len) != RTPW_BAD_FIELD || rtpw_remove_block(it, 12, &len) != RTPW_BAD_FIELD ||
         rtpw_change_form(it, 12, &len, RTPW_TWO_BYTE_FORM) != RTPW_BAD_FIELD) {
         _exit(3);
     }
+    free(it);
 }
 static void new_ids_between(void) {
     const rtpw_map *from = MAP, *to = MAP;
@@ -735,16 +736,27 @@ static void make_template(void) {
 }
 static const uint8_t template_header[24] = {0x90, 96,   0, 5, 0,    0,    0,    100, 0, 0, 0, 44,
                                             0xBE, 0xDE, 0, 2, 0x30, 0xAA, 0x41, 0,   7, 0, 0, 0};
-static void write_headers(void) { /* of the second one the data aren't there; the third is a retransmission */
+static rtpw_template made_before(void) { /* two bytes of data */
     rtpw_template it;
-    rtpw_routed_header three[3], *receivers;
-    uint8_t *buf;
     memset(&it, 0, sizeof it);
     it.header_len = 24;
     it.data_at[0] = 19;
     it.data_len[0] = 2;
     it.data_total = 2;
     it.count = 1;
+    return it;
+}
+static void told_of_receivers(const rtpw_routed_header *receivers, size_t count) {
+    for (size_t i = 0; i < count; i++) {
+        set(&receivers[i].at, sizeof receivers[i].at);
+        set(&receivers[i].status, sizeof receivers[i].status);
+        set(&receivers[i].len, sizeof receivers[i].len);
+    }
+}
+static void write_headers(void) { /* of the second one the data aren't there; the third is a retransmission */
+    rtpw_template it = made_before();
+    rtpw_routed_header three[3], *receivers;
+    uint8_t *buf;
     memset(three, 0, sizeof three);
     three[0].fields.has_ssrc = 1;
     three[1].data_at = 1;
@@ -760,11 +772,21 @@ static void write_headers(void) { /* of the second one the data aren't there; th
         _exit(3);
     }
     set(buf, 50);
-    for (int i = 0; i < 3; i++) {
-        set(&receivers[i].at, sizeof receivers[i].at);
-        set(&receivers[i].status, sizeof receivers[i].status);
-        set(&receivers[i].len, sizeof receivers[i].len);
+    told_of_receivers(receivers, 3);
+}
+static void write_headers_new(void) { /* what is written of a receiver isn't looked at, nor what isn't given */
+    rtpw_template it = made_before();
+    rtpw_routed_header *receivers = out(2 * sizeof *receivers);
+    uint8_t *buf = out(30);
+    for (size_t i = 0; i < 2; i++) {
+        receivers[i].data_at = i;
+        memset(&receivers[i].fields.has_timestamp, 0, 5);
+        receivers[i].is_retransmission = receivers[i].clears_padding = 0;
     }
+    done(rtpw_write_headers(&it, template_header, sizeof template_header, data_of_3, 2, receivers, 2, buf, 30));
+    told_of_receivers(receivers, 2);
+    done(receivers[0].status);
+    set(buf, 24);
 }
 static void no_bytes(void) { /* NULL, where the size is 0 */
     size_t len = 0;
@@ -788,9 +810,8 @@ static void no_bytes(void) { /* NULL, where the size is 0 */
         rtpw_from_retransmission(NULL, 0, &len, 1, 1, (const rtpw_new_ids *)(const void *)&map) !=
             RTPW_CUT_FIXED_PART ||
         rtpw_read_original(NULL, 0, &original) != RTPW_SHORT_BUFFER || rtpw_kind_of_uri(NULL, 0) != RTPW_KIND_NONE ||
-        rtpw_read_ntp_64(NULL, 0, &time) != RTPW_BAD_FIELD || rtpw_is_token(NULL, 0) ||
-        rtpw_is_stream_id(NULL, 0) || rtpw_has_structure(NULL, 0) ||
-        rtpw_read_send_time(NULL, 0, &units) != RTPW_BAD_FIELD ||
+        rtpw_read_ntp_64(NULL, 0, &time) != RTPW_BAD_FIELD || rtpw_is_token(NULL, 0) || rtpw_is_stream_id(NULL, 0) ||
+        rtpw_has_structure(NULL, 0) || rtpw_read_send_time(NULL, 0, &units) != RTPW_BAD_FIELD ||
         rtpw_write_send_time(0, NULL, 0, &len) != RTPW_SHORT_BUFFER ||
         rtpw_set_element(NULL, 0, 1, NULL, 0) != RTPW_CUT_FIXED_PART ||
         rtpw_last_element(NULL, 0, RTPW_TWO_BYTE_FORM, 1, &element) != RTPW_NONE) {
@@ -918,6 +939,7 @@ static const struct called cases[] = {
     CASE(receive_many),
     CASE(make_template),
     CASE(write_headers),
+    CASE(write_headers_new),
     CASE(no_bytes)};
 
 int main(void) {

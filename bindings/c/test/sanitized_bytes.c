@@ -91,6 +91,10 @@ static void set_ssrc(void) {
 static void set_fields(void) {
     done(rtpw_set_fields(buf, len, &fields));
 }
+static void set_all_fields(void) {
+    static const rtpw_fields all = {1, 2, 3, 4, 1, 1, 1, 1, 1, 1};
+    done(rtpw_set_fields(buf, len, &all));
+}
 static void set_csrc(void) {
     done(rtpw_set_csrc(buf, len, 1, 1));
 }
@@ -175,6 +179,7 @@ static const struct {
     ROW(set_sequence_number, packet, "r=..========" SOURCES "==rr====" PAYLOAD, 0),
     ROW(set_timestamp, packet, "r===....====" SOURCES "==rr====" PAYLOAD, 0),
     ROW(set_ssrc, packet, "r=======...." SOURCES "==rr====" PAYLOAD, 0),
+    ROW(set_all_fields, packet, "r..........." SOURCES "==rr====" PAYLOAD, 0),
     ROW(set_csrc, packet, FIXED "====....==rr====" PAYLOAD, 0),
     ROW(set_csrc, plain, FIXED "====...." PAYLOAD, 0),
     ROW(set_element, packet, STAY "rrrrrrrr" PAYLOAD, 0),
