@@ -7,6 +7,16 @@
 #include <new>
 #include <vector>
 
+// MemorySanitizer wants a library for C++ that is built with it: of std::string it takes what is set for unset.
+#ifdef __has_feature
+#if __has_feature(memory_sanitizer)
+#define STRINGS_LOOK_UNSET 1
+#endif
+#endif
+#ifndef STRINGS_LOOK_UNSET
+#define STRINGS_LOOK_UNSET 0
+#endif
+
 #define CHECK(holds) \
     do { \
         if (!(holds)) { \
@@ -787,6 +797,8 @@ int main() {
     headers_with_values();
     windows();
     bits_of_numbers();
-    own_uris();
+    if (!STRINGS_LOOK_UNSET) {
+        own_uris();
+    }
     spans();
 }
