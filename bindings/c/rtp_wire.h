@@ -17,7 +17,8 @@
  *
  * Each function may be called with any values, and returns. It keeps no pointer, has no state of its
  * own and takes no memory but that of the stack. Calls on several threads at once are safe as long as
- * nothing that one of them writes is read or written by another.
+ * nothing that one of them writes is read or written by another. A program that is built with -fsanitize=thread is told
+ * where that isn't so.
  *
  * The caller owes what C asks anyway:
  *   - a pointer is to as much memory as is said, and aligned for its type: NULL may stand only where the
@@ -456,7 +457,7 @@ RTPW_CHECKED int32_t rtpw_uri_of_kind(uint8_t kind, uint8_t *buf, size_t size, s
 /* The id means the kind from now on. RTPW_OK, or RTPW_BAD_FIELD where the id is 0, or the kind is RTPW_KIND_NONE, which
  * rtpw_kind_of_uri returns of a URI that it doesn't know, or one of 21 to 127; then nothing changes. */
 RTPW_CHECKED int32_t rtpw_map_set(rtpw_map *map, uint8_t id, uint8_t kind);
-/* The id means nothing from now on. */
+/* The id means nothing from now on: kind[id] becomes 0. */
 void rtpw_map_remove(rtpw_map *map, uint8_t id);
 /* The kind that the id means; RTPW_KIND_NONE where it means none. */
 uint8_t rtpw_map_get(const rtpw_map *map, uint8_t id);
