@@ -1476,8 +1476,8 @@ RTPW_CHECKED int32_t rtpw_write_headers(const rtpw_template *made, const uint8_t
                                         const uint8_t *data, size_t data_len, rtpw_routed_header *receivers,
                                         size_t count, uint8_t *buf, size_t size);
 
-/* In a program that is built with -fsanitize=address, memory or thread the calls test what they are given, and tell what
- * they read and write, where rtp_wire_sanitized.h lies beside this file: the library itself is built without. */
+/* In a program that is built with -fsanitize=address, memory or thread the calls test what they are given, and tell
+ * what they read and write, where rtp_wire_sanitized.h lies beside this file: the library itself is built without. */
 #if defined(__SANITIZE_ADDRESS__) || defined(__SANITIZE_THREAD__)
 #define RTPW_IS_SANITIZED
 #elif defined(__has_feature)
