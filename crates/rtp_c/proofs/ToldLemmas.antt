@@ -1,5 +1,5 @@
 -- A text as C is told it.
-use Rattle.rtp_c.proofs.Common.{◌≡◌, ℕ, ◌+◌, ◌-◌, ◌≤◌, List, ◌++◌, length, drop, replicate, ap, sym, ◌∙◌, arith, append_assoc, drop-replicate}
+use Rattle.rtp_c.proofs.Common.{◌≡◌, ℕ, ◌+◌, ◌-◌, ◌≤◌, List, ◌++◌, length, drop, replicate, ap, ◌∙◌, arith, append_assoc, drop-replicate}
 use Rattle.std.proofs.lemmas.List.{length-append, length-replicate, replicate-append-replicate}
 use Rattle.rtp_base.specs.Id.{zero_padded}
 use Rattle.rtp_base.specs.Overwriting.{overwritten}

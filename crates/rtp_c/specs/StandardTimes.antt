@@ -1,5 +1,5 @@
 -- Times of which an element has the low bits: an NTP timestamp's (RFC 6051, 3.3), and an absolute send time.
-use Rattle.std.specs.Prelude.{◌≡◌, ℕ, ◌+◌, ◌-◌, ◌*◌, ◌%◌, ◌^◌, ◌<◌, ◌≤◌, List}
+use Rattle.std.specs.Prelude.{◌≡◌, ℕ, ◌+◌, ◌*◌, ◌%◌, ◌^◌, ◌<◌, ◌≤◌, List}
 use Rattle.rtp_values.specs.Spelling.{bytes_of_number}
 use Rattle.rtp_values.specs.StandardNtp.{apart}
 

@@ -13,9 +13,9 @@ use crate::status::{BAD_FIELD, OK};
 // How many times 24 bits tell apart: 64 seconds of units.
 const ROLLOVER: u32 = 1 << 24;
 
-/// Reads an absolute send time, in units of 2^-18 seconds modulo 64 seconds; [`rtpw_extend_send_time`]
-/// finds the whole time. `OK`, or `BAD_FIELD` where there aren't three bytes, and then nothing is
-/// written.
+/// Reads an absolute send time, in units of 2^-18 seconds modulo 64 seconds;
+/// [`rtpw_extend_send_time`] finds the whole time. `OK`, or `BAD_FIELD` where there aren't three
+/// bytes, and then nothing is written.
 #[unsafe(no_mangle)]
 pub extern "C" fn rtpw_read_send_time(bytes: &[u8], units: &mut u32) -> i32
     ensures read { result ≡ ok → units.new ≡ big_endian bytes.now }
@@ -51,7 +51,8 @@ pub extern "C" fn rtpw_write_send_time(units: u32, buf: &mut [u8], len: &mut usi
 
 /// The time in units of 2^-32 seconds that ends in the low 24 bits of `units` and 14 zeros, and is
 /// nearest to `near`, modulo 2^64; of two that are equally near, the later one. Where `near` is less
-/// than 32 seconds off, as the time at which the packet arrives, it is the time that the sender meant.
+/// than 32 seconds off, as the time at which the packet arrives, it is the time that the sender
+/// meant.
 #[unsafe(no_mangle)]
 pub extern "C" fn rtpw_extend_send_time(near: u64, units: u32) -> u64
     ensures { IsNearestTime (2 ^ 38) near (units * 2 ^ 14) result }

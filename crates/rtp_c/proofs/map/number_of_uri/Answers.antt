@@ -1,5 +1,4 @@
 use Rattle.rtp_c.specs.KindNumbers.{Known, Bare}
-use Rattle.rtp_c.proofs.Common.{ap, sym}
 use Rattle.rtp_c.proofs.KindNumberLemmas.{found_by_uri, some_by_uri}
 use Rattle.rtp_c.proofs.map.number_of_uri.Goals as goal
 

@@ -1,4 +1,4 @@
-use Rattle.rtp_c.proofs.Common.{arith, [], refl, Stream}
+use Rattle.rtp_c.proofs.Common.{arith, [], Stream}
 use Rattle.rtp_c.proofs.SettingLemmas.{shows_layer, layer_room-last, layer_room-more, layer_room-within}
 use Rattle.rtp_c.proofs.layers.LayersSetLayers.put_layer.Goals as goal
 
