@@ -201,5 +201,5 @@ fn can_be_numbers(view: &ValuesView) -> bool
 pub fn can_be_given(view: &ValuesView) -> bool
     ensures { IsTrue result ↔ CanBeGiven view.now }
 {
-    can_be_numbers(view) && can_be_texts(view)
+    can_be_texts(view) && can_be_numbers(view)
 }
