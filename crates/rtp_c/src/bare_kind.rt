@@ -94,10 +94,10 @@ impl BareKind {
         ensures none { IfNone result ((kind : Kind) → bare_uri kind ≢ uri.now) }
     {
         let kind = BareKind::as_long(uri.len())?;
-        if kind.uri() == uri {
+        if kind.has_uri(uri) {
             return Some(kind);
         }
-        if BareKind::Ntp56.uri() == uri {
+        if BareKind::Ntp56.has_uri(uri) {
             return Some(BareKind::Ntp56);
         }
         None
