@@ -1229,7 +1229,8 @@ typedef struct {
 void rtpw_reception_record(rtpw_reception *reception, uint64_t number, uint32_t timestamp, uint32_t arrival);
 
 /* Reports on the packets that were recorded, and begins the interval of the next report. RTPW_NONE where none was
- * recorded since the last report, since no report on the source is owed then (6.4). */
+ * counted since the last report, since no report on the source is owed then (6.4): so always once 2^64 - 1 were
+ * reported on, where the count ends. */
 RTPW_CHECKED int32_t rtpw_reception_report(rtpw_reception *reception, rtpw_report *report);
 
 /* Writes the report block on this source to the front of the buffer, and that it has 24 bytes (6.4.1). last_report is

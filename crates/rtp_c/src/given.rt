@@ -190,10 +190,10 @@ fn can_be_numbers(view: &ValuesView) -> bool
         × (0 < view.now.has_playout_delay_min → 0 < view.now.playout_delay_min.hertz)
         × (0 < view.now.has_playout_delay_max → 0 < view.now.playout_delay_max.hertz)) }
 {
-    can_be_level(view.has_audio_level, view.audio_level)
-        && can_be_orientation(view.has_video_orientation, view.video_orientation)
+    can_be_orientation(view.has_video_orientation, view.video_orientation)
         && can_be_time(view.has_playout_delay_min, &view.playout_delay_min)
         && can_be_time(view.has_playout_delay_max, &view.playout_delay_max)
+        && can_be_level(view.has_audio_level, view.audio_level)
 }
 
 // Whether each audio level, orientation, time and text that is there is one.
@@ -201,5 +201,5 @@ fn can_be_numbers(view: &ValuesView) -> bool
 pub fn can_be_given(view: &ValuesView) -> bool
     ensures { IsTrue result ↔ CanBeGiven view.now }
 {
-    can_be_texts(view) && can_be_numbers(view)
+    can_be_numbers(view) && can_be_texts(view)
 }

@@ -28,7 +28,8 @@ pub extern "C" fn rtpw_reception_record(
 }
 
 /// Reports on the packets that were recorded, and begins the interval of the next report. `OK`, or
-/// `NONE` where none was recorded since the last report, and then nothing is written.
+/// `NONE` where none was counted since the last report, as always once 2^64 - 1 were reported on:
+/// then nothing is written.
 #[unsafe(no_mangle)]
 pub extern "C" fn rtpw_reception_report(
     reception: &mut ReceptionStatistics,
