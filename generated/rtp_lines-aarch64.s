@@ -2,8 +2,8 @@
  * rtp_lines for Linux on aarch64: the assembly text that Rattle's compiler makes of the program, each function of which is proved.
  * Made anew by: generated/make
  * kit: rattle-kit-13f logic dac8208d650f15bf
- * sources: 7bf05a8d7e95741dce19905152db5d3af7b9098f8794ed3540ec3053d4024786
- * text: b538b20f8096526d8dc562bb97df2205c5e851f01b8a0e3be49a44cafe449ecb
+ * sources: 8761887c49824dcd9714209233440d6b85430a29806ae2178e6d9f01d9b7facf
+ * text: c99f1ac1f872a6a46cb9eb5f0bc7c3360fb69b88758f837aad766f553836bde8
  * SPDX-License-Identifier: MIT OR Apache-2.0
  * Copyright (c) 2026 The rtp-wire developers (NOTICE)
  */

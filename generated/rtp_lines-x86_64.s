@@ -2,8 +2,8 @@
  * rtp_lines for Linux on x86_64: the assembly text that Rattle's compiler makes of the program, each function of which is proved.
  * Made anew by: generated/make
  * kit: rattle-kit-13f logic dac8208d650f15bf
- * sources: 7bf05a8d7e95741dce19905152db5d3af7b9098f8794ed3540ec3053d4024786
- * text: 0a0f49d26275d70eae7cce2898d4d7b8b3c5401f2b6de9e3e8da50312655dc65
+ * sources: 8761887c49824dcd9714209233440d6b85430a29806ae2178e6d9f01d9b7facf
+ * text: b4f2cb6c885d8ce3a8ccff080757bb992dce016f5b1bf987935668e432593889
  * SPDX-License-Identifier: MIT OR Apache-2.0
  * Copyright (c) 2026 The rtp-wire developers (NOTICE)
  */
