@@ -17,7 +17,8 @@
  *
  * Each function may be called with any values, and returns. It keeps no pointer, has no state of its
  * own and takes no memory but that of the stack. Calls on several threads at once are safe as long as
- * nothing that one of them writes is read or written by another.
+ * nothing that one of them writes is read or written by another. A program that is built with -fsanitize=thread is told
+ * where that isn't so.
  *
  * The caller owes what C asks anyway:
  *   - a pointer is to as much memory as is said, and aligned for its type: NULL may stand only where the
@@ -67,9 +68,10 @@ extern "C" {
 #define RTPW_CHECKED
 #endif
 
-/* The version of this header file: as text, and as the number that rtpw_version returns of its library. */
-#define RTPW_VERSION "1.0.0"
-#define RTPW_VERSION_NUMBER 65536
+/* The version of this header file: as text, and as the number that rtpw_version returns of its library. One that ends
+ * in -dev is no release, and has the number of the release that it becomes. */
+#define RTPW_VERSION "1.1.0-dev"
+#define RTPW_VERSION_NUMBER 65792
 
 /* The version of the library that is linked: 65,536 times its major number, 256 times the minor one,
  * and the patch. */
@@ -78,8 +80,8 @@ uint32_t rtpw_version(void);
 /* ---- Statuses ---- */
 
 /* What a function returns as an int32_t. Those from 1 to 6 are the causes for which bytes are no RTP packet, in
- * the order in which they are looked for: the first that applies is returned. RTPW_UNKNOWN_FORM is one for
- * rtpw_parse and rtpw_parse_layers alone, which have to know the form; rtpw_put_element, rtpw_add_element,
+ * the order in which they are looked for: the first that applies is returned. RTPW_UNKNOWN_FORM is one for rtpw_parse,
+ * rtpw_parse_layers and rtpw_parse_many alone, which have to know the form; rtpw_put_element, rtpw_add_element,
  * rtpw_change_form and rtpw_make_template return it after the others, for a packet whose block has another form. */
 enum {
     RTPW_OK = 0,                /* the call did what it is for */
@@ -93,7 +95,8 @@ enum {
     RTPW_BAD_FIELD = 9,         /* an argument is out of its range, or data are none of the value that is read */
     RTPW_REFUSED = 10,          /* a replay, or too old to tell */
     RTPW_NONE = 11,             /* there is no such element */
-    RTPW_RESTARTED = 12,        /* a packet is taken, as the first one after its sender has started again */
+    RTPW_RESTARTED = 12,        /* a packet is taken, as with RTPW_OK, and is the first one after its sender has started
+                                 * again: whoever drops what isn't RTPW_OK drops it */
     RTPW_BAD_ID = 13,           /* the id is 0, which no element has */
     RTPW_FORM_NOT_ALLOWED = 14, /* the block has, or an element needs, a form that isn't allowed */
     RTPW_LONG_BLOCK = 15,       /* the block would have more than 65,535 words */
@@ -138,22 +141,23 @@ enum {
 /* What the header says, and where the parts of the packet lie, in bytes from the packet's first one.
  * 64 bytes. */
 typedef struct {
-    size_t payload_at;        /* where the payload begins: the length of the header, 12 to 262,216 */
-    size_t payload_len;       /* of the payload with any padding: payload_at + payload_len is the packet's length */
-    size_t unpadded_len;      /* of the payload without its padding (with SRTP decrypt first); 0 where padding_fits is 0 */
-    size_t body_at;           /* where the body of the extension block begins, after the four bytes of its header; without one payload_at */
-    size_t body_len;          /* of the body, which ends where the payload begins; 0 without a block */
-    uint32_t timestamp;       /* in ticks of the payload's clock */
-    uint32_t ssrc;            /* the stream's source */
+    size_t payload_at;   /* where the payload begins: the length of the header, 12 to 262,216 */
+    size_t payload_len;  /* of the payload with any padding: payload_at + payload_len is the packet's length */
+    size_t unpadded_len; /* of the payload without its padding (with SRTP decrypt first); 0 where padding_fits is 0 */
+    size_t body_at;     /* where the body of the extension block begins, after the four bytes of its header; without one
+                           payload_at */
+    size_t body_len;    /* of the body, which ends where the payload begins; 0 without a block */
+    uint32_t timestamp; /* in ticks of the payload's clock */
+    uint32_t ssrc;      /* the stream's source */
     uint16_t sequence_number; /* the low 16 bits of the packet's number */
     uint8_t payload_type;     /* 0 to 127 */
     uint8_t csrc_count;       /* 0 to 15 */
     uint8_t marker;           /* M: 0 or 1 */
     uint8_t has_padding;      /* P: 0 or 1 */
-    uint8_t padding_fits;     /* 0 where P is set and the payload's last byte counts more bytes than there are, and else 1: a
-                               * last byte of 0 takes nothing away, and neither does P of an empty payload */
-    uint8_t block_form;       /* RTPW_ONE_BYTE_FORM, RTPW_TWO_BYTE_FORM or RTPW_OTHER_FORM; RTPW_NO_BLOCK where X is clear */
-    uint16_t block_profile;   /* the 16 bits that the block begins with; 0 without one */
+    uint8_t padding_fits; /* 0 where P is set and the payload's last byte counts more bytes than there are, and else 1:
+                           * a last byte of 0 takes nothing away, and neither does P of an empty payload */
+    uint8_t block_form; /* RTPW_ONE_BYTE_FORM, RTPW_TWO_BYTE_FORM or RTPW_OTHER_FORM; RTPW_NO_BLOCK where X is clear */
+    uint16_t block_profile; /* the 16 bits that the block begins with; 0 without one */
 } rtpw_packet;
 
 /* Whether a datagram on a port that RTP and RTCP share is RTCP (RFC 5761, 4): it has version 2, and its
@@ -278,10 +282,10 @@ RTPW_CHECKED int32_t rtpw_add_element(uint8_t *buf, size_t size, size_t *len, ui
                                       size_t data_len, uint8_t allowed);
 
 /* Makes the packet as short as its elements allow: these stand in a row, without those of the id 0, which is padding's,
- * the body is filled up to whole words, and the payload moves to the front; what stands where reading ends goes. So rtpw_remove_element and then this gives
- * bytes back; what is then behind the packet, up to its old end, may be anything. A block without elements becomes
- * one of no words, and X stays set; a block of RTPW_OTHER_FORM stays as it is. RTPW_OK; RTPW_BAD_FIELD where *len is
- * past the buffer; or the first cause for which the bytes are no packet. */
+ * the body is filled up to whole words, and the payload moves to the front; what stands where reading ends goes. So
+ * rtpw_remove_element and then this gives bytes back; what is then behind the packet, up to its old end, may be
+ * anything. A block without elements becomes one of no words, and X stays set; a block of RTPW_OTHER_FORM stays as it
+ * is. RTPW_OK; RTPW_BAD_FIELD where *len is past the buffer; or the first cause for which the bytes are no packet. */
 RTPW_CHECKED int32_t rtpw_compact(uint8_t *buf, size_t size, size_t *len);
 
 /* Makes a block of the other form one of this form, RTPW_ONE_BYTE_FORM or RTPW_TWO_BYTE_FORM. Its elements stay, in
@@ -356,8 +360,32 @@ RTPW_CHECKED int32_t rtpw_last_element(const uint8_t *body, size_t body_len, uin
 
 /* ---- The values of a block ---- */
 
-/* The kinds of extension, by numbers of this library, and from RTPW_KIND_OWN to 255 by yours: extensions
- * that have no value here, as a dependency descriptor, whose elements the caller reads and writes. */
+/* The kinds of extension, by numbers of this library, and from RTPW_KIND_OWN to 255 by yours. Those to 15 have a field
+ * of rtpw_values, but for the color space. Those from 16 to 20, and yours, have none: their elements are read and
+ * written by their data, of 16 to 20 by the calls that are named here, and go from one map to another
+ * (rtpw_new_ids_between). Beside each its URI in SDP:
+ *
+ *     1  http://www.webrtc.org/experiments/rtp-hdrext/abs-send-time
+ *     2  http://www.webrtc.org/experiments/rtp-hdrext/abs-capture-time
+ *     3  urn:ietf:params:rtp-hdrext:ssrc-audio-level                                  RFC 6464
+ *     4  urn:ietf:params:rtp-hdrext:toffset                                           RFC 5450
+ *     5  urn:3gpp:video-orientation                                                   3GPP TS 26.114
+ *     6  http://www.ietf.org/id/draft-holmer-rmcat-transport-wide-cc-extensions-01
+ *     7  http://www.webrtc.org/experiments/rtp-hdrext/playout-delay
+ *     8  http://www.webrtc.org/experiments/rtp-hdrext/video-content-type
+ *     9  http://www.webrtc.org/experiments/rtp-hdrext/video-timing
+ *    10  urn:ietf:params:rtp-hdrext:sdes:rtp-stream-id                                RFC 8852
+ *    11  urn:ietf:params:rtp-hdrext:sdes:repaired-rtp-stream-id                       RFC 8852
+ *    12  urn:ietf:params:rtp-hdrext:sdes:mid                                          RFC 9143
+ *    13  http://tools.ietf.org/html/draft-ietf-avtext-framemarking-07                 the draft's; of RFC 9626 it is
+ *        urn:ietf:params:rtp-hdrext:framemarking, which has no number here: give it one of yours
+ *    14  http://www.webrtc.org/experiments/rtp-hdrext/color-space
+ *    15  http://www.webrtc.org/experiments/rtp-hdrext/video-layers-allocation00
+ *    16  urn:ietf:params:rtp-hdrext:csrc-audio-level                                  RFC 6465
+ *    17  http://www.webrtc.org/experiments/rtp-hdrext/transport-wide-cc-02
+ *    18  https://aomediacodec.github.io/av1-rtp-spec/#dependency-descriptor-rtp-header-extension
+ *    19  urn:ietf:params:rtp-hdrext:ntp-64                                            RFC 6051
+ *    20  urn:ietf:params:rtp-hdrext:ntp-56                                            RFC 6051 */
 enum {
     RTPW_KIND_NONE = 0,
     RTPW_KIND_ABS_SEND_TIME = 1,
@@ -375,33 +403,48 @@ enum {
     RTPW_KIND_FRAME_MARKING = 13, /* of four bytes; that of RFC 9626 has one to three: rtpw_read_frame_marking */
     RTPW_KIND_COLOR_SPACE = 14,
     RTPW_KIND_LAYERS = 15,
+    RTPW_KIND_MIXER_LEVELS = 16,          /* of the contributing sources: rtpw_read_mixer_level */
+    RTPW_KIND_TRANSPORT_NUMBER_2 = 17,    /* with what feedback it asks for: rtpw_read_transport_number */
+    RTPW_KIND_DEPENDENCY_DESCRIPTOR = 18, /* of AV1: rtpw_read_dependency_descriptor */
+    RTPW_KIND_NTP_64 = 19,                /* rtpw_read_ntp_64 */
+    RTPW_KIND_NTP_56 = 20,                /* rtpw_read_ntp_56 */
     RTPW_KIND_OWN = 128
 };
 
-/* kind[id] is the kind that the id means; a number from 16 to 127 means none, and kind[0] isn't looked at.
- * What reads and writes values passes over the ids of your own kinds as over those that mean none. It may be
+/* kind[id] is the kind that the id means; a number from 21 to 127 means none, and kind[0] isn't looked at.
+ * What reads and writes values passes over the ids of kinds without a field as over those that mean none. It may be
  * filled by hand, copied, stored, and shared as static const:
  *
  *     rtpw_map map = {{0}};
  *     map.kind[3] = RTPW_KIND_AUDIO_LEVEL;
  *
- * Or from the lines of an SDP, `a=extmap:ID URI` (RFC 8285, 5 and 6):
+ * Or from the lines of an SDP, `a=extmap:ID URI` (RFC 8285, 5 and 6). A URI that this library doesn't know gets a
+ * number of yours, the same in the maps of all peers of a call: so its elements go on from one to the other. Without a
+ * number they become padding (rtpw_renumber), though both peers agreed on them. `uris` is kept for the call:
  *
  *     uint8_t kind = rtpw_kind_of_uri((const uint8_t *)uri, strlen(uri));
- *     if (kind != RTPW_KIND_NONE && rtpw_map_set(&map, id, kind) != RTPW_OK) {
- *         return refuse(id);
+ *     for (int own = RTPW_KIND_OWN; kind == RTPW_KIND_NONE && own < 256; own++) {
+ *         if (uris[own] == NULL) {
+ *             uris[own] = strdup(uri);
+ *         }
+ *         if (uris[own] != NULL && strcmp(uris[own], uri) == 0) {
+ *             kind = (uint8_t)own;
+ *         }
+ *     }
+ *     if (rtpw_map_set(&map, id, kind) != RTPW_OK) {
+ *         return refuse(id); // an id that is none, or more than 128 URIs that aren't known
  *     }
  */
 typedef struct {
     uint8_t kind[256];
 } rtpw_map;
 
-/* The kind whose URI these bytes are, letter for letter; RTPW_KIND_NONE where it is that of none, as for
- * those of your own kinds. The URI is the bytes alone, without a zero behind them. */
+/* The kind whose URI these bytes are, letter for letter, 1 to 20; RTPW_KIND_NONE where it is that of none, as for
+ * those of your own kinds, and where it is misspelled. The URI is the bytes alone, without a zero behind them. */
 uint8_t rtpw_kind_of_uri(const uint8_t *uri, size_t len);
-/* Writes the URI that names the kind in SDP, as an answer says it, to the front of the buffer: at most 73 bytes
- * (RTPW_URI_SIZE), and no zero behind them. RTPW_OK, and *len is how many; RTPW_NONE where the number is that of no
- * kind, as RTPW_KIND_NONE and those of your own; RTPW_SHORT_BUFFER.
+/* Writes the URI that names the kind in SDP, as an answer says it, to the front of the buffer: at most 87 bytes
+ * (RTPW_URI_SIZE, which a minor version may raise), and no zero behind them. RTPW_OK, and *len is how many; RTPW_NONE
+ * where the number is that of no kind, as RTPW_KIND_NONE and those of your own; RTPW_SHORT_BUFFER.
  *
  *     uint8_t uri[RTPW_URI_SIZE];
  *     size_t uri_len;
@@ -409,14 +452,16 @@ uint8_t rtpw_kind_of_uri(const uint8_t *uri, size_t len);
  *         printf("a=extmap:%d %.*s\r\n", id, (int)uri_len, (const char *)uri);
  *     }
  */
-#define RTPW_URI_SIZE 73
+#define RTPW_URI_SIZE 87
 RTPW_CHECKED int32_t rtpw_uri_of_kind(uint8_t kind, uint8_t *buf, size_t size, size_t *len);
-/* The id means the kind from now on, or nothing with RTPW_KIND_NONE. RTPW_OK, or RTPW_BAD_FIELD where the
- * id is 0 or the kind is one of 16 to 127; then nothing changes. */
+/* The id means the kind from now on. RTPW_OK, or RTPW_BAD_FIELD where the id is 0, or the kind is RTPW_KIND_NONE, which
+ * rtpw_kind_of_uri returns of a URI that it doesn't know, or one of 21 to 127; then nothing changes. */
 RTPW_CHECKED int32_t rtpw_map_set(rtpw_map *map, uint8_t id, uint8_t kind);
+/* The id means nothing from now on: kind[id] becomes 0. */
+void rtpw_map_remove(rtpw_map *map, uint8_t id);
 /* The kind that the id means; RTPW_KIND_NONE where it means none. */
 uint8_t rtpw_map_get(const rtpw_map *map, uint8_t id);
-/* The lowest id that means the kind; 0 where none does, as for RTPW_KIND_NONE and 16 to 127. */
+/* The lowest id that means the kind; 0 where none does, as for RTPW_KIND_NONE and 21 to 127. */
 uint8_t rtpw_id_of(const rtpw_map *map, uint8_t kind);
 /* The map of the usual ids, whatever it was: 1 audio level, 2 send time, 3 transport number, 4 mid, 10
  * rid, 11 repaired rid, 13 video orientation; RTPW_KIND_NONE at each other index, 0 too. */
@@ -435,11 +480,12 @@ typedef struct {
  * Data that aren't UTF-8 are not well-formed for a text, and give none. Some values have str0m's readings and not those
  * of their standards: the call that has these stands beside each. 136 bytes. */
 typedef struct {
-    uint64_t send_time;           /* microseconds, modulo 64 seconds */
-    uint64_t capture_time;        /* an NTP timestamp, 32.32 */
-    int64_t capture_offset;       /* the capturer's clock is ahead by these seconds, 32.32 */
-    rtpw_time playout_delay_min;   /* the receiver may hold the frame for so long at least */
-    rtpw_time playout_delay_max;   /* and for so long at most */
+    uint64_t send_time;     /* microseconds, modulo 64 seconds: the whole ones, so that nearly all of the 2^24 times
+                             * lose one unit where they are read and written; exact: rtpw_read_send_time */
+    uint64_t capture_time;  /* an NTP timestamp, 32.32 */
+    int64_t capture_offset; /* the capturer's clock is ahead by these seconds, 32.32 */
+    rtpw_time playout_delay_min;  /* the receiver may hold the frame for so long at least */
+    rtpw_time playout_delay_max;  /* and for so long at most */
     uint32_t transmission_offset; /* ticks of the stream's clock; an element of four bytes, where RFC 5450 has three:
                                    * rtpw_read_transmission_offset */
     uint32_t frame_marking;       /* the first four bytes, where RFC 9626 has one to three: rtpw_read_frame_marking */
@@ -455,9 +501,10 @@ typedef struct {
     uint8_t video_content_type;   /* 0 unspecified, 1 a screen */
     int8_t audio_level;           /* dB relative to the overload point, -127 to 0 */
     uint8_t voice_activity;       /* 0 or 1 */
-    char mid[17];                 /* the media section, up to 16 characters (RFC 9143); as it lies: rtpw_is_token */
-    char rid[9];                  /* the stream, up to 8 characters (RFC 8852); as it lies: rtpw_is_token */
-    char repaired_rid[9];         /* the stream that this one repairs, up to 8 characters (RFC 8852); as it lies the same */
+    char mid[17];                 /* the media section (RFC 9143), up to 16 characters; as it lies: rtpw_is_token */
+    char rid[9];                  /* the stream (RFC 8852), up to 8 characters, where the RFC has up to 255; as it lies:
+                                   * rtpw_is_stream_id */
+    char repaired_rid[9];         /* the stream that this one repairs, the same */
     uint8_t has_send_time;
     uint8_t has_capture_time;
     uint8_t has_capture_offset;
@@ -493,9 +540,9 @@ RTPW_CHECKED int32_t rtpw_values_read(const uint8_t *body, size_t body_len, uint
  *         status = rtpw_set_element(datagram, len, id, data, data_len);
  *     }
  *
- * RTPW_OK; RTPW_BAD_FIELD where the kind is RTPW_KIND_NONE or one of 16 to 127, or a value that is there,
+ * RTPW_OK; RTPW_BAD_FIELD where the kind is RTPW_KIND_NONE or one of 21 to 127, or a value that is there,
  * of this kind or not, is one for which rtpw_write returns it; RTPW_NONE where a value that the kind needs
- * isn't there, and always for RTPW_KIND_COLOR_SPACE, RTPW_KIND_LAYERS and kinds of your own;
+ * isn't there, and always for RTPW_KIND_COLOR_SPACE, RTPW_KIND_LAYERS, those from 16 to 20 and kinds of your own;
  * RTPW_SHORT_BUFFER. */
 RTPW_CHECKED int32_t rtpw_data_of(uint8_t kind, const rtpw_values *values, uint8_t *buf, size_t size, size_t *len);
 
@@ -511,9 +558,11 @@ typedef struct {
     uint8_t payload_type;     /* 0 to 127 */
     uint8_t csrc_count;       /* 0 to 15 */
     uint8_t marker;           /* M: 0 or 1 */
-    uint8_t has_padding;      /* P: 0 or 1 */
-    uint8_t has_extension;    /* X: 0 or 1, whether there is a block */
-    rtpw_values values;        /* of the block: none where there is none */
+    uint8_t has_padding;   /* P: 0 or 1. As written only with padding behind the payload (rtpw_pad): where one that was
+                            * read is written for a payload without its padding clear it, or each peer takes the
+                            * payload's last bytes for padding */
+    uint8_t has_extension; /* X: 0 or 1, whether there is a block */
+    rtpw_values values;    /* of the block: none where there is none */
 } rtpw_header;
 
 /* Reads the header that the bytes begin with, and the values of its block under the map: in one call
@@ -521,20 +570,25 @@ typedef struct {
  * after the header is looked at. RTPW_OK, or the first cause for which there is none, where RTPW_UNKNOWN_FORM
  * comes before RTPW_CUT_BLOCK: a receiver that takes such packets calls rtpw_packet_parse.
  *
+ * Padding is no part of a header: where has_padding is 1 the payload that begins at header_len ends with it, and
+ * unpadded_len of rtpw_packet_parse tells where it does.
+ *
+ *     rtpw_packet packet;
  *     rtpw_header header;
- *     if (rtpw_parse(datagram, len, &map, &header) == RTPW_OK && header.values.has_mid) {
- *         deliver(header.values.mid, datagram + header.header_len, len - header.header_len);
+ *     if (rtpw_packet_parse(datagram, len, &packet) == RTPW_OK && rtpw_parse(datagram, len, &map, &header) == RTPW_OK
+ *         && header.values.has_audio_level) {
+ *         deliver(header.values.audio_level, datagram + packet.payload_at, packet.unpadded_len);
  *     }
  */
 RTPW_CHECKED int32_t rtpw_parse(const uint8_t *datagram, size_t len, const rtpw_map *map, rtpw_header *header);
 
 /* A spatial layer. 40 bytes. */
 typedef struct {
-    uint64_t kbps[4];       /* of each temporal layer with those below it, in kilobits per second; after the last as read
-                             * 0, and as written not looked at */
-    uint16_t width;         /* in pixels, 1 to 65,535; 0 where has_resolution is 0 */
-    uint16_t height;        /* the same */
-    uint8_t framerate;      /* at most so many frames per second; 0 where has_resolution is 0 */
+    uint64_t kbps[4];  /* of each temporal layer with those below it, in kilobits per second; after the last as read
+                        * 0, and as written not looked at */
+    uint16_t width;    /* in pixels, 1 to 65,535; 0 where has_resolution is 0 */
+    uint16_t height;   /* the same */
+    uint8_t framerate; /* at most so many frames per second; 0 where has_resolution is 0 */
     uint8_t has_resolution; /* 0 or 1 */
     uint8_t rates;          /* how many temporal layers there are, 0 to 4: 0 where the layer isn't active */
 } rtpw_layer;
@@ -568,12 +622,13 @@ RTPW_CHECKED int32_t rtpw_wire_len(const rtpw_map *map, const rtpw_header *heade
  * a capture time; a layer allocation isn't written (rtpw_write_layers). Where a value is there and isn't written, as
  * one without an id or all without has_extension, the status doesn't say so: rtpw_left_out tells it. Of a time the
  * whole ticks are written of 2^-18 seconds (send time, modulo 64 seconds) or of 1/100 second (playout delay, modulo
- * 4,096); of a level its magnitude modulo 128. Flags count as set where they aren't 0.
+ * 4,096). Flags count as set where they aren't 0. Where has_padding isn't 0 P is set, and the padding is the caller's
+ * to write behind the payload.
  *
  * RTPW_OK; RTPW_BAD_FIELD where payload_type is above 127, csrc_count above 15, or of the values that are
  * there, mapped or not and also where has_extension is 0, a text has another character than letters, digits
- * and underscores before its first zero or has no zero, an orientation is none of the four, or a time has 0
- * hertz; RTPW_SHORT_BUFFER where only the buffer is too short.
+ * and underscores before its first zero or has no zero, an orientation is none of the four, an audio level is above 0
+ * or below -127, or a time has 0 hertz; RTPW_SHORT_BUFFER where only the buffer is too short.
  *
  *     rtpw_header header = {0};
  *     header.payload_type = 111;
@@ -613,11 +668,11 @@ RTPW_CHECKED int32_t rtpw_write_layers(const rtpw_map *map, const rtpw_header *h
                                        uint8_t *buf, size_t size, size_t *len);
 
 /* Which kinds rtpw_write leaves out, and rtpw_write_layers with these layers: those of which a value is there (a has_
- * isn't 0) and no element that is written carries it. Each is the bit 1 << kind of *kinds, as 1 << RTPW_KIND_MID, and
- * no other bit is set: 0 where all that is there is written. Where has_extension is 0 they are all that are there;
- * else those that no id means; an audio level without has_voice_activity, and the other way round; one of two playout
- * delays; a capture offset without its time; and with rtpw_left_out RTPW_KIND_LAYERS where has_layers isn't 0. RTPW_OK;
- * RTPW_BAD_FIELD as rtpw_write and rtpw_write_layers.
+ * isn't 0; the layers that are given are there, whatever has_layers holds) and no element that is written carries it.
+ * Each is the bit 1 << kind of *kinds, as 1 << RTPW_KIND_MID, and no other bit is set: 0 where all that is there is
+ * written. Where has_extension is 0 they are all that are there; else those that no id means; an audio level without
+ * has_voice_activity, and the other way round; one of two playout delays; a capture offset without its time; and with
+ * rtpw_left_out RTPW_KIND_LAYERS where has_layers isn't 0. RTPW_OK; RTPW_BAD_FIELD as rtpw_write and rtpw_write_layers.
  *
  *     uint32_t kinds;
  *     if (rtpw_left_out(&map, &header, &kinds) == RTPW_OK && kinds != 0) {
@@ -654,15 +709,15 @@ RTPW_CHECKED int32_t rtpw_write_with_form(const rtpw_header *header, const uint8
  * after them stay. RTPW_OK; RTPW_BAD_FIELD where the form is none of the two or can't carry one of them, data_at +
  * data_len of one is past the end of the data, or one of the data, as with rtpw_write_with, lies in the buffer;
  * RTPW_SHORT_BUFFER where the buffer alone is at fault. */
-RTPW_CHECKED int32_t rtpw_write_elements(const uint8_t *data, size_t data_len, const rtpw_element *elements, size_t count,
-                                         uint8_t form, uint8_t *buf, size_t size, size_t *len);
+RTPW_CHECKED int32_t rtpw_write_elements(const uint8_t *data, size_t data_len, const rtpw_element *elements,
+                                         size_t count, uint8_t form, uint8_t *buf, size_t size, size_t *len);
 
 /* ---- Values as the standards lay them out ---- */
 
 /* The data of one element, as its standard has them, read and written: of kinds for which rtpw_values reads something
  * else, or nothing. What is read is where rtpw_element tells that an element's data lie, and what is written is for
- * rtpw_put_element, rtpw_set_element and rtpw_write_elements. An extension without a kind here gets a number of your
- * own (RTPW_KIND_OWN), or its id is kept beside the map. Numbers in the data are big-endian.
+ * rtpw_put_element, rtpw_set_element and rtpw_write_elements. The id of each but RFC 9626's frame marking is that of a
+ * kind (rtpw_id_of); that one gets a number of your own. Numbers in the data are big-endian.
  *
  * rtpw_read_..: RTPW_OK; RTPW_BAD_FIELD where the data aren't well-formed for the value, and then nothing is written.
  * What an absent part leaves is 0.
@@ -688,6 +743,20 @@ RTPW_CHECKED int32_t rtpw_write_elements(const uint8_t *data, size_t data_len, c
  *     }
  */
 
+/* The send time (http://www.webrtc.org/experiments/rtp-hdrext/abs-send-time) as it lies: 24 bits, in units of 2^-18
+ * seconds, modulo 64 seconds. Three bytes. RTPW_BAD_FIELD of any other number, and of one of 2^24 or more that is
+ * written. rtpw_values has whole microseconds: who sends a time on as it came, or reckons with it, takes these calls.
+ */
+RTPW_CHECKED int32_t rtpw_read_send_time(const uint8_t *data, size_t data_len, uint32_t *units);
+RTPW_CHECKED int32_t rtpw_write_send_time(uint32_t units, uint8_t *buf, size_t size, size_t *len);
+/* The time, in units of 2^-32 seconds, whose low 38 bits are the low 24 of `units` and then 14 zeros, and that is
+ * nearest to `near`, modulo 2^64; of two that are equally near the later one. Where `near` is the time at which the
+ * packet arrived, of a clock that is less than 32 seconds off the sender's, it is the time at which that sent it:
+ *
+ *     uint64_t sent = rtpw_extend_send_time(0xE0000000C0000000, 0xFFFFFF); // 0xDFFFFFFFFFFFC000
+ */
+uint64_t rtpw_extend_send_time(uint64_t near, uint32_t units);
+
 /* The transmission time offset (RFC 5450, 3): how long after the time of its timestamp the packet was sent, in ticks of
  * the stream's clock, -8,388,608 to 8,388,607; another is RTPW_BAD_FIELD. Three bytes, with a sign.
  * rtpw_values has str0m's, four bytes without a sign, which only str0m takes: for any other peer take these calls. */
@@ -701,7 +770,8 @@ typedef struct {
     uint8_t independent;     /* the frame can be decoded without any frame before it */
     uint8_t discardable;     /* no other frame needs this one */
     uint8_t has_layers;      /* the stream has layers; the next three are of it */
-    uint8_t base_layer_sync; /* the frame depends on the base temporal layer alone */
+    uint8_t base_layer_sync; /* the frame depends on the base temporal layer alone; by RFC 9626 0 where temporal_id is,
+                              * which isn't looked at: it is read as it lies, and written as it is given */
     uint8_t temporal_id;     /* the temporal layer, 0 to 7; 0 is the base layer */
     uint8_t layer_id;        /* the spatial and quality layer, by the numbers of its codec */
     uint8_t has_tl0_pic_idx; /* the next one is sent; without layers it isn't looked at */
@@ -725,7 +795,7 @@ enum {
 typedef struct {
     uint16_t turn;  /* how the receiver has to turn the picture, counter-clockwise: 0, 90, 180 or 270 */
     uint8_t camera; /* RTPW_CAMERA_FRONT or RTPW_CAMERA_BACK */
-    uint8_t flip;   /* the picture is mirrored, left for right: 0 or 1 */
+    uint8_t flip;   /* the picture is mirrored, left for right, as it is sent, before the receiver turns it: 0 or 1 */
 } rtpw_orientation;
 
 /* One byte; its high four bits aren't looked at, and are written as 0. RTPW_BAD_FIELD of any other number of bytes, and
@@ -735,11 +805,15 @@ RTPW_CHECKED int32_t rtpw_read_orientation(const uint8_t *data, size_t data_len,
 RTPW_CHECKED int32_t rtpw_write_orientation(const rtpw_orientation *orientation, uint8_t *buf, size_t size,
                                             size_t *len);
 
-/* Whether the data are a token of SDP (RFC 8866, 9) of 1 to 255 characters, as a mid and a stream id are (RFC 5888, 4;
- * RFC 8852, 3): then they are the text itself, to be compared with the SDP's byte by byte, and written as they are.
- * The texts of rtpw_values have an underscore for each other character than letters and digits, and are cut: for ids
- * that the peer chose take the data. */
+/* Whether the data are a token of SDP (RFC 8866, 9) of 1 to 255 characters, as a mid is (RFC 5888, 4): then they are
+ * the text itself, to be compared with the SDP's byte by byte, and written as they are. The texts of rtpw_values have
+ * an underscore for each other character than letters and digits, and are cut: for ids that the peer chose take the
+ * data. */
 bool rtpw_is_token(const uint8_t *data, size_t data_len);
+/* Whether the data are 1 to 255 letters and digits of ASCII, as a stream id and a repaired one have to be where they
+ * are sent (RFC 8852, 3). In SDP `a=rid` also allows - and _ (RFC 8851, 10): a stream whose id has one can't be told by
+ * it, so choose one without. To compare what came with the SDP's text rtpw_is_token is enough. */
+bool rtpw_is_stream_id(const uint8_t *data, size_t data_len);
 
 /* When a frame passed each step on its way, in milliseconds after its capture (WebRTC's video-timing). 14 bytes. */
 typedef struct {
@@ -749,8 +823,9 @@ typedef struct {
     uint16_t last_left_pacer;    /* its last packet left the pacer */
     uint16_t network;            /* a time that a server on the way fills in; what it means is the application's */
     uint16_t network2;           /* another such time */
-    uint8_t flags;               /* why the times were sent: bit 0 a timer, bit 1 a large frame */
-    uint8_t has_flags;           /* 0 in the older form, which has no flags */
+    uint8_t flags;     /* why the times were sent: bit 0 a timer, bit 1 a large frame; of 255, which libwebrtc has
+                        * for times that aren't valid, the times mean nothing */
+    uint8_t has_flags; /* 0 in the older form, which has no flags */
 } rtpw_timing;
 
 /* 13 bytes, or 12 without flags; of any other number RTPW_BAD_FIELD. No field is out of range as it is written.
@@ -762,26 +837,30 @@ RTPW_CHECKED int32_t rtpw_write_timing(const rtpw_timing *timing, uint8_t *buf, 
 /* The packet's number on its transport, and what feedback it asks for
  * (http://www.webrtc.org/experiments/rtp-hdrext/transport-wide-cc-02). 6 bytes. */
 typedef struct {
-    uint16_t number;     /* the packet's number, over all streams of the transport */
-    uint16_t packets;    /* for how many packets the feedback is to be, of which this one is the last: 1 to 32,767 */
-    uint8_t has_request; /* the sender asks for feedback with this packet; `packets` and `timestamps` are of it */
+    uint16_t number;  /* the packet's number, over all streams of the transport */
+    uint16_t packets; /* for how many packets the feedback is to be, of which this one is the last: 0 to 32,767; 0 asks
+                       * for none */
+    uint8_t has_request; /* four bytes: the sender asks for feedback with this packet, and `packets` and `timestamps`
+                          * are of that */
     uint8_t timestamps;  /* the feedback is to have the times at which the packets arrived: 0 or 1 */
 } rtpw_transport_number;
 
-/* Two bytes, or four with a request; of any other number RTPW_BAD_FIELD. As read a request for 0 packets is none; as
- * written one for 0 or more than 32,767 is RTPW_BAD_FIELD.
- * rtpw_values has the number alone, of the draft's older URI, where feedback is on all packets: for feedback on request
- * take these calls. */
+/* Two bytes, or four with a request; of any other number RTPW_BAD_FIELD, and as written of a request for more than
+ * 32,767 packets. Each element that is read is written byte for byte. rtpw_values has the number alone, of the draft's
+ * older URI, where feedback is on all packets: for feedback on request take these calls. */
 RTPW_CHECKED int32_t rtpw_read_transport_number(const uint8_t *data, size_t data_len, rtpw_transport_number *number);
 RTPW_CHECKED int32_t rtpw_write_transport_number(const rtpw_transport_number *number, uint8_t *buf, size_t size,
                                                  size_t *len);
 
 /* The audio level of the contributing source at this index of the packet's list of csrc_count, in decibels relative to
  * the overload point, -127 (silence) to 0 (RFC 6465, 4: mixer to client). A byte for each, whose high bit isn't looked
- * at. RTPW_BAD_FIELD where the packet hasn't that source, or the data no byte for it. rtpw_values has none of these. */
+ * at; what stands behind the last source's isn't either. RTPW_BAD_FIELD where the packet hasn't that source, or the
+ * data no byte for it; a csrc_count above 15, which no packet has, and data of any length are taken. rtpw_values has
+ * none of these. */
 RTPW_CHECKED int32_t rtpw_read_mixer_level(const uint8_t *data, size_t data_len, size_t csrc_count, size_t index,
                                            int8_t *level);
-/* The levels of a packet's sources, in their order. RTPW_BAD_FIELD of a level above 0 or below -127. */
+/* The levels of a packet's sources, in their order. RTPW_BAD_FIELD of more than 15, which no packet has, and of a level
+ * above 0 or below -127. Of none the data are empty, which the two-byte form alone carries. */
 RTPW_CHECKED int32_t rtpw_write_mixer_levels(const int8_t *levels, size_t count, uint8_t *buf, size_t size,
                                              size_t *len);
 
@@ -820,8 +899,8 @@ typedef struct {
 
 /* The screen on which a video of high dynamic range was made, and its light (SMPTE ST 2086, CTA-861.3). 24 bytes. */
 typedef struct {
-    uint16_t luminance_max;                 /* of the screen, in cd/m^2 */
-    uint16_t luminance_min;                 /* in 0.0001 cd/m^2 */
+    uint16_t luminance_max; /* of the screen, in cd/m^2 */
+    uint16_t luminance_min; /* in 0.0001 cd/m^2 */
     rtpw_chromaticity red;
     rtpw_chromaticity green;
     rtpw_chromaticity blue;
@@ -844,8 +923,10 @@ typedef struct {
 
 /* Four bytes, or 28 with HDR metadata, for which an element needs the two-byte form. RTPW_BAD_FIELD of any other number
  * of bytes, and of a siting of 3; the high two bits of the fourth byte aren't looked at, and are written as 0. As
- * written RTPW_BAD_FIELD of another range or siting than those above. rtpw_values has none: RTPW_KIND_COLOR_SPACE can
- * be mapped, and is neither read nor written with the values. */
+ * written RTPW_BAD_FIELD of another range or siting than those above. All other numbers are read and written. libwebrtc
+ * passes over an element with a code point that H.273 reserves, as the primaries 0 or 3, or with HDR metadata beyond
+ * 20,000 cd/m^2 (luminance_min beyond 5), or with a chromaticity above 1. rtpw_values has none: RTPW_KIND_COLOR_SPACE
+ * can be mapped, and is neither read nor written with the values. */
 RTPW_CHECKED int32_t rtpw_read_color_space(const uint8_t *data, size_t data_len, rtpw_color_space *space);
 RTPW_CHECKED int32_t rtpw_write_color_space(const rtpw_color_space *space, uint8_t *buf, size_t size, size_t *len);
 
@@ -900,8 +981,8 @@ RTPW_CHECKED int32_t rtpw_renumber(uint8_t *datagram, size_t len, const rtpw_new
  * the padding takes the place of the first byte, and no P is set. RTPW_OK;
  * RTPW_BAD_FIELD where block_size is 0, whatever pad_len is; RTPW_SHORT_BUFFER where size is below header_len
  * and the padding. The packet then has header_len + *count bytes. */
-RTPW_CHECKED int32_t rtpw_pad(uint8_t *datagram, size_t size, size_t header_len, uint8_t pad_len,
-                              size_t block_size, size_t *count);
+RTPW_CHECKED int32_t rtpw_pad(uint8_t *datagram, size_t size, size_t header_len, uint8_t pad_len, size_t block_size,
+                              size_t *count);
 
 /* The original sequence number that the payload of a retransmission packet begins with (RFC 4588, 4),
  * before the original payload: read, or the low 16 bits of it written. RTPW_OK, or RTPW_SHORT_BUFFER where
@@ -922,9 +1003,10 @@ void rtpw_new_ids_from_retransmission(const rtpw_map *map, rtpw_new_ids *ids);
  * becomes its length, two bytes more than the packet has without its padding; bytes behind it stay. The payload
  * moves within the buffer; `len` and `ids` must not lie there.
  *
- * RTPW_OK; RTPW_BAD_FIELD where payload_type is above 127, *len is above size, or padding_fits is 0; the first cause
- * for which there is no packet; RTPW_LONG_ID where an element would get an id above 14 in the one-byte form; or
- * RTPW_SHORT_BUFFER where only room for the two bytes lacks. Where it isn't RTPW_OK nothing changes.
+ * RTPW_OK; or the first that applies: RTPW_BAD_FIELD where payload_type is above 127 or *len is above size; the first
+ * cause for which there is no packet; RTPW_BAD_FIELD where padding_fits is 0; RTPW_LONG_ID where an element would get
+ * an id above 14 in the one-byte form; RTPW_SHORT_BUFFER where only room for the two bytes lacks. Where it isn't
+ * RTPW_OK nothing changes.
  *
  *     uint8_t datagram[1500];
  *     size_t len = stored_packet(datagram, sizeof datagram - 2);
@@ -1078,10 +1160,11 @@ uint8_t rtpw_wide_receiver_standing_of(const rtpw_wide_receiver *receiver, const
  * min_sequential where others are wanted; rtpw_wide_restarting_receiver has all three. Each `started` but 0 counts as
  * 1, and where started the highest number as taken, whatever its bit is. */
 typedef struct {
-    uint64_t highest;       /* the highest number taken in the epoch; before that it isn't looked at */
-    uint64_t words[2];      /* bit n % 64 of words[n / 64 % 2]: whether the number n is taken in the epoch */
-    uint16_t max_dropout;   /* 0 stands for 3,000 */
-    uint16_t next;          /* the 16 bits after those of the last packet outside of the stream */
+    uint64_t highest;     /* the highest number taken in the epoch; before that it isn't looked at */
+    uint64_t words[2];    /* bit n % 64 of words[n / 64 % 2]: whether the number n is taken in the epoch */
+    uint16_t max_dropout; /* 0 stands for 3,000 */
+    uint16_t next; /* the 16 bits after those of the last packet outside of the stream, and so after the first one
+                    * that is taken */
     uint8_t min_sequential; /* a new source's first packet is taken with the last of so many in a row, each with the
                              * number after that of the one before; 0 is as 1 */
     uint8_t in_row;         /* how many packets outside of the stream came last in such a row, at most 255: 1 after one
@@ -1091,7 +1174,16 @@ typedef struct {
 
 /* Judges the next packet of the source. RTPW_OK, or RTPW_RESTARTED where it begins another epoch than the first:
  * it is taken, and its number written. RTPW_REFUSED where it is a replay or outside of the stream: the number isn't
- * written, and what is taken stays as it was. */
+ * written, and what is taken stays as it was; a `started` above 1 becomes 1, and then the bit of `highest` is set.
+ *
+ *     uint64_t number;
+ *     int32_t status = rtpw_restarting_receive(&receiver, packet.sequence_number, &number);
+ *     if (status == RTPW_RESTARTED) {
+ *         begin_anew(); // and go on: the packet is taken
+ *     } else if (status != RTPW_OK) {
+ *         return drop(status);
+ *     }
+ */
 RTPW_CHECKED int32_t rtpw_restarting_receive(rtpw_restarting_receiver *receiver, uint16_t sequence_number,
                                              uint64_t *number);
 
@@ -1137,7 +1229,8 @@ typedef struct {
 void rtpw_reception_record(rtpw_reception *reception, uint64_t number, uint32_t timestamp, uint32_t arrival);
 
 /* Reports on the packets that were recorded, and begins the interval of the next report. RTPW_NONE where none was
- * recorded since the last report, since no report on the source is owed then (6.4). */
+ * counted since the last report, since no report on the source is owed then (6.4): so always once 2^64 - 1 were
+ * reported on, where the count ends. */
 RTPW_CHECKED int32_t rtpw_reception_report(rtpw_reception *reception, rtpw_report *report);
 
 /* Writes the report block on this source to the front of the buffer, and that it has 24 bytes (6.4.1). last_report is
@@ -1168,10 +1261,11 @@ RTPW_CHECKED int32_t rtpw_write_report(const rtpw_report *report, uint32_t ssrc,
  * words at each call, and as many. Each `started` but 0 counts as 1, and where started the highest number as taken,
  * whatever its bit is. */
 typedef struct {
-    uint64_t highest;       /* the highest number taken in the epoch; before that it isn't looked at */
-    uint16_t max_dropout;   /* 0 stands for 3,000 */
-    uint16_t max_misorder;  /* 0 stands for 3,000, or for 64 * count where that is more */
-    uint16_t next;          /* the 16 bits after those of the last packet outside of the stream */
+    uint64_t highest;      /* the highest number taken in the epoch; before that it isn't looked at */
+    uint16_t max_dropout;  /* 0 stands for 3,000 */
+    uint16_t max_misorder; /* 0 stands for 3,000, or for 64 * count where that is more */
+    uint16_t next; /* the 16 bits after those of the last packet outside of the stream, and so after the first one
+                    * that is taken */
     uint8_t min_sequential; /* a new source's first packet is taken with the last of so many in a row, each with the
                              * number after that of the one before; 0 is as 1 */
     uint8_t in_row;         /* how many packets outside of the stream came last in such a row, at most 255: 1 after one
@@ -1179,8 +1273,9 @@ typedef struct {
     uint8_t started;        /* 0 where nothing is taken yet, and then 1 */
 } rtpw_wide_restarting_receiver;
 
-/* Judges the next packet of the source, as rtpw_restarting_receive does; RTPW_BAD_FIELD where count is 0 or above 512,
- * and then nothing is written. Where started, bit n % 64 of words[n / 64 % count] is whether the number n is taken. */
+/* Judges the next packet of the source, as rtpw_restarting_receive does, but that at RTPW_REFUSED `started` stays as it
+ * is; RTPW_BAD_FIELD where count is 0 or above 512, and then nothing is written. Where started, bit n % 64 of words[n /
+ * 64 % count] is whether the number n is taken. */
 RTPW_CHECKED int32_t rtpw_wide_restarting_receive(rtpw_wide_restarting_receiver *receiver, uint64_t *words,
                                                   size_t count, uint16_t sequence_number, uint64_t *number);
 
@@ -1283,14 +1378,18 @@ void rtpw_receive_many(rtpw_receiver *receivers, size_t receiver_count, rtpw_arr
  *     rtpw_routed_header receivers[2] = {{0}};
  *     for (size_t i = 0; i < 2; i++) {
  *         receivers[i].data_at = i * made.data_total;
- *         receivers[i].at = i * made.header_len;
  *         receivers[i].fields.has_ssrc = 1;
  *         receivers[i].fields.ssrc = ssrc[i]; // 45 and 46
  *     }
- *     uint8_t headers[50]; // 48, and two for the number of a retransmission
+ *     uint8_t headers[2 * 306]; // made.header_len + 2 for each is enough
  *     status = rtpw_write_headers(&made, header, sizeof header, numbers, sizeof numbers, receivers, 2, headers,
  *                                 sizeof headers);
- *     // the second is 90 60 00 05 00 00 00 64 00 00 00 2E BE DE 00 02 30 AA 41 00 08 00 00 00
+ *     for (size_t i = 0; i < 2; i++) {
+ *         if (status == RTPW_OK && receivers[i].status == RTPW_OK) {
+ *             send_to(i, headers + receivers[i].at, receivers[i].len, packet + payload_at, payload_len);
+ *         }
+ *     }
+ *     // the second is 90 60 00 05 00 00 00 64 00 00 00 2E BE DE 00 02 30 AA 41 00 08 00 00 00, and lies at 24
  *
  * A receiver may get the packet as a retransmission (RFC 4588, 4): set is_retransmission and original_number, and as
  * its fields the SSRC, the payload type and the number of its stream of retransmissions, and the timestamp and the
@@ -1302,6 +1401,10 @@ void rtpw_receive_many(rtpw_receiver *receivers, size_t receiver_count, rtpw_arr
  * SSRC 47, the payload type 97, the number 9 and the original number 5:
  *
  *     // 90 61 00 09 00 00 00 64 00 00 00 2F BE DE 00 02 30 AA 41 00 08 00 00 00 00 05
+ *
+ * P of any other header is the packet's: send behind it the payload with its padding, payload_len bytes. To send it
+ * without, unpadded_len bytes, set clears_padding: where P stays set the receiver takes the last bytes of the media for
+ * padding.
  */
 
 /* A group's header: how long it is, and where in it the data of the group's elements lie, in their order. 88 bytes. */
@@ -1334,47 +1437,52 @@ typedef struct {
  * *made is as it was, but the buffer may hold anything; so may what lies behind the header where it is. */
 RTPW_CHECKED int32_t rtpw_make_template(const uint8_t *datagram, size_t len, const rtpw_new_ids *ids,
                                         const uint8_t *data, size_t data_len, const rtpw_element *elements,
-                                        size_t count, uint8_t allowed, uint8_t *buf, size_t size,
-                                        rtpw_template *made);
+                                        size_t count, uint8_t allowed, uint8_t *buf, size_t size, rtpw_template *made);
 
 /* One of the receivers of a group, and the header that it gets. 48 bytes. */
 typedef struct {
-    size_t data_at;            /* given: where its data begin, in bytes from the first one of the data:
-                                * made->data_total bytes, those of the group's elements one after another in their
-                                * order */
-    size_t at;                 /* given: where its header begins in the buffer, in bytes */
-    rtpw_fields fields;        /* given: its fields, as rtpw_set_fields takes them; the others are the packet's */
+    size_t data_at;     /* given: where its data begin, in bytes from the first one of the data:
+                         * made->data_total bytes, those of the group's elements one after another in their
+                         * order */
+    size_t at;          /* written: where its header begins in the buffer: behind that of the receiver before it */
+    rtpw_fields fields; /* given: its fields, as rtpw_set_fields takes them; the others are the packet's */
     uint16_t original_number;  /* given, where it is a retransmission: the number that the receiver got the packet
                                 * with */
     uint8_t is_retransmission; /* given: where it isn't 0, the header is that of a retransmission, with the original
                                 * number behind it */
-    int32_t status;            /* written: RTPW_OK; RTPW_BAD_FIELD where there is a payload type above 127, or data_at +
-                                * made->data_total is above the length of the data; RTPW_SHORT_BUFFER where its header,
-                                * or the number behind it, would reach past the buffer */
+    uint8_t clears_padding; /* given: where it isn't 0 P is clear, as it always is for a retransmission: for a payload
+                             * that is sent without its padding */
+    int32_t status;         /* written: RTPW_OK; RTPW_BAD_FIELD where there is a payload type above 127, or data_at +
+                             * made->data_total is above the length of the data; RTPW_SHORT_BUFFER where its header,
+                             * or the number behind it, would reach past the buffer */
+    uint32_t len;           /* written: how many bytes its header has, with the number behind that of a retransmission;
+                             * 0 where it isn't RTPW_OK */
 } rtpw_routed_header;
 
 /* Writes the headers of receivers of the group, made->header_len bytes each, and two more of a retransmission, with
  * what rtpw_make_template has made: *made, and the header at the front of `header`, of which nothing behind that is
  * looked at. With the payload behind it each is the packet that goes to the receiver; of a retransmission the payload
- * without its padding. One that isn't RTPW_OK writes nothing but its status, and spoils no other. They are written in
- * the order of the array: where two of them overlap, the bytes of the later one stand. How many there are isn't
- * limited, and a count of 0 writes nothing.
+ * without its padding. They are written in the order of the array, one after another from the buffer's first byte on:
+ * each begins where the one before it ends, and so none overlaps another. One that isn't RTPW_OK takes no bytes, and
+ * spoils no other: its len is 0, and its at that of the one after it. Bytes behind the last one stay. How many there
+ * are isn't limited, and a count of 0 writes nothing.
  *
  * RTPW_OK, whatever the statuses of the receivers are. RTPW_BAD_FIELD where *made can't be of this header: its count is
  * above 16, header_len above header_size, data_at + data_len of an element above header_len, or data_total isn't how
  * many they are; then the first cause for which the first header_len bytes are no packet; then RTPW_BAD_FIELD where
- * they have a payload. More isn't looked at: of one that rtpw_make_template didn't make the data are written where it
- * says, within the header. Where it isn't RTPW_OK nothing is written, and no status either. */
+ * they have a payload. More isn't looked at: where rtpw_make_template didn't make it, the data are written where it
+ * says, within the header, after the fields and so over them; where P is cleared that comes last. Where it isn't
+ * RTPW_OK nothing is written, and no status either. */
 RTPW_CHECKED int32_t rtpw_write_headers(const rtpw_template *made, const uint8_t *header, size_t header_size,
                                         const uint8_t *data, size_t data_len, rtpw_routed_header *receivers,
                                         size_t count, uint8_t *buf, size_t size);
 
-/* In a program that is built with -fsanitize=address or memory the calls test what they are given, and tell what they
- * write, where rtp_wire_sanitized.h lies beside this file: the library itself is built without. */
-#if defined(__SANITIZE_ADDRESS__)
+/* In a program that is built with -fsanitize=address, memory or thread the calls test what they are given, and tell
+ * what they read and write, where rtp_wire_sanitized.h lies beside this file: the library itself is built without. */
+#if defined(__SANITIZE_ADDRESS__) || defined(__SANITIZE_THREAD__)
 #define RTPW_IS_SANITIZED
 #elif defined(__has_feature)
-#if __has_feature(address_sanitizer) || __has_feature(memory_sanitizer)
+#if __has_feature(address_sanitizer) || __has_feature(memory_sanitizer) || __has_feature(thread_sanitizer)
 #define RTPW_IS_SANITIZED
 #endif
 #endif
