@@ -10,11 +10,11 @@ from pathlib import Path
 
 TOP = Path(__file__).resolve().parent.parent
 # What comes of the proved code, or of a build: nothing here is about it.
-MADE = re.compile(r"(rtp_wire\.h|names\.h|\.s|\.S|\.so|\.prefix)$|(^|/)(out|target|__pycache__|wrong)/")
+MADE = re.compile(r"(rtp_wire\.h|calls\.go|layout\.mjs|\.wasm|\.s|\.S|\.so|\.prefix)$|(^|/)(out|target|__pycache__|wrong)/")
 COMMON = ("bindings/c/rtp_wire.h", "bindings/c/rtp_wire_sanitized.h", "bindings/test", "captures")
 # What the examples are compared by.
 BESIDE = ("captures", *(f"bindings/test/{it}" for it in ("examples.sh", "sanitized.sh", "sfu_*.c", "by_hand.*")))
-TEXT = f"generated/rtp_wire-{os.uname().machine}.s"
+TEXT = f"generated/rtp_wire-{os.uname().sysname}-{os.uname().machine}.s"
 LIBRARY = (
     "import platform, rtp_wire_backend as it; from pathlib import Path; "
     "Path('../src/rtp_wire/librtp_wire.so').write_bytes(it.library(platform.machine()))"
@@ -43,32 +43,48 @@ LANGUAGES = {
             *("bindings/examples", "bindings/c/test/apart.c", "bindings/test/apart.sh", "generated/apart.c"),
             *("bindings/c/rtp_wire.hpp", "bindings/c/test/*.cpp", "bindings/test/refused.sh"),
             *("bindings/c/rtp_wire_sanitized.h", "bindings/c/test/sanitized*", "bindings/c/test/told.h", "bindings/test/told.sh"),
-            *("bindings/c/rtp_wire.h", "bindings/test/abi*"),
+            *("bindings/c/rtp_wire.h", "bindings/test/abi*", "bindings/described"),
         ),
         "of=(bindings/c text.o \"${EDITED##*/}\"); "
         "if [[ $EDITED == generated/* ]]; then bindings/test/apart.sh out/apart; elif [[ $EDITED == *.hpp ]]; then "
         "mkdir -p out && for it in ${TEST:-wrapped wrapped_alike wrapped_peers refused}; do case $it in "
         "refused) printf '%s\\n' 'exec bindings/test/refused.sh c++ c++17' >out/refused && chmod +x out/refused ;; "
         "*) c++ -std=c++17 bindings/c/test/$it.cpp text.o -o out/$it ;; esac || exit; done; "
-        "elif [[ $EDITED == *.sh ]]; then mkdir -p out && "
+        "elif [[ $EDITED == *.sh || $EDITED == */described/* ]]; then mkdir -p out && "
         "printf '%s\\n' 'exec bindings/test/abi_tests.sh' >out/abi_tests && chmod +x out/abi_tests; "
         "elif [[ $EDITED == *_sanitized.h ]]; then for it in ${TEST:-address thread memory bytes fields}; do "
         "bindings/test/told.sh out text.o $it || exit; done; "
         "else for it in ${TEST:-/ sanitized/}; do case $it in "
         "sanitized/*) bindings/test/sanitized.sh out/sanitized \"${of[@]}\" \"${it#*/}\" ;; "
         "*) SANITIZERS= bindings/test/sanitized.sh out \"${of[@]}\" \"${it#/}\" ;; esac || exit; done; fi",
-        "case $EDITED in generated/* | *.hpp | *_sanitized.h | *.sh) for it in $(ls out); do [ ${TEST:-$it} != $it ] || "
+        "case $EDITED in generated/* | *.hpp | *_sanitized.h | *.sh | */described/*) for it in $(ls out); do [ ${TEST:-$it} != $it ] || "
         f"out/$it || {{ echo FAIL: $it; exit 1; }}; done ;; *) {EXAMPLES} ;; esac",
         r"^FAIL: ([\w/.]+)$",
     ),
     "go": (
-        ("go", "cc"),
+        ("go",),
         ("bindings/go",),
         f"mkdir -p out && cd bindings/go && case $EDITED in */sfu/*) {GO_TESTS}/examples/sfu ;; "
         f"*/lines/*) go build -o ../../out/lines_go ./examples/lines ;; *) {GO_TESTS} ;; esac",
         'if [ -e out/tests ]; then cd bindings/go && ../../out/tests -test.run "^${TEST:-.*}\\$"; '
         f"else {EXAMPLES}; fi",
         r"^(?:--- FAIL|FAIL): (\w+)",
+    ),
+    "js": (
+        ("node",),
+        ("bindings/js/rtp_wire.*", "bindings/js/src", "bindings/js/test", "bindings/js/examples"),
+        "node --input-type=module -e \"import './bindings/js/rtp_wire.mjs'\"",
+        "cd bindings/js && for it in ${TEST:-test/*.test.mjs}; do node --test-reporter=tap $it || exit; done",
+        r"location: '[^']*/(test/\w+\.test\.mjs):",
+    ),
+    "page": (
+        ("python3", "cc", "chromium", "node"),
+        ("bindings/js", "bindings/python"),
+        '[ -e bindings/python/src/rtp_wire/librtp_wire.so ] || (cd bindings/python/backend && '
+        f'"$PYTHON" -c "{LIBRARY}") && mkdir -p out && "$PYTHON" bindings/js/page/build.py out/page.html',
+        'export PAGE=$PWD/out/page.html && cd bindings/js/page/test && '
+        '"$PYTHON" -m unittest ${TEST:-test_damaged test_page.Told test_page.Pictures test_page.Alone}',
+        r"^(?:FAIL|ERROR): (\w+) \(([\w.]+)\)",
     ),
     "python": (
         ("python3", "cc"),
@@ -163,7 +179,7 @@ def run(command, room, edited="", test="", name=""):
         "GOPROXY": "off",
         "GOTOOLCHAIN": "local",
         "GOFLAGS": "",
-        "CGO_CFLAGS": "-O0",
+        "CGO_ENABLED": "0",
     }
     how = {"stdin": subprocess.DEVNULL, "stdout": subprocess.PIPE, "stderr": subprocess.STDOUT, "errors": "replace"}
     begun = subprocess.Popen(["bash", "-c", command], cwd=room, env=environment, start_new_session=True, **how)
@@ -178,7 +194,7 @@ def run(command, room, edited="", test="", name=""):
 def part_of(edit):
     """Which of the programs of a language an edit is a part of."""
     examples = "/examples/lines/", "/examples/sfu/", "/examples/"
-    parts = ("/backend/",) if edit.language == "python" else (*examples, "generated/", ".hpp", "_sanitized.h", ".sh")
+    parts = ("/backend/",) if edit.language == "python" else (*examples, "generated/", ".hpp", "_sanitized.h", ".sh", "/described/")
     return next((it for it in parts if it in edit.file), "")
 
 

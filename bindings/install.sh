@@ -5,7 +5,7 @@
 # usage: bindings/install.sh [--prove] [--target TARGET] [--libdir DIR] [PREFIX]
 #        bindings/install.sh --uninstall [--target TARGET] [--libdir DIR] [PREFIX]
 #
-# TARGET is x86_64-unknown-linux-gnu or aarch64-unknown-linux-gnu, by default this machine's. Without PREFIX it
+# TARGET is x86_64-unknown-linux-gnu, or that for aarch64 or riscv64, by default this machine's. Without PREFIX it
 # installs into bindings/out/TARGET. Libraries go into PREFIX/DIR, by default `lib`. Where DESTDIR is set all files
 # are put below that folder, for a package, and name PREFIX alone. With --uninstall it removes what it installs.
 #
@@ -51,7 +51,7 @@ while [ $# -gt 0 ]; do
     shift
 done
 case $target in
-x86_64-unknown-linux-gnu | aarch64-unknown-linux-gnu) processor=${target%%-*} ;;
+x86_64-unknown-linux-gnu | aarch64-unknown-linux-gnu | riscv64-unknown-linux-gnu) processor=${target%%-*} system=Linux-${target%%-*} ;;
 *) give_up "no such target: $target" ;;
 esac
 case /$libdir/ in
@@ -83,7 +83,7 @@ work=$here/out/build-$target
 mkdir -p -- "$work"
 # shellcheck source=generated/heads.sh
 . "$top/generated/heads.sh"
-text=$(text_of rtp_wire "$processor")
+text=$(text_of rtp_wire "$system")
 if [ -d "$top/crates" ]; then
     # shellcheck source=.ci/proving
     . "$top/.ci/proving"
@@ -93,7 +93,7 @@ else
     # What bindings/package.sh packs has no sources, and was packed where they were those of the text.
     now[rtp_wire]=$(said_of "$text" sources)
 fi
-fault=$(fault_of rtp_wire "$processor")
+fault=$(fault_of rtp_wire "$system")
 
 # Proves and builds the library, and tells whether it is the text.
 take_what_is_proved() {
@@ -103,11 +103,11 @@ take_what_is_proved() {
     lend_kit "$work/kit"
     say "proving and building the library for $target, which takes minutes the first time"
     : >"$log"
-    if ! build_for rtp_wire "$processor" || ! make_text rtp_wire "$processor" "$work/rtp_wire.s"; then
+    if ! build_for rtp_wire "$system" || ! make_text rtp_wire "$system" "$work/rtp_wire.s"; then
         tail -n 20 -- "$log" >&2
         give_up "the library was not built: $log"
     fi
-    grep -q "^logic=proved .*target=$target" "$log" || give_up "the last lines don't say that it is proved: $log"
+    grep -q "^logic=proved .*target=$proved_for" "$log" || give_up "the last lines don't say that it is proved: $log"
     say "proved and built after $SECONDS seconds"
     if cmp -s -- "$text" "$work/rtp_wire.s"; then
         what="what was proved, which is the text $text"
@@ -121,7 +121,12 @@ take_what_is_proved() {
     # In front of some functions stands what isn't proved: it is the end of the text.
     local name renamed=()
     for name in $(in_front); do renamed+=(--redefine-sym "rtpw_$name=rtp_proved_$name"); done
-    "${tools}objcopy" "${renamed[@]}" "$top/crates/rtp_c/out/librtp_c.a" "$work/librtp_c.a"
+    local proved=$top/crates/rtp_c/out/librtp_c.a
+    if [ "$target" != "$proved_for" ]; then
+        proved=$work/proved.o
+        compile "$lent/words_for" ir "$lent/other" "$proved" -c
+    fi
+    "${tools}objcopy" "${renamed[@]}" "$proved" "$work/librtp_c.a"
     awk -v front="$not_proved" 'found; $0 == front { found = 1 }' "$work/rtp_wire.s" >"$work/apart.s"
     # shellcheck disable=SC2086
     $cc -c "$work/apart.s" -o "$work/apart.o"
@@ -134,8 +139,8 @@ elif [ -n "$fault" ]; then
     give_up "$text $fault: bindings/install.sh --prove, or else generated/make, proves and builds the sources as they are, and takes rt"
 else
     # shellcheck disable=SC2086
-    $cc -c "$text" -o "$work/rtp_wire-$processor.o"
-    parts=("$work/rtp_wire-$processor.o")
+    $cc -c "$text" -o "$work/rtp_wire-$system.o"
+    parts=("$work/rtp_wire-$system.o")
     what="the text $text"
 fi
 

@@ -55,8 +55,6 @@ done
 for name in $(cat "$scratch/exported"); do
     for callers in 'bindings/test/hostile_*.c' bindings/test/stack.c bindings/rust/rtp-wire/src/sys.rs; do
         case $callers in *stack.c) word=${name#rtpw_} ;; *) word=$name ;; esac
-        # of the receivers for a sender that may start again the bindings have the one with a window of any size
-        case $name:$callers in rtpw_restarting_receive:*sys.rs) continue ;; esac
         # shellcheck disable=SC2086
         grep -qw -- "$word" $callers || fail "$name is not called in $callers"
     done
@@ -74,6 +72,10 @@ for standard in c++11 c++17; do
 done
 cc -std=c11 "${strict[@]}" -fsyntax-only bindings/test/layout.c
 c++ -std=c++11 "${strict[@]}" -fsyntax-only -x c++ bindings/test/layout.c
+with_types=(-std=c11 -g -fno-eliminate-unused-debug-types -c bindings/test/layout.c -o "$scratch/layout.o")
+cc "${with_types[@]}"
+compared=$(bindings/test/layouts.py "$scratch/layout.o") || fail 'the layouts in C'
+said "layouts in C beside DWARF: $compared"
 said 'the header file, as C99 to C17 and C++11 to C++17, and where each field lies'
 
 # Beside the header files of other libraries for RTP, where they are, before them and after them, in C and C++.
@@ -93,7 +95,7 @@ done
 if grep -hoE '\b(rtp|RTP)_\w+' bindings/c/rtp_wire{,_sanitized}.h | grep -vxE 'rtp_wire(_sanitized)?' >&2; then fail 'names of the header file'; fi
 said "the header file beside ${beside:-no other library}"
 
-for it in packets blocks padding faults headers statuses receivers reception corners peers standard datagrams routed apart; do
+for it in whole packets blocks padding faults headers statuses receivers reception corners peers standard datagrams routed alone apart; do
     cc -std=c99 "${strict[@]}" bindings/c/test/$it.c "$library" -o "$scratch/by_hand"
     "$scratch/by_hand"
     c++ -std=c++11 "${strict[@]}" -Wno-missing-field-initializers -x c++ bindings/c/test/$it.c -x none "$library" -o "$scratch/by_hand"
@@ -136,15 +138,13 @@ if [ -n "$proves" ]; then
     # The packages with the text of what was proved now.
     mkdir -p "$scratch/bindings/rust"
     cp -r "$go" "$scratch/bindings"
-    # shellcheck source=generated/copies.sh
-    (top=$PWD && . generated/copies.sh && copy_of bindings/out/build-x86_64-unknown-linux-gnu/rtp_wire.s "$go/rtp_wire_linux_amd64.S") \
-        >"$scratch/$go/rtp_wire_linux_amd64.S"
+    generated/go/text.py amd64 bindings/out/build-x86_64-unknown-linux-gnu/rtp_wire.s generated/go/memory-x86_64.s "$scratch/$go" >"$scratch/go.log"
     go=$scratch/$go
     cp -r "$rust" "$scratch/bindings/rust"
     for it in s prefix; do
         # shellcheck source=generated/copies.sh
-        (top=$PWD && . generated/copies.sh && copy_of bindings/out/build-x86_64-unknown-linux-gnu/rtp_wire.s "$rust/assembly/rtp_wire-x86_64.$it") \
-            >"$scratch/$rust/assembly/rtp_wire-x86_64.$it"
+        (top=$PWD && . generated/copies.sh && copy_of bindings/out/build-x86_64-unknown-linux-gnu/rtp_wire.s "$rust/assembly/rtp_wire-Linux-x86_64.$it") \
+            >"$scratch/$rust/assembly/rtp_wire-Linux-x86_64.$it"
     done
     rust=$scratch/$rust CARGO_TARGET_DIR+=-proved
 fi
@@ -157,6 +157,9 @@ c++ -std=c++11 "${strict[@]}" "${include[@]}" bindings/examples/lines.cpp "$libr
 if has cargo; then
     "${cargo[@]}" build "${crate[@]}"
     "${cargo[@]}" build "${crate[@]}" --example lines
+    CARGO_PROFILE_DEV_DEBUG=2 "${cargo[@]}" build "${crate[@]}" --target-dir "$CARGO_TARGET_DIR-dwarf"
+    compared=$(bindings/test/layouts.py "$CARGO_TARGET_DIR-dwarf/debug/librtp_wire.rlib") || fail 'the layouts in Rust'
+    said "layouts in Rust beside DWARF: $compared"
     cp -- "$CARGO_TARGET_DIR/debug/examples/lines" "$scratch/lines_rust"
 else
     languages='C and C++'
@@ -164,6 +167,8 @@ else
 fi
 if has go; then
     (cd "$go" && go build -o "$scratch/lines_go" ./examples/lines)
+    compared=$(bindings/test/layouts.py "$scratch/lines_go") || fail 'the layouts in Go'
+    said "layouts in Go beside DWARF: $compared, of those that an example has"
     languages="${languages/ and /, } and Go"
 else
     said 'Go was left out: there is no go'
@@ -356,7 +361,9 @@ if has aarch64-linux-gnu-gcc && has qemu-aarch64; then
     bindings/install.sh $proves --target aarch64-unknown-linux-gnu
     arm=$here/out/aarch64-unknown-linux-gnu/lib/librtp_wire.a
     aarch64-linux-gnu-gcc -std=c11 "${strict[@]}" -fsyntax-only bindings/test/layout.c
-    CC='aarch64-linux-gnu-gcc -static' RUN=qemu-aarch64 bindings/test/abi.sh || fail 'the ABI on ARM'
+    aarch64-linux-gnu-gcc "${with_types[@]}"
+    compared=$(bindings/test/layouts.py "$scratch/layout.o") || fail 'the layouts on ARM'
+    said "layouts on ARM beside DWARF: $compared"
     aarch64-linux-gnu-nm -g --defined-only "$arm" | awk 'NF == 3 { print $3 }' | sort | diff "$scratch/declared" - >&2 ||
         fail 'the list and the library for ARM differ'
     wants_as_said aarch64-linux-gnu-nm "$arm"
@@ -364,7 +371,7 @@ if has aarch64-linux-gnu-gcc && has qemu-aarch64; then
     mkdir "$scratch/emulated"
     cp "$scratch/arm" "$scratch/emulated/lines_arm"
     bindings/test/examples.sh "$scratch/emulated" qemu-aarch64
-    for it in packets blocks padding faults headers statuses receivers reception corners peers standard datagrams routed apart; do
+    for it in whole packets blocks padding faults headers statuses receivers reception corners peers standard datagrams routed alone apart; do
         aarch64-linux-gnu-gcc -std=c99 "${strict[@]}" -static bindings/c/test/$it.c "$arm" -o "$scratch/arm"
         qemu-aarch64 "$scratch/arm"
     done
@@ -372,7 +379,7 @@ if has aarch64-linux-gnu-gcc && has qemu-aarch64; then
     qemu-aarch64 "$scratch/arm"
     aarch64-linux-gnu-gcc -std=c99 -D_GNU_SOURCE "${strict[@]}" -static bindings/test/hostile*.c "$arm" -o "$scratch/arm"
     qemu-aarch64 "$scratch/arm" 4 20000
-    said 'on ARM, emulated: the ABI, symbols, layouts, the example, the values worked out by hand, the stack, and random bytes 20,000 times'
+    said 'on ARM, emulated: symbols, layouts, the example, the values worked out by hand, the stack, and random bytes 20,000 times'
 else
     said 'ARM was left out: there is no aarch64-linux-gnu-gcc or no qemu-aarch64'
 fi

@@ -6,6 +6,9 @@
 # written as text. And it adds call frame information, for which it puts some instructions in another order: so
 # what is built by this `rt` has the code of the text.
 
+# The system for which the library for C is proved and built.
+proved_for=x86_64-unknown-linux-gnu
+
 # Takes a folder for the kit that is lent: it is of links, but for clang, and for `rt`, which looks beside itself.
 lend_kit() {
     local it kit
@@ -36,16 +39,17 @@ CLANG
     PATH=$lent/bin:$PATH
 }
 
-# Proves and builds what a text is made of. The program for another processor isn't linked: that for x86-64
-# has to be there, stays, and is run on no input.
-build_for() { # text, processor
-    local crate=${crate_of[$1]} out status=0
+# Proves and builds what a text is made of. The library for C is proved for one system, and what was built of it is then
+# compiled for all (make_text). The program for another processor isn't linked: that for x86-64 has to be there, stays, and
+# is run on no input.
+build_for() { # text, system
+    local crate=${crate_of[$1]} triple=${triple_of[$2]} out status=0
     out=$top/crates/$crate/out
     read -ra crates <<<"$(crates_of "$crate")"
     rm -f -- "$lent/module" "$lent/words"
     case $1-$2 in
-    rtp_wire-*) prove_all lib --target "$2-unknown-linux-gnu" ;;
-    rtp_lines-x86_64)
+    rtp_wire-*) prove_all lib --target "$proved_for" ;;
+    rtp_lines-Linux-x86_64)
         # Else rt takes what it built before, and compiles nothing.
         rm -f -- "$out/rtp_lines.stamp"
         prove_all run
@@ -53,7 +57,7 @@ build_for() { # text, processor
     *)
         mv -- "$lent/bin/rattle-link" "$out/rtp_lines.stamp" "$out/rtp_lines.o" "$lent"
         ln -s -- "$(type -P true)" "$lent/bin/rattle-link"
-        prove_all run --target "$2-unknown-linux-gnu" || status=$?
+        prove_all run --target "$triple" || status=$?
         mv -f -- "$lent/rattle-link" "$lent/bin"
         mv -f -- "$lent/rtp_lines.stamp" "$lent/rtp_lines.o" "$out"
         return "$status"
@@ -61,63 +65,107 @@ build_for() { # text, processor
     esac
 }
 
-# The code of a text: without the names of the compiler's files, with labels that meet no others where the text is
-# part of a larger one, and with call frame information where debuggers and profilers look for it. Only these
-# names can be seen from outside.
-plain_code() { # names, what labels begin with
-    sed -E -e '/^\t\.(file|ident|cfi_sections|hidden)[\t ]/d' \
-        -e "/^\t\.globl\t($1)\$/!{/^\t\.globl\t/d}" -e "/^\t\.ascii\t/!s/\.L([A-Za-z_])/.L$2\1/g"
-}
-
 # The functions for C in front of which generated/apart.c stands, without the rtpw_ of their names.
 in_front() {
     sed -n 's/^APART(\([a-z_]*\),.*/\1/p' "$top/generated/apart.c"
 }
 
-# Lets the kit's clang write as text what it is given, with the words by which `rt` called it. For ARM these tell it
-# to leave out the passes that `rt` has run before; C needs them.
-as_text() { # language, file, where to
+# The words for the kit's clang by which it compiles for a system what it compiled for another: those by which `rt` called
+# it, but for what is of one processor or one form of file. On ARM two registers are left alone: x18, which Apple and
+# Windows keep for themselves, and x28, in which Go has what it knows of a goroutine.
+words_for() { # triple
     local words at
     mapfile -t words <"$lent/words" || return
     for at in "${!words[@]}"; do
+        case ${words[at]-}-$1 in
+        --target=*) words[at]=--target=$1 ;;
+        -march=*-riscv64-*) words[at]=-march=rv64gc ;;
+        -march=*-aarch64-*) words[at]=-march=armv8-a ;;
+        -march=*-arm64-*) unset "words[at]" ;;
+        -no-x86-call-frame-opt-x86_64-*) ;;
+        -no-x86-call-frame-opt-*) unset "words[at - 1]" "words[at]" ;;
+        -fforce-dwarf-frame-*-windows-* | -fPIC-*-windows-*) unset "words[at]" ;;
+        esac
+    done
+    case $1 in
+    arm64-* | aarch64-*) words+=(-ffixed-x18 -ffixed-x28) ;;
+    riscv64-*) words+=(-mabi=lp64d) ;;
+    esac
+    printf '%s\n' "${words[@]}"
+}
+
+# Lets the kit's clang write what it is given as text, or as an object. For ARM `rt` tells it to leave out the passes
+# that it has run before; C needs them.
+compile() { # file of words, language, file, where to, -S or -c
+    local words at
+    mapfile -t words <"$1" || return
+    for at in "${!words[@]}"; do
         case ${words[at]-} in
-        -c) words[at]=-S ;;
-        -Xclang) [ "$1" = ir ] || unset "words[at]" "words[at + 1]" ;;
-        -x) words[at + 1]=$1 words[at + 2]=$2 ;;
-        -o) words[at + 1]=$3 ;;
+        -c) words[at]=$5 ;;
+        -Xclang) [ "$2" = ir ] || unset "words[at]" "words[at + 1]" ;;
+        -x) words[at + 1]=$2 words[at + 2]=$3 ;;
+        -o) words[at + 1]=$4 ;;
         esac
     done
     "$lent/toolchain/bin/clang" "${words[@]}" -fno-addrsig -fno-verbose-asm
 }
 
-# Writes the text of what was built last. In the library for C generated/apart.c takes the names of the functions in
-# front of which it stands, and is the end of the text.
-make_text() { # text, processor, file
-    local exports what proved='is proved' front
-    as_text ir "$lent/module" "$lent/module.s" || return
+# What the kit's clang was given, for another system: the module, in $lent/other.ll, and the words.
+retarget() { # triple
+    local clang=$lent/toolchain/bin/clang layout
+    words_for "$1" >"$lent/words_for" || return
+    if [ "$1" = "$proved_for" ]; then
+        ln -sf -- module "$lent/other"
+        return
+    fi
+    layout=$("$clang" --target="$1" -S -emit-llvm -x c /dev/null -o - | sed -n 's/^target datalayout = "\(.*\)"/\1/p') || return
+    "$clang" --target="$proved_for" -S -emit-llvm -Xclang -disable-llvm-passes -x ir "$lent/module" -o "$lent/module.ll" || return
+    rm -f -- "$lent/other"
+    # shellcheck disable=SC2046
+    "$top/generated/systems.py" module "$1" "$layout" "$top/bindings/c/rtp_wire.h" $(in_front) <"$lent/module.ll" >"$lent/other"
+}
+
+# The code of the library for C for a system, in which generated/apart.c takes the names of the functions in front of
+# which it stands, and is the end.
+library_code() { # triple
+    local front
+    retarget "$1" && compile "$lent/words_for" ir "$lent/other" "$lent/module.s" -S &&
+        compile "$lent/words_for" c "$top/generated/apart.c" "$lent/apart.s" -S || return
+    front=$(in_front | paste -s -d '|')
+    sed -i -E "s/\b(_?)rtpw_($front)\b/\1rtp_proved_\2/g" "$lent/module.s" || return
+    case $1 in *apple*) grep '^\s\.build_version' "$lent/module.s" ;; esac
+    "$top/generated/systems.py" text "$1" 'rtpw_[a-z0-9_]*' rtp_ <"$lent/module.s" || return
+    echo "$not_proved"
+    "$top/generated/systems.py" text "$1" 'rtpw_[a-z0-9_]*' rtp_apart_ <"$lent/apart.s" || return
+    case $1 in *apple*) printf '\t.subsections_via_symbols\n' ;; esac
+}
+
+# Writes the text of what was built last.
+make_text() { # text, system, file
+    local what proved='is proved' triple=${triple_of[$2]} for=$proved_for
     case $1 in
     rtp_wire)
-        as_text c "$top/generated/apart.c" "$lent/apart.s" || return
-        front=$(in_front | paste -s -d '|') exports='rtpw_[a-z0-9_]*'
-        sed -i -E "s/\brtpw_($front)\b/rtp_proved_\1/g" "$lent/module.s" || return
+        library_code "$triple" >"$lent/code" || return
         what='the library for C' proved='but those at its end is proved'
         ;;
-    rtp_lines) what='the program' exports=main ;;
+    rtp_lines)
+        compile "$lent/words" ir "$lent/module" "$lent/module.s" -S || return
+        "$top/generated/systems.py" text "$triple" main rtp_ <"$lent/module.s" >"$lent/code" || return
+        what='the program' for=$triple
+        ;;
     esac
     {
         echo "/*"
-        echo " * $1 for Linux on $2: the assembly text that Rattle's compiler makes of $what, each function of which $proved."
+        echo " * $1 for ${2%%-*} on ${2#*-}: the assembly text that Rattle's compiler makes of $what, each function of which $proved."
         echo " * Made anew by: generated/make"
         echo " * kit: $(rt version)"
+        echo " * proved for: $for"
+        echo " * compiled for: $triple"
         echo " * sources: $(sources_digest "${crate_of[$1]}")"
         echo " * SPDX-License-Identifier: MIT OR Apache-2.0"
         echo " * Copyright (c) 2026 The rtp-wire developers (NOTICE)"
         echo " */"
-        plain_code "$exports" rtp_ <"$lent/module.s"
-        if [ "$1" = rtp_wire ]; then
-            echo "$not_proved"
-            plain_code "$exports" rtp_apart_ <"$lent/apart.s"
-        fi
+        cat -- "$lent/code"
     } >"$3"
     sed -i "s/^ \* sources: .*/&\n * text: $(text_digest "$3")/" "$3"
 }

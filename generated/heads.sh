@@ -1,13 +1,26 @@
 # What the heads of the texts in this folder say. The scripts rtp_lines, prove, bindings/install.sh and
 # generated/make read this file, after .ci/proving; they set `top`. It takes a shell and coreutils alone.
 
-# The texts, each with the crate that it is made of.
+# The texts, each with the crate that it is made of, and the systems that it is for, as `uname -s` and `uname -m` name them.
 names='rtp_wire rtp_lines'
 declare -A crate_of=([rtp_wire]=rtp_c [rtp_lines]=rtp_lines)
-processors='x86_64 aarch64'
+declare -A systems_of=(
+    [rtp_wire]='Linux-x86_64 Linux-aarch64 Linux-riscv64 Darwin-arm64 Darwin-x86_64 Windows-x86_64'
+    [rtp_lines]='Linux-x86_64 Linux-aarch64'
+)
+
+# What a compiler calls each system.
+declare -A triple_of=(
+    [Linux-x86_64]=x86_64-unknown-linux-gnu
+    [Linux-aarch64]=aarch64-unknown-linux-gnu
+    [Linux-riscv64]=riscv64-unknown-linux-gnu
+    [Darwin-arm64]=arm64-apple-macosx11.0.0
+    [Darwin-x86_64]=x86_64-apple-macosx11.0.0
+    [Windows-x86_64]=x86_64-pc-windows-gnu
+)
 
 # The file of a text.
-text_of() { # text, processor
+text_of() { # text, system
     echo "$top/generated/$1-$2.s"
 }
 
@@ -51,7 +64,7 @@ code_of() { # file
 # Why a text isn't to be used: nothing where it is whole, and made of the sources as they are. Their digest is
 # in `now` where it was found before.
 declare -A now
-fault_of() { # text, processor
+fault_of() { # text, system
     local file
     file=$(text_of "$1" "$2")
     if [ ! -f "$file" ]; then

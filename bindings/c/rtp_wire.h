@@ -5,37 +5,40 @@
  * outputs holds for every input. Two things are written in C, and tested: rtpw_status_text, and the comparison that
  * stands in front of seven functions of elements and blocks, which refuses data that lie in the buffer.
  *
- *     if (rtpw_is_rtcp(datagram, len)) { // on a port that RTP and RTCP share
+ *     rtpw_map map; // what the ids of header extensions mean, by the SDP (rtpw_map_set); here the usual ones
+ *     rtpw_map_standard(&map);
+ *     ...
+ *     rtpw_whole_packet packet;
+ *     int32_t status = rtpw_read(datagram, len, &map, &packet);
+ *     if (status == RTPW_RTCP) { // which comes to the same port
  *         return control(datagram, len);
  *     }
- *     rtpw_packet packet;
- *     int32_t status = rtpw_packet_parse(datagram, len, &packet);
  *     if (status != RTPW_OK) {
  *         return drop(status);
  *     }
- *     deliver(packet.ssrc, packet.timestamp, datagram + packet.payload_at, packet.unpadded_len);
+ *     if (packet.header.values.has_audio_level) {
+ *         show(packet.header.ssrc, packet.header.values.audio_level);
+ *     }
+ *     deliver(packet.header.ssrc, packet.header.timestamp, datagram + packet.header.header_len, packet.unpadded_len);
  *
  * Each function may be called with any values, and returns. It keeps no pointer, has no state of its
  * own and takes no memory but that of the stack. Calls on several threads at once are safe as long as
  * nothing that one of them writes is read or written by another. A program that is built with -fsanitize=thread is told
  * where that isn't so.
  *
- * The caller owes what C asks anyway:
- *   - a pointer is to as much memory as is said, and aligned for its type: NULL may stand only where the
- *     size or the count after it is 0 (that this is as a buffer of no bytes is tested, not proved);
- *   - what is written overlaps nothing else that is passed. Of bytes that are read this is looked at: where one of the
- *     data lies in the buffer that rtpw_set_element, rtpw_put_element, rtpw_add_element, rtpw_write_with,
- *     rtpw_write_with_form or rtpw_write_elements may write, as those of another element of the same packet do, or one
- *     of the body in that of rtpw_put_block, the status is RTPW_BAD_FIELD and nothing is written. Copy such data first:
- *     an element has at most 255 bytes. Of structs, arrays of structs or numbers, and lengths it isn't looked at: they
- *     must not lie in a buffer, nor in one another.
+ * The caller owes what C asks anyway, and marks of the parameters say (below):
+ *   - a pointer is to as much memory as is said, and aligned for its type: NULL may stand only where its RTPW_COUNT is
+ *     0 (that this is as a buffer of no bytes is tested, not proved);
+ *   - what is written, RTPW_OUT or RTPW_INOUT, overlaps nothing else that is passed. Of data and a body that are
+ *     RTPW_MAY_OVERLAP this is looked at: where one of their bytes lies in that buffer, as those of another element of
+ *     the same packet do, the status is RTPW_BAD_FIELD and nothing is written. Copy such data first: an element has at
+ *     most 255 bytes. Of structs, arrays of structs or numbers, and lengths it isn't looked at: they must not lie in a
+ *     buffer, nor in one another.
  *
- * A buffer is a pointer and then its size in bytes. Numbers are in the byte order of the machine:
- * what stands in a packet in network byte order is turned. Outputs are written whole where the
- * status is RTPW_OK, and else not at all; but rtpw_restarting_receive and rtpw_wide_restarting_receive write the number
- * at RTPW_RESTARTED too, and their state also at RTPW_REFUSED, and rtpw_make_template may leave anything in its buffer.
- * The calls for many at once return nothing, and write a status beside each; so does rtpw_write_headers, which returns
- * one too.
+ * A buffer is a pointer and then its size in bytes. Numbers are in the byte order of the machine: what stands in a
+ * packet in network byte order is turned. Outputs are written whole where the status is RTPW_OK, and else not at all,
+ * unless they are RTPW_WRITTEN_IF others; what rtpw_make_template and rtpw_make_from_group leave in their buffer then may be anything. The calls
+ * for many at once return nothing, and write a status beside each; so does rtpw_write_headers, which returns one too.
  *
  * Where a call has several faults, the status is that of the first of these:
  *   1. an argument is out of its range whatever the buffers hold, or data lie in the buffer: RTPW_BAD_FIELD, and from
@@ -45,6 +48,7 @@
  *      the functions that say so RTPW_LONG_ID, RTPW_FORM_NOT_ALLOWED or RTPW_LONG_BLOCK;
  *   4. there is no room: RTPW_SHORT_BUFFER.
  * rtpw_make_template stands for several calls, one after another: there the first of these that refuses tells its own.
+ * rtpw_read and rtpw_read_many tell RTCP before 2: RTPW_RTCP.
  */
 #ifndef RTPW_H
 #define RTPW_H
@@ -66,6 +70,33 @@ extern "C" {
 #define RTPW_CHECKED __attribute__((warn_unused_result))
 #else
 #define RTPW_CHECKED
+#endif
+
+/* Marks, which are empty for a compiler. What reads this file as a description gives them a meaning: the tables of the
+ * packages for other languages are made from it. A pointer to const is to what is read, and any other has one of the
+ * first two marks; it is to one thing where no count is marked.
+ *
+ *     RTPW_OUT                 it is written where the status is RTPW_OK, or where there is none; what it held isn't
+ *                              looked at. Of a buffer with a size the first *len bytes are, where `len` is marked too
+ *     RTPW_INOUT               it is read, and written likewise
+ *     RTPW_COUNT(count)        it is to so many: NULL is allowed where they are 0
+ *     RTPW_MAY_OVERLAP(buffer) it may lie in this buffer, and then the status is RTPW_BAD_FIELD
+ *     RTPW_WRITTEN_IF(..)      it is written at these statuses, and not at RTPW_OK alone; RTPW_ANY_STATUS is each
+ *     RTPW_TELLS(fields..)     of a field: these others of the struct are looked at only where it isn't 0, as the field
+ *                              `x` is beside one that is named `has_x`
+ *     RTPW_RANGE(low, high)    of a field: what is written, and what is taken where it is looked at
+ *     RTPW_KIND(uri, ..)       the URI of a kind of extension in SDP, and each field of rtpw_values that is of it
+ *
+ * RTPW_COUNT of an array in a struct: only so many of it are looked at. */
+#ifndef RTPW_OUT
+#define RTPW_OUT
+#define RTPW_INOUT
+#define RTPW_COUNT(count)
+#define RTPW_MAY_OVERLAP(buffer)
+#define RTPW_WRITTEN_IF(...)
+#define RTPW_TELLS(...)
+#define RTPW_RANGE(low, high)
+#define RTPW_KIND(...)
 #endif
 
 /* The version of this header file: as text, and as the number that rtpw_version returns of its library. One that ends
@@ -100,7 +131,9 @@ enum {
     RTPW_BAD_ID = 13,           /* the id is 0, which no element has */
     RTPW_FORM_NOT_ALLOWED = 14, /* the block has, or an element needs, a form that isn't allowed */
     RTPW_LONG_BLOCK = 15,       /* the block would have more than 65,535 words */
-    RTPW_LONG_ID = 16           /* an id is above 14, which the one-byte form can't carry */
+    RTPW_LONG_ID = 16,          /* an id is above 14, which the one-byte form can't carry */
+    RTPW_RTCP = 17              /* the datagram is RTCP, and no packet of RTP: rtpw_read and rtpw_read_many tell it, and
+                                 * who answers it gets it */
 };
 
 /* What a status says, in words. */
@@ -122,6 +155,7 @@ static inline const char *rtpw_status_text(int32_t status) {
     case RTPW_FORM_NOT_ALLOWED: return "a form of the extension block that isn't allowed";
     case RTPW_LONG_BLOCK: return "an extension block of more than 65,535 words";
     case RTPW_LONG_ID: return "an id above 14, which the one-byte form can't carry";
+    case RTPW_RTCP: return "a packet of RTCP";
     default: return "no status of this library";
     }
 }
@@ -163,14 +197,15 @@ typedef struct {
 /* Whether a datagram on a port that RTP and RTCP share is RTCP (RFC 5761, 4): it has version 2, and its
  * second byte, the RTCP packet type, is 192 to 223. It comes before rtpw_packet_parse and rtpw_parse, which
  * would take a receiver report for RTP: as RTP that byte is M and a payload type of 64 to 95, which a stream
- * on such a port must not have. False of fewer than two bytes; no other byte is looked at, and two or three are
- * enough, though no RTCP packet has fewer than four. */
-bool rtpw_is_rtcp(const uint8_t *datagram, size_t len);
+ * on such a port must not have; rtpw_read looks itself. False of fewer than two bytes; no other byte is looked at, and
+ * two or three are enough, though no RTCP packet has fewer than four. */
+bool rtpw_is_rtcp(RTPW_COUNT(len) const uint8_t *datagram, size_t len);
 
 /* Reads the header of the packet in the buffer. RTPW_OK, or the first cause for which it holds none. A block of
  * another form than the two has a body, and no elements: none are found in it, and none can be put into it. With
  * Cryptex decrypt first: the contributing sources are encrypted too. */
-RTPW_CHECKED int32_t rtpw_packet_parse(const uint8_t *datagram, size_t len, rtpw_packet *packet);
+RTPW_CHECKED int32_t rtpw_packet_parse(RTPW_COUNT(len) const uint8_t *datagram, size_t len,
+                                       RTPW_OUT rtpw_packet *packet);
 
 /* ---- A packet, changed where it lies ---- */
 
@@ -182,11 +217,13 @@ RTPW_CHECKED int32_t rtpw_packet_parse(const uint8_t *datagram, size_t len, rtpw
  * payload_at bytes are a packet without a payload, and what they become is, with the payload behind it, what
  * the whole packet would become. So a server copies and changes only the header for each receiver, and sends
  * it before the one payload (writev). */
-RTPW_CHECKED int32_t rtpw_set_marker(uint8_t *datagram, size_t len, bool marker);
-RTPW_CHECKED int32_t rtpw_set_payload_type(uint8_t *datagram, size_t len, uint8_t payload_type);
-RTPW_CHECKED int32_t rtpw_set_sequence_number(uint8_t *datagram, size_t len, uint16_t number);
-RTPW_CHECKED int32_t rtpw_set_timestamp(uint8_t *datagram, size_t len, uint32_t timestamp);
-RTPW_CHECKED int32_t rtpw_set_ssrc(uint8_t *datagram, size_t len, uint32_t ssrc);
+RTPW_CHECKED int32_t rtpw_set_marker(RTPW_INOUT RTPW_COUNT(len) uint8_t *datagram, size_t len, bool marker);
+RTPW_CHECKED int32_t rtpw_set_payload_type(RTPW_INOUT RTPW_COUNT(len) uint8_t *datagram, size_t len,
+                                           uint8_t payload_type);
+RTPW_CHECKED int32_t rtpw_set_sequence_number(RTPW_INOUT RTPW_COUNT(len) uint8_t *datagram, size_t len,
+                                              uint16_t number);
+RTPW_CHECKED int32_t rtpw_set_timestamp(RTPW_INOUT RTPW_COUNT(len) uint8_t *datagram, size_t len, uint32_t timestamp);
+RTPW_CHECKED int32_t rtpw_set_ssrc(RTPW_INOUT RTPW_COUNT(len) uint8_t *datagram, size_t len, uint32_t ssrc);
 
 /* Fields to be set together: each where its has_ isn't 0, and what stands beside one that is 0 isn't
  * looked at. 20 bytes. */
@@ -194,8 +231,9 @@ typedef struct {
     uint32_t timestamp;
     uint32_t ssrc;
     uint16_t sequence_number;
-    uint8_t payload_type; /* 0 to 127 */
-    uint8_t marker;       /* M counts as set where it isn't 0 */
+    RTPW_RANGE(0, 127)
+    uint8_t payload_type;
+    uint8_t marker; /* M counts as set where it isn't 0 */
     uint8_t has_timestamp;
     uint8_t has_ssrc;
     uint8_t has_sequence_number;
@@ -212,22 +250,27 @@ typedef struct {
  *     fields.ssrc = route->ssrc;
  *     int32_t status = rtpw_set_fields(datagram, len, &fields);
  */
-RTPW_CHECKED int32_t rtpw_set_fields(uint8_t *datagram, size_t len, const rtpw_fields *fields);
+RTPW_CHECKED int32_t rtpw_set_fields(RTPW_INOUT RTPW_COUNT(len) uint8_t *datagram, size_t len,
+                                     const rtpw_fields *fields);
 
 /* The contributing source at this place, counted from 0. RTPW_NONE where the list has no such place. */
-RTPW_CHECKED int32_t rtpw_set_csrc(uint8_t *datagram, size_t len, size_t index, uint32_t source);
+RTPW_CHECKED int32_t rtpw_set_csrc(RTPW_INOUT RTPW_COUNT(len) uint8_t *datagram, size_t len, size_t index,
+                                   uint32_t source);
 
 /* Gives the last element of this id these data. RTPW_BAD_FIELD, before all else, where one of them lies in the
  * datagram; RTPW_NONE where the packet has no element of the id, or its last one has another number of bytes. */
-RTPW_CHECKED int32_t rtpw_set_element(uint8_t *datagram, size_t len, uint8_t id, const uint8_t *data, size_t data_len);
+RTPW_CHECKED int32_t rtpw_set_element(RTPW_INOUT RTPW_COUNT(len) uint8_t *datagram, size_t len, uint8_t id,
+                                      RTPW_COUNT(data_len) RTPW_MAY_OVERLAP(datagram) const uint8_t *data,
+                                      size_t data_len);
 /* Makes each element of this id padding. RTPW_NONE where the packet has none. */
-RTPW_CHECKED int32_t rtpw_remove_element(uint8_t *datagram, size_t len, uint8_t id);
+RTPW_CHECKED int32_t rtpw_remove_element(RTPW_INOUT RTPW_COUNT(len) uint8_t *datagram, size_t len, uint8_t id);
 
 /* Sets or clears P, and no other bit: the padding is the caller's to write (rtpw_pad), or to keep. */
-RTPW_CHECKED int32_t rtpw_set_padding(uint8_t *datagram, size_t len, bool has_padding);
+RTPW_CHECKED int32_t rtpw_set_padding(RTPW_INOUT RTPW_COUNT(len) uint8_t *datagram, size_t len, bool has_padding);
 /* Takes the padding off: clears P, and writes how many bytes the packet then has, which are its first ones;
  * where P is clear, all of them. RTPW_BAD_FIELD where padding_fits is 0. With SRTP decrypt first. */
-RTPW_CHECKED int32_t rtpw_remove_padding(uint8_t *datagram, size_t len, size_t *new_len);
+RTPW_CHECKED int32_t rtpw_remove_padding(RTPW_INOUT RTPW_COUNT(len) uint8_t *datagram, size_t len,
+                                         RTPW_OUT size_t *new_len);
 
 /* ---- A packet that grows where it lies, and one that is made short ---- */
 
@@ -264,7 +307,8 @@ enum { RTPW_ANY_FORM = 0 };
  * else it has or needs a form that isn't allowed (RTPW_ONE_BYTE_FORM alone: it has RTPW_TWO_BYTE_FORM, or the element
  * has no data or more than 16 bytes of them); RTPW_LONG_BLOCK where it would have more than 65,535 words;
  * RTPW_SHORT_BUFFER. */
-RTPW_CHECKED int32_t rtpw_put_element(uint8_t *buf, size_t size, size_t *len, uint8_t id, const uint8_t *data,
+RTPW_CHECKED int32_t rtpw_put_element(RTPW_INOUT RTPW_COUNT(size) uint8_t *buf, size_t size, RTPW_INOUT size_t *len,
+                                      uint8_t id, RTPW_COUNT(data_len) RTPW_MAY_OVERLAP(buf) const uint8_t *data,
                                       size_t data_len, uint8_t allowed);
 
 /* Puts an element behind all others, and those of its id stay: an id may have several, of which the last one counts
@@ -278,7 +322,8 @@ RTPW_CHECKED int32_t rtpw_put_element(uint8_t *buf, size_t size, size_t *len, ui
  *     int32_t status = rtpw_add_element(bytes, sizeof bytes, &len, 1, &second, 1, RTPW_ANY_FORM);
  *     // the body of the block is 10 AA 10 BB
  */
-RTPW_CHECKED int32_t rtpw_add_element(uint8_t *buf, size_t size, size_t *len, uint8_t id, const uint8_t *data,
+RTPW_CHECKED int32_t rtpw_add_element(RTPW_INOUT RTPW_COUNT(size) uint8_t *buf, size_t size, RTPW_INOUT size_t *len,
+                                      uint8_t id, RTPW_COUNT(data_len) RTPW_MAY_OVERLAP(buf) const uint8_t *data,
                                       size_t data_len, uint8_t allowed);
 
 /* Makes the packet as short as its elements allow: these stand in a row, without those of the id 0, which is padding's,
@@ -286,7 +331,7 @@ RTPW_CHECKED int32_t rtpw_add_element(uint8_t *buf, size_t size, size_t *len, ui
  * rtpw_remove_element and then this gives bytes back; what is then behind the packet, up to its old end, may be
  * anything. A block without elements becomes one of no words, and X stays set; a block of RTPW_OTHER_FORM stays as it
  * is. RTPW_OK; RTPW_BAD_FIELD where *len is past the buffer; or the first cause for which the bytes are no packet. */
-RTPW_CHECKED int32_t rtpw_compact(uint8_t *buf, size_t size, size_t *len);
+RTPW_CHECKED int32_t rtpw_compact(RTPW_INOUT RTPW_COUNT(size) uint8_t *buf, size_t size, RTPW_INOUT size_t *len);
 
 /* Makes a block of the other form one of this form, RTPW_ONE_BYTE_FORM or RTPW_TWO_BYTE_FORM. Its elements stay, in
  * order, and all other parts of the packet too; the payload moves where the body has to grow, and a body never becomes
@@ -305,7 +350,8 @@ RTPW_CHECKED int32_t rtpw_compact(uint8_t *buf, size_t size, size_t *len);
  * an element has an id above 14, which the one-byte form can't carry; RTPW_FORM_NOT_ALLOWED where none has, and one has
  * no data or more than 16 bytes of them, which it can't either; RTPW_LONG_BLOCK where the block would have more than
  * 65,535 words; RTPW_SHORT_BUFFER. */
-RTPW_CHECKED int32_t rtpw_change_form(uint8_t *buf, size_t size, size_t *len, uint8_t form);
+RTPW_CHECKED int32_t rtpw_change_form(RTPW_INOUT RTPW_COUNT(size) uint8_t *buf, size_t size, RTPW_INOUT size_t *len,
+                                      uint8_t form);
 
 /* Takes the block off, of whatever form, and clears X: the payload moves to the end of the CSRC list. Without a block
  * nothing changes. What lies behind the packet's new end stays. So the block of no words goes that rtpw_remove_element
@@ -317,7 +363,7 @@ RTPW_CHECKED int32_t rtpw_change_form(uint8_t *buf, size_t size, size_t *len, ui
  *     }
  *
  * RTPW_OK; RTPW_BAD_FIELD where *len is past the buffer; or the first cause for which the bytes are no packet. */
-RTPW_CHECKED int32_t rtpw_remove_block(uint8_t *buf, size_t size, size_t *len);
+RTPW_CHECKED int32_t rtpw_remove_block(RTPW_INOUT RTPW_COUNT(size) uint8_t *buf, size_t size, RTPW_INOUT size_t *len);
 
 /* Gives the packet a block that begins with these 16 bits, which a profile defines (RFC 3550, 5.3.1), and has this
  * body, in place of the block that is there: X is set, and the payload moves. What the body holds isn't looked at: of
@@ -329,7 +375,8 @@ RTPW_CHECKED int32_t rtpw_remove_block(uint8_t *buf, size_t size, size_t *len);
  * RTPW_OK; RTPW_BAD_FIELD, before all else, where a byte of the body lies in the `size` bytes of the buffer, *len is
  * past the buffer, or the body is no whole number of words of four bytes; RTPW_LONG_BLOCK where it has more than 65,535
  * words; the first cause for which the bytes are no packet; RTPW_SHORT_BUFFER. */
-RTPW_CHECKED int32_t rtpw_put_block(uint8_t *buf, size_t size, size_t *len, uint16_t profile, const uint8_t *body,
+RTPW_CHECKED int32_t rtpw_put_block(RTPW_INOUT RTPW_COUNT(size) uint8_t *buf, size_t size, RTPW_INOUT size_t *len,
+                                    uint16_t profile, RTPW_COUNT(body_len) RTPW_MAY_OVERLAP(buf) const uint8_t *body,
                                     size_t body_len);
 
 /* ---- The elements of a block ---- */
@@ -351,63 +398,55 @@ typedef struct {
  *         look(element.id, body + element.data_at, element.data_len);
  *     }
  */
-RTPW_CHECKED int32_t rtpw_next_element(const uint8_t *body, size_t body_len, uint8_t form, size_t at,
-                                       rtpw_element *element);
+RTPW_CHECKED int32_t rtpw_next_element(RTPW_COUNT(body_len) const uint8_t *body, size_t body_len, uint8_t form,
+                                       size_t at, RTPW_OUT rtpw_element *element);
 /* The last element of an id, which is the one that counts. RTPW_OK; RTPW_NONE where no element has the
  * id; RTPW_BAD_FIELD where the form is none of the two. */
-RTPW_CHECKED int32_t rtpw_last_element(const uint8_t *body, size_t body_len, uint8_t form, uint8_t id,
-                                       rtpw_element *element);
+RTPW_CHECKED int32_t rtpw_last_element(RTPW_COUNT(body_len) const uint8_t *body, size_t body_len, uint8_t form,
+                                       uint8_t id, RTPW_OUT rtpw_element *element);
 
 /* ---- The values of a block ---- */
 
 /* The kinds of extension, by numbers of this library, and from RTPW_KIND_OWN to 255 by yours. Those to 15 have a field
  * of rtpw_values, but for the color space. Those from 16 to 20, and yours, have none: their elements are read and
  * written by their data, of 16 to 20 by the calls that are named here, and go from one map to another
- * (rtpw_new_ids_between). Beside each its URI in SDP:
- *
- *     1  http://www.webrtc.org/experiments/rtp-hdrext/abs-send-time
- *     2  http://www.webrtc.org/experiments/rtp-hdrext/abs-capture-time
- *     3  urn:ietf:params:rtp-hdrext:ssrc-audio-level                                  RFC 6464
- *     4  urn:ietf:params:rtp-hdrext:toffset                                           RFC 5450
- *     5  urn:3gpp:video-orientation                                                   3GPP TS 26.114
- *     6  http://www.ietf.org/id/draft-holmer-rmcat-transport-wide-cc-extensions-01
- *     7  http://www.webrtc.org/experiments/rtp-hdrext/playout-delay
- *     8  http://www.webrtc.org/experiments/rtp-hdrext/video-content-type
- *     9  http://www.webrtc.org/experiments/rtp-hdrext/video-timing
- *    10  urn:ietf:params:rtp-hdrext:sdes:rtp-stream-id                                RFC 8852
- *    11  urn:ietf:params:rtp-hdrext:sdes:repaired-rtp-stream-id                       RFC 8852
- *    12  urn:ietf:params:rtp-hdrext:sdes:mid                                          RFC 9143
- *    13  http://tools.ietf.org/html/draft-ietf-avtext-framemarking-07                 the draft's; of RFC 9626 it is
- *        urn:ietf:params:rtp-hdrext:framemarking, which has no number here: give it one of yours
- *    14  http://www.webrtc.org/experiments/rtp-hdrext/color-space
- *    15  http://www.webrtc.org/experiments/rtp-hdrext/video-layers-allocation00
- *    16  urn:ietf:params:rtp-hdrext:csrc-audio-level                                  RFC 6465
- *    17  http://www.webrtc.org/experiments/rtp-hdrext/transport-wide-cc-02
- *    18  https://aomediacodec.github.io/av1-rtp-spec/#dependency-descriptor-rtp-header-extension
- *    19  urn:ietf:params:rtp-hdrext:ntp-64                                            RFC 6051
- *    20  urn:ietf:params:rtp-hdrext:ntp-56                                            RFC 6051 */
+ * (rtpw_new_ids_between). Beside each its URI in SDP. */
 enum {
     RTPW_KIND_NONE = 0,
-    RTPW_KIND_ABS_SEND_TIME = 1,
-    RTPW_KIND_ABS_CAPTURE_TIME = 2,
-    RTPW_KIND_AUDIO_LEVEL = 3,
-    RTPW_KIND_TRANSMISSION_OFFSET = 4,
-    RTPW_KIND_VIDEO_ORIENTATION = 5,
-    RTPW_KIND_TRANSPORT_NUMBER = 6,
-    RTPW_KIND_PLAYOUT_DELAY = 7,
-    RTPW_KIND_VIDEO_CONTENT_TYPE = 8,
-    RTPW_KIND_VIDEO_TIMING = 9,
-    RTPW_KIND_RID = 10,
-    RTPW_KIND_REPAIRED_RID = 11,
-    RTPW_KIND_MID = 12,
-    RTPW_KIND_FRAME_MARKING = 13, /* of four bytes; that of RFC 9626 has one to three: rtpw_read_frame_marking */
-    RTPW_KIND_COLOR_SPACE = 14,
-    RTPW_KIND_LAYERS = 15,
-    RTPW_KIND_MIXER_LEVELS = 16,          /* of the contributing sources: rtpw_read_mixer_level */
-    RTPW_KIND_TRANSPORT_NUMBER_2 = 17,    /* with what feedback it asks for: rtpw_read_transport_number */
-    RTPW_KIND_DEPENDENCY_DESCRIPTOR = 18, /* of AV1: rtpw_read_dependency_descriptor */
-    RTPW_KIND_NTP_64 = 19,                /* rtpw_read_ntp_64 */
-    RTPW_KIND_NTP_56 = 20,                /* rtpw_read_ntp_56 */
+    RTPW_KIND_ABS_SEND_TIME = 1 RTPW_KIND("http://www.webrtc.org/experiments/rtp-hdrext/abs-send-time", send_time),
+    RTPW_KIND_ABS_CAPTURE_TIME = 2
+        RTPW_KIND("http://www.webrtc.org/experiments/rtp-hdrext/abs-capture-time", capture_time, capture_offset),
+    RTPW_KIND_AUDIO_LEVEL = 3 /* RFC 6464 */
+        RTPW_KIND("urn:ietf:params:rtp-hdrext:ssrc-audio-level", audio_level, voice_activity),
+    RTPW_KIND_TRANSMISSION_OFFSET = 4 /* RFC 5450 */
+        RTPW_KIND("urn:ietf:params:rtp-hdrext:toffset", transmission_offset),
+    RTPW_KIND_VIDEO_ORIENTATION = 5 /* 3GPP TS 26.114 */
+        RTPW_KIND("urn:3gpp:video-orientation", video_orientation),
+    RTPW_KIND_TRANSPORT_NUMBER = 6
+        RTPW_KIND("http://www.ietf.org/id/draft-holmer-rmcat-transport-wide-cc-extensions-01", transport_number),
+    RTPW_KIND_PLAYOUT_DELAY = 7
+        RTPW_KIND("http://www.webrtc.org/experiments/rtp-hdrext/playout-delay", playout_delay_min, playout_delay_max),
+    RTPW_KIND_VIDEO_CONTENT_TYPE = 8
+        RTPW_KIND("http://www.webrtc.org/experiments/rtp-hdrext/video-content-type", video_content_type),
+    RTPW_KIND_VIDEO_TIMING = 9 RTPW_KIND("http://www.webrtc.org/experiments/rtp-hdrext/video-timing", video_timing),
+    RTPW_KIND_RID = 10 RTPW_KIND("urn:ietf:params:rtp-hdrext:sdes:rtp-stream-id", rid), /* RFC 8852 */
+    RTPW_KIND_REPAIRED_RID = 11 /* RFC 8852 */
+        RTPW_KIND("urn:ietf:params:rtp-hdrext:sdes:repaired-rtp-stream-id", repaired_rid),
+    RTPW_KIND_MID = 12 RTPW_KIND("urn:ietf:params:rtp-hdrext:sdes:mid", mid), /* RFC 9143 */
+    RTPW_KIND_FRAME_MARKING = 13 /* the draft's, of four bytes; that of RFC 9626, of one to three, is
+                                  * urn:ietf:params:rtp-hdrext:framemarking, which has no number here: give it one of
+                                  * yours, and take rtpw_read_frame_marking */
+        RTPW_KIND("http://tools.ietf.org/html/draft-ietf-avtext-framemarking-07", frame_marking),
+    RTPW_KIND_COLOR_SPACE = 14 RTPW_KIND("http://www.webrtc.org/experiments/rtp-hdrext/color-space"),
+    RTPW_KIND_LAYERS = 15 RTPW_KIND("http://www.webrtc.org/experiments/rtp-hdrext/video-layers-allocation00", layers),
+    RTPW_KIND_MIXER_LEVELS = 16 /* of the contributing sources (RFC 6465): rtpw_read_mixer_level */
+        RTPW_KIND("urn:ietf:params:rtp-hdrext:csrc-audio-level"),
+    RTPW_KIND_TRANSPORT_NUMBER_2 = 17 /* with what feedback it asks for: rtpw_read_transport_number */
+        RTPW_KIND("http://www.webrtc.org/experiments/rtp-hdrext/transport-wide-cc-02"),
+    RTPW_KIND_DEPENDENCY_DESCRIPTOR = 18 /* of AV1: rtpw_read_dependency_descriptor */
+        RTPW_KIND("https://aomediacodec.github.io/av1-rtp-spec/#dependency-descriptor-rtp-header-extension"),
+    RTPW_KIND_NTP_64 = 19 RTPW_KIND("urn:ietf:params:rtp-hdrext:ntp-64"), /* RFC 6051: rtpw_read_ntp_64 */
+    RTPW_KIND_NTP_56 = 20 RTPW_KIND("urn:ietf:params:rtp-hdrext:ntp-56"), /* RFC 6051: rtpw_read_ntp_56 */
     RTPW_KIND_OWN = 128
 };
 
@@ -441,7 +480,7 @@ typedef struct {
 
 /* The kind whose URI these bytes are, letter for letter, 1 to 20; RTPW_KIND_NONE where it is that of none, as for
  * those of your own kinds, and where it is misspelled. The URI is the bytes alone, without a zero behind them. */
-uint8_t rtpw_kind_of_uri(const uint8_t *uri, size_t len);
+uint8_t rtpw_kind_of_uri(RTPW_COUNT(len) const uint8_t *uri, size_t len);
 /* Writes the URI that names the kind in SDP, as an answer says it, to the front of the buffer: at most 87 bytes
  * (RTPW_URI_SIZE, which a minor version may raise), and no zero behind them. RTPW_OK, and *len is how many; RTPW_NONE
  * where the number is that of no kind, as RTPW_KIND_NONE and those of your own; RTPW_SHORT_BUFFER.
@@ -453,19 +492,20 @@ uint8_t rtpw_kind_of_uri(const uint8_t *uri, size_t len);
  *     }
  */
 #define RTPW_URI_SIZE 87
-RTPW_CHECKED int32_t rtpw_uri_of_kind(uint8_t kind, uint8_t *buf, size_t size, size_t *len);
+RTPW_CHECKED int32_t rtpw_uri_of_kind(uint8_t kind, RTPW_OUT RTPW_COUNT(size) uint8_t *buf, size_t size,
+                                      RTPW_OUT size_t *len);
 /* The id means the kind from now on. RTPW_OK, or RTPW_BAD_FIELD where the id is 0, or the kind is RTPW_KIND_NONE, which
  * rtpw_kind_of_uri returns of a URI that it doesn't know, or one of 21 to 127; then nothing changes. */
-RTPW_CHECKED int32_t rtpw_map_set(rtpw_map *map, uint8_t id, uint8_t kind);
+RTPW_CHECKED int32_t rtpw_map_set(RTPW_INOUT rtpw_map *map, uint8_t id, uint8_t kind);
 /* The id means nothing from now on: kind[id] becomes 0. */
-void rtpw_map_remove(rtpw_map *map, uint8_t id);
+void rtpw_map_remove(RTPW_INOUT rtpw_map *map, uint8_t id);
 /* The kind that the id means; RTPW_KIND_NONE where it means none. */
 uint8_t rtpw_map_get(const rtpw_map *map, uint8_t id);
 /* The lowest id that means the kind; 0 where none does, as for RTPW_KIND_NONE and 21 to 127. */
 uint8_t rtpw_id_of(const rtpw_map *map, uint8_t kind);
 /* The map of the usual ids, whatever it was: 1 audio level, 2 send time, 3 transport number, 4 mid, 10
  * rid, 11 repaired rid, 13 video orientation; RTPW_KIND_NONE at each other index, 0 too. */
-void rtpw_map_standard(rtpw_map *map);
+void rtpw_map_standard(RTPW_OUT rtpw_map *map);
 
 /* A time: ticks / hertz seconds. 16 bytes. */
 typedef struct {
@@ -499,7 +539,8 @@ typedef struct {
     uint16_t last_left_pacer;     /* and left the pacer */
     uint8_t timing_flags;         /* why these were sent: bit 0 a timer, bit 1 a large frame */
     uint8_t video_content_type;   /* 0 unspecified, 1 a screen */
-    int8_t audio_level;           /* dB relative to the overload point, -127 to 0 */
+    RTPW_RANGE(-127, 0)
+    int8_t audio_level;           /* dB relative to the overload point */
     uint8_t voice_activity;       /* 0 or 1 */
     char mid[17];                 /* the media section (RFC 9143), up to 16 characters; as it lies: rtpw_is_token */
     char rid[9];                  /* the stream (RFC 8852), up to 8 characters, where the RFC has up to 255; as it lies:
@@ -517,6 +558,7 @@ typedef struct {
     uint8_t has_voice_activity;
     uint8_t has_playout_delay_min;
     uint8_t has_playout_delay_max;
+    RTPW_TELLS(encode_start, encode_finish, packetize_complete, last_left_pacer, timing_flags)
     uint8_t has_video_timing; /* the four times and timing_flags */
     uint8_t has_mid;
     uint8_t has_rid;
@@ -527,8 +569,8 @@ typedef struct {
 /* The values that the elements of a body give under the map: for each kind those of the last element
  * whose id means it and whose data are well-formed for it. RTPW_OK; RTPW_BAD_FIELD where the form is none
  * of the two. */
-RTPW_CHECKED int32_t rtpw_values_read(const uint8_t *body, size_t body_len, uint8_t form, const rtpw_map *map,
-                                      rtpw_values *values);
+RTPW_CHECKED int32_t rtpw_values_read(RTPW_COUNT(body_len) const uint8_t *body, size_t body_len, uint8_t form,
+                                      const rtpw_map *map, RTPW_OUT rtpw_values *values);
 
 /* Writes the data that an element of the kind has for these values, as rtpw_write would, to the front of the
  * buffer; bytes after them stay. So one value is set where it lies:
@@ -544,7 +586,8 @@ RTPW_CHECKED int32_t rtpw_values_read(const uint8_t *body, size_t body_len, uint
  * of this kind or not, is one for which rtpw_write returns it; RTPW_NONE where a value that the kind needs
  * isn't there, and always for RTPW_KIND_COLOR_SPACE, RTPW_KIND_LAYERS, those from 16 to 20 and kinds of your own;
  * RTPW_SHORT_BUFFER. */
-RTPW_CHECKED int32_t rtpw_data_of(uint8_t kind, const rtpw_values *values, uint8_t *buf, size_t size, size_t *len);
+RTPW_CHECKED int32_t rtpw_data_of(uint8_t kind, const rtpw_values *values, RTPW_OUT RTPW_COUNT(size) uint8_t *buf,
+                                  size_t size, RTPW_OUT size_t *len);
 
 /* ---- A header, read and written ---- */
 
@@ -553,10 +596,13 @@ typedef struct {
     size_t header_len;        /* of the header that was read: the payload begins there; nothing is written of it */
     uint32_t timestamp;       /* in ticks of the payload's clock */
     uint32_t ssrc;            /* the stream's source */
+    RTPW_COUNT(csrc_count)
     uint32_t csrc[15];        /* the contributing sources, csrc_count of them; as read the others are 0 */
     uint16_t sequence_number; /* the low 16 bits of the packet's number */
-    uint8_t payload_type;     /* 0 to 127 */
-    uint8_t csrc_count;       /* 0 to 15 */
+    RTPW_RANGE(0, 127)
+    uint8_t payload_type;
+    RTPW_RANGE(0, 15)
+    uint8_t csrc_count;
     uint8_t marker;           /* M: 0 or 1 */
     uint8_t has_padding;   /* P: 0 or 1. As written only with padding behind the payload (rtpw_pad): where one that was
                             * read is written for a payload without its padding clear it, or each peer takes the
@@ -565,30 +611,53 @@ typedef struct {
     rtpw_values values;    /* of the block: none where there is none */
 } rtpw_header;
 
-/* Reads the header that the bytes begin with, and the values of its block under the map: in one call
- * what rtpw_packet_parse and rtpw_values_read tell, and on a port with RTCP after rtpw_is_rtcp. Nothing
- * after the header is looked at. RTPW_OK, or the first cause for which there is none, where RTPW_UNKNOWN_FORM
- * comes before RTPW_CUT_BLOCK: a receiver that takes such packets calls rtpw_packet_parse.
+/* A packet of RTP: its header, and where its parts lie, in bytes from the packet's first one. The payload begins at
+ * header.header_len; with its padding it is the rest of the datagram. 256 bytes. */
+typedef struct {
+    rtpw_header header;     /* with the values of the block: none where there is no block, or one of RTPW_OTHER_FORM */
+    size_t unpadded_len;    /* of the payload without its padding, the media (with SRTP decrypt first); 0 where
+                             * padding_fits is 0 */
+    size_t body_at;         /* where the body of the extension block begins, after the four bytes of its header; without
+                             * one header.header_len */
+    size_t body_len;        /* of the body, which ends where the payload begins; 0 without a block */
+    uint16_t block_profile; /* the 16 bits that the block begins with; 0 without one */
+    uint8_t block_form;     /* RTPW_ONE_BYTE_FORM, RTPW_TWO_BYTE_FORM or RTPW_OTHER_FORM; RTPW_NO_BLOCK where X is clear */
+    uint8_t padding_fits;   /* 0 where P is set and the payload's last byte counts more bytes than there are, else 1 */
+} rtpw_whole_packet;
+
+/* Reads the packet of RTP that the datagram is, with the values of its block under the map: in one call what
+ * rtpw_is_rtcp, rtpw_packet_parse and rtpw_parse tell. The example at the head of this file begins with it.
  *
- * Padding is no part of a header: where has_padding is 1 the payload that begins at header_len ends with it, and
- * unpadded_len of rtpw_packet_parse tells where it does.
+ * RTPW_RTCP, before all else, where rtpw_is_rtcp is true, however few bytes there are: it isn't lost, nor taken for
+ * RTP. A stream of RTP that has a payload type of 64 to 95, which must have a port of its own, is read by
+ * rtpw_packet_parse and rtpw_parse. RTPW_OK of a packet, whatever the form of its block is: one of ONVIF or Cryptex has
+ * its place, its profile and no values. Else the first of the causes for which the datagram is none: never
+ * RTPW_UNKNOWN_FORM.
  *
- *     rtpw_packet packet;
- *     rtpw_header header;
- *     if (rtpw_packet_parse(datagram, len, &packet) == RTPW_OK && rtpw_parse(datagram, len, &map, &header) == RTPW_OK
- *         && header.values.has_audio_level) {
- *         deliver(header.values.audio_level, datagram + packet.payload_at, packet.unpadded_len);
- *     }
- */
-RTPW_CHECKED int32_t rtpw_parse(const uint8_t *datagram, size_t len, const rtpw_map *map, rtpw_header *header);
+ * What is played or stored is unpadded_len bytes. Where padding_fits is 0 drop the packet, but with SRTP not before it
+ * is decrypted: until then the last byte, by which unpadded_len and padding_fits go, is another. Its header is told as
+ * it is, so read it, decrypt its payload, and read it again. With Cryptex decrypt first, as for rtpw_packet_parse.
+ * Who sends the payload on without its padding clears P (rtpw_set_padding, clears_padding of rtpw_routed_header), or
+ * the receiver takes the last bytes of the media for padding; with it the payload has len - header.header_len bytes. */
+RTPW_CHECKED int32_t rtpw_read(RTPW_COUNT(len) const uint8_t *datagram, size_t len, const rtpw_map *map,
+                               RTPW_OUT rtpw_whole_packet *packet);
+
+/* Reads the header alone that the bytes begin with, and the values of its block under the map, and on a port with RTCP
+ * after rtpw_is_rtcp. Nothing after the header is looked at: where has_padding is 1 the payload that begins at
+ * header_len ends with padding, which rtpw_read tells. RTPW_OK, or the first cause for which there is none, where
+ * RTPW_UNKNOWN_FORM comes before RTPW_CUT_BLOCK: a receiver that takes such packets calls rtpw_read. */
+RTPW_CHECKED int32_t rtpw_parse(RTPW_COUNT(len) const uint8_t *datagram, size_t len, const rtpw_map *map,
+                                RTPW_OUT rtpw_header *header);
 
 /* A spatial layer. 40 bytes. */
 typedef struct {
+    RTPW_COUNT(rates)
     uint64_t kbps[4];  /* of each temporal layer with those below it, in kilobits per second; after the last as read
                         * 0, and as written not looked at */
     uint16_t width;    /* in pixels, 1 to 65,535; 0 where has_resolution is 0 */
     uint16_t height;   /* the same */
     uint8_t framerate; /* at most so many frames per second; 0 where has_resolution is 0 */
+    RTPW_TELLS(width, height, framerate)
     uint8_t has_resolution; /* 0 or 1 */
     uint8_t rates;          /* how many temporal layers there are, 0 to 4: 0 where the layer isn't active */
 } rtpw_layer;
@@ -596,6 +665,7 @@ typedef struct {
 /* A simulcast stream: its spatial layers by rising resolution; after the last as read all zeros, and as written not
  * looked at. 168 bytes. */
 typedef struct {
+    RTPW_COUNT(count)
     rtpw_layer layers[4];
     uint8_t count; /* 0 to 4 */
 } rtpw_stream;
@@ -603,17 +673,18 @@ typedef struct {
 /* Which simulcast streams and layers a sender of video keeps active (video-layers-allocation00): as read all
  * zeros after the last stream, and as written not looked at there. 680 bytes. */
 typedef struct {
+    RTPW_COUNT(count)
     rtpw_stream streams[4];
     uint8_t count;   /* 0 to 4; 0 where nothing is sent */
     uint8_t current; /* which of the streams the packet is of, from 0 */
 } rtpw_layers;
 
 /* As rtpw_parse, and the layer allocation where values.has_layers is 1; else *layers becomes all zeros. */
-RTPW_CHECKED int32_t rtpw_parse_layers(const uint8_t *datagram, size_t len, const rtpw_map *map, rtpw_header *header,
-                                       rtpw_layers *layers);
+RTPW_CHECKED int32_t rtpw_parse_layers(RTPW_COUNT(len) const uint8_t *datagram, size_t len, const rtpw_map *map,
+                                       RTPW_OUT rtpw_header *header, RTPW_OUT rtpw_layers *layers);
 
 /* How many bytes rtpw_write writes: a multiple of 4, 12 to 4,668. RTPW_OK; RTPW_BAD_FIELD as rtpw_write. */
-RTPW_CHECKED int32_t rtpw_wire_len(const rtpw_map *map, const rtpw_header *header, size_t *len);
+RTPW_CHECKED int32_t rtpw_wire_len(const rtpw_map *map, const rtpw_header *header, RTPW_OUT size_t *len);
 
 /* Writes the header to the front of the buffer; bytes after it stay. Where has_extension isn't 0 there is
  * a block: by rising id an element for each mapped id whose value is there (its has_ isn't 0), in the
@@ -643,7 +714,8 @@ RTPW_CHECKED int32_t rtpw_wire_len(const rtpw_map *map, const rtpw_header *heade
  *         put_payload(packet + header_len, sizeof packet - header_len);
  *     }
  */
-RTPW_CHECKED int32_t rtpw_write(const rtpw_map *map, const rtpw_header *header, uint8_t *buf, size_t size, size_t *len);
+RTPW_CHECKED int32_t rtpw_write(const rtpw_map *map, const rtpw_header *header, RTPW_OUT RTPW_COUNT(size) uint8_t *buf,
+                                size_t size, RTPW_OUT size_t *len);
 
 /* As rtpw_wire_len and rtpw_write, with these layers, whatever has_layers holds: an element of them for each id
  * that means RTPW_KIND_LAYERS. So what rtpw_parse_layers read is written again. A stream is written without the
@@ -663,9 +735,9 @@ RTPW_CHECKED int32_t rtpw_write(const rtpw_map *map, const rtpw_header *header, 
  *     status = rtpw_write_layers(&map, &header, &layers, packet, sizeof packet, &header_len);
  */
 RTPW_CHECKED int32_t rtpw_wire_len_layers(const rtpw_map *map, const rtpw_header *header, const rtpw_layers *layers,
-                                          size_t *len);
+                                          RTPW_OUT size_t *len);
 RTPW_CHECKED int32_t rtpw_write_layers(const rtpw_map *map, const rtpw_header *header, const rtpw_layers *layers,
-                                       uint8_t *buf, size_t size, size_t *len);
+                                       RTPW_OUT RTPW_COUNT(size) uint8_t *buf, size_t size, RTPW_OUT size_t *len);
 
 /* Which kinds rtpw_write leaves out, and rtpw_write_layers with these layers: those of which a value is there (a has_
  * isn't 0; the layers that are given are there, whatever has_layers holds) and no element that is written carries it.
@@ -679,9 +751,9 @@ RTPW_CHECKED int32_t rtpw_write_layers(const rtpw_map *map, const rtpw_header *h
  *         return complain(kinds); // has_extension isn't set, say, or the peer's map has no such kind
  *     }
  */
-RTPW_CHECKED int32_t rtpw_left_out(const rtpw_map *map, const rtpw_header *header, uint32_t *kinds);
+RTPW_CHECKED int32_t rtpw_left_out(const rtpw_map *map, const rtpw_header *header, RTPW_OUT uint32_t *kinds);
 RTPW_CHECKED int32_t rtpw_left_out_layers(const rtpw_map *map, const rtpw_header *header, const rtpw_layers *layers,
-                                          uint32_t *kinds);
+                                          RTPW_OUT uint32_t *kinds);
 
 /* As rtpw_write, with a block of these elements, whatever has_extension and the values hold. The data of each
  * are the data_len bytes at data_at of `data`: those that rtpw_next_element told of a body, say. What
@@ -694,23 +766,28 @@ RTPW_CHECKED int32_t rtpw_left_out_layers(const rtpw_map *map, const rtpw_header
  * than the 262,140 bytes of a block, or one of the data_len bytes of `data`, whether an element has it or not, lies in
  * the `size` bytes of the buffer: the data of a packet are written into another buffer, or copied first;
  * RTPW_SHORT_BUFFER where the buffer alone is at fault. */
-RTPW_CHECKED int32_t rtpw_write_with(const rtpw_header *header, const uint8_t *data, size_t data_len,
-                                     const rtpw_element *elements, size_t count, uint8_t *buf, size_t size,
-                                     size_t *len);
+RTPW_CHECKED int32_t rtpw_write_with(const rtpw_header *header,
+                                     RTPW_COUNT(data_len) RTPW_MAY_OVERLAP(buf) const uint8_t *data, size_t data_len,
+                                     RTPW_COUNT(count) const rtpw_element *elements, size_t count,
+                                     RTPW_OUT RTPW_COUNT(size) uint8_t *buf, size_t size, RTPW_OUT size_t *len);
 
 /* The same in one form alone, for a peer that hasn't agreed to both forms in one stream (RFC 8285, 4.1.2):
  * RTPW_ONE_BYTE_FORM or RTPW_TWO_BYTE_FORM; with 0, which is RTPW_NO_BLOCK, as rtpw_write_with. RTPW_BAD_FIELD
  * also where the form is another number or can't carry an element. */
-RTPW_CHECKED int32_t rtpw_write_with_form(const rtpw_header *header, const uint8_t *data, size_t data_len,
-                                          const rtpw_element *elements, size_t count, uint8_t form, uint8_t *buf,
-                                          size_t size, size_t *len);
+RTPW_CHECKED int32_t rtpw_write_with_form(const rtpw_header *header,
+                                          RTPW_COUNT(data_len) RTPW_MAY_OVERLAP(buf) const uint8_t *data,
+                                          size_t data_len, RTPW_COUNT(count) const rtpw_element *elements, size_t count,
+                                          uint8_t form, RTPW_OUT RTPW_COUNT(size) uint8_t *buf, size_t size,
+                                          RTPW_OUT size_t *len);
 
 /* Writes elements, one after the other, as a block's body has them, to the front of the buffer; bytes
  * after them stay. RTPW_OK; RTPW_BAD_FIELD where the form is none of the two or can't carry one of them, data_at +
  * data_len of one is past the end of the data, or one of the data, as with rtpw_write_with, lies in the buffer;
  * RTPW_SHORT_BUFFER where the buffer alone is at fault. */
-RTPW_CHECKED int32_t rtpw_write_elements(const uint8_t *data, size_t data_len, const rtpw_element *elements,
-                                         size_t count, uint8_t form, uint8_t *buf, size_t size, size_t *len);
+RTPW_CHECKED int32_t rtpw_write_elements(RTPW_COUNT(data_len) RTPW_MAY_OVERLAP(buf) const uint8_t *data,
+                                         size_t data_len, RTPW_COUNT(count) const rtpw_element *elements, size_t count,
+                                         uint8_t form, RTPW_OUT RTPW_COUNT(size) uint8_t *buf, size_t size,
+                                         RTPW_OUT size_t *len);
 
 /* ---- Values as the standards lay them out ---- */
 
@@ -747,8 +824,10 @@ RTPW_CHECKED int32_t rtpw_write_elements(const uint8_t *data, size_t data_len, c
  * seconds, modulo 64 seconds. Three bytes. RTPW_BAD_FIELD of any other number, and of one of 2^24 or more that is
  * written. rtpw_values has whole microseconds: who sends a time on as it came, or reckons with it, takes these calls.
  */
-RTPW_CHECKED int32_t rtpw_read_send_time(const uint8_t *data, size_t data_len, uint32_t *units);
-RTPW_CHECKED int32_t rtpw_write_send_time(uint32_t units, uint8_t *buf, size_t size, size_t *len);
+RTPW_CHECKED int32_t rtpw_read_send_time(RTPW_COUNT(data_len) const uint8_t *data, size_t data_len,
+                                         RTPW_OUT uint32_t *units);
+RTPW_CHECKED int32_t rtpw_write_send_time(uint32_t units, RTPW_OUT RTPW_COUNT(size) uint8_t *buf, size_t size,
+                                          RTPW_OUT size_t *len);
 /* The time, in units of 2^-32 seconds, whose low 38 bits are the low 24 of `units` and then 14 zeros, and that is
  * nearest to `near`, modulo 2^64; of two that are equally near the later one. Where `near` is the time at which the
  * packet arrived, of a clock that is less than 32 seconds off the sender's, it is the time at which that sent it:
@@ -760,8 +839,10 @@ uint64_t rtpw_extend_send_time(uint64_t near, uint32_t units);
 /* The transmission time offset (RFC 5450, 3): how long after the time of its timestamp the packet was sent, in ticks of
  * the stream's clock, -8,388,608 to 8,388,607; another is RTPW_BAD_FIELD. Three bytes, with a sign.
  * rtpw_values has str0m's, four bytes without a sign, which only str0m takes: for any other peer take these calls. */
-RTPW_CHECKED int32_t rtpw_read_transmission_offset(const uint8_t *data, size_t data_len, int32_t *offset);
-RTPW_CHECKED int32_t rtpw_write_transmission_offset(int32_t offset, uint8_t *buf, size_t size, size_t *len);
+RTPW_CHECKED int32_t rtpw_read_transmission_offset(RTPW_COUNT(data_len) const uint8_t *data, size_t data_len,
+                                                   RTPW_OUT int32_t *offset);
+RTPW_CHECKED int32_t rtpw_write_transmission_offset(int32_t offset, RTPW_OUT RTPW_COUNT(size) uint8_t *buf, size_t size,
+                                                    RTPW_OUT size_t *len);
 
 /* What a packet is to its frame, and the frame to its stream (RFC 9626, 3). 10 bytes. */
 typedef struct {
@@ -769,10 +850,12 @@ typedef struct {
     uint8_t end;             /* it is the last of its frame */
     uint8_t independent;     /* the frame can be decoded without any frame before it */
     uint8_t discardable;     /* no other frame needs this one */
+    RTPW_TELLS(base_layer_sync, temporal_id, layer_id, has_tl0_pic_idx)
     uint8_t has_layers;      /* the stream has layers; the next three are of it */
     uint8_t base_layer_sync; /* the frame depends on the base temporal layer alone; by RFC 9626 0 where temporal_id is,
                               * which isn't looked at: it is read as it lies, and written as it is given */
-    uint8_t temporal_id;     /* the temporal layer, 0 to 7; 0 is the base layer */
+    RTPW_RANGE(0, 7)
+    uint8_t temporal_id;     /* the temporal layer; 0 is the base layer */
     uint8_t layer_id;        /* the spatial and quality layer, by the numbers of its codec */
     uint8_t has_tl0_pic_idx; /* the next one is sent; without layers it isn't looked at */
     uint8_t tl0_pic_idx;     /* the running number of the frame of the base temporal layer */
@@ -781,9 +864,10 @@ typedef struct {
 /* One byte without layers, whose low four bits aren't looked at as they are read; two with layers, and three with
  * tl0_pic_idx. RTPW_BAD_FIELD where there are none or more than three, and of a temporal_id above 7 that is written.
  * rtpw_values has str0m's number of four bytes, which is no RFC 9626 marking: for any other peer take these calls. */
-RTPW_CHECKED int32_t rtpw_read_frame_marking(const uint8_t *data, size_t data_len, rtpw_frame_marking *marking);
-RTPW_CHECKED int32_t rtpw_write_frame_marking(const rtpw_frame_marking *marking, uint8_t *buf, size_t size,
-                                              size_t *len);
+RTPW_CHECKED int32_t rtpw_read_frame_marking(RTPW_COUNT(data_len) const uint8_t *data, size_t data_len,
+                                             RTPW_OUT rtpw_frame_marking *marking);
+RTPW_CHECKED int32_t rtpw_write_frame_marking(const rtpw_frame_marking *marking, RTPW_OUT RTPW_COUNT(size) uint8_t *buf,
+                                              size_t size, RTPW_OUT size_t *len);
 
 /* Which way a camera faces. */
 enum {
@@ -794,6 +878,7 @@ enum {
 /* How a picture was taken, and is to be shown (3GPP TS 26.114, 7.4.5). 4 bytes. */
 typedef struct {
     uint16_t turn;  /* how the receiver has to turn the picture, counter-clockwise: 0, 90, 180 or 270 */
+    RTPW_RANGE(0, 1)
     uint8_t camera; /* RTPW_CAMERA_FRONT or RTPW_CAMERA_BACK */
     uint8_t flip;   /* the picture is mirrored, left for right, as it is sent, before the receiver turns it: 0 or 1 */
 } rtpw_orientation;
@@ -801,19 +886,20 @@ typedef struct {
 /* One byte; its high four bits aren't looked at, and are written as 0. RTPW_BAD_FIELD of any other number of bytes, and
  * of another turn or camera that is written.
  * rtpw_values has the turn alone, and writes zeros for camera and flip: whoever shows the picture takes these calls. */
-RTPW_CHECKED int32_t rtpw_read_orientation(const uint8_t *data, size_t data_len, rtpw_orientation *orientation);
-RTPW_CHECKED int32_t rtpw_write_orientation(const rtpw_orientation *orientation, uint8_t *buf, size_t size,
-                                            size_t *len);
+RTPW_CHECKED int32_t rtpw_read_orientation(RTPW_COUNT(data_len) const uint8_t *data, size_t data_len,
+                                           RTPW_OUT rtpw_orientation *orientation);
+RTPW_CHECKED int32_t rtpw_write_orientation(const rtpw_orientation *orientation, RTPW_OUT RTPW_COUNT(size) uint8_t *buf,
+                                            size_t size, RTPW_OUT size_t *len);
 
 /* Whether the data are a token of SDP (RFC 8866, 9) of 1 to 255 characters, as a mid is (RFC 5888, 4): then they are
  * the text itself, to be compared with the SDP's byte by byte, and written as they are. The texts of rtpw_values have
  * an underscore for each other character than letters and digits, and are cut: for ids that the peer chose take the
  * data. */
-bool rtpw_is_token(const uint8_t *data, size_t data_len);
+bool rtpw_is_token(RTPW_COUNT(data_len) const uint8_t *data, size_t data_len);
 /* Whether the data are 1 to 255 letters and digits of ASCII, as a stream id and a repaired one have to be where they
  * are sent (RFC 8852, 3). In SDP `a=rid` also allows - and _ (RFC 8851, 10): a stream whose id has one can't be told by
  * it, so choose one without. To compare what came with the SDP's text rtpw_is_token is enough. */
-bool rtpw_is_stream_id(const uint8_t *data, size_t data_len);
+bool rtpw_is_stream_id(RTPW_COUNT(data_len) const uint8_t *data, size_t data_len);
 
 /* When a frame passed each step on its way, in milliseconds after its capture (WebRTC's video-timing). 14 bytes. */
 typedef struct {
@@ -831,15 +917,18 @@ typedef struct {
 /* 13 bytes, or 12 without flags; of any other number RTPW_BAD_FIELD. No field is out of range as it is written.
  * rtpw_values takes the first of 12 bytes for flags, and has neither network time (it writes zeros): where a peer sends
  * the older form, or a server fills these in, take these calls. */
-RTPW_CHECKED int32_t rtpw_read_timing(const uint8_t *data, size_t data_len, rtpw_timing *timing);
-RTPW_CHECKED int32_t rtpw_write_timing(const rtpw_timing *timing, uint8_t *buf, size_t size, size_t *len);
+RTPW_CHECKED int32_t rtpw_read_timing(RTPW_COUNT(data_len) const uint8_t *data, size_t data_len,
+                                      RTPW_OUT rtpw_timing *timing);
+RTPW_CHECKED int32_t rtpw_write_timing(const rtpw_timing *timing, RTPW_OUT RTPW_COUNT(size) uint8_t *buf, size_t size,
+                                       RTPW_OUT size_t *len);
 
 /* The packet's number on its transport, and what feedback it asks for
  * (http://www.webrtc.org/experiments/rtp-hdrext/transport-wide-cc-02). 6 bytes. */
 typedef struct {
     uint16_t number;  /* the packet's number, over all streams of the transport */
-    uint16_t packets; /* for how many packets the feedback is to be, of which this one is the last: 0 to 32,767; 0 asks
-                       * for none */
+    RTPW_RANGE(0, 32767)
+    uint16_t packets; /* for how many packets the feedback is to be, of which this one is the last; 0 asks for none */
+    RTPW_TELLS(packets, timestamps)
     uint8_t has_request; /* four bytes: the sender asks for feedback with this packet, and `packets` and `timestamps`
                           * are of that */
     uint8_t timestamps;  /* the feedback is to have the times at which the packets arrived: 0 or 1 */
@@ -848,29 +937,35 @@ typedef struct {
 /* Two bytes, or four with a request; of any other number RTPW_BAD_FIELD, and as written of a request for more than
  * 32,767 packets. Each element that is read is written byte for byte. rtpw_values has the number alone, of the draft's
  * older URI, where feedback is on all packets: for feedback on request take these calls. */
-RTPW_CHECKED int32_t rtpw_read_transport_number(const uint8_t *data, size_t data_len, rtpw_transport_number *number);
-RTPW_CHECKED int32_t rtpw_write_transport_number(const rtpw_transport_number *number, uint8_t *buf, size_t size,
-                                                 size_t *len);
+RTPW_CHECKED int32_t rtpw_read_transport_number(RTPW_COUNT(data_len) const uint8_t *data, size_t data_len,
+                                                RTPW_OUT rtpw_transport_number *number);
+RTPW_CHECKED int32_t rtpw_write_transport_number(const rtpw_transport_number *number,
+                                                 RTPW_OUT RTPW_COUNT(size) uint8_t *buf, size_t size,
+                                                 RTPW_OUT size_t *len);
 
 /* The audio level of the contributing source at this index of the packet's list of csrc_count, in decibels relative to
  * the overload point, -127 (silence) to 0 (RFC 6465, 4: mixer to client). A byte for each, whose high bit isn't looked
  * at; what stands behind the last source's isn't either. RTPW_BAD_FIELD where the packet hasn't that source, or the
  * data no byte for it; a csrc_count above 15, which no packet has, and data of any length are taken. rtpw_values has
  * none of these. */
-RTPW_CHECKED int32_t rtpw_read_mixer_level(const uint8_t *data, size_t data_len, size_t csrc_count, size_t index,
-                                           int8_t *level);
+RTPW_CHECKED int32_t rtpw_read_mixer_level(RTPW_COUNT(data_len) const uint8_t *data, size_t data_len, size_t csrc_count,
+                                           size_t index, RTPW_OUT int8_t *level);
 /* The levels of a packet's sources, in their order. RTPW_BAD_FIELD of more than 15, which no packet has, and of a level
  * above 0 or below -127. Of none the data are empty, which the two-byte form alone carries. */
-RTPW_CHECKED int32_t rtpw_write_mixer_levels(const int8_t *levels, size_t count, uint8_t *buf, size_t size,
-                                             size_t *len);
+RTPW_CHECKED int32_t rtpw_write_mixer_levels(RTPW_COUNT(count) const int8_t *levels, size_t count,
+                                             RTPW_OUT RTPW_COUNT(size) uint8_t *buf, size_t size, RTPW_OUT size_t *len);
 
 /* NTP timestamps (RFC 6051, 3.3), in units of 2^-32 seconds: of 64 bits in eight bytes, since 1900, and the low 56 of
  * them in seven. RTPW_BAD_FIELD of any other number of bytes; each time can be written, and of 56 the high eight bits
  * aren't looked at. rtpw_values has none of these: its capture_time is the value of another extension. */
-RTPW_CHECKED int32_t rtpw_read_ntp_64(const uint8_t *data, size_t data_len, uint64_t *time);
-RTPW_CHECKED int32_t rtpw_write_ntp_64(uint64_t time, uint8_t *buf, size_t size, size_t *len);
-RTPW_CHECKED int32_t rtpw_read_ntp_56(const uint8_t *data, size_t data_len, uint64_t *time);
-RTPW_CHECKED int32_t rtpw_write_ntp_56(uint64_t time, uint8_t *buf, size_t size, size_t *len);
+RTPW_CHECKED int32_t rtpw_read_ntp_64(RTPW_COUNT(data_len) const uint8_t *data, size_t data_len,
+                                      RTPW_OUT uint64_t *time);
+RTPW_CHECKED int32_t rtpw_write_ntp_64(uint64_t time, RTPW_OUT RTPW_COUNT(size) uint8_t *buf, size_t size,
+                                       RTPW_OUT size_t *len);
+RTPW_CHECKED int32_t rtpw_read_ntp_56(RTPW_COUNT(data_len) const uint8_t *data, size_t data_len,
+                                      RTPW_OUT uint64_t *time);
+RTPW_CHECKED int32_t rtpw_write_ntp_56(uint64_t time, RTPW_OUT RTPW_COUNT(size) uint8_t *buf, size_t size,
+                                       RTPW_OUT size_t *len);
 /* The timestamp of 64 bits that ends in the low 56 bits of `low` and is nearest to `near`, modulo 2^64; of two that are
  * equally near the later one. Where `near` is less than 97 days off, as the time at which the packet arrived, it is the
  * time that the sender meant. */
@@ -915,8 +1010,11 @@ typedef struct {
     uint8_t primaries;     /* the color primaries, a code point of H.273, 8.1 */
     uint8_t transfer;      /* the transfer characteristics, a code point of H.273, 8.2 */
     uint8_t matrix;        /* the matrix coefficients, a code point of H.273, 8.3 */
+    RTPW_RANGE(0, 3)
     uint8_t range;         /* RTPW_RANGE_UNKNOWN to RTPW_RANGE_DERIVED */
+    RTPW_RANGE(0, 2)
     uint8_t horizontal;    /* from left to right: RTPW_SITING_UNSPECIFIED to RTPW_SITING_HALF */
+    RTPW_RANGE(0, 2)
     uint8_t vertical;      /* from top to bottom, the same */
     uint8_t has_hdr;       /* 0 or 1 */
 } rtpw_color_space;
@@ -927,27 +1025,31 @@ typedef struct {
  * passes over an element with a code point that H.273 reserves, as the primaries 0 or 3, or with HDR metadata beyond
  * 20,000 cd/m^2 (luminance_min beyond 5), or with a chromaticity above 1. rtpw_values has none: RTPW_KIND_COLOR_SPACE
  * can be mapped, and is neither read nor written with the values. */
-RTPW_CHECKED int32_t rtpw_read_color_space(const uint8_t *data, size_t data_len, rtpw_color_space *space);
-RTPW_CHECKED int32_t rtpw_write_color_space(const rtpw_color_space *space, uint8_t *buf, size_t size, size_t *len);
+RTPW_CHECKED int32_t rtpw_read_color_space(RTPW_COUNT(data_len) const uint8_t *data, size_t data_len,
+                                           RTPW_OUT rtpw_color_space *space);
+RTPW_CHECKED int32_t rtpw_write_color_space(const rtpw_color_space *space, RTPW_OUT RTPW_COUNT(size) uint8_t *buf,
+                                            size_t size, RTPW_OUT size_t *len);
 
 /* The fields of a dependency descriptor that each packet has (AV1's RTP payload format, A.8). 6 bytes. */
 typedef struct {
     uint16_t frame_number;  /* the number of the frame, which rolls over */
     uint8_t start_of_frame; /* the packet is the first of its frame: 0 or 1 */
     uint8_t end_of_frame;   /* it is the last of its frame: 0 or 1 */
-    uint8_t template_id;    /* the template that the frame's dependencies are like, 0 to 63 */
+    RTPW_RANGE(0, 63)
+    uint8_t template_id;    /* the template that the frame's dependencies are like */
 } rtpw_dependency_descriptor;
 
 /* The first three bytes; RTPW_BAD_FIELD of fewer. What follows them needs the structure that the sender sent before,
  * and isn't looked at: hand it on as it is. Written are the three bytes alone, which are a whole descriptor;
  * RTPW_BAD_FIELD of a template_id above 63. rtpw_values has none of these. */
-RTPW_CHECKED int32_t rtpw_read_dependency_descriptor(const uint8_t *data, size_t data_len,
-                                                     rtpw_dependency_descriptor *descriptor);
-RTPW_CHECKED int32_t rtpw_write_dependency_descriptor(const rtpw_dependency_descriptor *descriptor, uint8_t *buf,
-                                                      size_t size, size_t *len);
+RTPW_CHECKED int32_t rtpw_read_dependency_descriptor(RTPW_COUNT(data_len) const uint8_t *data, size_t data_len,
+                                                     RTPW_OUT rtpw_dependency_descriptor *descriptor);
+RTPW_CHECKED int32_t rtpw_write_dependency_descriptor(const rtpw_dependency_descriptor *descriptor,
+                                                      RTPW_OUT RTPW_COUNT(size) uint8_t *buf, size_t size,
+                                                      RTPW_OUT size_t *len);
 /* Whether a descriptor brings a template dependency structure, as that of the first packet of a key frame does: the
  * first bit of its fourth byte is set, if it has one. */
-bool rtpw_has_structure(const uint8_t *data, size_t data_len);
+bool rtpw_has_structure(RTPW_COUNT(data_len) const uint8_t *data, size_t data_len);
 
 /* ---- From one map to another ---- */
 
@@ -965,12 +1067,12 @@ typedef struct {
  *     ...
  *     int32_t status = rtpw_renumber(datagram, len, &route.ids); // for each packet
  */
-void rtpw_new_ids_between(const rtpw_map *from, const rtpw_map *to, rtpw_new_ids *ids);
+void rtpw_new_ids_between(const rtpw_map *from, const rtpw_map *to, RTPW_OUT rtpw_new_ids *ids);
 /* Gives each element of the packet in the buffer its new id, and makes one that gets none padding; no
  * other byte changes. A packet without elements stays as it is. RTPW_OK; RTPW_LONG_ID where an element would
  * get an id above 14 in the one-byte form, which can't carry it; or the first cause for which the buffer holds
  * no packet. Where it isn't RTPW_OK nothing changes. */
-RTPW_CHECKED int32_t rtpw_renumber(uint8_t *datagram, size_t len, const rtpw_new_ids *ids);
+RTPW_CHECKED int32_t rtpw_renumber(RTPW_INOUT RTPW_COUNT(len) uint8_t *datagram, size_t len, const rtpw_new_ids *ids);
 
 /* ---- Padding and retransmissions ---- */
 
@@ -981,22 +1083,22 @@ RTPW_CHECKED int32_t rtpw_renumber(uint8_t *datagram, size_t len, const rtpw_new
  * the padding takes the place of the first byte, and no P is set. RTPW_OK;
  * RTPW_BAD_FIELD where block_size is 0, whatever pad_len is; RTPW_SHORT_BUFFER where size is below header_len
  * and the padding. The packet then has header_len + *count bytes. */
-RTPW_CHECKED int32_t rtpw_pad(uint8_t *datagram, size_t size, size_t header_len, uint8_t pad_len, size_t block_size,
-                              size_t *count);
+RTPW_CHECKED int32_t rtpw_pad(RTPW_INOUT RTPW_COUNT(size) uint8_t *datagram, size_t size, size_t header_len,
+                              uint8_t pad_len, size_t block_size, RTPW_OUT size_t *count);
 
 /* The original sequence number that the payload of a retransmission packet begins with (RFC 4588, 4),
  * before the original payload: read, or the low 16 bits of it written. RTPW_OK, or RTPW_SHORT_BUFFER where
  * there are fewer than two bytes. */
-RTPW_CHECKED int32_t rtpw_read_original(const uint8_t *payload, size_t len, uint16_t *number);
-RTPW_CHECKED int32_t rtpw_write_original(uint8_t *payload, size_t size, uint64_t number);
+RTPW_CHECKED int32_t rtpw_read_original(RTPW_COUNT(len) const uint8_t *payload, size_t len, RTPW_OUT uint16_t *number);
+RTPW_CHECKED int32_t rtpw_write_original(RTPW_OUT RTPW_COUNT(size) uint8_t *payload, size_t size, uint64_t number);
 
 /* The new ids of elements where packets become retransmissions, and on the way back (RFC 8852, 3). Where the
  * map has both RTPW_KIND_RID and RTPW_KIND_REPAIRED_RID, an id of the first becomes the lowest id of the
  * second, and the ids of the second get none, so that one element tells the stream; back it is the other way
  * round. Every other id keeps itself, also one that means no kind, and so does each where the map hasn't both;
  * 0 at index 0. Make them once for a map. */
-void rtpw_new_ids_to_retransmission(const rtpw_map *map, rtpw_new_ids *ids);
-void rtpw_new_ids_from_retransmission(const rtpw_map *map, rtpw_new_ids *ids);
+void rtpw_new_ids_to_retransmission(const rtpw_map *map, RTPW_OUT rtpw_new_ids *ids);
+void rtpw_new_ids_from_retransmission(const rtpw_map *map, RTPW_OUT rtpw_new_ids *ids);
 /* Makes the packet in the first *len bytes of the buffer a retransmission (RFC 4588, 4): with this SSRC, payload
  * type and number of its own, the elements under their new ids, and as payload the original number in two bytes
  * and the original payload without its padding. P becomes clear, and all else stays, M and the timestamp too. *len
@@ -1016,7 +1118,8 @@ void rtpw_new_ids_from_retransmission(const rtpw_map *map, rtpw_new_ids *ids);
  *         send_again(datagram, len);
  *     }
  */
-RTPW_CHECKED int32_t rtpw_to_retransmission(uint8_t *buf, size_t size, size_t *len, uint32_t ssrc, uint8_t payload_type,
+RTPW_CHECKED int32_t rtpw_to_retransmission(RTPW_INOUT RTPW_COUNT(size) uint8_t *buf, size_t size,
+                                            RTPW_INOUT size_t *len, uint32_t ssrc, uint8_t payload_type,
                                             uint16_t number, const rtpw_new_ids *ids);
 /* Makes the retransmission in the first *len bytes of the buffer the packet that it repeats: with this SSRC and
  * payload type, the original number, the elements under their new ids, and as payload what follows that number,
@@ -1027,8 +1130,9 @@ RTPW_CHECKED int32_t rtpw_to_retransmission(uint8_t *buf, size_t size, size_t *l
  * cause for which there is no packet; RTPW_BAD_FIELD where padding_fits is 0; RTPW_NONE where the payload without its
  * padding has fewer than the two bytes of a number; RTPW_LONG_ID where an element would get an id above 14 in the
  * one-byte form. Where it isn't RTPW_OK nothing changes. */
-RTPW_CHECKED int32_t rtpw_from_retransmission(uint8_t *buf, size_t size, size_t *len, uint32_t ssrc,
-                                              uint8_t payload_type, const rtpw_new_ids *ids);
+RTPW_CHECKED int32_t rtpw_from_retransmission(RTPW_INOUT RTPW_COUNT(size) uint8_t *buf, size_t size,
+                                              RTPW_INOUT size_t *len, uint32_t ssrc, uint8_t payload_type,
+                                              const rtpw_new_ids *ids);
 
 /* ---- The numbers of a stream ---- */
 
@@ -1058,13 +1162,14 @@ typedef struct {
     uint64_t highest;       /* the highest number taken; before that, 65,536 times the first packet's rollover count */
     uint64_t recorded_low;  /* bit i: whether highest - i is taken, and so bit 0 is set; 0 before that */
     uint64_t recorded_high; /* bit i: whether highest - 64 - i is taken; 0 before that */
+    RTPW_TELLS(recorded_low, recorded_high)
     uint8_t started;        /* 0 where nothing is taken yet, and then 1 */
 } rtpw_receiver;
 
 /* Nothing is taken yet, and the first packet has this rollover count: `highest` becomes 65,536 times the
  * count, and all else 0, whatever it was. RTPW_OK, or RTPW_BAD_FIELD where the count is 2^48 or more.
  * With a count of 1 or more a packet from before the first one has a number too, and with 0 one near 2^64. */
-RTPW_CHECKED int32_t rtpw_receiver_start(rtpw_receiver *receiver, uint64_t rollover_count);
+RTPW_CHECKED int32_t rtpw_receiver_start(RTPW_OUT rtpw_receiver *receiver, uint64_t rollover_count);
 /* The extended sequence number: the nearest to the highest taken that ends in these 16 bits; of the
  * first packet the one with the rollover count of the start. Its low 48 bits are SRTP's packet index. */
 uint64_t rtpw_receiver_number_of(const rtpw_receiver *receiver, uint16_t sequence_number);
@@ -1073,9 +1178,10 @@ uint64_t rtpw_receiver_number_of(const rtpw_receiver *receiver, uint16_t sequenc
 bool rtpw_receiver_accepts(const rtpw_receiver *receiver, uint64_t number);
 /* Records that the number is taken. One that isn't accepted changes nothing, except that `started` and
  * bit 0 of recorded_low become 1 where they weren't. */
-void rtpw_receiver_record(rtpw_receiver *receiver, uint64_t number);
+void rtpw_receiver_record(RTPW_INOUT rtpw_receiver *receiver, uint64_t number);
 /* RTPW_OK, and the number is written and recorded; or RTPW_REFUSED where it may not be taken. */
-RTPW_CHECKED int32_t rtpw_receiver_receive(rtpw_receiver *receiver, uint16_t sequence_number, uint64_t *number);
+RTPW_CHECKED int32_t rtpw_receiver_receive(RTPW_INOUT rtpw_receiver *receiver, uint16_t sequence_number,
+                                           RTPW_OUT uint64_t *number);
 
 /* What is known of a number: why it isn't accepted. */
 enum {
@@ -1122,18 +1228,20 @@ typedef struct {
  * each less than 64 * count below it. The bits that numbers below 0 would have are 0 unless the caller set them, and
  * are cleared before a number that has the same bit is judged. */
 
-RTPW_CHECKED int32_t rtpw_wide_receiver_start(rtpw_wide_receiver *receiver, uint64_t rollover_count);
+RTPW_CHECKED int32_t rtpw_wide_receiver_start(RTPW_OUT rtpw_wide_receiver *receiver, uint64_t rollover_count);
 uint64_t rtpw_wide_receiver_number_of(const rtpw_wide_receiver *receiver, uint16_t sequence_number);
 /* Less than 64 * count below the highest number taken, where rtpw_receiver_accepts says 128. */
-bool rtpw_wide_receiver_accepts(const rtpw_wide_receiver *receiver, const uint64_t *words, size_t count,
-                                uint64_t number);
+bool rtpw_wide_receiver_accepts(const rtpw_wide_receiver *receiver, RTPW_COUNT(count) const uint64_t *words,
+                                size_t count, uint64_t number);
 /* RTPW_OK, and the number is recorded; or RTPW_REFUSED where it isn't accepted. */
-RTPW_CHECKED int32_t rtpw_wide_receiver_record(rtpw_wide_receiver *receiver, uint64_t *words, size_t count,
+RTPW_CHECKED int32_t rtpw_wide_receiver_record(RTPW_INOUT rtpw_wide_receiver *receiver,
+                                               RTPW_INOUT RTPW_COUNT(count) uint64_t *words, size_t count,
                                                uint64_t number);
-RTPW_CHECKED int32_t rtpw_wide_receiver_receive(rtpw_wide_receiver *receiver, uint64_t *words, size_t count,
-                                                uint16_t sequence_number, uint64_t *number);
-uint8_t rtpw_wide_receiver_standing_of(const rtpw_wide_receiver *receiver, const uint64_t *words, size_t count,
-                                       uint64_t number);
+RTPW_CHECKED int32_t rtpw_wide_receiver_receive(RTPW_INOUT rtpw_wide_receiver *receiver,
+                                                RTPW_INOUT RTPW_COUNT(count) uint64_t *words, size_t count,
+                                                uint16_t sequence_number, RTPW_OUT uint64_t *number);
+uint8_t rtpw_wide_receiver_standing_of(const rtpw_wide_receiver *receiver, RTPW_COUNT(count) const uint64_t *words,
+                                       size_t count, uint64_t number);
 
 /* The receive state of one stream that isn't authenticated and whose sender may start again under the same SSRC
  * (RFC 3550, appendix A.1). Not for SRTP: there a packet that isn't authentic must change nothing, and a sender
@@ -1167,8 +1275,10 @@ typedef struct {
                     * that is taken */
     uint8_t min_sequential; /* a new source's first packet is taken with the last of so many in a row, each with the
                              * number after that of the one before; 0 is as 1 */
+    RTPW_TELLS(next)
     uint8_t in_row;         /* how many packets outside of the stream came last in such a row, at most 255: 1 after one
                              * that has another number than `next` said; before any is taken all are outside */
+    RTPW_TELLS(highest, words)
     uint8_t started;        /* 0 where nothing is taken yet, and then 1 */
 } rtpw_restarting_receiver;
 
@@ -1184,8 +1294,10 @@ typedef struct {
  *         return drop(status);
  *     }
  */
-RTPW_CHECKED int32_t rtpw_restarting_receive(rtpw_restarting_receiver *receiver, uint16_t sequence_number,
-                                             uint64_t *number);
+RTPW_CHECKED int32_t rtpw_restarting_receive(RTPW_INOUT RTPW_WRITTEN_IF(RTPW_OK, RTPW_RESTARTED, RTPW_REFUSED)
+                                                 rtpw_restarting_receiver *receiver,
+                                             uint16_t sequence_number,
+                                             RTPW_OUT RTPW_WRITTEN_IF(RTPW_OK, RTPW_RESTARTED) uint64_t *number);
 
 /* Statistics of the packets that came from one source, by which its receiver reports what it got (RFC 3550, 6.4.1,
  * A.3 and A.8):
@@ -1226,19 +1338,19 @@ typedef struct {
 
 /* Records a packet that came, by its extended sequence number, its timestamp and the time of its arrival: in ticks of
  * the timestamp's clock, from any moment on, modulo 2^32. */
-void rtpw_reception_record(rtpw_reception *reception, uint64_t number, uint32_t timestamp, uint32_t arrival);
+void rtpw_reception_record(RTPW_INOUT rtpw_reception *reception, uint64_t number, uint32_t timestamp, uint32_t arrival);
 
 /* Reports on the packets that were recorded, and begins the interval of the next report. RTPW_NONE where none was
  * counted since the last report, since no report on the source is owed then (6.4): so always once 2^64 - 1 were
  * reported on, where the count ends. */
-RTPW_CHECKED int32_t rtpw_reception_report(rtpw_reception *reception, rtpw_report *report);
+RTPW_CHECKED int32_t rtpw_reception_report(RTPW_INOUT rtpw_reception *reception, RTPW_OUT rtpw_report *report);
 
 /* Writes the report block on this source to the front of the buffer, and that it has 24 bytes (6.4.1). last_report is
  * LSR, the middle 32 bits of the NTP time of the last sender report, and delay is DLSR, the time since it came in
  * units of 1/65,536 s: both 0 where none came yet. A cumulative_lost that 24 bits can't carry is written as the
  * nearest that they can. */
 RTPW_CHECKED int32_t rtpw_write_report(const rtpw_report *report, uint32_t ssrc, uint32_t last_report, uint32_t delay,
-                                       uint8_t *buf, size_t size, size_t *len);
+                                       RTPW_OUT RTPW_COUNT(size) uint8_t *buf, size_t size, RTPW_OUT size_t *len);
 
 /* The same with a window of another size, 64 numbers for each of 1 to 512 words, as rtpw_wide_receiver has it, and
  * with a bound for late packets apart from the window's size: a packet is of the stream where its number is less than
@@ -1268,16 +1380,22 @@ typedef struct {
                     * that is taken */
     uint8_t min_sequential; /* a new source's first packet is taken with the last of so many in a row, each with the
                              * number after that of the one before; 0 is as 1 */
+    RTPW_TELLS(next)
     uint8_t in_row;         /* how many packets outside of the stream came last in such a row, at most 255: 1 after one
                              * that has another number than `next` said; before any is taken all are outside */
+    RTPW_TELLS(highest)
     uint8_t started;        /* 0 where nothing is taken yet, and then 1 */
 } rtpw_wide_restarting_receiver;
 
 /* Judges the next packet of the source, as rtpw_restarting_receive does, but that at RTPW_REFUSED `started` stays as it
  * is; RTPW_BAD_FIELD where count is 0 or above 512, and then nothing is written. Where started, bit n % 64 of words[n /
  * 64 % count] is whether the number n is taken. */
-RTPW_CHECKED int32_t rtpw_wide_restarting_receive(rtpw_wide_restarting_receiver *receiver, uint64_t *words,
-                                                  size_t count, uint16_t sequence_number, uint64_t *number);
+RTPW_CHECKED int32_t rtpw_wide_restarting_receive(RTPW_INOUT RTPW_WRITTEN_IF(RTPW_OK, RTPW_RESTARTED, RTPW_REFUSED)
+                                                      rtpw_wide_restarting_receiver *receiver,
+                                                  RTPW_INOUT RTPW_COUNT(count) RTPW_WRITTEN_IF(RTPW_OK, RTPW_RESTARTED)
+                                                      uint64_t *words,
+                                                  size_t count, uint16_t sequence_number,
+                                                  RTPW_OUT RTPW_WRITTEN_IF(RTPW_OK, RTPW_RESTARTED) uint64_t *number);
 
 /* The number nearest to the previous one, modulo 2^64, that ends in these 8, 15, 16 or 32 bits. Where two
  * are equally near it is the one with the rollover count of the previous one. The sixteenth bit of what is
@@ -1297,24 +1415,33 @@ uint64_t rtpw_extend_u32(uint64_t previous, uint32_t number);
  *
  *     enum { COUNT = 32, ROOM = 1500 };
  *     static uint8_t buf[COUNT * ROOM]; // msgs[i].msg_hdr.msg_iov is buf + i * ROOM and ROOM
- *     rtpw_datagram datagrams[COUNT];
+ *     rtpw_whole_datagram datagrams[COUNT];
  *     int count = recvmmsg(socket, msgs, COUNT, MSG_WAITFORONE, NULL);
  *     for (int i = 0; i < count; i++) {
  *         datagrams[i].at = (size_t)i * ROOM;
  *         datagrams[i].len = msgs[i].msg_len;
  *     }
- *     rtpw_packet_parse_many(buf, sizeof buf, datagrams, (size_t)(count < 0 ? 0 : count));
+ *     rtpw_read_many(buf, sizeof buf, &map, datagrams, (size_t)(count < 0 ? 0 : count));
  *     for (int i = 0; i < count; i++) {
- *         const rtpw_datagram *it = &datagrams[i];
- *         if (it->is_rtcp) {
+ *         const rtpw_whole_datagram *it = &datagrams[i];
+ *         const rtpw_header *header = &it->packet.header;
+ *         if (it->status == RTPW_RTCP) {
  *             control(buf + it->at, it->len);
  *         } else if (it->status == RTPW_OK) {
- *             deliver(it->packet.ssrc, buf + it->at + it->packet.payload_at, it->packet.unpadded_len);
+ *             deliver(header->ssrc, buf + it->at + header->header_len, it->packet.unpadded_len);
  *         }
  *     }
  */
 
-/* One of several datagrams in a buffer: where it lies is given, what it says is written. 88 bytes. */
+/* One of several datagrams in a buffer: where it lies is given, what it says is written. 280 bytes. */
+typedef struct {
+    size_t at;                /* given: where it begins in the buffer, in bytes */
+    size_t len;               /* given: how many bytes it has */
+    rtpw_whole_packet packet; /* what rtpw_read writes of it, counted from its own first byte; else as it was */
+    int32_t status;           /* what rtpw_read returns of it; RTPW_BAD_FIELD where it isn't within the buffer */
+} rtpw_whole_datagram;
+
+/* The same without the values, for who doesn't look at them. 88 bytes. */
 typedef struct {
     size_t at;          /* given: where it begins in the buffer, in bytes */
     size_t len;         /* given: how many bytes it has */
@@ -1323,7 +1450,7 @@ typedef struct {
     uint8_t is_rtcp;    /* what rtpw_is_rtcp returns of it: 0 or 1; 0 where it isn't within the buffer */
 } rtpw_datagram;
 
-/* The same with a whole header and its values. 248 bytes. */
+/* The same with the header alone and its values, as rtpw_parse tells them. 248 bytes. */
 typedef struct {
     size_t at;
     size_t len;
@@ -1334,10 +1461,15 @@ typedef struct {
 } rtpw_datagram_header;
 
 /* Reads each of the datagrams. It is within the buffer where `at` is at most size, and len at most size - at: no sum
- * is cut. RTCP is read too, as rtpw_packet_parse reads it: look at is_rtcp first where it comes to the same port. */
-void rtpw_packet_parse_many(const uint8_t *buf, size_t size, rtpw_datagram *datagrams, size_t count);
-void rtpw_parse_many(const uint8_t *buf, size_t size, const rtpw_map *map, rtpw_datagram_header *datagrams,
-                     size_t count);
+ * is cut. rtpw_packet_parse_many and rtpw_parse_many read RTCP too, as rtpw_packet_parse reads it: look at is_rtcp first
+ * where it comes to the same port. Of packets with values take rtpw_read_many: rtpw_parse_many tells neither where the
+ * padding begins nor a packet whose block is of another form. */
+void rtpw_read_many(RTPW_COUNT(size) const uint8_t *buf, size_t size, const rtpw_map *map,
+                    RTPW_INOUT RTPW_COUNT(count) rtpw_whole_datagram *datagrams, size_t count);
+void rtpw_packet_parse_many(RTPW_COUNT(size) const uint8_t *buf, size_t size,
+                            RTPW_INOUT RTPW_COUNT(count) rtpw_datagram *datagrams, size_t count);
+void rtpw_parse_many(RTPW_COUNT(size) const uint8_t *buf, size_t size, const rtpw_map *map,
+                     RTPW_INOUT RTPW_COUNT(count) rtpw_datagram_header *datagrams, size_t count);
 
 /* A sequence number for one of several receivers. 24 bytes. */
 typedef struct {
@@ -1352,7 +1484,8 @@ typedef struct {
  * receiver has taken before, also in this call. One that is refused, or has no receiver, stops none after it. The
  * receivers and the arrivals are two arrays that don't overlap. As rtpw_receiver_receive it is for streams that aren't
  * authenticated, or whose packets are known to be authentic. */
-void rtpw_receive_many(rtpw_receiver *receivers, size_t receiver_count, rtpw_arrival *arrivals, size_t count);
+void rtpw_receive_many(RTPW_INOUT RTPW_COUNT(receiver_count) rtpw_receiver *receivers, size_t receiver_count,
+                       RTPW_INOUT RTPW_COUNT(count) rtpw_arrival *arrivals, size_t count);
 
 /* ---- One packet to all its receivers ---- */
 
@@ -1411,10 +1544,12 @@ void rtpw_receive_many(rtpw_receiver *receivers, size_t receiver_count, rtpw_arr
 typedef struct {
     uint32_t header_len;  /* of the header that was made, and of each that is written, without the number behind that of
                            * a retransmission: 12 to 262,216 */
+    RTPW_COUNT(count)
     uint32_t data_at[16]; /* where the data of each element begin, in bytes from the header's first one; after the last
                            * as made 0, and as given not looked at */
     uint16_t data_total;  /* how many bytes of data each receiver brings: the sum of data_len, 0 to 4,080 */
     uint8_t count;        /* how many elements there are: 0 to 16 */
+    RTPW_COUNT(count)
     uint8_t data_len[16]; /* how many bytes of data each has, 0 to 255; after the last as data_at */
 } rtpw_template;
 
@@ -1435,9 +1570,51 @@ typedef struct {
  * for; and of the elements in turn, as rtpw_put_element, RTPW_BAD_ID, RTPW_BAD_FIELD of more than 255 bytes of data,
  * RTPW_UNKNOWN_FORM, RTPW_LONG_ID, RTPW_FORM_NOT_ALLOWED, RTPW_LONG_BLOCK or RTPW_SHORT_BUFFER. Where it isn't RTPW_OK
  * *made is as it was, but the buffer may hold anything; so may what lies behind the header where it is. */
-RTPW_CHECKED int32_t rtpw_make_template(const uint8_t *datagram, size_t len, const rtpw_new_ids *ids,
-                                        const uint8_t *data, size_t data_len, const rtpw_element *elements,
-                                        size_t count, uint8_t allowed, uint8_t *buf, size_t size, rtpw_template *made);
+RTPW_CHECKED int32_t rtpw_make_template(RTPW_COUNT(len) const uint8_t *datagram, size_t len, const rtpw_new_ids *ids,
+                                        RTPW_COUNT(data_len) const uint8_t *data, size_t data_len,
+                                        RTPW_COUNT(count) const rtpw_element *elements, size_t count, uint8_t allowed,
+                                        RTPW_OUT RTPW_COUNT(size) RTPW_WRITTEN_IF(RTPW_ANY_STATUS) uint8_t *buf,
+                                        size_t size, RTPW_OUT rtpw_template *made);
+
+/* What the receivers of a group have in common, as rtpw_prepare_group makes it of new ids, elements and a form: it is
+ * kept beside the group as long as these stay, and isn't changed by hand. 550 bytes. */
+typedef struct {
+    uint8_t new_ids[256];     /* the new id of each id, and 0 where it has none, as at index 0 */
+    uint8_t numbers[256];     /* the number of the element of each id, from 1 on, and 0 where none has the id */
+    uint8_t element_ids[16];  /* the id of each element that is put */
+    uint8_t data_lens[16];    /* how many bytes of data each has */
+    uint16_t data_total;      /* how many bytes of data each receiver brings: their sum, 0 to 4,080 */
+    uint8_t count;            /* how many elements there are: 0 to 16 */
+    uint8_t allowed;          /* which form the block may get: RTPW_ANY_FORM, RTPW_ONE_BYTE_FORM or RTPW_TWO_BYTE_FORM */
+    uint8_t one_byte;         /* not 0 where the one-byte form can carry each element */
+} rtpw_group;
+
+/* Checks and tables what receivers have in common, once for all packets: the new ids of a packet's elements, the
+ * elements that are put into it, and the form that its block may get (`allowed`, as in rtpw_put_element). Of an element
+ * its id and data_len are looked at, and not where its data lie: each receiver brings its own. So a server prepares a
+ * group when a session's ids are agreed on, and for each packet calls rtpw_make_from_group and rtpw_write_headers:
+ *
+ *     const rtpw_element element = {0, 2, 0, 4};      // two bytes of the id 4
+ *     rtpw_group group;
+ *     int32_t status = rtpw_prepare_group(&ids, &element, 1, RTPW_ANY_FORM, &group);      // once
+ *     ..
+ *     status = rtpw_make_from_group(&group, packet, sizeof packet, header, sizeof header, &made);    // for each packet
+ *
+ * RTPW_OK; RTPW_BAD_FIELD where `allowed` is none of the three, count is above 16, an element has more than 255 bytes of
+ * data, or two have one id; or RTPW_BAD_ID where one has the id 0. Where it isn't RTPW_OK *group is as it was. */
+RTPW_CHECKED int32_t rtpw_prepare_group(const rtpw_new_ids *ids, RTPW_COUNT(count) const rtpw_element *elements,
+                                        size_t count, uint8_t allowed, RTPW_OUT rtpw_group *group);
+
+/* Makes the header that the packet gets for a group that was prepared, at the front of the buffer, and tells of it in
+ * *made: byte for byte what rtpw_make_template makes with the new ids, the elements and the form of the group, where
+ * the elements' data are zeros. In their place rtpw_write_headers puts each receiver's.
+ *
+ * RTPW_OK; RTPW_BAD_FIELD, before all else, where *group is none that rtpw_prepare_group makes; and then what
+ * rtpw_make_template returns. Where it isn't RTPW_OK *made is as it was, but the buffer may hold anything; so may what
+ * lies behind the header where it is. */
+RTPW_CHECKED int32_t rtpw_make_from_group(const rtpw_group *group, RTPW_COUNT(len) const uint8_t *datagram, size_t len,
+                                          RTPW_OUT RTPW_COUNT(size) RTPW_WRITTEN_IF(RTPW_ANY_STATUS) uint8_t *buf,
+                                          size_t size, RTPW_OUT rtpw_template *made);
 
 /* One of the receivers of a group, and the header that it gets. 48 bytes. */
 typedef struct {
@@ -1473,9 +1650,10 @@ typedef struct {
  * they have a payload. More isn't looked at: where rtpw_make_template didn't make it, the data are written where it
  * says, within the header, after the fields and so over them; where P is cleared that comes last. Where it isn't
  * RTPW_OK nothing is written, and no status either. */
-RTPW_CHECKED int32_t rtpw_write_headers(const rtpw_template *made, const uint8_t *header, size_t header_size,
-                                        const uint8_t *data, size_t data_len, rtpw_routed_header *receivers,
-                                        size_t count, uint8_t *buf, size_t size);
+RTPW_CHECKED int32_t rtpw_write_headers(const rtpw_template *made, RTPW_COUNT(header_size) const uint8_t *header,
+                                        size_t header_size, RTPW_COUNT(data_len) const uint8_t *data, size_t data_len,
+                                        RTPW_INOUT RTPW_COUNT(count) rtpw_routed_header *receivers, size_t count,
+                                        RTPW_OUT RTPW_COUNT(size) uint8_t *buf, size_t size);
 
 /* In a program that is built with -fsanitize=address, memory or thread the calls test what they are given, and tell
  * what they read and write, where rtp_wire_sanitized.h lies beside this file: the library itself is built without. */

@@ -1,3 +1,4 @@
+/* Made by bindings/described/make of rtp_wire.h and bindings/described/rtp_wire.hpp.in. */
 /*
  * rtp_wire.hpp: the calls of rtp_wire.h in C++17, and nothing more to link.
  *
@@ -10,21 +11,27 @@
  * A view of what is gone after the statement doesn't compile, as rtpw::mid((*rtpw::parse(datagram, map)).values), and
  * neither does writing into it; of a result that isn't kept take a copy, (*rtpw::packet_parse(datagram)).ssrc.
  *
- *     const auto packet = rtpw::packet_parse({datagram, len});
+ *     const auto packet = rtpw::read({datagram, len}, map);
+ *     if (packet.status() == rtpw::status::rtcp) { // which comes to the same port
+ *         return control({datagram, len});
+ *     }
  *     if (!packet) {
  *         return drop(rtpw::status_text(packet.status()));
  *     }
- *     for (const rtpw::element &it : rtpw::elements({datagram, len}, *packet)) {
- *         look(it.id, it.data);
+ *     if (const auto mid = rtpw::mid(packet->header.values)) {
+ *         route(*mid);
  *     }
- *     deliver(packet->ssrc, rtpw::unpadded_payload({datagram, len}, *packet));
+ *     deliver(packet->header.ssrc, rtpw::unpadded_payload({datagram, len}, *packet));
  */
 #ifndef RTPW_HPP
 #define RTPW_HPP
 
+#include <algorithm>
+#include <atomic>
 #include <cstddef>
 #include <cstdint>
 #include <cstring>
+#include <iterator>
 #include <optional>
 #include <string>
 #include <string_view>
@@ -109,22 +116,25 @@ using bytes = span<const std::uint8_t>;
 using buffer = span<std::uint8_t>;
 
 /* A status of rtp_wire.h. */
-enum class [[nodiscard]] status : std::int32_t{ok = RTPW_OK,
-                                               cut_fixed_part = RTPW_CUT_FIXED_PART,
-                                               other_version = RTPW_OTHER_VERSION,
-                                               cut_sources = RTPW_CUT_SOURCES,
-                                               cut_block_header = RTPW_CUT_BLOCK_HEADER,
-                                               unknown_form = RTPW_UNKNOWN_FORM,
-                                               cut_block = RTPW_CUT_BLOCK,
-                                               short_buffer = RTPW_SHORT_BUFFER,
-                                               bad_field = RTPW_BAD_FIELD,
-                                               refused = RTPW_REFUSED,
-                                               none = RTPW_NONE,
-                                               restarted = RTPW_RESTARTED,
-                                               bad_id = RTPW_BAD_ID,
-                                               form_not_allowed = RTPW_FORM_NOT_ALLOWED,
-                                               long_block = RTPW_LONG_BLOCK,
-                                               long_id = RTPW_LONG_ID};
+enum class [[nodiscard]] status : std::int32_t {
+    ok = RTPW_OK,
+    cut_fixed_part = RTPW_CUT_FIXED_PART,
+    other_version = RTPW_OTHER_VERSION,
+    cut_sources = RTPW_CUT_SOURCES,
+    cut_block_header = RTPW_CUT_BLOCK_HEADER,
+    unknown_form = RTPW_UNKNOWN_FORM,
+    cut_block = RTPW_CUT_BLOCK,
+    short_buffer = RTPW_SHORT_BUFFER,
+    bad_field = RTPW_BAD_FIELD,
+    refused = RTPW_REFUSED,
+    none = RTPW_NONE,
+    restarted = RTPW_RESTARTED,
+    bad_id = RTPW_BAD_ID,
+    form_not_allowed = RTPW_FORM_NOT_ALLOWED,
+    long_block = RTPW_LONG_BLOCK,
+    long_id = RTPW_LONG_ID,
+    rtcp = RTPW_RTCP
+};
 
 inline std::string_view status_text(status it) noexcept {
     return ::rtpw_status_text(static_cast<std::int32_t>(it));
@@ -175,23 +185,47 @@ inline bool is_rtcp(bytes datagram) noexcept {
 }
 
 inline result<rtpw_packet> packet_parse(bytes datagram) noexcept {
-    return result<rtpw_packet>(
-        [&](rtpw_packet *it) { return ::rtpw_packet_parse(datagram.data(), datagram.size(), it); });
+    return result<rtpw_packet>([&](rtpw_packet *it) {
+        return ::rtpw_packet_parse(datagram.data(), datagram.size(), it);
+    });
 }
 
-/* The parts of the datagram that was parsed: the payload with its padding and without, and the body of the block. */
+/* A packet of RTP, its values under the map, and where its parts lie. The status is rtcp of RTCP. */
+inline result<rtpw_whole_packet> read(bytes datagram, const rtpw_map &map) noexcept {
+    return result<rtpw_whole_packet>([&](rtpw_whole_packet *it) {
+        return ::rtpw_read(datagram.data(), datagram.size(), &map, it);
+    });
+}
+
+namespace detail {
+/* Both structs that tell a packet say where its parts lie. */
+inline std::size_t payload_at(const rtpw_packet &packet) noexcept {
+    return packet.payload_at;
+}
+inline std::size_t payload_at(const rtpw_whole_packet &packet) noexcept {
+    return packet.header.header_len;
+}
+template <class Packet> using told = decltype(payload_at(std::declval<const Packet &>()));
+} // namespace detail
+
+/* The parts of the datagram that was read: the payload with its padding and without, and the body of the block. */
 inline bytes payload(bytes datagram, const rtpw_packet &packet) noexcept {
     return datagram.subspan(packet.payload_at, packet.payload_len);
 }
-inline bytes unpadded_payload(bytes datagram, const rtpw_packet &packet) noexcept {
-    return datagram.subspan(packet.payload_at, packet.unpadded_len);
+inline bytes payload(bytes datagram, const rtpw_whole_packet &packet) noexcept {
+    return datagram.subspan(packet.header.header_len, datagram.size() - packet.header.header_len);
 }
-inline bytes body(bytes datagram, const rtpw_packet &packet) noexcept {
+template <class Packet, class = detail::told<Packet>>
+bytes unpadded_payload(bytes datagram, const Packet &packet) noexcept {
+    return datagram.subspan(detail::payload_at(packet), packet.unpadded_len);
+}
+template <class Packet, class = detail::told<Packet>> bytes body(bytes datagram, const Packet &packet) noexcept {
     return datagram.subspan(packet.body_at, packet.body_len);
 }
-template <class Bytes, class = detail::gone<Bytes>> bytes payload(Bytes &&, const rtpw_packet &) = delete;
-template <class Bytes, class = detail::gone<Bytes>> bytes unpadded_payload(Bytes &&, const rtpw_packet &) = delete;
-template <class Bytes, class = detail::gone<Bytes>> bytes body(Bytes &&, const rtpw_packet &) = delete;
+template <class Bytes, class Packet, class = detail::gone<Bytes>> bytes payload(Bytes &&, const Packet &) = delete;
+template <class Bytes, class Packet, class = detail::gone<Bytes>>
+bytes unpadded_payload(Bytes &&, const Packet &) = delete;
+template <class Bytes, class Packet, class = detail::gone<Bytes>> bytes body(Bytes &&, const Packet &) = delete;
 /* The contributing source at a place below packet.csrc_count. */
 inline std::uint32_t csrc(bytes datagram, std::size_t index) noexcept {
     const std::uint8_t *it = datagram.data() + RTPW_CSRC_AT + 4 * index;
@@ -234,16 +268,17 @@ inline status set_padding(buffer datagram, bool has_padding) noexcept {
 }
 /* How many bytes the packet has without its padding. */
 inline result<std::size_t> remove_padding(buffer datagram) noexcept {
-    return result<std::size_t>(
-        [&](std::size_t *it) { return ::rtpw_remove_padding(datagram.data(), datagram.size(), it); });
+    return result<std::size_t>([&](std::size_t *it) {
+        return ::rtpw_remove_padding(datagram.data(), datagram.size(), it);
+    });
 }
 /* Of a packet of `len` bytes at the front of a buffer, which becomes its new length. */
 inline status put_element(buffer buf, std::size_t &len, std::uint8_t id, bytes data,
-                          std::uint8_t allowed = RTPW_ANY_FORM) noexcept {
+        std::uint8_t allowed = RTPW_ANY_FORM) noexcept {
     return status(::rtpw_put_element(buf.data(), buf.size(), &len, id, data.data(), data.size(), allowed));
 }
 inline status add_element(buffer buf, std::size_t &len, std::uint8_t id, bytes data,
-                          std::uint8_t allowed = RTPW_ANY_FORM) noexcept {
+        std::uint8_t allowed = RTPW_ANY_FORM) noexcept {
     return status(::rtpw_add_element(buf.data(), buf.size(), &len, id, data.data(), data.size(), allowed));
 }
 inline status compact(buffer buf, std::size_t &len) noexcept {
@@ -262,12 +297,14 @@ inline status put_block(buffer buf, std::size_t &len, std::uint16_t profile, byt
 /* ---- The elements of a block ---- */
 
 inline result<rtpw_element> next_element(bytes body, std::uint8_t form, std::size_t at) noexcept {
-    return result<rtpw_element>(
-        [&](rtpw_element *it) { return ::rtpw_next_element(body.data(), body.size(), form, at, it); });
+    return result<rtpw_element>([&](rtpw_element *it) {
+        return ::rtpw_next_element(body.data(), body.size(), form, at, it);
+    });
 }
 inline result<rtpw_element> last_element(bytes body, std::uint8_t form, std::uint8_t id) noexcept {
-    return result<rtpw_element>(
-        [&](rtpw_element *it) { return ::rtpw_last_element(body.data(), body.size(), form, id, it); });
+    return result<rtpw_element>([&](rtpw_element *it) {
+        return ::rtpw_last_element(body.data(), body.size(), form, id, it);
+    });
 }
 
 /* An element, and its data where they lie. */
@@ -279,9 +316,10 @@ struct element {
 /* The elements of a packet, for `for`; none where its block has another form, or it has none. */
 class elements {
   public:
-    elements(bytes datagram, const rtpw_packet &packet) noexcept
+    template <class Packet, class = detail::told<Packet>>
+    elements(bytes datagram, const Packet &packet) noexcept
         : body_(body(datagram, packet)), form_(packet.block_form) {}
-    template <class Bytes, class = detail::gone<Bytes>> elements(Bytes &&, const rtpw_packet &) = delete;
+    template <class Bytes, class Packet, class = detail::gone<Bytes>> elements(Bytes &&, const Packet &) = delete;
 
     class iterator {
       public:
@@ -317,23 +355,25 @@ class elements {
 };
 
 /* The data of the last element of an id, which is the one that counts. */
-inline std::optional<bytes> data_of_element(bytes datagram, const rtpw_packet &packet, std::uint8_t id) noexcept {
+template <class Packet, class = detail::told<Packet>>
+std::optional<bytes> data_of_element(bytes datagram, const Packet &packet, std::uint8_t id) noexcept {
     const auto it = last_element(body(datagram, packet), packet.block_form, id);
     return it ? std::optional(body(datagram, packet).subspan(it->data_at, it->data_len)) : std::nullopt;
 }
 /* The text of that element as it lies, to be compared with the SDP's, where its data are a token. mid() and its like
  * have another text where they don't keep one of its characters, or its length. */
-inline std::optional<std::string_view> token(bytes datagram, const rtpw_packet &packet, std::uint8_t id) noexcept {
+template <class Packet, class = detail::told<Packet>>
+std::optional<std::string_view> token(bytes datagram, const Packet &packet, std::uint8_t id) noexcept {
     const auto data = data_of_element(datagram, packet, id);
     if (!data || !::rtpw_is_token(data->data(), data->size())) {
         return std::nullopt;
     }
     return std::string_view(reinterpret_cast<const char *>(data->data()), data->size());
 }
-template <class Bytes, class = detail::gone<Bytes>>
-std::optional<bytes> data_of_element(Bytes &&, const rtpw_packet &, std::uint8_t) = delete;
-template <class Bytes, class = detail::gone<Bytes>>
-std::optional<std::string_view> token(Bytes &&, const rtpw_packet &, std::uint8_t) = delete;
+template <class Bytes, class Packet, class = detail::gone<Bytes>>
+std::optional<bytes> data_of_element(Bytes &&, const Packet &, std::uint8_t) = delete;
+template <class Bytes, class Packet, class = detail::gone<Bytes>>
+std::optional<std::string_view> token(Bytes &&, const Packet &, std::uint8_t) = delete;
 
 /* ---- The values of a block ---- */
 
@@ -367,13 +407,26 @@ inline rtpw_map map_standard() noexcept {
     return map;
 }
 
+/* A map, and which own_uris gave the numbers of one's own in it: so those of two aren't taken for the same
+ * (new_ids_between). */
+class uri_map : public rtpw_map {
+  public:
+    uri_map() noexcept : rtpw_map{} {}
+    explicit uri_map(const rtpw_map &map) noexcept : rtpw_map(map) {}
+
+  private:
+    friend class own_uris;
+    friend rtpw_new_ids new_ids_between(const uri_map &, const uri_map &) noexcept;
+    std::uint64_t table_ = 0;
+};
+
 /* Numbers of one's own for URIs that the library doesn't know, the same for the same URI in all maps that are made with
  * it: so the elements of an extension go on where both peers have it, whatever it is. Keep one for a call. It takes
  * memory, which may throw.
  *
  *     rtpw::own_uris uris;
  *     for (const auto &[id, uri] : offer.extmap) { // a=extmap:ID URI
- *         if (uris.set(publisher.map, id, uri) != rtpw::status::ok) {
+ *         if (uris.set(publisher.map, id, uri) != rtpw::status::ok) { // an rtpw::uri_map
  *             return refuse(id);
  *         }
  *     }
@@ -383,15 +436,35 @@ inline rtpw_map map_standard() noexcept {
  */
 class own_uris {
   public:
-    /* The id means from now on what the URI names. bad_field where the id is 0, or the URI is one too many that the
-     * library doesn't know: 128 have numbers. */
-    status set(rtpw_map &map, std::uint8_t id, std::string_view uri) {
+    own_uris() noexcept = default;
+    own_uris(const own_uris &) = delete; // the URIs that come to a copy may be others
+    own_uris &operator=(const own_uris &) = delete;
+    own_uris(own_uris &&other) noexcept
+        : unknown_(std::exchange(other.unknown_, {})), table_(std::exchange(other.table_, 0)) {}
+    own_uris &operator=(own_uris &&other) noexcept {
+        unknown_ = std::exchange(other.unknown_, {});
+        table_ = std::exchange(other.table_, 0);
+        return *this;
+    }
+
+    /* The id means from now on what the URI names. bad_field, and nothing changes, where the id is 0, the URI is one
+     * too many that the library doesn't know (128 have numbers), or it isn't known and the map has numbers of another
+     * own_uris. */
+    status set(uri_map &map, std::uint8_t id, std::string_view uri) {
         std::uint8_t kind = kind_of(uri);
+        const bool is_known = kind != RTPW_KIND_NONE && kind < RTPW_KIND_OWN;
+        if (!is_known && map.table_ != 0 && map.table_ != table_) {
+            return status::bad_field;
+        }
         if (kind == RTPW_KIND_NONE && id != 0 && unknown_.size() < 256 - RTPW_KIND_OWN) {
             unknown_.emplace_back(uri);
             kind = kind_of(uri);
         }
-        return map_set(map, id, kind);
+        const status set = map_set(map, id, kind);
+        if (set == status::ok && !is_known) {
+            map.table_ = table();
+        }
+        return set;
     }
     /* The number of a kind of the library, or one's own where the URI was set; else RTPW_KIND_NONE. */
     std::uint8_t kind_of(std::string_view uri) const noexcept {
@@ -410,16 +483,27 @@ class own_uris {
     }
 
   private:
+    /* What the maps are told from those of others by. */
+    std::uint64_t table() noexcept {
+        static std::atomic<std::uint64_t> tables{0};
+        if (table_ == 0) {
+            table_ = ++tables;
+        }
+        return table_;
+    }
     std::vector<std::string> unknown_;
+    std::uint64_t table_ = 0;
 };
 
 inline result<rtpw_values> values_read(bytes body, std::uint8_t form, const rtpw_map &map) noexcept {
-    return result<rtpw_values>(
-        [&](rtpw_values *it) { return ::rtpw_values_read(body.data(), body.size(), form, &map, it); });
+    return result<rtpw_values>([&](rtpw_values *it) {
+        return ::rtpw_values_read(body.data(), body.size(), form, &map, it);
+    });
 }
 inline result<std::size_t> data_of(std::uint8_t kind, const rtpw_values &values, buffer buf) noexcept {
-    return result<std::size_t>(
-        [&](std::size_t *it) { return ::rtpw_data_of(kind, &values, buf.data(), buf.size(), it); });
+    return result<std::size_t>([&](std::size_t *it) {
+        return ::rtpw_data_of(kind, &values, buf.data(), buf.size(), it);
+    });
 }
 
 /* The texts of values, where they are there. */
@@ -462,13 +546,15 @@ inline status set_repaired_rid(rtpw_values &values, std::string_view to) noexcep
 /* ---- A header, read and written ---- */
 
 inline result<rtpw_header> parse(bytes datagram, const rtpw_map &map) noexcept {
-    return result<rtpw_header>(
-        [&](rtpw_header *it) { return ::rtpw_parse(datagram.data(), datagram.size(), &map, it); });
+    return result<rtpw_header>([&](rtpw_header *it) {
+        return ::rtpw_parse(datagram.data(), datagram.size(), &map, it);
+    });
 }
 /* The layers are written to `layers`, where there are none all zeros. */
 inline result<rtpw_header> parse_layers(bytes datagram, const rtpw_map &map, rtpw_layers &layers) noexcept {
-    return result<rtpw_header>(
-        [&](rtpw_header *it) { return ::rtpw_parse_layers(datagram.data(), datagram.size(), &map, it, &layers); });
+    return result<rtpw_header>([&](rtpw_header *it) {
+        return ::rtpw_parse_layers(datagram.data(), datagram.size(), &map, it, &layers);
+    });
 }
 
 /* Each returns the length of the header that it wrote, or would write. */
@@ -476,17 +562,19 @@ inline result<std::size_t> wire_len(const rtpw_map &map, const rtpw_header &head
     return result<std::size_t>([&](std::size_t *it) { return ::rtpw_wire_len(&map, &header, it); });
 }
 inline result<std::size_t> write(const rtpw_map &map, const rtpw_header &header, buffer buf) noexcept {
-    return result<std::size_t>(
-        [&](std::size_t *it) { return ::rtpw_write(&map, &header, buf.data(), buf.size(), it); });
+    return result<std::size_t>([&](std::size_t *it) {
+        return ::rtpw_write(&map, &header, buf.data(), buf.size(), it);
+    });
 }
 inline result<std::size_t> wire_len_layers(const rtpw_map &map, const rtpw_header &header,
-                                           const rtpw_layers &layers) noexcept {
+        const rtpw_layers &layers) noexcept {
     return result<std::size_t>([&](std::size_t *it) { return ::rtpw_wire_len_layers(&map, &header, &layers, it); });
 }
 inline result<std::size_t> write_layers(const rtpw_map &map, const rtpw_header &header, const rtpw_layers &layers,
-                                        buffer buf) noexcept {
-    return result<std::size_t>(
-        [&](std::size_t *it) { return ::rtpw_write_layers(&map, &header, &layers, buf.data(), buf.size(), it); });
+        buffer buf) noexcept {
+    return result<std::size_t>([&](std::size_t *it) {
+        return ::rtpw_write_layers(&map, &header, &layers, buf.data(), buf.size(), it);
+    });
 }
 /* The kinds of which there is a value that isn't written, each the bit 1 << kind. */
 inline result<std::uint32_t> left_out(const rtpw_map &map, const rtpw_header &header) noexcept {
@@ -501,8 +589,10 @@ inline rtpw_header header_with(const rtpw_values &values) noexcept {
     return it;
 }
 inline result<std::uint32_t> left_out_layers(const rtpw_map &map, const rtpw_header &header,
-                                             const rtpw_layers &layers) noexcept {
-    return result<std::uint32_t>([&](std::uint32_t *it) { return ::rtpw_left_out_layers(&map, &header, &layers, it); });
+        const rtpw_layers &layers) noexcept {
+    return result<std::uint32_t>([&](std::uint32_t *it) {
+        return ::rtpw_left_out_layers(&map, &header, &layers, it);
+    });
 }
 /* With `count` elements; `form` is RTPW_ONE_BYTE_FORM or RTPW_TWO_BYTE_FORM alone, or either. */
 inline result<std::size_t> write_with(const rtpw_header &header, bytes data, const rtpw_element *elements,
@@ -529,39 +619,47 @@ result<std::size_t> write_elements(bytes, Element *, std::size_t, std::uint8_t, 
 /* The data of one element are read, or written to the front of a buffer: then what is returned is how many bytes they
  * are. */
 inline result<std::uint32_t> read_send_time(bytes data) noexcept {
-    return result<std::uint32_t>(
-        [&](std::uint32_t *it) { return ::rtpw_read_send_time(data.data(), data.size(), it); });
+    return result<std::uint32_t>([&](std::uint32_t *it) {
+        return ::rtpw_read_send_time(data.data(), data.size(), it);
+    });
 }
 inline result<std::size_t> write_send_time(std::uint32_t units, buffer buf) noexcept {
-    return result<std::size_t>(
-        [&](std::size_t *it) { return ::rtpw_write_send_time(units, buf.data(), buf.size(), it); });
+    return result<std::size_t>([&](std::size_t *it) {
+        return ::rtpw_write_send_time(units, buf.data(), buf.size(), it);
+    });
 }
 inline std::uint64_t extend_send_time(std::uint64_t near, std::uint32_t units) noexcept {
     return ::rtpw_extend_send_time(near, units);
 }
 inline result<std::int32_t> read_transmission_offset(bytes data) noexcept {
-    return result<std::int32_t>(
-        [&](std::int32_t *it) { return ::rtpw_read_transmission_offset(data.data(), data.size(), it); });
+    return result<std::int32_t>([&](std::int32_t *it) {
+        return ::rtpw_read_transmission_offset(data.data(), data.size(), it);
+    });
 }
 inline result<std::size_t> write_transmission_offset(std::int32_t offset, buffer buf) noexcept {
-    return result<std::size_t>(
-        [&](std::size_t *it) { return ::rtpw_write_transmission_offset(offset, buf.data(), buf.size(), it); });
+    return result<std::size_t>([&](std::size_t *it) {
+        return ::rtpw_write_transmission_offset(offset, buf.data(), buf.size(), it);
+    });
 }
 inline result<rtpw_frame_marking> read_frame_marking(bytes data) noexcept {
-    return result<rtpw_frame_marking>(
-        [&](rtpw_frame_marking *it) { return ::rtpw_read_frame_marking(data.data(), data.size(), it); });
+    return result<rtpw_frame_marking>([&](rtpw_frame_marking *it) {
+        return ::rtpw_read_frame_marking(data.data(), data.size(), it);
+    });
 }
 inline result<std::size_t> write_frame_marking(const rtpw_frame_marking &marking, buffer buf) noexcept {
-    return result<std::size_t>(
-        [&](std::size_t *it) { return ::rtpw_write_frame_marking(&marking, buf.data(), buf.size(), it); });
+    return result<std::size_t>([&](std::size_t *it) {
+        return ::rtpw_write_frame_marking(&marking, buf.data(), buf.size(), it);
+    });
 }
 inline result<rtpw_orientation> read_orientation(bytes data) noexcept {
-    return result<rtpw_orientation>(
-        [&](rtpw_orientation *it) { return ::rtpw_read_orientation(data.data(), data.size(), it); });
+    return result<rtpw_orientation>([&](rtpw_orientation *it) {
+        return ::rtpw_read_orientation(data.data(), data.size(), it);
+    });
 }
 inline result<std::size_t> write_orientation(const rtpw_orientation &orientation, buffer buf) noexcept {
-    return result<std::size_t>(
-        [&](std::size_t *it) { return ::rtpw_write_orientation(&orientation, buf.data(), buf.size(), it); });
+    return result<std::size_t>([&](std::size_t *it) {
+        return ::rtpw_write_orientation(&orientation, buf.data(), buf.size(), it);
+    });
 }
 inline bool is_token(bytes data) noexcept {
     return ::rtpw_is_token(data.data(), data.size());
@@ -573,20 +671,24 @@ inline result<rtpw_timing> read_timing(bytes data) noexcept {
     return result<rtpw_timing>([&](rtpw_timing *it) { return ::rtpw_read_timing(data.data(), data.size(), it); });
 }
 inline result<std::size_t> write_timing(const rtpw_timing &timing, buffer buf) noexcept {
-    return result<std::size_t>(
-        [&](std::size_t *it) { return ::rtpw_write_timing(&timing, buf.data(), buf.size(), it); });
+    return result<std::size_t>([&](std::size_t *it) {
+        return ::rtpw_write_timing(&timing, buf.data(), buf.size(), it);
+    });
 }
 inline result<rtpw_transport_number> read_transport_number(bytes data) noexcept {
-    return result<rtpw_transport_number>(
-        [&](rtpw_transport_number *it) { return ::rtpw_read_transport_number(data.data(), data.size(), it); });
+    return result<rtpw_transport_number>([&](rtpw_transport_number *it) {
+        return ::rtpw_read_transport_number(data.data(), data.size(), it);
+    });
 }
 inline result<std::size_t> write_transport_number(const rtpw_transport_number &number, buffer buf) noexcept {
-    return result<std::size_t>(
-        [&](std::size_t *it) { return ::rtpw_write_transport_number(&number, buf.data(), buf.size(), it); });
+    return result<std::size_t>([&](std::size_t *it) {
+        return ::rtpw_write_transport_number(&number, buf.data(), buf.size(), it);
+    });
 }
 inline result<std::int8_t> read_mixer_level(bytes data, std::size_t csrc_count, std::size_t index) noexcept {
-    return result<std::int8_t>(
-        [&](std::int8_t *it) { return ::rtpw_read_mixer_level(data.data(), data.size(), csrc_count, index, it); });
+    return result<std::int8_t>([&](std::int8_t *it) {
+        return ::rtpw_read_mixer_level(data.data(), data.size(), csrc_count, index, it);
+    });
 }
 inline result<std::size_t> write_mixer_levels(span<const std::int8_t> levels, buffer buf) noexcept {
     return result<std::size_t>([&](std::size_t *it) {
@@ -594,37 +696,48 @@ inline result<std::size_t> write_mixer_levels(span<const std::int8_t> levels, bu
     });
 }
 inline result<std::uint64_t> read_ntp_64(bytes data) noexcept {
-    return result<std::uint64_t>([&](std::uint64_t *it) { return ::rtpw_read_ntp_64(data.data(), data.size(), it); });
+    return result<std::uint64_t>([&](std::uint64_t *it) {
+        return ::rtpw_read_ntp_64(data.data(), data.size(), it);
+    });
 }
 inline result<std::size_t> write_ntp_64(std::uint64_t time, buffer buf) noexcept {
-    return result<std::size_t>([&](std::size_t *it) { return ::rtpw_write_ntp_64(time, buf.data(), buf.size(), it); });
+    return result<std::size_t>([&](std::size_t *it) {
+        return ::rtpw_write_ntp_64(time, buf.data(), buf.size(), it);
+    });
 }
 inline result<std::uint64_t> read_ntp_56(bytes data) noexcept {
-    return result<std::uint64_t>([&](std::uint64_t *it) { return ::rtpw_read_ntp_56(data.data(), data.size(), it); });
+    return result<std::uint64_t>([&](std::uint64_t *it) {
+        return ::rtpw_read_ntp_56(data.data(), data.size(), it);
+    });
 }
 inline result<std::size_t> write_ntp_56(std::uint64_t time, buffer buf) noexcept {
-    return result<std::size_t>([&](std::size_t *it) { return ::rtpw_write_ntp_56(time, buf.data(), buf.size(), it); });
+    return result<std::size_t>([&](std::size_t *it) {
+        return ::rtpw_write_ntp_56(time, buf.data(), buf.size(), it);
+    });
 }
 inline std::uint64_t extend_ntp_56(std::uint64_t near, std::uint64_t low) noexcept {
     return ::rtpw_extend_ntp_56(near, low);
 }
 inline result<rtpw_color_space> read_color_space(bytes data) noexcept {
-    return result<rtpw_color_space>(
-        [&](rtpw_color_space *it) { return ::rtpw_read_color_space(data.data(), data.size(), it); });
+    return result<rtpw_color_space>([&](rtpw_color_space *it) {
+        return ::rtpw_read_color_space(data.data(), data.size(), it);
+    });
 }
 inline result<std::size_t> write_color_space(const rtpw_color_space &space, buffer buf) noexcept {
-    return result<std::size_t>(
-        [&](std::size_t *it) { return ::rtpw_write_color_space(&space, buf.data(), buf.size(), it); });
+    return result<std::size_t>([&](std::size_t *it) {
+        return ::rtpw_write_color_space(&space, buf.data(), buf.size(), it);
+    });
 }
 inline result<rtpw_dependency_descriptor> read_dependency_descriptor(bytes data) noexcept {
     return result<rtpw_dependency_descriptor>([&](rtpw_dependency_descriptor *it) {
         return ::rtpw_read_dependency_descriptor(data.data(), data.size(), it);
     });
 }
-inline result<std::size_t> write_dependency_descriptor(const rtpw_dependency_descriptor &descriptor,
-                                                       buffer buf) noexcept {
-    return result<std::size_t>(
-        [&](std::size_t *it) { return ::rtpw_write_dependency_descriptor(&descriptor, buf.data(), buf.size(), it); });
+inline result<std::size_t> write_dependency_descriptor(const rtpw_dependency_descriptor &descriptor, buffer buf)
+        noexcept {
+    return result<std::size_t>([&](std::size_t *it) {
+        return ::rtpw_write_dependency_descriptor(&descriptor, buf.data(), buf.size(), it);
+    });
 }
 inline bool has_structure(bytes data) noexcept {
     return ::rtpw_has_structure(data.data(), data.size());
@@ -636,6 +749,15 @@ inline rtpw_new_ids new_ids_between(const rtpw_map &from, const rtpw_map &to) no
     rtpw_new_ids ids;
     ::rtpw_new_ids_between(&from, &to, &ids);
     return ids;
+}
+/* Numbers of one's own that two own_uris gave are no common ones: of such maps their ids get none. */
+inline rtpw_new_ids new_ids_between(const uri_map &from, const uri_map &to) noexcept {
+    rtpw_map common = from;
+    if (from.table_ != 0 && to.table_ != 0 && from.table_ != to.table_) {
+        const auto is_own = [](std::uint8_t kind) { return kind >= RTPW_KIND_OWN; };
+        std::replace_if(std::begin(common.kind), std::end(common.kind), is_own, std::uint8_t{RTPW_KIND_NONE});
+    }
+    return new_ids_between(common, static_cast<const rtpw_map &>(to));
 }
 inline rtpw_new_ids new_ids_to_retransmission(const rtpw_map &map) noexcept {
     rtpw_new_ids ids;
@@ -652,24 +774,25 @@ inline status renumber(buffer datagram, const rtpw_new_ids &ids) noexcept {
 }
 /* How many bytes of padding were written behind the header. */
 inline result<std::size_t> pad(buffer datagram, std::size_t header_len, std::uint8_t pad_len,
-                               std::size_t block_size) noexcept {
+        std::size_t block_size) noexcept {
     return result<std::size_t>([&](std::size_t *it) {
         return ::rtpw_pad(datagram.data(), datagram.size(), header_len, pad_len, block_size, it);
     });
 }
 inline result<std::uint16_t> read_original(bytes payload) noexcept {
-    return result<std::uint16_t>(
-        [&](std::uint16_t *it) { return ::rtpw_read_original(payload.data(), payload.size(), it); });
+    return result<std::uint16_t>([&](std::uint16_t *it) {
+        return ::rtpw_read_original(payload.data(), payload.size(), it);
+    });
 }
 inline status write_original(buffer payload, std::uint64_t number) noexcept {
     return status(::rtpw_write_original(payload.data(), payload.size(), number));
 }
 inline status to_retransmission(buffer buf, std::size_t &len, std::uint32_t ssrc, std::uint8_t payload_type,
-                                std::uint16_t number, const rtpw_new_ids &ids) noexcept {
+        std::uint16_t number, const rtpw_new_ids &ids) noexcept {
     return status(::rtpw_to_retransmission(buf.data(), buf.size(), &len, ssrc, payload_type, number, &ids));
 }
 inline status from_retransmission(buffer buf, std::size_t &len, std::uint32_t ssrc, std::uint8_t payload_type,
-                                  const rtpw_new_ids &ids) noexcept {
+        const rtpw_new_ids &ids) noexcept {
     return status(::rtpw_from_retransmission(buf.data(), buf.size(), &len, ssrc, payload_type, &ids));
 }
 
@@ -695,8 +818,9 @@ inline void receiver_record(rtpw_receiver &receiver, std::uint64_t number) noexc
     ::rtpw_receiver_record(&receiver, number);
 }
 inline result<std::uint64_t> receiver_receive(rtpw_receiver &receiver, std::uint16_t sequence_number) noexcept {
-    return result<std::uint64_t>(
-        [&](std::uint64_t *it) { return ::rtpw_receiver_receive(&receiver, sequence_number, it); });
+    return result<std::uint64_t>([&](std::uint64_t *it) {
+        return ::rtpw_receiver_receive(&receiver, sequence_number, it);
+    });
 }
 
 /* A receiver with a window of 64 numbers for each of 1 to 512 words, made at a rollover count: 1 where nothing is
@@ -738,14 +862,15 @@ template <std::size_t count> class wide_receiver {
 };
 
 /* The status is restarted where the packet begins another epoch: it is taken, and its number is there. */
-inline result<std::uint64_t> restarting_receive(rtpw_restarting_receiver &receiver,
-                                                std::uint16_t sequence_number) noexcept {
-    return result<std::uint64_t>(
-        [&](std::uint64_t *it) { return ::rtpw_restarting_receive(&receiver, sequence_number, it); });
+inline result<std::uint64_t> restarting_receive(rtpw_restarting_receiver &receiver, std::uint16_t sequence_number)
+        noexcept {
+    return result<std::uint64_t>([&](std::uint64_t *it) {
+        return ::rtpw_restarting_receive(&receiver, sequence_number, it);
+    });
 }
 
 inline void reception_record(rtpw_reception &reception, std::uint64_t number, std::uint32_t timestamp,
-                             std::uint32_t arrival) noexcept {
+        std::uint32_t arrival) noexcept {
     ::rtpw_reception_record(&reception, number, timestamp, arrival);
 }
 /* The status is none where nothing was recorded since the last report. */
@@ -754,15 +879,15 @@ inline result<rtpw_report> reception_report(rtpw_reception &reception) noexcept 
 }
 /* The report block's 24 bytes. */
 inline result<std::size_t> write_report(const rtpw_report &report, std::uint32_t ssrc, std::uint32_t last_report,
-                                        std::uint32_t delay, buffer buf) noexcept {
+        std::uint32_t delay, buffer buf) noexcept {
     return result<std::size_t>([&](std::size_t *it) {
         return ::rtpw_write_report(&report, ssrc, last_report, delay, buf.data(), buf.size(), it);
     });
 }
 /* The same with a window of these words. The bounds are fields of the receiver, where 0 stands for those that are safe
  * for a stream whose packets are sent again. */
-inline result<std::uint64_t> wide_restarting_receive(rtpw_wide_restarting_receiver &receiver, span<std::uint64_t> words,
-                                                     std::uint16_t sequence_number) noexcept {
+inline result<std::uint64_t> wide_restarting_receive(rtpw_wide_restarting_receiver &receiver,
+        span<std::uint64_t> words, std::uint16_t sequence_number) noexcept {
     return result<std::uint64_t>([&](std::uint64_t *it) {
         return ::rtpw_wide_restarting_receive(&receiver, words.data(), words.size(), sequence_number, it);
     });
@@ -784,6 +909,9 @@ inline std::uint64_t extend_u32(std::uint64_t previous, std::uint32_t number) no
 /* ---- Many at once ---- */
 
 /* What is told of each stands in the struct, its status too: rtpw::status(it.status). */
+inline void read_many(bytes buf, const rtpw_map &map, span<rtpw_whole_datagram> datagrams) noexcept {
+    ::rtpw_read_many(buf.data(), buf.size(), &map, datagrams.data(), datagrams.size());
+}
 inline void packet_parse_many(bytes buf, span<rtpw_datagram> datagrams) noexcept {
     ::rtpw_packet_parse_many(buf.data(), buf.size(), datagrams.data(), datagrams.size());
 }
@@ -799,19 +927,37 @@ inline void receive_many(span<rtpw_receiver> receivers, span<rtpw_arrival> arriv
 /* The header that a packet gets for a group is made in the buffer, and what is returned tells of it. The data of the
  * elements lie in `data`. */
 inline result<rtpw_template> make_template(bytes datagram, const rtpw_new_ids &ids, bytes data,
-                                           span<const rtpw_element> elements, buffer buf,
-                                           std::uint8_t allowed = RTPW_ANY_FORM) noexcept {
+        span<const rtpw_element> elements, buffer buf, std::uint8_t allowed = RTPW_ANY_FORM) noexcept {
     return result<rtpw_template>([&](rtpw_template *it) {
-        return ::rtpw_make_template(datagram.data(), datagram.size(), &ids, data.data(), data.size(), elements.data(),
-                                    elements.size(), allowed, buf.data(), buf.size(), it);
+        return ::rtpw_make_template(datagram.data(), datagram.size(), &ids, data.data(), data.size(),
+            elements.data(), elements.size(), allowed, buf.data(), buf.size(), it);
+    });
+}
+inline result<rtpw_group> prepare_group(const rtpw_new_ids &ids, span<const rtpw_element> elements,
+        std::uint8_t allowed = RTPW_ANY_FORM) noexcept {
+    return result<rtpw_group>([&](rtpw_group *it) {
+        return ::rtpw_prepare_group(&ids, elements.data(), elements.size(), allowed, it);
+    });
+}
+inline result<rtpw_template> make_from_group(const rtpw_group &group, bytes datagram, buffer buf) noexcept {
+    return result<rtpw_template>([&](rtpw_template *it) {
+        return ::rtpw_make_from_group(&group, datagram.data(), datagram.size(), buf.data(), buf.size(), it);
     });
 }
 /* The status of each receiver stands in its struct, and where its header lies in the buffer, whose start the first one
  * takes: rtpw::status(it.status), it.at and it.len. */
 inline status write_headers(const rtpw_template &made, bytes header, bytes data, span<rtpw_routed_header> receivers,
-                            buffer buf) noexcept {
-    return status(::rtpw_write_headers(&made, header.data(), header.size(), data.data(), data.size(), receivers.data(),
-                                       receivers.size(), buf.data(), buf.size()));
+        buffer buf) noexcept {
+    return status(::rtpw_write_headers(&made, header.data(), header.size(), data.data(), data.size(),
+            receivers.data(), receivers.size(), buf.data(), buf.size()));
+}
+
+inline result<std::size_t> write_with(const rtpw_header &header, bytes data, span<const rtpw_element> elements,
+        buffer buf) noexcept {
+    return result<std::size_t>([&](std::size_t *it) {
+        return ::rtpw_write_with(&header, data.data(), data.size(), elements.data(), elements.size(), buf.data(),
+            buf.size(), it);
+    });
 }
 
 } // namespace rtpw

@@ -1,3 +1,4 @@
+/* Made by bindings/described/make of rtp_wire.h and bindings/described/sanitized.h.in. */
 /*
  * rtp_wire_sanitized.h: the calls of rtp_wire.h for a program that is built with -fsanitize=address, memory or thread.
  *
@@ -8,9 +9,8 @@
  * rtp_wire.h includes this file where it lies beside it and one of the three is on: don't include it yourself. What is
  * reported is the call, with a line of this file above it in the stack.
  *
- * A call that takes a pointer has two lines here. RTPW_SANITIZED has its name behind rtpw_, its parameters and
- * arguments, what is tested before it, and what has been written after it (`status` is what it returned). A #define
- * leads from its name to that.
+ * Each call that takes a pointer has a function of its own here, which tests what is given, calls it, and tells what it
+ * has written; a #define leads from its name to that.
  */
 #ifndef RTPW_SANITIZED_H
 #define RTPW_SANITIZED_H
@@ -154,6 +154,16 @@ static inline void rtpw_sanitizer_header(const uint8_t *datagram, size_t len) {
     rtpw_sanitizer_reads(datagram, rtpw_sanitizer_header_len(datagram, len));
 }
 
+/* Of RTCP the first two bytes are read, and else the whole header and the length of the padding. */
+static inline void rtpw_sanitizer_whole(const uint8_t *datagram, size_t len) {
+    RTPW_SANITIZER_ROOM(datagram, len);
+    rtpw_sanitizer_reads(datagram, len < 2 ? 0 : 2);
+    if (!rtpw_is_rtcp(datagram, len)) {
+        rtpw_sanitizer_header(datagram, len);
+        rtpw_sanitizer_padding(datagram, len);
+    }
+}
+
 /* Where the block begins of a packet whose header is so long; without one there the header ends. */
 static inline size_t rtpw_sanitizer_block_at(const uint8_t *datagram, size_t header_len) {
     return header_len < RTPW_CSRC_AT
@@ -289,22 +299,12 @@ static inline void rtpw_sanitizer_ids(const uint8_t *ids) {
     rtpw_sanitizer_reads(ids + 1, 255);
 }
 
-static inline void rtpw_sanitizer_fields(const rtpw_fields *fields) {
-    RTPW_SANITIZER_ROOM(fields, sizeof *fields);
-    rtpw_sanitizer_reads(&fields->has_timestamp, 5); /* and the four others */
-    if (fields->has_timestamp) { RTPW_SANITIZER_FIELD(fields->timestamp); }
-    if (fields->has_ssrc) { RTPW_SANITIZER_FIELD(fields->ssrc); }
-    if (fields->has_sequence_number) { RTPW_SANITIZER_FIELD(fields->sequence_number); }
-    if (fields->has_payload_type) { RTPW_SANITIZER_FIELD(fields->payload_type); }
-    if (fields->has_marker) { RTPW_SANITIZER_FIELD(fields->marker); }
+static inline void rtpw_sanitizer_map(const rtpw_map *map) {
+    rtpw_sanitizer_ids(map->kind);
 }
 
-static inline void rtpw_sanitizer_wrote_fields(uint8_t *datagram, const rtpw_fields *fields) {
-    if (fields->has_payload_type) { rtpw_sanitizer_wrote_bits(datagram + 1, 0x7f, fields->payload_type); }
-    if (fields->has_marker) { rtpw_sanitizer_wrote_bits(datagram + 1, 0x80, fields->marker ? 0x80 : 0); }
-    if (fields->has_sequence_number) { rtpw_sanitizer_wrote(datagram + 2, 2); }
-    if (fields->has_timestamp) { rtpw_sanitizer_wrote(datagram + 4, 4); }
-    if (fields->has_ssrc) { rtpw_sanitizer_wrote(datagram + 8, 4); }
+static inline void rtpw_sanitizer_new_ids(const rtpw_new_ids *ids) {
+    rtpw_sanitizer_ids(ids->id);
 }
 
 static inline void rtpw_sanitizer_text(const char *text, size_t size) {
@@ -314,36 +314,238 @@ static inline void rtpw_sanitizer_text(const char *text, size_t size) {
     } while (text[i++] != 0 && i < size);
 }
 
-static inline void rtpw_sanitizer_time(const rtpw_time *time) {
-    RTPW_SANITIZER_FIELD(time->ticks);
-    RTPW_SANITIZER_FIELD(time->hertz);
+static inline void rtpw_sanitizer_fields(const rtpw_fields *it) {
+    RTPW_SANITIZER_ROOM(it, sizeof *it);
+    rtpw_sanitizer_reads(&it->has_timestamp, 5); /* up to has_marker */
+    if (it->has_timestamp) {
+        rtpw_sanitizer_reads(&it->timestamp, sizeof it->timestamp);
+    }
+    if (it->has_ssrc) {
+        rtpw_sanitizer_reads(&it->ssrc, sizeof it->ssrc);
+    }
+    if (it->has_sequence_number) {
+        rtpw_sanitizer_reads(&it->sequence_number, sizeof it->sequence_number);
+    }
+    if (it->has_payload_type) {
+        rtpw_sanitizer_reads(&it->payload_type, sizeof it->payload_type);
+    }
+    if (it->has_marker) {
+        rtpw_sanitizer_reads(&it->marker, sizeof it->marker);
+    }
 }
 
-static inline void rtpw_sanitizer_values(const rtpw_values *values) {
-    RTPW_SANITIZER_ROOM(values, sizeof *values);
-    rtpw_sanitizer_reads(&values->has_send_time, 16); /* layers are passed beside the values */
-    if (values->has_send_time) { RTPW_SANITIZER_FIELD(values->send_time); }
-    if (values->has_capture_time) { RTPW_SANITIZER_FIELD(values->capture_time); }
-    if (values->has_capture_offset) { RTPW_SANITIZER_FIELD(values->capture_offset); }
-    if (values->has_transmission_offset) { RTPW_SANITIZER_FIELD(values->transmission_offset); }
-    if (values->has_frame_marking) { RTPW_SANITIZER_FIELD(values->frame_marking); }
-    if (values->has_transport_number) { RTPW_SANITIZER_FIELD(values->transport_number); }
-    if (values->has_video_orientation) { RTPW_SANITIZER_FIELD(values->video_orientation); }
-    if (values->has_video_content_type) { RTPW_SANITIZER_FIELD(values->video_content_type); }
-    if (values->has_audio_level) { RTPW_SANITIZER_FIELD(values->audio_level); }
-    if (values->has_voice_activity) { RTPW_SANITIZER_FIELD(values->voice_activity); }
-    if (values->has_playout_delay_min) { rtpw_sanitizer_time(&values->playout_delay_min); }
-    if (values->has_playout_delay_max) { rtpw_sanitizer_time(&values->playout_delay_max); }
-    if (values->has_video_timing) {
-        RTPW_SANITIZER_FIELD(values->encode_start);
-        RTPW_SANITIZER_FIELD(values->encode_finish);
-        RTPW_SANITIZER_FIELD(values->packetize_complete);
-        RTPW_SANITIZER_FIELD(values->last_left_pacer);
-        RTPW_SANITIZER_FIELD(values->timing_flags);
+static inline void rtpw_sanitizer_time(const rtpw_time *it) {
+    RTPW_SANITIZER_ROOM(it, sizeof *it);
+    rtpw_sanitizer_reads(&it->ticks, 12); /* up to hertz */
+}
+
+static inline void rtpw_sanitizer_values(const rtpw_values *it) {
+    RTPW_SANITIZER_ROOM(it, sizeof *it);
+    rtpw_sanitizer_reads(&it->has_send_time, 16); /* up to has_repaired_rid */
+    if (it->has_send_time) {
+        rtpw_sanitizer_reads(&it->send_time, sizeof it->send_time);
     }
-    if (values->has_mid) { rtpw_sanitizer_text(values->mid, sizeof values->mid); }
-    if (values->has_rid) { rtpw_sanitizer_text(values->rid, sizeof values->rid); }
-    if (values->has_repaired_rid) { rtpw_sanitizer_text(values->repaired_rid, sizeof values->repaired_rid); }
+    if (it->has_capture_time) {
+        rtpw_sanitizer_reads(&it->capture_time, sizeof it->capture_time);
+    }
+    if (it->has_capture_offset) {
+        rtpw_sanitizer_reads(&it->capture_offset, sizeof it->capture_offset);
+    }
+    if (it->has_transmission_offset) {
+        rtpw_sanitizer_reads(&it->transmission_offset, sizeof it->transmission_offset);
+    }
+    if (it->has_frame_marking) {
+        rtpw_sanitizer_reads(&it->frame_marking, sizeof it->frame_marking);
+    }
+    if (it->has_transport_number) {
+        rtpw_sanitizer_reads(&it->transport_number, sizeof it->transport_number);
+    }
+    if (it->has_video_orientation) {
+        rtpw_sanitizer_reads(&it->video_orientation, sizeof it->video_orientation);
+    }
+    if (it->has_video_content_type) {
+        rtpw_sanitizer_reads(&it->video_content_type, sizeof it->video_content_type);
+    }
+    if (it->has_audio_level) {
+        rtpw_sanitizer_reads(&it->audio_level, sizeof it->audio_level);
+    }
+    if (it->has_voice_activity) {
+        rtpw_sanitizer_reads(&it->voice_activity, sizeof it->voice_activity);
+    }
+    if (it->has_playout_delay_min) {
+        rtpw_sanitizer_time(&it->playout_delay_min);
+    }
+    if (it->has_playout_delay_max) {
+        rtpw_sanitizer_time(&it->playout_delay_max);
+    }
+    if (it->has_video_timing) {
+        rtpw_sanitizer_reads(&it->encode_start, 9); /* up to timing_flags */
+    }
+    if (it->has_mid) {
+        rtpw_sanitizer_text(it->mid, sizeof it->mid);
+    }
+    if (it->has_rid) {
+        rtpw_sanitizer_text(it->rid, sizeof it->rid);
+    }
+    if (it->has_repaired_rid) {
+        rtpw_sanitizer_text(it->repaired_rid, sizeof it->repaired_rid);
+    }
+}
+
+static inline void rtpw_sanitizer_layer(const rtpw_layer *it) {
+    RTPW_SANITIZER_ROOM(it, sizeof *it);
+    rtpw_sanitizer_reads(&it->has_resolution, 2); /* up to rates */
+    rtpw_sanitizer_reads(it->kbps, sizeof *it->kbps * rtpw_sanitizer_least(it->rates, 4));
+    if (it->has_resolution) {
+        rtpw_sanitizer_reads(&it->width, 5); /* up to framerate */
+    }
+}
+
+static inline void rtpw_sanitizer_stream(const rtpw_stream *it) {
+    size_t i;
+    RTPW_SANITIZER_ROOM(it, sizeof *it);
+    rtpw_sanitizer_reads(&it->count, sizeof it->count);
+    for (i = 0; i < rtpw_sanitizer_least(it->count, 4); i++) { rtpw_sanitizer_layer(&it->layers[i]); }
+}
+
+static inline void rtpw_sanitizer_layers(const rtpw_layers *it) {
+    size_t i;
+    RTPW_SANITIZER_ROOM(it, sizeof *it);
+    rtpw_sanitizer_reads(&it->count, 2); /* up to current */
+    for (i = 0; i < rtpw_sanitizer_least(it->count, 4); i++) { rtpw_sanitizer_stream(&it->streams[i]); }
+}
+
+static inline void rtpw_sanitizer_frame_marking(const rtpw_frame_marking *it) {
+    RTPW_SANITIZER_ROOM(it, sizeof *it);
+    rtpw_sanitizer_reads(&it->start, 5); /* up to has_layers */
+    if (it->has_layers) {
+        rtpw_sanitizer_reads(&it->base_layer_sync, 4); /* up to has_tl0_pic_idx */
+        if (it->has_tl0_pic_idx) {
+            rtpw_sanitizer_reads(&it->tl0_pic_idx, sizeof it->tl0_pic_idx);
+        }
+    }
+}
+
+static inline void rtpw_sanitizer_orientation(const rtpw_orientation *it) {
+    RTPW_SANITIZER_ROOM(it, sizeof *it);
+    rtpw_sanitizer_reads(&it->turn, 4); /* up to flip */
+}
+
+static inline void rtpw_sanitizer_timing(const rtpw_timing *it) {
+    RTPW_SANITIZER_ROOM(it, sizeof *it);
+    rtpw_sanitizer_reads(&it->encode_start, 12); /* up to network2 */
+    rtpw_sanitizer_reads(&it->has_flags, sizeof it->has_flags);
+    if (it->has_flags) {
+        rtpw_sanitizer_reads(&it->flags, sizeof it->flags);
+    }
+}
+
+static inline void rtpw_sanitizer_transport_number(const rtpw_transport_number *it) {
+    RTPW_SANITIZER_ROOM(it, sizeof *it);
+    rtpw_sanitizer_reads(&it->number, sizeof it->number);
+    rtpw_sanitizer_reads(&it->has_request, sizeof it->has_request);
+    if (it->has_request) {
+        rtpw_sanitizer_reads(&it->packets, sizeof it->packets);
+        rtpw_sanitizer_reads(&it->timestamps, sizeof it->timestamps);
+    }
+}
+
+static inline void rtpw_sanitizer_chromaticity(const rtpw_chromaticity *it) {
+    RTPW_SANITIZER_ROOM(it, sizeof *it);
+    rtpw_sanitizer_reads(&it->x, 4); /* up to y */
+}
+
+static inline void rtpw_sanitizer_hdr_metadata(const rtpw_hdr_metadata *it) {
+    RTPW_SANITIZER_ROOM(it, sizeof *it);
+    rtpw_sanitizer_reads(&it->luminance_max, 4); /* up to luminance_min */
+    rtpw_sanitizer_reads(&it->max_content_light_level, 4); /* up to max_frame_average_light_level */
+    rtpw_sanitizer_chromaticity(&it->red);
+    rtpw_sanitizer_chromaticity(&it->green);
+    rtpw_sanitizer_chromaticity(&it->blue);
+    rtpw_sanitizer_chromaticity(&it->white);
+}
+
+static inline void rtpw_sanitizer_color_space(const rtpw_color_space *it) {
+    RTPW_SANITIZER_ROOM(it, sizeof *it);
+    rtpw_sanitizer_reads(&it->primaries, 7); /* up to has_hdr */
+    if (it->has_hdr) {
+        rtpw_sanitizer_hdr_metadata(&it->hdr);
+    }
+}
+
+static inline void rtpw_sanitizer_dependency_descriptor(const rtpw_dependency_descriptor *it) {
+    RTPW_SANITIZER_ROOM(it, sizeof *it);
+    rtpw_sanitizer_reads(&it->frame_number, 5); /* up to template_id */
+}
+
+static inline void rtpw_sanitizer_receiver(const rtpw_receiver *it) {
+    RTPW_SANITIZER_ROOM(it, sizeof *it);
+    rtpw_sanitizer_reads(&it->highest, sizeof it->highest);
+    rtpw_sanitizer_reads(&it->started, sizeof it->started);
+    if (it->started) {
+        rtpw_sanitizer_reads(&it->recorded_low, 16); /* up to recorded_high */
+    }
+}
+
+static inline void rtpw_sanitizer_wide_receiver(const rtpw_wide_receiver *it) {
+    RTPW_SANITIZER_ROOM(it, sizeof *it);
+    rtpw_sanitizer_reads(&it->highest, 9); /* up to started */
+}
+
+static inline void rtpw_sanitizer_restarting_receiver(const rtpw_restarting_receiver *it) {
+    RTPW_SANITIZER_ROOM(it, sizeof *it);
+    rtpw_sanitizer_reads(&it->max_dropout, sizeof it->max_dropout);
+    rtpw_sanitizer_reads(&it->min_sequential, 3); /* up to started */
+    if (it->in_row) {
+        rtpw_sanitizer_reads(&it->next, sizeof it->next);
+    }
+    if (it->started) {
+        rtpw_sanitizer_reads(&it->highest, 24); /* up to words */
+    }
+}
+
+static inline void rtpw_sanitizer_reception(const rtpw_reception *it) {
+    RTPW_SANITIZER_ROOM(it, sizeof *it);
+    rtpw_sanitizer_reads(&it->first, 52); /* up to transit */
+}
+
+static inline void rtpw_sanitizer_report(const rtpw_report *it) {
+    RTPW_SANITIZER_ROOM(it, sizeof *it);
+    rtpw_sanitizer_reads(&it->fraction_lost, sizeof it->fraction_lost);
+    rtpw_sanitizer_reads(&it->cumulative_lost, 12); /* up to jitter */
+}
+
+static inline void rtpw_sanitizer_wide_restarting_receiver(const rtpw_wide_restarting_receiver *it) {
+    RTPW_SANITIZER_ROOM(it, sizeof *it);
+    rtpw_sanitizer_reads(&it->max_dropout, 4); /* up to max_misorder */
+    rtpw_sanitizer_reads(&it->min_sequential, 3); /* up to started */
+    if (it->in_row) {
+        rtpw_sanitizer_reads(&it->next, sizeof it->next);
+    }
+    if (it->started) {
+        rtpw_sanitizer_reads(&it->highest, sizeof it->highest);
+    }
+}
+
+static inline void rtpw_sanitizer_template(const rtpw_template *it) {
+    RTPW_SANITIZER_ROOM(it, sizeof *it);
+    rtpw_sanitizer_reads(&it->header_len, sizeof it->header_len);
+    rtpw_sanitizer_reads(&it->data_total, 3); /* up to count */
+    rtpw_sanitizer_reads(it->data_at, sizeof *it->data_at * rtpw_sanitizer_least(it->count, 16));
+    rtpw_sanitizer_reads(it->data_len, sizeof *it->data_len * rtpw_sanitizer_least(it->count, 16));
+}
+
+static inline void rtpw_sanitizer_group(const rtpw_group *it) {
+    RTPW_SANITIZER_ROOM(it, sizeof *it);
+    rtpw_sanitizer_reads(&it->new_ids, 549); /* up to one_byte */
+}
+
+static inline void rtpw_sanitizer_wrote_fields(uint8_t *datagram, const rtpw_fields *fields) {
+    if (fields->has_payload_type) { rtpw_sanitizer_wrote_bits(datagram + 1, 0x7f, fields->payload_type); }
+    if (fields->has_marker) { rtpw_sanitizer_wrote_bits(datagram + 1, 0x80, fields->marker ? 0x80 : 0); }
+    if (fields->has_sequence_number) { rtpw_sanitizer_wrote(datagram + 2, 2); }
+    if (fields->has_timestamp) { rtpw_sanitizer_wrote(datagram + 4, 4); }
+    if (fields->has_ssrc) { rtpw_sanitizer_wrote(datagram + 8, 4); }
 }
 
 /* A header without its values. */
@@ -360,25 +562,7 @@ static inline void rtpw_sanitizer_written(const rtpw_map *map, const rtpw_header
     RTPW_SANITIZER_FIELD(header->has_extension);
     rtpw_sanitizer_values(&header->values);
     RTPW_SANITIZER_ROOM(map, sizeof *map);
-    if (header->has_extension) { rtpw_sanitizer_ids(map->kind); }
-}
-
-static inline void rtpw_sanitizer_layers(const rtpw_layers *layers) {
-    size_t i, j;
-    RTPW_SANITIZER_ROOM(layers, sizeof *layers);
-    RTPW_SANITIZER_FIELD(layers->count);
-    RTPW_SANITIZER_FIELD(layers->current);
-    for (i = 0; i < rtpw_sanitizer_least(layers->count, 4); i++) {
-        const rtpw_stream *stream = &layers->streams[i];
-        RTPW_SANITIZER_FIELD(stream->count);
-        for (j = 0; j < rtpw_sanitizer_least(stream->count, 4); j++) {
-            const rtpw_layer *layer = &stream->layers[j];
-            RTPW_SANITIZER_FIELD(layer->rates);
-            RTPW_SANITIZER_FIELD(layer->has_resolution);
-            rtpw_sanitizer_reads(layer->kbps, 8 * rtpw_sanitizer_least(layer->rates, 4));
-            if (layer->has_resolution) { rtpw_sanitizer_reads(&layer->width, 5); /* and height, framerate */ }
-        }
-    }
+    if (header->has_extension) { rtpw_sanitizer_map(map); }
 }
 
 /* Elements that are written, and the data of each. */
@@ -396,17 +580,14 @@ static inline void rtpw_sanitizer_elements(const uint8_t *data, size_t data_len,
     }
 }
 
-static inline void rtpw_sanitizer_receiver(const rtpw_receiver *receiver) {
-    RTPW_SANITIZER_ROOM(receiver, sizeof *receiver);
-    RTPW_SANITIZER_FIELD(receiver->highest);
-    RTPW_SANITIZER_FIELD(receiver->started);
-    if (receiver->started) { rtpw_sanitizer_reads(&receiver->recorded_low, 16); /* and recorded_high */ }
-}
-
-static inline void rtpw_sanitizer_wide_receiver(const rtpw_wide_receiver *receiver) {
-    RTPW_SANITIZER_ROOM(receiver, sizeof *receiver);
-    RTPW_SANITIZER_FIELD(receiver->highest);
-    RTPW_SANITIZER_FIELD(receiver->started);
+/* Elements of which the ids and the lengths of the data alone are looked at. */
+static inline void rtpw_sanitizer_shapes(const rtpw_element *elements, size_t count) {
+    size_t i;
+    RTPW_SANITIZER_ROOM(elements, count * sizeof *elements);
+    for (i = 0; i < count; i++) {
+        RTPW_SANITIZER_FIELD(elements[i].data_len);
+        RTPW_SANITIZER_FIELD(elements[i].id);
+    }
 }
 
 /* The words aren't read before the first number is taken. */
@@ -414,19 +595,6 @@ static inline void rtpw_sanitizer_window(const rtpw_wide_receiver *receiver, con
     rtpw_sanitizer_wide_receiver(receiver);
     RTPW_SANITIZER_ROOM(words, count * sizeof *words);
     if (receiver->started && count <= 512) { rtpw_sanitizer_reads(words, count * sizeof *words); }
-}
-
-static inline void rtpw_sanitizer_restarting(const rtpw_restarting_receiver *receiver) {
-    RTPW_SANITIZER_ROOM(receiver, sizeof *receiver);
-    RTPW_SANITIZER_FIELD(receiver->max_dropout);
-    rtpw_sanitizer_reads(&receiver->min_sequential, 3); /* and in_row, started */
-    if (receiver->in_row) { RTPW_SANITIZER_FIELD(receiver->next); }
-    if (receiver->started) { rtpw_sanitizer_reads(&receiver->highest, 24); /* and words */ }
-}
-
-static inline void rtpw_sanitizer_reception(const rtpw_reception *reception) {
-    RTPW_SANITIZER_ROOM(reception, sizeof *reception);
-    rtpw_sanitizer_reads(reception, offsetof(rtpw_reception, transit) + sizeof reception->transit);
 }
 
 /* What is read of a body from an offset on: up to the data of the element that was found. */
@@ -456,43 +624,6 @@ static inline void rtpw_sanitizer_data(const uint8_t *data, size_t data_len, siz
 /* A text: it is read where it isn't too long. */
 static inline void rtpw_sanitizer_token(const uint8_t *data, size_t data_len) {
     rtpw_sanitizer_data(data, data_len, 1, 255);
-}
-
-static inline void rtpw_sanitizer_frame_marking(const rtpw_frame_marking *marking) {
-    RTPW_SANITIZER_ROOM(marking, sizeof *marking);
-    rtpw_sanitizer_reads(&marking->start, 5); /* and end, independent, discardable, has_layers */
-    if (marking->has_layers) {
-        rtpw_sanitizer_reads(&marking->base_layer_sync, 4); /* and temporal_id, layer_id, has_tl0_pic_idx */
-        if (marking->has_tl0_pic_idx) { RTPW_SANITIZER_FIELD(marking->tl0_pic_idx); }
-    }
-}
-
-static inline void rtpw_sanitizer_timing(const rtpw_timing *timing) {
-    RTPW_SANITIZER_ROOM(timing, sizeof *timing);
-    rtpw_sanitizer_reads(&timing->encode_start, 12); /* and the five others */
-    RTPW_SANITIZER_FIELD(timing->has_flags);
-    if (timing->has_flags) { RTPW_SANITIZER_FIELD(timing->flags); }
-}
-
-static inline void rtpw_sanitizer_transport_number(const rtpw_transport_number *number) {
-    RTPW_SANITIZER_ROOM(number, sizeof *number);
-    RTPW_SANITIZER_FIELD(number->number);
-    RTPW_SANITIZER_FIELD(number->has_request);
-    if (number->has_request) {
-        RTPW_SANITIZER_FIELD(number->packets);
-        RTPW_SANITIZER_FIELD(number->timestamps);
-    }
-}
-
-static inline void rtpw_sanitizer_color_space(const rtpw_color_space *space) {
-    RTPW_SANITIZER_ROOM(space, sizeof *space);
-    rtpw_sanitizer_reads(&space->primaries, 7); /* and transfer, matrix, range, horizontal, vertical, has_hdr */
-    if (space->has_hdr) { RTPW_SANITIZER_FIELD(space->hdr); }
-}
-
-static inline void rtpw_sanitizer_dependency_descriptor(const rtpw_dependency_descriptor *descriptor) {
-    RTPW_SANITIZER_ROOM(descriptor, sizeof *descriptor);
-    rtpw_sanitizer_reads(&descriptor->frame_number, 5); /* and start_of_frame, end_of_frame, template_id */
 }
 
 /* ---- Many at once ---- */
@@ -529,13 +660,34 @@ static inline void rtpw_sanitizer_wrote_datagrams(const rtpw_datagram *datagrams
     }
 }
 
+static inline void rtpw_sanitizer_whole_datagrams(const uint8_t *buf, size_t size, const rtpw_map *map,
+                                                  const rtpw_whole_datagram *datagrams, size_t count) {
+    size_t i;
+    RTPW_SANITIZER_ROOM(buf, size);
+    RTPW_SANITIZER_ROOM(map, sizeof *map);
+    RTPW_SANITIZER_ROOM(datagrams, count * sizeof *datagrams);
+    if (count != 0) { rtpw_sanitizer_map(map); }
+    for (i = 0; i < count; i++) {
+        const uint8_t *datagram = rtpw_sanitizer_datagram(buf, size, &datagrams[i].at, &datagrams[i].len);
+        if (datagram != NULL) { rtpw_sanitizer_whole(datagram, datagrams[i].len); }
+    }
+}
+
+static inline void rtpw_sanitizer_wrote_whole_datagrams(const rtpw_whole_datagram *datagrams, size_t count) {
+    size_t i;
+    for (i = 0; i < count; i++) {
+        rtpw_sanitizer_wrote(&datagrams[i].status, sizeof datagrams[i].status);
+        if (datagrams[i].status == RTPW_OK) { rtpw_sanitizer_wrote(&datagrams[i].packet, sizeof(rtpw_whole_packet)); }
+    }
+}
+
 static inline void rtpw_sanitizer_datagram_headers(const uint8_t *buf, size_t size, const rtpw_map *map,
                                                    const rtpw_datagram_header *datagrams, size_t count) {
     size_t i;
     RTPW_SANITIZER_ROOM(buf, size);
     RTPW_SANITIZER_ROOM(map, sizeof *map);
     RTPW_SANITIZER_ROOM(datagrams, count * sizeof *datagrams);
-    if (count != 0) { rtpw_sanitizer_ids(map->kind); }
+    if (count != 0) { rtpw_sanitizer_map(map); }
     for (i = 0; i < count; i++) {
         const uint8_t *datagram = rtpw_sanitizer_datagram(buf, size, &datagrams[i].at, &datagrams[i].len);
         if (datagram != NULL) { rtpw_sanitizer_header(datagram, datagrams[i].len); }
@@ -555,13 +707,8 @@ static inline void rtpw_sanitizer_wide_restarting(const rtpw_wide_restarting_rec
     RTPW_SANITIZER_ROOM(receiver, sizeof *receiver);
     RTPW_SANITIZER_ROOM(words, count * sizeof *words);
     if (count == 0 || count > 512) { return; } /* of these nothing is read */
-    rtpw_sanitizer_reads(&receiver->max_dropout, 4);    /* and max_misorder */
-    rtpw_sanitizer_reads(&receiver->min_sequential, 3); /* and in_row, started */
-    if (receiver->in_row) { RTPW_SANITIZER_FIELD(receiver->next); }
-    if (receiver->started) {
-        RTPW_SANITIZER_FIELD(receiver->highest);
-        rtpw_sanitizer_reads(words, count * sizeof *words);
-    }
+    rtpw_sanitizer_wide_restarting_receiver(receiver);
+    if (receiver->started) { rtpw_sanitizer_reads(words, count * sizeof *words); }
 }
 
 /* Of each arrival its receiver and its number are read, and the receiver where there is one. */
@@ -589,31 +736,15 @@ static inline void rtpw_sanitizer_wrote_arrivals(const rtpw_receiver *receivers,
     }
 }
 
-/* The whole header of a packet is read, new ids, and the elements that are put; the buffer is room. */
-static inline void rtpw_sanitizer_group(const uint8_t *datagram, size_t len, const rtpw_new_ids *ids,
-                                        const uint8_t *data, size_t data_len, const rtpw_element *elements,
-                                        size_t count, uint8_t *buf, size_t size) {
-    rtpw_sanitizer_header(datagram, len);
-    rtpw_sanitizer_ids(ids->id);
-    rtpw_sanitizer_elements(data, data_len, elements, count);
-    RTPW_SANITIZER_ROOM(buf, size);
-}
-
-/* The template is read up to its last element, and whether it is one: then the header is read. */
-static inline bool rtpw_sanitizer_template(const rtpw_template *made, const uint8_t *header, size_t size) {
-    size_t i, total = 0, count;
-    RTPW_SANITIZER_ROOM(made, sizeof *made);
+/* Whether the template is one is looked at: then the header is read. */
+static inline bool rtpw_sanitizer_made(const rtpw_template *made, const uint8_t *header, size_t size) {
+    size_t i, total = 0;
+    rtpw_sanitizer_template(made);
     RTPW_SANITIZER_ROOM(header, size);
-    RTPW_SANITIZER_FIELD(made->header_len);
-    RTPW_SANITIZER_FIELD(made->count);
-    RTPW_SANITIZER_FIELD(made->data_total);
-    count = rtpw_sanitizer_least(made->count, 16);
-    rtpw_sanitizer_reads(made->data_at, count * sizeof *made->data_at);
-    rtpw_sanitizer_reads(made->data_len, count);
     if (made->count > 16 || made->header_len > size) {
         return false;
     }
-    for (i = 0; i < count; i++) {
+    for (i = 0; i < made->count; i++) {
         if (made->data_at[i] > made->header_len || made->data_len[i] > made->header_len - made->data_at[i]) {
             return false;
         }
@@ -635,7 +766,7 @@ static inline void rtpw_sanitizer_receivers(const rtpw_template *made, const uin
     RTPW_SANITIZER_ROOM(data, data_len);
     RTPW_SANITIZER_ROOM(receivers, count * sizeof *receivers);
     RTPW_SANITIZER_ROOM(buf, size);
-    if (!rtpw_sanitizer_template(made, header, header_size)) {
+    if (!rtpw_sanitizer_made(made, header, header_size)) {
         return;
     }
     for (i = 0; i < count; i++) {
@@ -661,423 +792,983 @@ static inline void rtpw_sanitizer_wrote_headers(const rtpw_routed_header *receiv
 
 /* ---- The calls ---- */
 
-#define RTPW_SANITIZED_AS(type, name, parameters, arguments, tests, wrote) \
-    static inline type rtpw_sanitized_##name parameters { \
-        type status; \
-        tests; \
-        status = rtpw_##name arguments; \
-        wrote; \
-        return status; \
-    }
-#define RTPW_SANITIZED(name, parameters, arguments, tests, wrote) \
-    RTPW_CHECKED RTPW_SANITIZED_AS(int32_t, name, parameters, arguments, tests, wrote)
-#define RTPW_SANITIZED_VOID(name, parameters, arguments, tests, wrote) \
-    static inline void rtpw_sanitized_##name parameters { \
-        tests; \
-        rtpw_##name arguments; \
-        wrote; \
-    }
-/* An output, and what is written where the status is RTPW_OK: all of it, or bytes. */
-#define RTPW_ROOM(output) RTPW_SANITIZER_ROOM(output, sizeof *(output))
-#define RTPW_WROTE_BYTES(at, size) \
-    if (status == RTPW_OK) { rtpw_sanitizer_wrote(at, size); }
-#define RTPW_WROTE(output) RTPW_WROTE_BYTES(output, sizeof *(output))
-
-RTPW_SANITIZED_AS(bool, is_rtcp, (const uint8_t *datagram, size_t len), (datagram, len),
-    RTPW_SANITIZER_ROOM(datagram, len); rtpw_sanitizer_reads(datagram, len < 2 ? 0 : 2), (void)0)
+static inline bool rtpw_sanitized_is_rtcp(const uint8_t *datagram, size_t len) {
+    bool status;
+    RTPW_SANITIZER_ROOM(datagram, len); rtpw_sanitizer_reads(datagram, len < 2 ? 0 : 2);
+    status = rtpw_is_rtcp(datagram, len);
+    return status;
+}
 #define rtpw_is_rtcp rtpw_sanitized_is_rtcp
-RTPW_SANITIZED(packet_parse, (const uint8_t *datagram, size_t len, rtpw_packet *packet), (datagram, len, packet),
-    rtpw_sanitizer_packet(datagram, len); RTPW_ROOM(packet), RTPW_WROTE(packet))
+RTPW_CHECKED static inline int32_t rtpw_sanitized_packet_parse(const uint8_t *datagram, size_t len,
+    rtpw_packet *packet) {
+    int32_t status;
+    rtpw_sanitizer_packet(datagram, len);
+    RTPW_SANITIZER_ROOM(packet, sizeof *packet);
+    status = rtpw_packet_parse(datagram, len, packet);
+    if (status == RTPW_OK) { rtpw_sanitizer_wrote(packet, sizeof *packet); }
+    return status;
+}
 #define rtpw_packet_parse rtpw_sanitized_packet_parse
-RTPW_SANITIZED(set_marker, (uint8_t *datagram, size_t len, bool marker), (datagram, len, marker),
-    (void)rtpw_sanitizer_header_len(datagram, len), if (status == RTPW_OK) { rtpw_sanitizer_wrote_bits(datagram + 1, 0x80, marker ? 0x80 : 0); })
+RTPW_CHECKED static inline int32_t rtpw_sanitized_set_marker(uint8_t *datagram, size_t len, bool marker) {
+    int32_t status;
+    (void)rtpw_sanitizer_header_len(datagram, len);
+    status = rtpw_set_marker(datagram, len, marker);
+    if (status == RTPW_OK) { rtpw_sanitizer_wrote_bits(datagram + 1, 0x80, marker ? 0x80 : 0); }
+    return status;
+}
 #define rtpw_set_marker rtpw_sanitized_set_marker
-RTPW_SANITIZED(set_payload_type, (uint8_t *datagram, size_t len, uint8_t payload_type), (datagram, len, payload_type),
-    (void)rtpw_sanitizer_header_len(datagram, len), if (status == RTPW_OK) { rtpw_sanitizer_wrote_bits(datagram + 1, 0x7f, payload_type); })
+RTPW_CHECKED static inline int32_t rtpw_sanitized_set_payload_type(uint8_t *datagram, size_t len,
+    uint8_t payload_type) {
+    int32_t status;
+    (void)rtpw_sanitizer_header_len(datagram, len);
+    status = rtpw_set_payload_type(datagram, len, payload_type);
+    if (status == RTPW_OK) { rtpw_sanitizer_wrote_bits(datagram + 1, 0x7f, payload_type); }
+    return status;
+}
 #define rtpw_set_payload_type rtpw_sanitized_set_payload_type
-RTPW_SANITIZED(set_sequence_number, (uint8_t *datagram, size_t len, uint16_t number), (datagram, len, number),
-    (void)rtpw_sanitizer_header_len(datagram, len), RTPW_WROTE_BYTES(datagram + 2, 2))
+RTPW_CHECKED static inline int32_t rtpw_sanitized_set_sequence_number(uint8_t *datagram, size_t len,
+    uint16_t number) {
+    int32_t status;
+    (void)rtpw_sanitizer_header_len(datagram, len);
+    status = rtpw_set_sequence_number(datagram, len, number);
+    if (status == RTPW_OK) { rtpw_sanitizer_wrote(datagram + 2, 2); }
+    return status;
+}
 #define rtpw_set_sequence_number rtpw_sanitized_set_sequence_number
-RTPW_SANITIZED(set_timestamp, (uint8_t *datagram, size_t len, uint32_t timestamp), (datagram, len, timestamp),
-    (void)rtpw_sanitizer_header_len(datagram, len), RTPW_WROTE_BYTES(datagram + 4, 4))
+RTPW_CHECKED static inline int32_t rtpw_sanitized_set_timestamp(uint8_t *datagram, size_t len, uint32_t timestamp) {
+    int32_t status;
+    (void)rtpw_sanitizer_header_len(datagram, len);
+    status = rtpw_set_timestamp(datagram, len, timestamp);
+    if (status == RTPW_OK) { rtpw_sanitizer_wrote(datagram + 4, 4); }
+    return status;
+}
 #define rtpw_set_timestamp rtpw_sanitized_set_timestamp
-RTPW_SANITIZED(set_ssrc, (uint8_t *datagram, size_t len, uint32_t ssrc), (datagram, len, ssrc),
-    (void)rtpw_sanitizer_header_len(datagram, len), RTPW_WROTE_BYTES(datagram + 8, 4))
+RTPW_CHECKED static inline int32_t rtpw_sanitized_set_ssrc(uint8_t *datagram, size_t len, uint32_t ssrc) {
+    int32_t status;
+    (void)rtpw_sanitizer_header_len(datagram, len);
+    status = rtpw_set_ssrc(datagram, len, ssrc);
+    if (status == RTPW_OK) { rtpw_sanitizer_wrote(datagram + 8, 4); }
+    return status;
+}
 #define rtpw_set_ssrc rtpw_sanitized_set_ssrc
-RTPW_SANITIZED(set_fields, (uint8_t *datagram, size_t len, const rtpw_fields *fields), (datagram, len, fields),
-    (void)rtpw_sanitizer_header_len(datagram, len); rtpw_sanitizer_fields(fields),
-    if (status == RTPW_OK) { rtpw_sanitizer_wrote_fields(datagram, fields); })
+RTPW_CHECKED static inline int32_t rtpw_sanitized_set_fields(uint8_t *datagram, size_t len,
+    const rtpw_fields *fields) {
+    int32_t status;
+    (void)rtpw_sanitizer_header_len(datagram, len);
+    rtpw_sanitizer_fields(fields);
+    status = rtpw_set_fields(datagram, len, fields);
+    if (status == RTPW_OK) { rtpw_sanitizer_wrote_fields(datagram, fields); }
+    return status;
+}
 #define rtpw_set_fields rtpw_sanitized_set_fields
-RTPW_SANITIZED(set_csrc, (uint8_t *datagram, size_t len, size_t index, uint32_t source),
-    (datagram, len, index, source), (void)rtpw_sanitizer_header_len(datagram, len),
-    RTPW_WROTE_BYTES(datagram + RTPW_CSRC_AT + 4 * index, 4))
+RTPW_CHECKED static inline int32_t rtpw_sanitized_set_csrc(uint8_t *datagram, size_t len, size_t index,
+    uint32_t source) {
+    int32_t status;
+    (void)rtpw_sanitizer_header_len(datagram, len);
+    status = rtpw_set_csrc(datagram, len, index, source);
+    if (status == RTPW_OK) { rtpw_sanitizer_wrote(datagram + RTPW_CSRC_AT + 4 * index, 4); }
+    return status;
+}
 #define rtpw_set_csrc rtpw_sanitized_set_csrc
-RTPW_SANITIZED(set_element, (uint8_t *datagram, size_t len, uint8_t id, const uint8_t *data, size_t data_len),
-    (datagram, len, id, data, data_len), rtpw_sanitizer_block(datagram, len); rtpw_sanitizer_reads(data, data_len),
-    if (status == RTPW_OK) { rtpw_sanitizer_wrote_block(datagram, len); })
+RTPW_CHECKED static inline int32_t rtpw_sanitized_set_element(uint8_t *datagram, size_t len, uint8_t id,
+    const uint8_t *data, size_t data_len) {
+    int32_t status;
+    rtpw_sanitizer_block(datagram, len);
+    rtpw_sanitizer_reads(data, data_len);
+    status = rtpw_set_element(datagram, len, id, data, data_len);
+    if (status == RTPW_OK) { rtpw_sanitizer_wrote_block(datagram, len); }
+    return status;
+}
 #define rtpw_set_element rtpw_sanitized_set_element
-RTPW_SANITIZED(remove_element, (uint8_t *datagram, size_t len, uint8_t id), (datagram, len, id),
-    rtpw_sanitizer_block(datagram, len), if (status == RTPW_OK) { rtpw_sanitizer_wrote_block(datagram, len); })
+RTPW_CHECKED static inline int32_t rtpw_sanitized_remove_element(uint8_t *datagram, size_t len, uint8_t id) {
+    int32_t status;
+    rtpw_sanitizer_block(datagram, len);
+    status = rtpw_remove_element(datagram, len, id);
+    if (status == RTPW_OK) { rtpw_sanitizer_wrote_block(datagram, len); }
+    return status;
+}
 #define rtpw_remove_element rtpw_sanitized_remove_element
-RTPW_SANITIZED(set_padding, (uint8_t *datagram, size_t len, bool has_padding), (datagram, len, has_padding),
-    (void)rtpw_sanitizer_header_len(datagram, len), RTPW_WROTE_BYTES(datagram, 1))
+RTPW_CHECKED static inline int32_t rtpw_sanitized_set_padding(uint8_t *datagram, size_t len, bool has_padding) {
+    int32_t status;
+    (void)rtpw_sanitizer_header_len(datagram, len);
+    status = rtpw_set_padding(datagram, len, has_padding);
+    if (status == RTPW_OK) { rtpw_sanitizer_wrote(datagram, 1); }
+    return status;
+}
 #define rtpw_set_padding rtpw_sanitized_set_padding
-RTPW_SANITIZED(remove_padding, (uint8_t *datagram, size_t len, size_t *new_len), (datagram, len, new_len),
-    rtpw_sanitizer_padding(datagram, len); RTPW_ROOM(new_len), RTPW_WROTE(new_len) RTPW_WROTE_BYTES(datagram, 1))
+RTPW_CHECKED static inline int32_t rtpw_sanitized_remove_padding(uint8_t *datagram, size_t len, size_t *new_len) {
+    int32_t status;
+    rtpw_sanitizer_padding(datagram, len);
+    RTPW_SANITIZER_ROOM(new_len, sizeof *new_len);
+    status = rtpw_remove_padding(datagram, len, new_len);
+    if (status == RTPW_OK) { rtpw_sanitizer_wrote(new_len, sizeof *new_len); }
+    if (status == RTPW_OK) { rtpw_sanitizer_wrote(datagram, 1); }
+    return status;
+}
 #define rtpw_remove_padding rtpw_sanitized_remove_padding
-RTPW_SANITIZED(put_element, (uint8_t *buf, size_t size, size_t *len, uint8_t id, const uint8_t *data,
-    size_t data_len, uint8_t allowed), (buf, size, len, id, data, data_len, allowed),
-    rtpw_sanitizer_before before = rtpw_sanitizer_buffer(buf, size, len); rtpw_sanitizer_reads(data, data_len), rtpw_sanitizer_rebuilt(status, buf, len, before))
+RTPW_CHECKED static inline int32_t rtpw_sanitized_put_element(uint8_t *buf, size_t size, size_t *len, uint8_t id,
+    const uint8_t *data, size_t data_len, uint8_t allowed) {
+    int32_t status;
+    rtpw_sanitizer_before before = rtpw_sanitizer_buffer(buf, size, len);
+    rtpw_sanitizer_reads(data, data_len);
+    status = rtpw_put_element(buf, size, len, id, data, data_len, allowed);
+    rtpw_sanitizer_rebuilt(status, buf, len, before);
+    return status;
+}
 #define rtpw_put_element rtpw_sanitized_put_element
-RTPW_SANITIZED(add_element, (uint8_t *buf, size_t size, size_t *len, uint8_t id, const uint8_t *data,
-    size_t data_len, uint8_t allowed), (buf, size, len, id, data, data_len, allowed),
-    rtpw_sanitizer_before before = rtpw_sanitizer_buffer(buf, size, len); rtpw_sanitizer_reads(data, data_len), rtpw_sanitizer_rebuilt(status, buf, len, before))
+RTPW_CHECKED static inline int32_t rtpw_sanitized_add_element(uint8_t *buf, size_t size, size_t *len, uint8_t id,
+    const uint8_t *data, size_t data_len, uint8_t allowed) {
+    int32_t status;
+    rtpw_sanitizer_before before = rtpw_sanitizer_buffer(buf, size, len);
+    rtpw_sanitizer_reads(data, data_len);
+    status = rtpw_add_element(buf, size, len, id, data, data_len, allowed);
+    rtpw_sanitizer_rebuilt(status, buf, len, before);
+    return status;
+}
 #define rtpw_add_element rtpw_sanitized_add_element
-RTPW_SANITIZED(compact, (uint8_t *buf, size_t size, size_t *len), (buf, size, len),
-    rtpw_sanitizer_before before = rtpw_sanitizer_buffer(buf, size, len), rtpw_sanitizer_rebuilt(status, buf, len, before))
+RTPW_CHECKED static inline int32_t rtpw_sanitized_compact(uint8_t *buf, size_t size, size_t *len) {
+    int32_t status;
+    rtpw_sanitizer_before before = rtpw_sanitizer_buffer(buf, size, len);
+    status = rtpw_compact(buf, size, len);
+    rtpw_sanitizer_rebuilt(status, buf, len, before);
+    return status;
+}
 #define rtpw_compact rtpw_sanitized_compact
-RTPW_SANITIZED(change_form, (uint8_t *buf, size_t size, size_t *len, uint8_t form), (buf, size, len, form),
-    rtpw_sanitizer_before before = rtpw_sanitizer_buffer(buf, size, len), rtpw_sanitizer_rebuilt(status, buf, len, before))
+RTPW_CHECKED static inline int32_t rtpw_sanitized_change_form(uint8_t *buf, size_t size, size_t *len, uint8_t form)
+    {
+    int32_t status;
+    rtpw_sanitizer_before before = rtpw_sanitizer_buffer(buf, size, len);
+    status = rtpw_change_form(buf, size, len, form);
+    rtpw_sanitizer_rebuilt(status, buf, len, before);
+    return status;
+}
 #define rtpw_change_form rtpw_sanitized_change_form
-RTPW_SANITIZED(remove_block, (uint8_t *buf, size_t size, size_t *len), (buf, size, len),
-    rtpw_sanitizer_before before = rtpw_sanitizer_front(buf, size, len), rtpw_sanitizer_rebuilt(status, buf, len, before))
+RTPW_CHECKED static inline int32_t rtpw_sanitized_remove_block(uint8_t *buf, size_t size, size_t *len) {
+    int32_t status;
+    rtpw_sanitizer_before before = rtpw_sanitizer_front(buf, size, len);
+    status = rtpw_remove_block(buf, size, len);
+    rtpw_sanitizer_rebuilt(status, buf, len, before);
+    return status;
+}
 #define rtpw_remove_block rtpw_sanitized_remove_block
-RTPW_SANITIZED(put_block, (uint8_t *buf, size_t size, size_t *len, uint16_t profile, const uint8_t *body,
-    size_t body_len), (buf, size, len, profile, body, body_len),
-    rtpw_sanitizer_before before = rtpw_sanitizer_front(buf, size, len); rtpw_sanitizer_reads(body, body_len), rtpw_sanitizer_rebuilt(status, buf, len, before))
+RTPW_CHECKED static inline int32_t rtpw_sanitized_put_block(uint8_t *buf, size_t size, size_t *len,
+    uint16_t profile, const uint8_t *body, size_t body_len) {
+    int32_t status;
+    rtpw_sanitizer_before before = rtpw_sanitizer_front(buf, size, len);
+    rtpw_sanitizer_reads(body, body_len);
+    status = rtpw_put_block(buf, size, len, profile, body, body_len);
+    rtpw_sanitizer_rebuilt(status, buf, len, before);
+    return status;
+}
 #define rtpw_put_block rtpw_sanitized_put_block
-RTPW_SANITIZED(next_element, (const uint8_t *body, size_t body_len, uint8_t form, size_t at, rtpw_element *element),
-    (body, body_len, form, at, element), RTPW_SANITIZER_ROOM(body, body_len); RTPW_ROOM(element),
-    RTPW_WROTE(element) rtpw_sanitizer_reads_next(body, body_len, at, status, element))
+RTPW_CHECKED static inline int32_t rtpw_sanitized_next_element(const uint8_t *body, size_t body_len, uint8_t form,
+    size_t at, rtpw_element *element) {
+    int32_t status;
+    RTPW_SANITIZER_ROOM(body, body_len);
+    RTPW_SANITIZER_ROOM(element, sizeof *element);
+    status = rtpw_next_element(body, body_len, form, at, element);
+    if (status == RTPW_OK) { rtpw_sanitizer_wrote(element, sizeof *element); }
+    rtpw_sanitizer_reads_next(body, body_len, at, status, element);
+    return status;
+}
 #define rtpw_next_element rtpw_sanitized_next_element
-RTPW_SANITIZED(last_element, (const uint8_t *body, size_t body_len, uint8_t form, uint8_t id, rtpw_element *element),
-    (body, body_len, form, id, element), rtpw_sanitizer_reads(body, body_len); RTPW_ROOM(element),
-    RTPW_WROTE(element))
+RTPW_CHECKED static inline int32_t rtpw_sanitized_last_element(const uint8_t *body, size_t body_len, uint8_t form,
+    uint8_t id, rtpw_element *element) {
+    int32_t status;
+    rtpw_sanitizer_reads(body, body_len);
+    RTPW_SANITIZER_ROOM(element, sizeof *element);
+    status = rtpw_last_element(body, body_len, form, id, element);
+    if (status == RTPW_OK) { rtpw_sanitizer_wrote(element, sizeof *element); }
+    return status;
+}
 #define rtpw_last_element rtpw_sanitized_last_element
-RTPW_SANITIZED_AS(uint8_t, kind_of_uri, (const uint8_t *uri, size_t len), (uri, len), rtpw_sanitizer_reads(uri, len),
-    (void)0)
+static inline uint8_t rtpw_sanitized_kind_of_uri(const uint8_t *uri, size_t len) {
+    uint8_t status;
+    rtpw_sanitizer_reads(uri, len);
+    status = rtpw_kind_of_uri(uri, len);
+    return status;
+}
 #define rtpw_kind_of_uri rtpw_sanitized_kind_of_uri
-RTPW_SANITIZED(uri_of_kind, (uint8_t kind, uint8_t *buf, size_t size, size_t *len), (kind, buf, size, len),
-    RTPW_SANITIZER_ROOM(buf, size); RTPW_ROOM(len),
-    RTPW_WROTE(len) RTPW_WROTE_BYTES(buf, *len))
+RTPW_CHECKED static inline int32_t rtpw_sanitized_uri_of_kind(uint8_t kind, uint8_t *buf, size_t size, size_t *len)
+    {
+    int32_t status;
+    RTPW_SANITIZER_ROOM(buf, size);
+    RTPW_SANITIZER_ROOM(len, sizeof *len);
+    status = rtpw_uri_of_kind(kind, buf, size, len);
+    if (status == RTPW_OK) { rtpw_sanitizer_wrote(len, sizeof *len); }
+    if (status == RTPW_OK) { rtpw_sanitizer_wrote(buf, *len); }
+    return status;
+}
 #define rtpw_uri_of_kind rtpw_sanitized_uri_of_kind
-RTPW_SANITIZED(map_set, (rtpw_map *map, uint8_t id, uint8_t kind), (map, id, kind), RTPW_ROOM(map),
-    RTPW_WROTE_BYTES(&map->kind[id], 1))
+RTPW_CHECKED static inline int32_t rtpw_sanitized_map_set(rtpw_map *map, uint8_t id, uint8_t kind) {
+    int32_t status;
+    RTPW_SANITIZER_ROOM(map, sizeof *map);
+    status = rtpw_map_set(map, id, kind);
+    if (status == RTPW_OK) { rtpw_sanitizer_wrote(&map->kind[id], 1); }
+    return status;
+}
 #define rtpw_map_set rtpw_sanitized_map_set
-RTPW_SANITIZED_VOID(map_remove, (rtpw_map *map, uint8_t id), (map, id), RTPW_ROOM(map),
-    if (id != 0) { rtpw_sanitizer_wrote(&map->kind[id], 1); })
+static inline void rtpw_sanitized_map_remove(rtpw_map *map, uint8_t id) {
+    RTPW_SANITIZER_ROOM(map, sizeof *map);
+    rtpw_map_remove(map, id);
+    if (id != 0) { rtpw_sanitizer_wrote(&map->kind[id], 1); }
+}
 #define rtpw_map_remove rtpw_sanitized_map_remove
-RTPW_SANITIZED_AS(uint8_t, map_get, (const rtpw_map *map, uint8_t id), (map, id),
-    RTPW_ROOM(map); rtpw_sanitizer_reads(&map->kind[id], id != 0), (void)0)
+static inline uint8_t rtpw_sanitized_map_get(const rtpw_map *map, uint8_t id) {
+    uint8_t status;
+    RTPW_SANITIZER_ROOM(map, sizeof *map); rtpw_sanitizer_reads(&map->kind[id], id != 0);
+    status = rtpw_map_get(map, id);
+    return status;
+}
 #define rtpw_map_get rtpw_sanitized_map_get
-RTPW_SANITIZED_AS(uint8_t, id_of, (const rtpw_map *map, uint8_t kind), (map, kind),
-    RTPW_ROOM(map); rtpw_sanitizer_ids(map->kind), (void)0)
+static inline uint8_t rtpw_sanitized_id_of(const rtpw_map *map, uint8_t kind) {
+    uint8_t status;
+    rtpw_sanitizer_map(map);
+    status = rtpw_id_of(map, kind);
+    return status;
+}
 #define rtpw_id_of rtpw_sanitized_id_of
-RTPW_SANITIZED_VOID(map_standard, (rtpw_map *map), (map), RTPW_ROOM(map), rtpw_sanitizer_wrote(map, sizeof *map))
+static inline void rtpw_sanitized_map_standard(rtpw_map *map) {
+    RTPW_SANITIZER_ROOM(map, sizeof *map);
+    rtpw_map_standard(map);
+    rtpw_sanitizer_wrote(map, sizeof *map);
+}
 #define rtpw_map_standard rtpw_sanitized_map_standard
-RTPW_SANITIZED(values_read, (const uint8_t *body, size_t body_len, uint8_t form, const rtpw_map *map,
-    rtpw_values *values), (body, body_len, form, map, values),
-    rtpw_sanitizer_reads(body, body_len); rtpw_sanitizer_ids(map->kind); RTPW_ROOM(values), RTPW_WROTE(values))
+RTPW_CHECKED static inline int32_t rtpw_sanitized_values_read(const uint8_t *body, size_t body_len, uint8_t form,
+    const rtpw_map *map, rtpw_values *values) {
+    int32_t status;
+    rtpw_sanitizer_reads(body, body_len);
+    rtpw_sanitizer_map(map);
+    RTPW_SANITIZER_ROOM(values, sizeof *values);
+    status = rtpw_values_read(body, body_len, form, map, values);
+    if (status == RTPW_OK) { rtpw_sanitizer_wrote(values, sizeof *values); }
+    return status;
+}
 #define rtpw_values_read rtpw_sanitized_values_read
-RTPW_SANITIZED(data_of, (uint8_t kind, const rtpw_values *values, uint8_t *buf, size_t size, size_t *len),
-    (kind, values, buf, size, len),
-    rtpw_sanitizer_values(values); RTPW_SANITIZER_ROOM(buf, size); RTPW_ROOM(len),
-    RTPW_WROTE(len) RTPW_WROTE_BYTES(buf, *len))
+RTPW_CHECKED static inline int32_t rtpw_sanitized_data_of(uint8_t kind, const rtpw_values *values, uint8_t *buf,
+    size_t size, size_t *len) {
+    int32_t status;
+    rtpw_sanitizer_values(values);
+    RTPW_SANITIZER_ROOM(buf, size);
+    RTPW_SANITIZER_ROOM(len, sizeof *len);
+    status = rtpw_data_of(kind, values, buf, size, len);
+    if (status == RTPW_OK) { rtpw_sanitizer_wrote(len, sizeof *len); }
+    if (status == RTPW_OK) { rtpw_sanitizer_wrote(buf, *len); }
+    return status;
+}
 #define rtpw_data_of rtpw_sanitized_data_of
-RTPW_SANITIZED(parse, (const uint8_t *datagram, size_t len, const rtpw_map *map, rtpw_header *header),
-    (datagram, len, map, header),
-    rtpw_sanitizer_header(datagram, len); rtpw_sanitizer_ids(map->kind); RTPW_ROOM(header), RTPW_WROTE(header))
+RTPW_CHECKED static inline int32_t rtpw_sanitized_read(const uint8_t *datagram, size_t len, const rtpw_map *map,
+    rtpw_whole_packet *packet) {
+    int32_t status;
+    rtpw_sanitizer_whole(datagram, len);
+    rtpw_sanitizer_map(map);
+    RTPW_SANITIZER_ROOM(packet, sizeof *packet);
+    status = rtpw_read(datagram, len, map, packet);
+    if (status == RTPW_OK) { rtpw_sanitizer_wrote(packet, sizeof *packet); }
+    return status;
+}
+#define rtpw_read rtpw_sanitized_read
+RTPW_CHECKED static inline int32_t rtpw_sanitized_parse(const uint8_t *datagram, size_t len, const rtpw_map *map,
+    rtpw_header *header) {
+    int32_t status;
+    rtpw_sanitizer_header(datagram, len);
+    rtpw_sanitizer_map(map);
+    RTPW_SANITIZER_ROOM(header, sizeof *header);
+    status = rtpw_parse(datagram, len, map, header);
+    if (status == RTPW_OK) { rtpw_sanitizer_wrote(header, sizeof *header); }
+    return status;
+}
 #define rtpw_parse rtpw_sanitized_parse
-RTPW_SANITIZED(parse_layers, (const uint8_t *datagram, size_t len, const rtpw_map *map, rtpw_header *header,
-    rtpw_layers *layers), (datagram, len, map, header, layers),
-    rtpw_sanitizer_header(datagram, len); rtpw_sanitizer_ids(map->kind); RTPW_ROOM(header); RTPW_ROOM(layers),
-    RTPW_WROTE(header) RTPW_WROTE(layers))
+RTPW_CHECKED static inline int32_t rtpw_sanitized_parse_layers(const uint8_t *datagram, size_t len,
+    const rtpw_map *map, rtpw_header *header, rtpw_layers *layers) {
+    int32_t status;
+    rtpw_sanitizer_header(datagram, len);
+    rtpw_sanitizer_map(map);
+    RTPW_SANITIZER_ROOM(header, sizeof *header);
+    RTPW_SANITIZER_ROOM(layers, sizeof *layers);
+    status = rtpw_parse_layers(datagram, len, map, header, layers);
+    if (status == RTPW_OK) { rtpw_sanitizer_wrote(header, sizeof *header); }
+    if (status == RTPW_OK) { rtpw_sanitizer_wrote(layers, sizeof *layers); }
+    return status;
+}
 #define rtpw_parse_layers rtpw_sanitized_parse_layers
-RTPW_SANITIZED(wire_len, (const rtpw_map *map, const rtpw_header *header, size_t *len), (map, header, len),
-    rtpw_sanitizer_written(map, header); RTPW_ROOM(len), RTPW_WROTE(len))
+RTPW_CHECKED static inline int32_t rtpw_sanitized_wire_len(const rtpw_map *map, const rtpw_header *header,
+    size_t *len) {
+    int32_t status;
+    rtpw_sanitizer_written(map, header);
+    RTPW_SANITIZER_ROOM(len, sizeof *len);
+    status = rtpw_wire_len(map, header, len);
+    if (status == RTPW_OK) { rtpw_sanitizer_wrote(len, sizeof *len); }
+    return status;
+}
 #define rtpw_wire_len rtpw_sanitized_wire_len
-RTPW_SANITIZED(write, (const rtpw_map *map, const rtpw_header *header, uint8_t *buf, size_t size, size_t *len),
-    (map, header, buf, size, len),
-    rtpw_sanitizer_written(map, header); RTPW_SANITIZER_ROOM(buf, size); RTPW_ROOM(len),
-    RTPW_WROTE(len) RTPW_WROTE_BYTES(buf, *len))
+RTPW_CHECKED static inline int32_t rtpw_sanitized_write(const rtpw_map *map, const rtpw_header *header,
+    uint8_t *buf, size_t size, size_t *len) {
+    int32_t status;
+    rtpw_sanitizer_written(map, header);
+    RTPW_SANITIZER_ROOM(buf, size);
+    RTPW_SANITIZER_ROOM(len, sizeof *len);
+    status = rtpw_write(map, header, buf, size, len);
+    if (status == RTPW_OK) { rtpw_sanitizer_wrote(len, sizeof *len); }
+    if (status == RTPW_OK) { rtpw_sanitizer_wrote(buf, *len); }
+    return status;
+}
 #define rtpw_write rtpw_sanitized_write
-RTPW_SANITIZED(wire_len_layers, (const rtpw_map *map, const rtpw_header *header, const rtpw_layers *layers,
-    size_t *len), (map, header, layers, len),
-    rtpw_sanitizer_written(map, header); rtpw_sanitizer_layers(layers); RTPW_ROOM(len), RTPW_WROTE(len))
+RTPW_CHECKED static inline int32_t rtpw_sanitized_wire_len_layers(const rtpw_map *map, const rtpw_header *header,
+    const rtpw_layers *layers, size_t *len) {
+    int32_t status;
+    rtpw_sanitizer_written(map, header);
+    rtpw_sanitizer_layers(layers);
+    RTPW_SANITIZER_ROOM(len, sizeof *len);
+    status = rtpw_wire_len_layers(map, header, layers, len);
+    if (status == RTPW_OK) { rtpw_sanitizer_wrote(len, sizeof *len); }
+    return status;
+}
 #define rtpw_wire_len_layers rtpw_sanitized_wire_len_layers
-RTPW_SANITIZED(write_layers, (const rtpw_map *map, const rtpw_header *header, const rtpw_layers *layers,
-    uint8_t *buf, size_t size, size_t *len), (map, header, layers, buf, size, len),
-    rtpw_sanitizer_written(map, header); rtpw_sanitizer_layers(layers); RTPW_SANITIZER_ROOM(buf, size);
-    RTPW_ROOM(len),
-    RTPW_WROTE(len) RTPW_WROTE_BYTES(buf, *len))
+RTPW_CHECKED static inline int32_t rtpw_sanitized_write_layers(const rtpw_map *map, const rtpw_header *header,
+    const rtpw_layers *layers, uint8_t *buf, size_t size, size_t *len) {
+    int32_t status;
+    rtpw_sanitizer_written(map, header);
+    rtpw_sanitizer_layers(layers);
+    RTPW_SANITIZER_ROOM(buf, size);
+    RTPW_SANITIZER_ROOM(len, sizeof *len);
+    status = rtpw_write_layers(map, header, layers, buf, size, len);
+    if (status == RTPW_OK) { rtpw_sanitizer_wrote(len, sizeof *len); }
+    if (status == RTPW_OK) { rtpw_sanitizer_wrote(buf, *len); }
+    return status;
+}
 #define rtpw_write_layers rtpw_sanitized_write_layers
-RTPW_SANITIZED(left_out, (const rtpw_map *map, const rtpw_header *header, uint32_t *kinds), (map, header, kinds),
-    rtpw_sanitizer_written(map, header); RTPW_ROOM(kinds), RTPW_WROTE(kinds))
+RTPW_CHECKED static inline int32_t rtpw_sanitized_left_out(const rtpw_map *map, const rtpw_header *header,
+    uint32_t *kinds) {
+    int32_t status;
+    rtpw_sanitizer_written(map, header);
+    RTPW_SANITIZER_ROOM(kinds, sizeof *kinds);
+    status = rtpw_left_out(map, header, kinds);
+    if (status == RTPW_OK) { rtpw_sanitizer_wrote(kinds, sizeof *kinds); }
+    return status;
+}
 #define rtpw_left_out rtpw_sanitized_left_out
-RTPW_SANITIZED(left_out_layers, (const rtpw_map *map, const rtpw_header *header, const rtpw_layers *layers,
-    uint32_t *kinds), (map, header, layers, kinds),
-    rtpw_sanitizer_written(map, header); rtpw_sanitizer_layers(layers); RTPW_ROOM(kinds), RTPW_WROTE(kinds))
+RTPW_CHECKED static inline int32_t rtpw_sanitized_left_out_layers(const rtpw_map *map, const rtpw_header *header,
+    const rtpw_layers *layers, uint32_t *kinds) {
+    int32_t status;
+    rtpw_sanitizer_written(map, header);
+    rtpw_sanitizer_layers(layers);
+    RTPW_SANITIZER_ROOM(kinds, sizeof *kinds);
+    status = rtpw_left_out_layers(map, header, layers, kinds);
+    if (status == RTPW_OK) { rtpw_sanitizer_wrote(kinds, sizeof *kinds); }
+    return status;
+}
 #define rtpw_left_out_layers rtpw_sanitized_left_out_layers
-RTPW_SANITIZED(write_with, (const rtpw_header *header, const uint8_t *data, size_t data_len,
-    const rtpw_element *elements, size_t count, uint8_t *buf, size_t size, size_t *len), (header, data, data_len,
-    elements, count, buf, size, len),
-    rtpw_sanitizer_fixed_part(header); rtpw_sanitizer_elements(data, data_len, elements, count);
-    RTPW_SANITIZER_ROOM(buf, size); RTPW_ROOM(len),
-    RTPW_WROTE(len) RTPW_WROTE_BYTES(buf, *len))
+RTPW_CHECKED static inline int32_t rtpw_sanitized_write_with(const rtpw_header *header, const uint8_t *data,
+    size_t data_len, const rtpw_element *elements, size_t count, uint8_t *buf, size_t size, size_t *len) {
+    int32_t status;
+    rtpw_sanitizer_fixed_part(header);
+    rtpw_sanitizer_elements(data, data_len, elements, count);
+    RTPW_SANITIZER_ROOM(buf, size);
+    RTPW_SANITIZER_ROOM(len, sizeof *len);
+    status = rtpw_write_with(header, data, data_len, elements, count, buf, size, len);
+    if (status == RTPW_OK) { rtpw_sanitizer_wrote(len, sizeof *len); }
+    if (status == RTPW_OK) { rtpw_sanitizer_wrote(buf, *len); }
+    return status;
+}
 #define rtpw_write_with rtpw_sanitized_write_with
-RTPW_SANITIZED(write_with_form, (const rtpw_header *header, const uint8_t *data, size_t data_len,
-    const rtpw_element *elements, size_t count, uint8_t form, uint8_t *buf, size_t size, size_t *len), (header, data,
-    data_len, elements, count, form, buf, size, len),
-    rtpw_sanitizer_fixed_part(header); rtpw_sanitizer_elements(data, data_len, elements, count);
-    RTPW_SANITIZER_ROOM(buf, size); RTPW_ROOM(len),
-    RTPW_WROTE(len) RTPW_WROTE_BYTES(buf, *len))
+RTPW_CHECKED static inline int32_t rtpw_sanitized_write_with_form(const rtpw_header *header, const uint8_t *data,
+    size_t data_len, const rtpw_element *elements, size_t count, uint8_t form, uint8_t *buf, size_t size,
+    size_t *len) {
+    int32_t status;
+    rtpw_sanitizer_fixed_part(header);
+    rtpw_sanitizer_elements(data, data_len, elements, count);
+    RTPW_SANITIZER_ROOM(buf, size);
+    RTPW_SANITIZER_ROOM(len, sizeof *len);
+    status = rtpw_write_with_form(header, data, data_len, elements, count, form, buf, size, len);
+    if (status == RTPW_OK) { rtpw_sanitizer_wrote(len, sizeof *len); }
+    if (status == RTPW_OK) { rtpw_sanitizer_wrote(buf, *len); }
+    return status;
+}
 #define rtpw_write_with_form rtpw_sanitized_write_with_form
-RTPW_SANITIZED(write_elements, (const uint8_t *data, size_t data_len, const rtpw_element *elements, size_t count,
-    uint8_t form, uint8_t *buf, size_t size, size_t *len), (data, data_len, elements, count, form, buf, size, len),
-    rtpw_sanitizer_elements(data, data_len, elements, count); RTPW_SANITIZER_ROOM(buf, size); RTPW_ROOM(len),
-    RTPW_WROTE(len) RTPW_WROTE_BYTES(buf, *len))
+RTPW_CHECKED static inline int32_t rtpw_sanitized_write_elements(const uint8_t *data, size_t data_len,
+    const rtpw_element *elements, size_t count, uint8_t form, uint8_t *buf, size_t size, size_t *len) {
+    int32_t status;
+    rtpw_sanitizer_elements(data, data_len, elements, count);
+    RTPW_SANITIZER_ROOM(buf, size);
+    RTPW_SANITIZER_ROOM(len, sizeof *len);
+    status = rtpw_write_elements(data, data_len, elements, count, form, buf, size, len);
+    if (status == RTPW_OK) { rtpw_sanitizer_wrote(len, sizeof *len); }
+    if (status == RTPW_OK) { rtpw_sanitizer_wrote(buf, *len); }
+    return status;
+}
 #define rtpw_write_elements rtpw_sanitized_write_elements
-RTPW_SANITIZED(read_send_time, (const uint8_t *data, size_t data_len, uint32_t *units), (data, data_len, units),
-    rtpw_sanitizer_data(data, data_len, 3, 3); RTPW_ROOM(units), RTPW_WROTE(units))
+RTPW_CHECKED static inline int32_t rtpw_sanitized_read_send_time(const uint8_t *data, size_t data_len,
+    uint32_t *units) {
+    int32_t status;
+    rtpw_sanitizer_data(data, data_len, 3, 3);
+    RTPW_SANITIZER_ROOM(units, sizeof *units);
+    status = rtpw_read_send_time(data, data_len, units);
+    if (status == RTPW_OK) { rtpw_sanitizer_wrote(units, sizeof *units); }
+    return status;
+}
 #define rtpw_read_send_time rtpw_sanitized_read_send_time
-RTPW_SANITIZED(write_send_time, (uint32_t units, uint8_t *buf, size_t size, size_t *len), (units, buf, size, len),
-    RTPW_SANITIZER_ROOM(buf, size); RTPW_ROOM(len),
-    RTPW_WROTE(len) RTPW_WROTE_BYTES(buf, *len))
+RTPW_CHECKED static inline int32_t rtpw_sanitized_write_send_time(uint32_t units, uint8_t *buf, size_t size,
+    size_t *len) {
+    int32_t status;
+    RTPW_SANITIZER_ROOM(buf, size);
+    RTPW_SANITIZER_ROOM(len, sizeof *len);
+    status = rtpw_write_send_time(units, buf, size, len);
+    if (status == RTPW_OK) { rtpw_sanitizer_wrote(len, sizeof *len); }
+    if (status == RTPW_OK) { rtpw_sanitizer_wrote(buf, *len); }
+    return status;
+}
 #define rtpw_write_send_time rtpw_sanitized_write_send_time
-RTPW_SANITIZED(read_transmission_offset, (const uint8_t *data, size_t data_len, int32_t *offset),
-    (data, data_len, offset), rtpw_sanitizer_data(data, data_len, 3, 3); RTPW_ROOM(offset), RTPW_WROTE(offset))
+RTPW_CHECKED static inline int32_t rtpw_sanitized_read_transmission_offset(const uint8_t *data, size_t data_len,
+    int32_t *offset) {
+    int32_t status;
+    rtpw_sanitizer_data(data, data_len, 3, 3);
+    RTPW_SANITIZER_ROOM(offset, sizeof *offset);
+    status = rtpw_read_transmission_offset(data, data_len, offset);
+    if (status == RTPW_OK) { rtpw_sanitizer_wrote(offset, sizeof *offset); }
+    return status;
+}
 #define rtpw_read_transmission_offset rtpw_sanitized_read_transmission_offset
-RTPW_SANITIZED(write_transmission_offset, (int32_t offset, uint8_t *buf, size_t size, size_t *len),
-    (offset, buf, size, len), RTPW_SANITIZER_ROOM(buf, size); RTPW_ROOM(len),
-    RTPW_WROTE(len) RTPW_WROTE_BYTES(buf, *len))
+RTPW_CHECKED static inline int32_t rtpw_sanitized_write_transmission_offset(int32_t offset, uint8_t *buf,
+    size_t size, size_t *len) {
+    int32_t status;
+    RTPW_SANITIZER_ROOM(buf, size);
+    RTPW_SANITIZER_ROOM(len, sizeof *len);
+    status = rtpw_write_transmission_offset(offset, buf, size, len);
+    if (status == RTPW_OK) { rtpw_sanitizer_wrote(len, sizeof *len); }
+    if (status == RTPW_OK) { rtpw_sanitizer_wrote(buf, *len); }
+    return status;
+}
 #define rtpw_write_transmission_offset rtpw_sanitized_write_transmission_offset
-RTPW_SANITIZED(read_frame_marking, (const uint8_t *data, size_t data_len, rtpw_frame_marking *marking),
-    (data, data_len, marking), rtpw_sanitizer_data(data, data_len, 1, 3); RTPW_ROOM(marking), RTPW_WROTE(marking))
+RTPW_CHECKED static inline int32_t rtpw_sanitized_read_frame_marking(const uint8_t *data, size_t data_len,
+    rtpw_frame_marking *marking) {
+    int32_t status;
+    rtpw_sanitizer_data(data, data_len, 1, 3);
+    RTPW_SANITIZER_ROOM(marking, sizeof *marking);
+    status = rtpw_read_frame_marking(data, data_len, marking);
+    if (status == RTPW_OK) { rtpw_sanitizer_wrote(marking, sizeof *marking); }
+    return status;
+}
 #define rtpw_read_frame_marking rtpw_sanitized_read_frame_marking
-RTPW_SANITIZED(write_frame_marking, (const rtpw_frame_marking *marking, uint8_t *buf, size_t size, size_t *len),
-    (marking, buf, size, len),
-    rtpw_sanitizer_frame_marking(marking); RTPW_SANITIZER_ROOM(buf, size); RTPW_ROOM(len),
-    RTPW_WROTE(len) RTPW_WROTE_BYTES(buf, *len))
+RTPW_CHECKED static inline int32_t rtpw_sanitized_write_frame_marking(const rtpw_frame_marking *marking,
+    uint8_t *buf, size_t size, size_t *len) {
+    int32_t status;
+    rtpw_sanitizer_frame_marking(marking);
+    RTPW_SANITIZER_ROOM(buf, size);
+    RTPW_SANITIZER_ROOM(len, sizeof *len);
+    status = rtpw_write_frame_marking(marking, buf, size, len);
+    if (status == RTPW_OK) { rtpw_sanitizer_wrote(len, sizeof *len); }
+    if (status == RTPW_OK) { rtpw_sanitizer_wrote(buf, *len); }
+    return status;
+}
 #define rtpw_write_frame_marking rtpw_sanitized_write_frame_marking
-RTPW_SANITIZED(read_orientation, (const uint8_t *data, size_t data_len, rtpw_orientation *orientation),
-    (data, data_len, orientation), rtpw_sanitizer_data(data, data_len, 1, 1); RTPW_ROOM(orientation),
-    RTPW_WROTE(orientation))
+RTPW_CHECKED static inline int32_t rtpw_sanitized_read_orientation(const uint8_t *data, size_t data_len,
+    rtpw_orientation *orientation) {
+    int32_t status;
+    rtpw_sanitizer_data(data, data_len, 1, 1);
+    RTPW_SANITIZER_ROOM(orientation, sizeof *orientation);
+    status = rtpw_read_orientation(data, data_len, orientation);
+    if (status == RTPW_OK) { rtpw_sanitizer_wrote(orientation, sizeof *orientation); }
+    return status;
+}
 #define rtpw_read_orientation rtpw_sanitized_read_orientation
-RTPW_SANITIZED(write_orientation, (const rtpw_orientation *orientation, uint8_t *buf, size_t size, size_t *len),
-    (orientation, buf, size, len),
-    rtpw_sanitizer_reads(orientation, sizeof *orientation); RTPW_SANITIZER_ROOM(buf, size); RTPW_ROOM(len),
-    RTPW_WROTE(len) RTPW_WROTE_BYTES(buf, *len))
+RTPW_CHECKED static inline int32_t rtpw_sanitized_write_orientation(const rtpw_orientation *orientation,
+    uint8_t *buf, size_t size, size_t *len) {
+    int32_t status;
+    rtpw_sanitizer_orientation(orientation);
+    RTPW_SANITIZER_ROOM(buf, size);
+    RTPW_SANITIZER_ROOM(len, sizeof *len);
+    status = rtpw_write_orientation(orientation, buf, size, len);
+    if (status == RTPW_OK) { rtpw_sanitizer_wrote(len, sizeof *len); }
+    if (status == RTPW_OK) { rtpw_sanitizer_wrote(buf, *len); }
+    return status;
+}
 #define rtpw_write_orientation rtpw_sanitized_write_orientation
-RTPW_SANITIZED_AS(bool, is_token, (const uint8_t *data, size_t data_len), (data, data_len),
-    rtpw_sanitizer_token(data, data_len), (void)0)
+static inline bool rtpw_sanitized_is_token(const uint8_t *data, size_t data_len) {
+    bool status;
+    rtpw_sanitizer_token(data, data_len);
+    status = rtpw_is_token(data, data_len);
+    return status;
+}
 #define rtpw_is_token rtpw_sanitized_is_token
-RTPW_SANITIZED_AS(bool, is_stream_id, (const uint8_t *data, size_t data_len), (data, data_len),
-    rtpw_sanitizer_token(data, data_len), (void)0)
+static inline bool rtpw_sanitized_is_stream_id(const uint8_t *data, size_t data_len) {
+    bool status;
+    rtpw_sanitizer_token(data, data_len);
+    status = rtpw_is_stream_id(data, data_len);
+    return status;
+}
 #define rtpw_is_stream_id rtpw_sanitized_is_stream_id
-RTPW_SANITIZED(read_timing, (const uint8_t *data, size_t data_len, rtpw_timing *timing),
-    (data, data_len, timing), rtpw_sanitizer_data(data, data_len, 12, 13); RTPW_ROOM(timing), RTPW_WROTE(timing))
+RTPW_CHECKED static inline int32_t rtpw_sanitized_read_timing(const uint8_t *data, size_t data_len,
+    rtpw_timing *timing) {
+    int32_t status;
+    rtpw_sanitizer_data(data, data_len, 12, 13);
+    RTPW_SANITIZER_ROOM(timing, sizeof *timing);
+    status = rtpw_read_timing(data, data_len, timing);
+    if (status == RTPW_OK) { rtpw_sanitizer_wrote(timing, sizeof *timing); }
+    return status;
+}
 #define rtpw_read_timing rtpw_sanitized_read_timing
-RTPW_SANITIZED(write_timing, (const rtpw_timing *timing, uint8_t *buf, size_t size, size_t *len),
-    (timing, buf, size, len), rtpw_sanitizer_timing(timing); RTPW_SANITIZER_ROOM(buf, size); RTPW_ROOM(len),
-    RTPW_WROTE(len) RTPW_WROTE_BYTES(buf, *len))
+RTPW_CHECKED static inline int32_t rtpw_sanitized_write_timing(const rtpw_timing *timing, uint8_t *buf, size_t size,
+    size_t *len) {
+    int32_t status;
+    rtpw_sanitizer_timing(timing);
+    RTPW_SANITIZER_ROOM(buf, size);
+    RTPW_SANITIZER_ROOM(len, sizeof *len);
+    status = rtpw_write_timing(timing, buf, size, len);
+    if (status == RTPW_OK) { rtpw_sanitizer_wrote(len, sizeof *len); }
+    if (status == RTPW_OK) { rtpw_sanitizer_wrote(buf, *len); }
+    return status;
+}
 #define rtpw_write_timing rtpw_sanitized_write_timing
-RTPW_SANITIZED(read_transport_number, (const uint8_t *data, size_t data_len, rtpw_transport_number *number),
-    (data, data_len, number),
-    rtpw_sanitizer_data(data, data_len, 2, 2); rtpw_sanitizer_data(data, data_len, 4, 4); RTPW_ROOM(number),
-    RTPW_WROTE(number))
+RTPW_CHECKED static inline int32_t rtpw_sanitized_read_transport_number(const uint8_t *data, size_t data_len,
+    rtpw_transport_number *number) {
+    int32_t status;
+    rtpw_sanitizer_data(data, data_len, 2, 2); rtpw_sanitizer_data(data, data_len, 4, 4);
+    RTPW_SANITIZER_ROOM(number, sizeof *number);
+    status = rtpw_read_transport_number(data, data_len, number);
+    if (status == RTPW_OK) { rtpw_sanitizer_wrote(number, sizeof *number); }
+    return status;
+}
 #define rtpw_read_transport_number rtpw_sanitized_read_transport_number
-RTPW_SANITIZED(write_transport_number, (const rtpw_transport_number *number, uint8_t *buf, size_t size, size_t *len),
-    (number, buf, size, len),
-    rtpw_sanitizer_transport_number(number); RTPW_SANITIZER_ROOM(buf, size); RTPW_ROOM(len),
-    RTPW_WROTE(len) RTPW_WROTE_BYTES(buf, *len))
+RTPW_CHECKED static inline int32_t rtpw_sanitized_write_transport_number(const rtpw_transport_number *number,
+    uint8_t *buf, size_t size, size_t *len) {
+    int32_t status;
+    rtpw_sanitizer_transport_number(number);
+    RTPW_SANITIZER_ROOM(buf, size);
+    RTPW_SANITIZER_ROOM(len, sizeof *len);
+    status = rtpw_write_transport_number(number, buf, size, len);
+    if (status == RTPW_OK) { rtpw_sanitizer_wrote(len, sizeof *len); }
+    if (status == RTPW_OK) { rtpw_sanitizer_wrote(buf, *len); }
+    return status;
+}
 #define rtpw_write_transport_number rtpw_sanitized_write_transport_number
-RTPW_SANITIZED(read_mixer_level, (const uint8_t *data, size_t data_len, size_t csrc_count, size_t index,
-    int8_t *level), (data, data_len, csrc_count, index, level), RTPW_SANITIZER_ROOM(data, data_len);
-    if (index < csrc_count && index < data_len) { rtpw_sanitizer_reads(data + index, 1); } RTPW_ROOM(level),
-    RTPW_WROTE(level))
+RTPW_CHECKED static inline int32_t rtpw_sanitized_read_mixer_level(const uint8_t *data, size_t data_len,
+    size_t csrc_count, size_t index, int8_t *level) {
+    int32_t status;
+    RTPW_SANITIZER_ROOM(data, data_len); if (index < csrc_count && index < data_len) { rtpw_sanitizer_reads(data + index, 1); }
+    RTPW_SANITIZER_ROOM(level, sizeof *level);
+    status = rtpw_read_mixer_level(data, data_len, csrc_count, index, level);
+    if (status == RTPW_OK) { rtpw_sanitizer_wrote(level, sizeof *level); }
+    return status;
+}
 #define rtpw_read_mixer_level rtpw_sanitized_read_mixer_level
-RTPW_SANITIZED(write_mixer_levels, (const int8_t *levels, size_t count, uint8_t *buf, size_t size, size_t *len),
-    (levels, count, buf, size, len),
-    RTPW_SANITIZER_ROOM(levels, count); rtpw_sanitizer_reads(levels, count <= 15 ? count : 0); RTPW_SANITIZER_ROOM(buf, size); RTPW_ROOM(len),
-    RTPW_WROTE(len) RTPW_WROTE_BYTES(buf, *len))
+RTPW_CHECKED static inline int32_t rtpw_sanitized_write_mixer_levels(const int8_t *levels, size_t count,
+    uint8_t *buf, size_t size, size_t *len) {
+    int32_t status;
+    RTPW_SANITIZER_ROOM(levels, count); rtpw_sanitizer_reads(levels, count <= 15 ? count : 0);
+    RTPW_SANITIZER_ROOM(buf, size);
+    RTPW_SANITIZER_ROOM(len, sizeof *len);
+    status = rtpw_write_mixer_levels(levels, count, buf, size, len);
+    if (status == RTPW_OK) { rtpw_sanitizer_wrote(len, sizeof *len); }
+    if (status == RTPW_OK) { rtpw_sanitizer_wrote(buf, *len); }
+    return status;
+}
 #define rtpw_write_mixer_levels rtpw_sanitized_write_mixer_levels
-RTPW_SANITIZED(read_ntp_64, (const uint8_t *data, size_t data_len, uint64_t *time),
-    (data, data_len, time), rtpw_sanitizer_data(data, data_len, 8, 8); RTPW_ROOM(time), RTPW_WROTE(time))
+RTPW_CHECKED static inline int32_t rtpw_sanitized_read_ntp_64(const uint8_t *data, size_t data_len, uint64_t *time)
+    {
+    int32_t status;
+    rtpw_sanitizer_data(data, data_len, 8, 8);
+    RTPW_SANITIZER_ROOM(time, sizeof *time);
+    status = rtpw_read_ntp_64(data, data_len, time);
+    if (status == RTPW_OK) { rtpw_sanitizer_wrote(time, sizeof *time); }
+    return status;
+}
 #define rtpw_read_ntp_64 rtpw_sanitized_read_ntp_64
-RTPW_SANITIZED(write_ntp_64, (uint64_t time, uint8_t *buf, size_t size, size_t *len),
-    (time, buf, size, len), RTPW_SANITIZER_ROOM(buf, size); RTPW_ROOM(len),
-    RTPW_WROTE(len) RTPW_WROTE_BYTES(buf, *len))
+RTPW_CHECKED static inline int32_t rtpw_sanitized_write_ntp_64(uint64_t time, uint8_t *buf, size_t size,
+    size_t *len) {
+    int32_t status;
+    RTPW_SANITIZER_ROOM(buf, size);
+    RTPW_SANITIZER_ROOM(len, sizeof *len);
+    status = rtpw_write_ntp_64(time, buf, size, len);
+    if (status == RTPW_OK) { rtpw_sanitizer_wrote(len, sizeof *len); }
+    if (status == RTPW_OK) { rtpw_sanitizer_wrote(buf, *len); }
+    return status;
+}
 #define rtpw_write_ntp_64 rtpw_sanitized_write_ntp_64
-RTPW_SANITIZED(read_ntp_56, (const uint8_t *data, size_t data_len, uint64_t *time),
-    (data, data_len, time), rtpw_sanitizer_data(data, data_len, 7, 7); RTPW_ROOM(time), RTPW_WROTE(time))
+RTPW_CHECKED static inline int32_t rtpw_sanitized_read_ntp_56(const uint8_t *data, size_t data_len, uint64_t *time)
+    {
+    int32_t status;
+    rtpw_sanitizer_data(data, data_len, 7, 7);
+    RTPW_SANITIZER_ROOM(time, sizeof *time);
+    status = rtpw_read_ntp_56(data, data_len, time);
+    if (status == RTPW_OK) { rtpw_sanitizer_wrote(time, sizeof *time); }
+    return status;
+}
 #define rtpw_read_ntp_56 rtpw_sanitized_read_ntp_56
-RTPW_SANITIZED(write_ntp_56, (uint64_t time, uint8_t *buf, size_t size, size_t *len),
-    (time, buf, size, len), RTPW_SANITIZER_ROOM(buf, size); RTPW_ROOM(len),
-    RTPW_WROTE(len) RTPW_WROTE_BYTES(buf, *len))
+RTPW_CHECKED static inline int32_t rtpw_sanitized_write_ntp_56(uint64_t time, uint8_t *buf, size_t size,
+    size_t *len) {
+    int32_t status;
+    RTPW_SANITIZER_ROOM(buf, size);
+    RTPW_SANITIZER_ROOM(len, sizeof *len);
+    status = rtpw_write_ntp_56(time, buf, size, len);
+    if (status == RTPW_OK) { rtpw_sanitizer_wrote(len, sizeof *len); }
+    if (status == RTPW_OK) { rtpw_sanitizer_wrote(buf, *len); }
+    return status;
+}
 #define rtpw_write_ntp_56 rtpw_sanitized_write_ntp_56
-RTPW_SANITIZED(read_color_space, (const uint8_t *data, size_t data_len, rtpw_color_space *space),
-    (data, data_len, space),
-    rtpw_sanitizer_data(data, data_len, 4, 4); rtpw_sanitizer_data(data, data_len, 28, 28); RTPW_ROOM(space),
-    RTPW_WROTE(space))
+RTPW_CHECKED static inline int32_t rtpw_sanitized_read_color_space(const uint8_t *data, size_t data_len,
+    rtpw_color_space *space) {
+    int32_t status;
+    rtpw_sanitizer_data(data, data_len, 4, 4); rtpw_sanitizer_data(data, data_len, 28, 28);
+    RTPW_SANITIZER_ROOM(space, sizeof *space);
+    status = rtpw_read_color_space(data, data_len, space);
+    if (status == RTPW_OK) { rtpw_sanitizer_wrote(space, sizeof *space); }
+    return status;
+}
 #define rtpw_read_color_space rtpw_sanitized_read_color_space
-RTPW_SANITIZED(write_color_space, (const rtpw_color_space *space, uint8_t *buf, size_t size, size_t *len),
-    (space, buf, size, len), rtpw_sanitizer_color_space(space); RTPW_SANITIZER_ROOM(buf, size); RTPW_ROOM(len),
-    RTPW_WROTE(len) RTPW_WROTE_BYTES(buf, *len))
+RTPW_CHECKED static inline int32_t rtpw_sanitized_write_color_space(const rtpw_color_space *space, uint8_t *buf,
+    size_t size, size_t *len) {
+    int32_t status;
+    rtpw_sanitizer_color_space(space);
+    RTPW_SANITIZER_ROOM(buf, size);
+    RTPW_SANITIZER_ROOM(len, sizeof *len);
+    status = rtpw_write_color_space(space, buf, size, len);
+    if (status == RTPW_OK) { rtpw_sanitizer_wrote(len, sizeof *len); }
+    if (status == RTPW_OK) { rtpw_sanitizer_wrote(buf, *len); }
+    return status;
+}
 #define rtpw_write_color_space rtpw_sanitized_write_color_space
-RTPW_SANITIZED(read_dependency_descriptor, (const uint8_t *data, size_t data_len,
-    rtpw_dependency_descriptor *descriptor), (data, data_len, descriptor), RTPW_SANITIZER_ROOM(data, data_len);
-    rtpw_sanitizer_reads(data, data_len < 3 ? 0 : 3); RTPW_ROOM(descriptor), RTPW_WROTE(descriptor))
+RTPW_CHECKED static inline int32_t rtpw_sanitized_read_dependency_descriptor(const uint8_t *data, size_t data_len,
+    rtpw_dependency_descriptor *descriptor) {
+    int32_t status;
+    RTPW_SANITIZER_ROOM(data, data_len); rtpw_sanitizer_reads(data, data_len < 3 ? 0 : 3);
+    RTPW_SANITIZER_ROOM(descriptor, sizeof *descriptor);
+    status = rtpw_read_dependency_descriptor(data, data_len, descriptor);
+    if (status == RTPW_OK) { rtpw_sanitizer_wrote(descriptor, sizeof *descriptor); }
+    return status;
+}
 #define rtpw_read_dependency_descriptor rtpw_sanitized_read_dependency_descriptor
-RTPW_SANITIZED(write_dependency_descriptor, (const rtpw_dependency_descriptor *descriptor, uint8_t *buf,
-    size_t size, size_t *len),
-    (descriptor, buf, size, len),
-    rtpw_sanitizer_dependency_descriptor(descriptor); RTPW_SANITIZER_ROOM(buf, size); RTPW_ROOM(len),
-    RTPW_WROTE(len) RTPW_WROTE_BYTES(buf, *len))
+RTPW_CHECKED static inline int32_t
+    rtpw_sanitized_write_dependency_descriptor(const rtpw_dependency_descriptor *descriptor, uint8_t *buf,
+    size_t size, size_t *len) {
+    int32_t status;
+    rtpw_sanitizer_dependency_descriptor(descriptor);
+    RTPW_SANITIZER_ROOM(buf, size);
+    RTPW_SANITIZER_ROOM(len, sizeof *len);
+    status = rtpw_write_dependency_descriptor(descriptor, buf, size, len);
+    if (status == RTPW_OK) { rtpw_sanitizer_wrote(len, sizeof *len); }
+    if (status == RTPW_OK) { rtpw_sanitizer_wrote(buf, *len); }
+    return status;
+}
 #define rtpw_write_dependency_descriptor rtpw_sanitized_write_dependency_descriptor
-RTPW_SANITIZED_AS(bool, has_structure, (const uint8_t *data, size_t data_len), (data, data_len),
-    RTPW_SANITIZER_ROOM(data, data_len); if (data_len > 3) { rtpw_sanitizer_reads(data + 3, 1); }, (void)0)
+static inline bool rtpw_sanitized_has_structure(const uint8_t *data, size_t data_len) {
+    bool status;
+    RTPW_SANITIZER_ROOM(data, data_len); if (data_len > 3) { rtpw_sanitizer_reads(data + 3, 1); }
+    status = rtpw_has_structure(data, data_len);
+    return status;
+}
 #define rtpw_has_structure rtpw_sanitized_has_structure
-RTPW_SANITIZED_VOID(new_ids_between, (const rtpw_map *from, const rtpw_map *to, rtpw_new_ids *ids), (from, to, ids),
-    rtpw_sanitizer_ids(from->kind); rtpw_sanitizer_ids(to->kind); RTPW_ROOM(ids),
-    rtpw_sanitizer_wrote(ids, sizeof *ids))
+static inline void rtpw_sanitized_new_ids_between(const rtpw_map *from, const rtpw_map *to, rtpw_new_ids *ids) {
+    rtpw_sanitizer_map(from);
+    rtpw_sanitizer_map(to);
+    RTPW_SANITIZER_ROOM(ids, sizeof *ids);
+    rtpw_new_ids_between(from, to, ids);
+    rtpw_sanitizer_wrote(ids, sizeof *ids);
+}
 #define rtpw_new_ids_between rtpw_sanitized_new_ids_between
-RTPW_SANITIZED(renumber, (uint8_t *datagram, size_t len, const rtpw_new_ids *ids), (datagram, len, ids),
-    rtpw_sanitizer_block(datagram, len); rtpw_sanitizer_ids(ids->id), if (status == RTPW_OK) { rtpw_sanitizer_wrote_block(datagram, len); })
+RTPW_CHECKED static inline int32_t rtpw_sanitized_renumber(uint8_t *datagram, size_t len, const rtpw_new_ids *ids) {
+    int32_t status;
+    rtpw_sanitizer_block(datagram, len);
+    rtpw_sanitizer_new_ids(ids);
+    status = rtpw_renumber(datagram, len, ids);
+    if (status == RTPW_OK) { rtpw_sanitizer_wrote_block(datagram, len); }
+    return status;
+}
 #define rtpw_renumber rtpw_sanitized_renumber
-RTPW_SANITIZED(pad, (uint8_t *datagram, size_t size, size_t header_len, uint8_t pad_len, size_t block_size,
-    size_t *count), (datagram, size, header_len, pad_len, block_size, count),
-    RTPW_SANITIZER_ROOM(datagram, size); RTPW_ROOM(count);
-    rtpw_sanitizer_reads(datagram, pad_len != 0 && header_len != 0 && size != 0), /* P is set in it */
-    RTPW_WROTE(count)
-    if (status == RTPW_OK && *count != 0) {
-        rtpw_sanitizer_changed(datagram, 1); rtpw_sanitizer_wrote(datagram + header_len, *count);
-    })
+RTPW_CHECKED static inline int32_t rtpw_sanitized_pad(uint8_t *datagram, size_t size, size_t header_len,
+    uint8_t pad_len, size_t block_size, size_t *count) {
+    int32_t status;
+    RTPW_SANITIZER_ROOM(datagram, size); rtpw_sanitizer_reads(datagram, pad_len != 0 && header_len != 0 && size != 0);
+    RTPW_SANITIZER_ROOM(count, sizeof *count);
+    status = rtpw_pad(datagram, size, header_len, pad_len, block_size, count);
+    if (status == RTPW_OK) { rtpw_sanitizer_wrote(count, sizeof *count); }
+    if (status == RTPW_OK) { if (*count != 0) { rtpw_sanitizer_changed(datagram, 1); rtpw_sanitizer_wrote(datagram + header_len, *count); } }
+    return status;
+}
 #define rtpw_pad rtpw_sanitized_pad
-RTPW_SANITIZED(read_original, (const uint8_t *payload, size_t len, uint16_t *number), (payload, len, number),
-    RTPW_SANITIZER_ROOM(payload, len); rtpw_sanitizer_reads(payload, len < 2 ? 0 : 2); RTPW_ROOM(number),
-    RTPW_WROTE(number))
+RTPW_CHECKED static inline int32_t rtpw_sanitized_read_original(const uint8_t *payload, size_t len,
+    uint16_t *number) {
+    int32_t status;
+    RTPW_SANITIZER_ROOM(payload, len); rtpw_sanitizer_reads(payload, len < 2 ? 0 : 2);
+    RTPW_SANITIZER_ROOM(number, sizeof *number);
+    status = rtpw_read_original(payload, len, number);
+    if (status == RTPW_OK) { rtpw_sanitizer_wrote(number, sizeof *number); }
+    return status;
+}
 #define rtpw_read_original rtpw_sanitized_read_original
-RTPW_SANITIZED(write_original, (uint8_t *payload, size_t size, uint64_t number), (payload, size, number),
-    RTPW_SANITIZER_ROOM(payload, size), RTPW_WROTE_BYTES(payload, 2))
+RTPW_CHECKED static inline int32_t rtpw_sanitized_write_original(uint8_t *payload, size_t size, uint64_t number) {
+    int32_t status;
+    RTPW_SANITIZER_ROOM(payload, size);
+    status = rtpw_write_original(payload, size, number);
+    if (status == RTPW_OK) { rtpw_sanitizer_wrote(payload, 2); }
+    return status;
+}
 #define rtpw_write_original rtpw_sanitized_write_original
-RTPW_SANITIZED_VOID(new_ids_to_retransmission, (const rtpw_map *map, rtpw_new_ids *ids), (map, ids),
-    rtpw_sanitizer_ids(map->kind); RTPW_ROOM(ids), rtpw_sanitizer_wrote(ids, sizeof *ids))
+static inline void rtpw_sanitized_new_ids_to_retransmission(const rtpw_map *map, rtpw_new_ids *ids) {
+    rtpw_sanitizer_map(map);
+    RTPW_SANITIZER_ROOM(ids, sizeof *ids);
+    rtpw_new_ids_to_retransmission(map, ids);
+    rtpw_sanitizer_wrote(ids, sizeof *ids);
+}
 #define rtpw_new_ids_to_retransmission rtpw_sanitized_new_ids_to_retransmission
-RTPW_SANITIZED_VOID(new_ids_from_retransmission, (const rtpw_map *map, rtpw_new_ids *ids), (map, ids),
-    rtpw_sanitizer_ids(map->kind); RTPW_ROOM(ids), rtpw_sanitizer_wrote(ids, sizeof *ids))
+static inline void rtpw_sanitized_new_ids_from_retransmission(const rtpw_map *map, rtpw_new_ids *ids) {
+    rtpw_sanitizer_map(map);
+    RTPW_SANITIZER_ROOM(ids, sizeof *ids);
+    rtpw_new_ids_from_retransmission(map, ids);
+    rtpw_sanitizer_wrote(ids, sizeof *ids);
+}
 #define rtpw_new_ids_from_retransmission rtpw_sanitized_new_ids_from_retransmission
-RTPW_SANITIZED(to_retransmission, (uint8_t *buf, size_t size, size_t *len, uint32_t ssrc, uint8_t payload_type,
-    uint16_t number, const rtpw_new_ids *ids), (buf, size, len, ssrc, payload_type, number, ids),
-    rtpw_sanitizer_before before = rtpw_sanitizer_buffer(buf, size, len); if (*len <= size) { rtpw_sanitizer_padding(buf, *len);
-    } rtpw_sanitizer_ids(ids->id),
-    rtpw_sanitizer_resent(status, buf, len, payload_type, before))
+RTPW_CHECKED static inline int32_t rtpw_sanitized_to_retransmission(uint8_t *buf, size_t size, size_t *len,
+    uint32_t ssrc, uint8_t payload_type, uint16_t number, const rtpw_new_ids *ids) {
+    int32_t status;
+    rtpw_sanitizer_before before = rtpw_sanitizer_buffer(buf, size, len); if (*len <= size) { rtpw_sanitizer_padding(buf, *len); }
+    rtpw_sanitizer_new_ids(ids);
+    status = rtpw_to_retransmission(buf, size, len, ssrc, payload_type, number, ids);
+    rtpw_sanitizer_resent(status, buf, len, payload_type, before);
+    return status;
+}
 #define rtpw_to_retransmission rtpw_sanitized_to_retransmission
-RTPW_SANITIZED(from_retransmission, (uint8_t *buf, size_t size, size_t *len, uint32_t ssrc, uint8_t payload_type,
-    const rtpw_new_ids *ids), (buf, size, len, ssrc, payload_type, ids),
-    rtpw_sanitizer_before before = rtpw_sanitizer_buffer(buf, size, len); if (*len <= size) { rtpw_sanitizer_padding(buf, *len);
-    } rtpw_sanitizer_ids(ids->id); rtpw_sanitizer_original(buf, size, *len),
-    rtpw_sanitizer_restored(status, buf, len, payload_type, before))
+RTPW_CHECKED static inline int32_t rtpw_sanitized_from_retransmission(uint8_t *buf, size_t size, size_t *len,
+    uint32_t ssrc, uint8_t payload_type, const rtpw_new_ids *ids) {
+    int32_t status;
+    rtpw_sanitizer_before before = rtpw_sanitizer_buffer(buf, size, len); if (*len <= size) { rtpw_sanitizer_padding(buf, *len); } rtpw_sanitizer_original(buf, size, *len);
+    rtpw_sanitizer_new_ids(ids);
+    status = rtpw_from_retransmission(buf, size, len, ssrc, payload_type, ids);
+    rtpw_sanitizer_restored(status, buf, len, payload_type, before);
+    return status;
+}
 #define rtpw_from_retransmission rtpw_sanitized_from_retransmission
-RTPW_SANITIZED(receiver_start, (rtpw_receiver *receiver, uint64_t rollover_count), (receiver, rollover_count),
-    RTPW_ROOM(receiver), RTPW_WROTE(receiver))
+RTPW_CHECKED static inline int32_t rtpw_sanitized_receiver_start(rtpw_receiver *receiver, uint64_t rollover_count) {
+    int32_t status;
+    RTPW_SANITIZER_ROOM(receiver, sizeof *receiver);
+    status = rtpw_receiver_start(receiver, rollover_count);
+    if (status == RTPW_OK) { rtpw_sanitizer_wrote(receiver, sizeof *receiver); }
+    return status;
+}
 #define rtpw_receiver_start rtpw_sanitized_receiver_start
-RTPW_SANITIZED_AS(uint64_t, receiver_number_of, (const rtpw_receiver *receiver, uint16_t sequence_number),
-    (receiver, sequence_number), rtpw_sanitizer_receiver(receiver), (void)0)
+static inline uint64_t rtpw_sanitized_receiver_number_of(const rtpw_receiver *receiver, uint16_t sequence_number) {
+    uint64_t status;
+    rtpw_sanitizer_receiver(receiver);
+    status = rtpw_receiver_number_of(receiver, sequence_number);
+    return status;
+}
 #define rtpw_receiver_number_of rtpw_sanitized_receiver_number_of
-RTPW_SANITIZED_AS(bool, receiver_accepts, (const rtpw_receiver *receiver, uint64_t number), (receiver, number),
-    rtpw_sanitizer_receiver(receiver), (void)0)
+static inline bool rtpw_sanitized_receiver_accepts(const rtpw_receiver *receiver, uint64_t number) {
+    bool status;
+    rtpw_sanitizer_receiver(receiver);
+    status = rtpw_receiver_accepts(receiver, number);
+    return status;
+}
 #define rtpw_receiver_accepts rtpw_sanitized_receiver_accepts
-RTPW_SANITIZED_VOID(receiver_record, (rtpw_receiver *receiver, uint64_t number), (receiver, number),
-    rtpw_sanitizer_receiver(receiver), rtpw_sanitizer_wrote(receiver, sizeof *receiver))
+static inline void rtpw_sanitized_receiver_record(rtpw_receiver *receiver, uint64_t number) {
+    rtpw_sanitizer_receiver(receiver);
+    rtpw_receiver_record(receiver, number);
+    rtpw_sanitizer_wrote(receiver, sizeof *receiver);
+}
 #define rtpw_receiver_record rtpw_sanitized_receiver_record
-RTPW_SANITIZED(receiver_receive, (rtpw_receiver *receiver, uint16_t sequence_number, uint64_t *number),
-    (receiver, sequence_number, number), rtpw_sanitizer_receiver(receiver); RTPW_ROOM(number),
-    RTPW_WROTE(receiver) RTPW_WROTE(number))
+RTPW_CHECKED static inline int32_t rtpw_sanitized_receiver_receive(rtpw_receiver *receiver,
+    uint16_t sequence_number, uint64_t *number) {
+    int32_t status;
+    rtpw_sanitizer_receiver(receiver);
+    RTPW_SANITIZER_ROOM(number, sizeof *number);
+    status = rtpw_receiver_receive(receiver, sequence_number, number);
+    if (status == RTPW_OK) { rtpw_sanitizer_wrote(receiver, sizeof *receiver); }
+    if (status == RTPW_OK) { rtpw_sanitizer_wrote(number, sizeof *number); }
+    return status;
+}
 #define rtpw_receiver_receive rtpw_sanitized_receiver_receive
-RTPW_SANITIZED_AS(uint8_t, receiver_standing_of, (const rtpw_receiver *receiver, uint64_t number), (receiver, number),
-    rtpw_sanitizer_receiver(receiver), (void)0)
+static inline uint8_t rtpw_sanitized_receiver_standing_of(const rtpw_receiver *receiver, uint64_t number) {
+    uint8_t status;
+    rtpw_sanitizer_receiver(receiver);
+    status = rtpw_receiver_standing_of(receiver, number);
+    return status;
+}
 #define rtpw_receiver_standing_of rtpw_sanitized_receiver_standing_of
-RTPW_SANITIZED(wide_receiver_start, (rtpw_wide_receiver *receiver, uint64_t rollover_count),
-    (receiver, rollover_count), RTPW_ROOM(receiver), RTPW_WROTE(receiver))
+RTPW_CHECKED static inline int32_t rtpw_sanitized_wide_receiver_start(rtpw_wide_receiver *receiver,
+    uint64_t rollover_count) {
+    int32_t status;
+    RTPW_SANITIZER_ROOM(receiver, sizeof *receiver);
+    status = rtpw_wide_receiver_start(receiver, rollover_count);
+    if (status == RTPW_OK) { rtpw_sanitizer_wrote(receiver, sizeof *receiver); }
+    return status;
+}
 #define rtpw_wide_receiver_start rtpw_sanitized_wide_receiver_start
-RTPW_SANITIZED_AS(uint64_t, wide_receiver_number_of, (const rtpw_wide_receiver *receiver, uint16_t sequence_number),
-    (receiver, sequence_number), rtpw_sanitizer_wide_receiver(receiver), (void)0)
+static inline uint64_t rtpw_sanitized_wide_receiver_number_of(const rtpw_wide_receiver *receiver,
+    uint16_t sequence_number) {
+    uint64_t status;
+    rtpw_sanitizer_wide_receiver(receiver);
+    status = rtpw_wide_receiver_number_of(receiver, sequence_number);
+    return status;
+}
 #define rtpw_wide_receiver_number_of rtpw_sanitized_wide_receiver_number_of
-RTPW_SANITIZED_AS(bool, wide_receiver_accepts, (const rtpw_wide_receiver *receiver, const uint64_t *words,
-    size_t count, uint64_t number), (receiver, words, count, number), rtpw_sanitizer_window(receiver, words, count),
-    (void)0)
+static inline bool rtpw_sanitized_wide_receiver_accepts(const rtpw_wide_receiver *receiver, const uint64_t *words,
+    size_t count, uint64_t number) {
+    bool status;
+    rtpw_sanitizer_window(receiver, words, count);
+    status = rtpw_wide_receiver_accepts(receiver, words, count, number);
+    return status;
+}
 #define rtpw_wide_receiver_accepts rtpw_sanitized_wide_receiver_accepts
-RTPW_SANITIZED(wide_receiver_record, (rtpw_wide_receiver *receiver, uint64_t *words, size_t count, uint64_t number),
-    (receiver, words, count, number), rtpw_sanitizer_window(receiver, words, count),
-    RTPW_WROTE(receiver) RTPW_WROTE_BYTES(words, count * sizeof *words))
+RTPW_CHECKED static inline int32_t rtpw_sanitized_wide_receiver_record(rtpw_wide_receiver *receiver,
+    uint64_t *words, size_t count, uint64_t number) {
+    int32_t status;
+    rtpw_sanitizer_window(receiver, words, count);
+    status = rtpw_wide_receiver_record(receiver, words, count, number);
+    if (status == RTPW_OK) { rtpw_sanitizer_wrote(receiver, sizeof *receiver); }
+    if (status == RTPW_OK) { rtpw_sanitizer_wrote(words, count * sizeof *words); }
+    return status;
+}
 #define rtpw_wide_receiver_record rtpw_sanitized_wide_receiver_record
-RTPW_SANITIZED(wide_receiver_receive, (rtpw_wide_receiver *receiver, uint64_t *words, size_t count,
-    uint16_t sequence_number, uint64_t *number), (receiver, words, count, sequence_number, number),
-    rtpw_sanitizer_window(receiver, words, count); RTPW_ROOM(number),
-    RTPW_WROTE(receiver) RTPW_WROTE_BYTES(words, count * sizeof *words) RTPW_WROTE(number))
+RTPW_CHECKED static inline int32_t rtpw_sanitized_wide_receiver_receive(rtpw_wide_receiver *receiver,
+    uint64_t *words, size_t count, uint16_t sequence_number, uint64_t *number) {
+    int32_t status;
+    rtpw_sanitizer_window(receiver, words, count);
+    RTPW_SANITIZER_ROOM(number, sizeof *number);
+    status = rtpw_wide_receiver_receive(receiver, words, count, sequence_number, number);
+    if (status == RTPW_OK) { rtpw_sanitizer_wrote(receiver, sizeof *receiver); }
+    if (status == RTPW_OK) { rtpw_sanitizer_wrote(number, sizeof *number); }
+    if (status == RTPW_OK) { rtpw_sanitizer_wrote(words, count * sizeof *words); }
+    return status;
+}
 #define rtpw_wide_receiver_receive rtpw_sanitized_wide_receiver_receive
-RTPW_SANITIZED_AS(uint8_t, wide_receiver_standing_of, (const rtpw_wide_receiver *receiver, const uint64_t *words,
-    size_t count, uint64_t number), (receiver, words, count, number), rtpw_sanitizer_window(receiver, words, count),
-    (void)0)
+static inline uint8_t rtpw_sanitized_wide_receiver_standing_of(const rtpw_wide_receiver *receiver,
+    const uint64_t *words, size_t count, uint64_t number) {
+    uint8_t status;
+    rtpw_sanitizer_window(receiver, words, count);
+    status = rtpw_wide_receiver_standing_of(receiver, words, count, number);
+    return status;
+}
 #define rtpw_wide_receiver_standing_of rtpw_sanitized_wide_receiver_standing_of
-RTPW_SANITIZED(restarting_receive, (rtpw_restarting_receiver *receiver, uint16_t sequence_number, uint64_t *number),
-    (receiver, sequence_number, number), rtpw_sanitizer_restarting(receiver); RTPW_ROOM(number),
-    rtpw_sanitizer_wrote(receiver, sizeof *receiver); if (status != RTPW_REFUSED) { rtpw_sanitizer_wrote(number,
-    sizeof *number); })
+RTPW_CHECKED static inline int32_t rtpw_sanitized_restarting_receive(rtpw_restarting_receiver *receiver,
+    uint16_t sequence_number, uint64_t *number) {
+    int32_t status;
+    rtpw_sanitizer_restarting_receiver(receiver);
+    RTPW_SANITIZER_ROOM(number, sizeof *number);
+    status = rtpw_restarting_receive(receiver, sequence_number, number);
+    if (status == RTPW_OK || status == RTPW_RESTARTED || status == RTPW_REFUSED) { rtpw_sanitizer_wrote(receiver, sizeof *receiver); }
+    if (status == RTPW_OK || status == RTPW_RESTARTED) { rtpw_sanitizer_wrote(number, sizeof *number); }
+    return status;
+}
 #define rtpw_restarting_receive rtpw_sanitized_restarting_receive
-RTPW_SANITIZED_VOID(reception_record, (rtpw_reception *reception, uint64_t number, uint32_t timestamp,
-    uint32_t arrival), (reception, number, timestamp, arrival), rtpw_sanitizer_reception(reception),
-    rtpw_sanitizer_wrote(reception, sizeof *reception))
+static inline void rtpw_sanitized_reception_record(rtpw_reception *reception, uint64_t number, uint32_t timestamp,
+    uint32_t arrival) {
+    rtpw_sanitizer_reception(reception);
+    rtpw_reception_record(reception, number, timestamp, arrival);
+    rtpw_sanitizer_wrote(reception, sizeof *reception);
+}
 #define rtpw_reception_record rtpw_sanitized_reception_record
-RTPW_SANITIZED(reception_report, (rtpw_reception *reception, rtpw_report *report), (reception, report),
-    rtpw_sanitizer_reception(reception); RTPW_ROOM(report), RTPW_WROTE(reception) RTPW_WROTE(report))
+RTPW_CHECKED static inline int32_t rtpw_sanitized_reception_report(rtpw_reception *reception, rtpw_report *report) {
+    int32_t status;
+    rtpw_sanitizer_reception(reception);
+    RTPW_SANITIZER_ROOM(report, sizeof *report);
+    status = rtpw_reception_report(reception, report);
+    if (status == RTPW_OK) { rtpw_sanitizer_wrote(reception, sizeof *reception); }
+    if (status == RTPW_OK) { rtpw_sanitizer_wrote(report, sizeof *report); }
+    return status;
+}
 #define rtpw_reception_report rtpw_sanitized_reception_report
-RTPW_SANITIZED(write_report, (const rtpw_report *report, uint32_t ssrc, uint32_t last_report, uint32_t delay,
-    uint8_t *buf, size_t size, size_t *len), (report, ssrc, last_report, delay, buf, size, len),
-    RTPW_SANITIZER_FIELD(report->fraction_lost); rtpw_sanitizer_reads(&report->cumulative_lost, 12);
-    RTPW_SANITIZER_ROOM(buf, size); RTPW_ROOM(len), RTPW_WROTE(len) RTPW_WROTE_BYTES(buf, *len))
+RTPW_CHECKED static inline int32_t rtpw_sanitized_write_report(const rtpw_report *report, uint32_t ssrc,
+    uint32_t last_report, uint32_t delay, uint8_t *buf, size_t size, size_t *len) {
+    int32_t status;
+    rtpw_sanitizer_report(report);
+    RTPW_SANITIZER_ROOM(buf, size);
+    RTPW_SANITIZER_ROOM(len, sizeof *len);
+    status = rtpw_write_report(report, ssrc, last_report, delay, buf, size, len);
+    if (status == RTPW_OK) { rtpw_sanitizer_wrote(len, sizeof *len); }
+    if (status == RTPW_OK) { rtpw_sanitizer_wrote(buf, *len); }
+    return status;
+}
 #define rtpw_write_report rtpw_sanitized_write_report
-RTPW_SANITIZED(wide_restarting_receive, (rtpw_wide_restarting_receiver *receiver, uint64_t *words, size_t count,
-    uint16_t sequence_number, uint64_t *number), (receiver, words, count, sequence_number, number),
-    rtpw_sanitizer_wide_restarting(receiver, words, count); RTPW_ROOM(number),
-    if (status != RTPW_BAD_FIELD) { rtpw_sanitizer_wrote(receiver, sizeof *receiver); }
-    if (status == RTPW_OK || status == RTPW_RESTARTED) {
-        rtpw_sanitizer_wrote(words, count * sizeof *words); rtpw_sanitizer_wrote(number, sizeof *number);
-    })
+RTPW_CHECKED static inline int32_t rtpw_sanitized_wide_restarting_receive(rtpw_wide_restarting_receiver *receiver,
+    uint64_t *words, size_t count, uint16_t sequence_number, uint64_t *number) {
+    int32_t status;
+    rtpw_sanitizer_wide_restarting(receiver, words, count);
+    RTPW_SANITIZER_ROOM(number, sizeof *number);
+    status = rtpw_wide_restarting_receive(receiver, words, count, sequence_number, number);
+    if (status == RTPW_OK || status == RTPW_RESTARTED || status == RTPW_REFUSED) { rtpw_sanitizer_wrote(receiver, sizeof *receiver); }
+    if (status == RTPW_OK || status == RTPW_RESTARTED) { rtpw_sanitizer_wrote(number, sizeof *number); }
+    if (status == RTPW_OK || status == RTPW_RESTARTED) { rtpw_sanitizer_wrote(words, count * sizeof *words); }
+    return status;
+}
 #define rtpw_wide_restarting_receive rtpw_sanitized_wide_restarting_receive
-RTPW_SANITIZED_VOID(packet_parse_many, (const uint8_t *buf, size_t size, rtpw_datagram *datagrams, size_t count),
-    (buf, size, datagrams, count), rtpw_sanitizer_datagrams(buf, size, datagrams, count),
-    rtpw_sanitizer_wrote_datagrams(datagrams, count))
+static inline void rtpw_sanitized_read_many(const uint8_t *buf, size_t size, const rtpw_map *map,
+    rtpw_whole_datagram *datagrams, size_t count) {
+    rtpw_sanitizer_whole_datagrams(buf, size, map, datagrams, count);
+    rtpw_read_many(buf, size, map, datagrams, count);
+    rtpw_sanitizer_wrote_whole_datagrams(datagrams, count);
+}
+#define rtpw_read_many rtpw_sanitized_read_many
+static inline void rtpw_sanitized_packet_parse_many(const uint8_t *buf, size_t size, rtpw_datagram *datagrams,
+    size_t count) {
+    rtpw_sanitizer_datagrams(buf, size, datagrams, count);
+    rtpw_packet_parse_many(buf, size, datagrams, count);
+    rtpw_sanitizer_wrote_datagrams(datagrams, count);
+}
 #define rtpw_packet_parse_many rtpw_sanitized_packet_parse_many
-RTPW_SANITIZED_VOID(parse_many, (const uint8_t *buf, size_t size, const rtpw_map *map,
-    rtpw_datagram_header *datagrams, size_t count), (buf, size, map, datagrams, count),
-    rtpw_sanitizer_datagram_headers(buf, size, map, datagrams, count),
-    rtpw_sanitizer_wrote_datagram_headers(datagrams, count))
+static inline void rtpw_sanitized_parse_many(const uint8_t *buf, size_t size, const rtpw_map *map,
+    rtpw_datagram_header *datagrams, size_t count) {
+    rtpw_sanitizer_datagram_headers(buf, size, map, datagrams, count);
+    rtpw_parse_many(buf, size, map, datagrams, count);
+    rtpw_sanitizer_wrote_datagram_headers(datagrams, count);
+}
 #define rtpw_parse_many rtpw_sanitized_parse_many
-RTPW_SANITIZED_VOID(receive_many, (rtpw_receiver *receivers, size_t receiver_count, rtpw_arrival *arrivals,
-    size_t count), (receivers, receiver_count, arrivals, count),
-    rtpw_sanitizer_arrivals(receivers, receiver_count, arrivals, count),
-    rtpw_sanitizer_wrote_arrivals(receivers, arrivals, count))
+static inline void rtpw_sanitized_receive_many(rtpw_receiver *receivers, size_t receiver_count,
+    rtpw_arrival *arrivals, size_t count) {
+    rtpw_sanitizer_arrivals(receivers, receiver_count, arrivals, count);
+    rtpw_receive_many(receivers, receiver_count, arrivals, count);
+    rtpw_sanitizer_wrote_arrivals(receivers, arrivals, count);
+}
 #define rtpw_receive_many rtpw_sanitized_receive_many
-RTPW_SANITIZED(make_template, (const uint8_t *datagram, size_t len, const rtpw_new_ids *ids, const uint8_t *data,
-    size_t data_len, const rtpw_element *elements, size_t count, uint8_t allowed, uint8_t *buf, size_t size,
-    rtpw_template *made), (datagram, len, ids, data, data_len, elements, count, allowed, buf, size, made),
-    rtpw_sanitizer_group(datagram, len, ids, data, data_len, elements, count, buf, size); RTPW_ROOM(made),
-    rtpw_sanitizer_changed(buf, size); RTPW_WROTE(made) RTPW_WROTE_BYTES(buf, made->header_len))
+RTPW_CHECKED static inline int32_t rtpw_sanitized_make_template(const uint8_t *datagram, size_t len,
+    const rtpw_new_ids *ids, const uint8_t *data, size_t data_len, const rtpw_element *elements, size_t count,
+    uint8_t allowed, uint8_t *buf, size_t size, rtpw_template *made) {
+    int32_t status;
+    rtpw_sanitizer_header(datagram, len);
+    rtpw_sanitizer_new_ids(ids);
+    rtpw_sanitizer_elements(data, data_len, elements, count);
+    RTPW_SANITIZER_ROOM(buf, size);
+    RTPW_SANITIZER_ROOM(made, sizeof *made);
+    status = rtpw_make_template(datagram, len, ids, data, data_len, elements, count, allowed, buf, size, made);
+    if (status == RTPW_OK) { rtpw_sanitizer_wrote(made, sizeof *made); }
+    rtpw_sanitizer_changed(buf, size); if (status == RTPW_OK) { rtpw_sanitizer_wrote(buf, made->header_len); }
+    return status;
+}
 #define rtpw_make_template rtpw_sanitized_make_template
-RTPW_SANITIZED(write_headers, (const rtpw_template *made, const uint8_t *header, size_t header_size,
-    const uint8_t *data, size_t data_len, rtpw_routed_header *receivers, size_t count, uint8_t *buf, size_t size),
-    (made, header, header_size, data, data_len, receivers, count, buf, size),
-    rtpw_sanitizer_receivers(made, header, header_size, data, data_len, receivers, count, buf, size),
-    if (status == RTPW_OK) { rtpw_sanitizer_wrote_headers(receivers, count, buf); })
+RTPW_CHECKED static inline int32_t rtpw_sanitized_prepare_group(const rtpw_new_ids *ids,
+    const rtpw_element *elements, size_t count, uint8_t allowed, rtpw_group *group) {
+    int32_t status;
+    rtpw_sanitizer_new_ids(ids);
+    rtpw_sanitizer_shapes(elements, count);
+    RTPW_SANITIZER_ROOM(group, sizeof *group);
+    status = rtpw_prepare_group(ids, elements, count, allowed, group);
+    if (status == RTPW_OK) { rtpw_sanitizer_wrote(group, sizeof *group); }
+    return status;
+}
+#define rtpw_prepare_group rtpw_sanitized_prepare_group
+RTPW_CHECKED static inline int32_t rtpw_sanitized_make_from_group(const rtpw_group *group, const uint8_t *datagram,
+    size_t len, uint8_t *buf, size_t size, rtpw_template *made) {
+    int32_t status;
+    rtpw_sanitizer_group(group);
+    rtpw_sanitizer_header(datagram, len);
+    RTPW_SANITIZER_ROOM(buf, size);
+    RTPW_SANITIZER_ROOM(made, sizeof *made);
+    status = rtpw_make_from_group(group, datagram, len, buf, size, made);
+    if (status == RTPW_OK) { rtpw_sanitizer_wrote(made, sizeof *made); }
+    rtpw_sanitizer_changed(buf, size); if (status == RTPW_OK) { rtpw_sanitizer_wrote(buf, made->header_len); }
+    return status;
+}
+#define rtpw_make_from_group rtpw_sanitized_make_from_group
+RTPW_CHECKED static inline int32_t rtpw_sanitized_write_headers(const rtpw_template *made, const uint8_t *header,
+    size_t header_size, const uint8_t *data, size_t data_len, rtpw_routed_header *receivers, size_t count,
+    uint8_t *buf, size_t size) {
+    int32_t status;
+    rtpw_sanitizer_receivers(made, header, header_size, data, data_len, receivers, count, buf, size);
+    status = rtpw_write_headers(made, header, header_size, data, data_len, receivers, count, buf, size);
+    if (status == RTPW_OK) { rtpw_sanitizer_wrote_headers(receivers, count, buf); }
+    return status;
+}
 #define rtpw_write_headers rtpw_sanitized_write_headers
 
-#undef RTPW_SANITIZED_AS
-#undef RTPW_SANITIZED
-#undef RTPW_SANITIZED_VOID
-#undef RTPW_ROOM
-#undef RTPW_WROTE_BYTES
-#undef RTPW_WROTE
 #undef RTPW_SANITIZER_FIELD
 #undef RTPW_SANITIZER_ROOM
 #undef RTPW_SANITIZER_ADDRESS

@@ -24,7 +24,7 @@ if [ -z "$python" ]; then
     exit
 fi
 
-cc -std=c99 -O2 -I "$top/bindings/c" "$here/sfu.c" "$here/sfu_sockets.c" "$top/generated/rtp_wire-$(uname -m).s" \
+cc -std=c99 -O2 -I "$top/bindings/c" "$here/sfu.c" "$here/sfu_sockets.c" "$top/generated/rtp_wire-Linux-$(uname -m).s" \
     -o "$scratch/sfu"
 for ((i = 0; i < ${1:-1}; i++)); do
     timeout --foreground --kill-after=5 60 "$python" "$here/call.py" "$scratch/sfu"

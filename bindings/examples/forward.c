@@ -49,15 +49,19 @@ int main(int argc, char **argv) {
     size_t room = 0;
     ssize_t read;
     rtpw_new_ids ids;
-    rtpw_packet packet;
+    rtpw_whole_packet packet;
     rtpw_new_ids_between(&PUBLISHER, &SUBSCRIBER, &ids);
     uint64_t microseconds = argc == 4 ? strtoull(argv[3], NULL, 10) * 1000000 : 0;
     while (argc == 4 && (read = getline(&line, &room, stdin)) > 0) {
         uint8_t *datagram = (uint8_t *)line;
         size_t len = strlen(line) == (size_t)read ? bytes_of(line) : 0; /* a zero byte is no digit */
-        if (rtpw_packet_parse(datagram, len, &packet) == RTPW_OK && forward(datagram, len, &ids, microseconds) &&
+        if (rtpw_read(datagram, len, &PUBLISHER, &packet) != RTPW_OK) {
+            continue; /* RTPW_RTCP too, which goes to who answers it */
+        }
+        uint16_t number = (uint16_t)(packet.header.sequence_number + strtol(argv[2], NULL, 10));
+        if (forward(datagram, len, &ids, microseconds) &&
             rtpw_set_ssrc(datagram, len, (uint32_t)strtoul(argv[1], NULL, 10)) == RTPW_OK &&
-            rtpw_set_sequence_number(datagram, len, (uint16_t)(packet.sequence_number + strtol(argv[2], NULL, 10))) == RTPW_OK) {
+            rtpw_set_sequence_number(datagram, len, number) == RTPW_OK) {
             for (size_t i = 0; i < len; i++) {
                 printf("%02X", datagram[i]);
             }

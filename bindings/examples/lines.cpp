@@ -1,6 +1,9 @@
 // Reads datagrams from standard input, one a line in hexadecimal, and prints of each its header, the
 // values of its extensions, and whether a receiver takes it. Each SSRC has a receiver of its own. Lines
-// `map ID URI` before the first datagram say which extension an id means.
+// `map ID URI` before the first datagram say which extension an id means. It prints what the program rtp_lines does:
+// a mid and a stream id with an underscore for each character that isn't a letter or a digit, as `cam_1` for a mid
+// `cam-1`, and the first 16 characters of a mid and 8 of a stream id. To compare one with that of an SDP take
+// rtpw::token of rtp_wire.hpp, the element's text as it lies.
 #include "utf8.h"
 
 #include <rtp_wire.h>

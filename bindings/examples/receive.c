@@ -12,24 +12,23 @@ typedef struct {
 } stream;
 
 static void receive(stream *stream, const rtpw_map *map, const uint8_t *datagram, size_t len) {
-    rtpw_packet packet;
-    rtpw_header header;
+    rtpw_whole_packet packet;
     uint64_t number;
-    if (rtpw_is_rtcp(datagram, len) || rtpw_packet_parse(datagram, len, &packet) != RTPW_OK ||
-        rtpw_parse(datagram, len, map, &header) != RTPW_OK) {
-        puts("no RTP packet");
+    int32_t status = rtpw_read(datagram, len, map, &packet);
+    if (status != RTPW_OK) { /* RTPW_RTCP too, which goes to who answers it */
+        puts(rtpw_status_text(status));
         return;
     }
-    int32_t status =
-        rtpw_wide_restarting_receive(&stream->receiver, stream->words, WORDS, packet.sequence_number, &number);
+    status = rtpw_wide_restarting_receive(&stream->receiver, stream->words, WORDS, packet.header.sequence_number,
+                                          &number);
     if (status == RTPW_RESTARTED) {
         puts("the sender has started again"); /* and its packet is taken */
     } else if (status != RTPW_OK) {
         puts("a replay, too old, or not of the stream yet");
         return;
     }
-    if (header.values.has_audio_level) { /* of the payload the padding is no media */
-        printf("%" PRIu64 ": %d dB, %zu bytes\n", number, header.values.audio_level, packet.unpadded_len);
+    if (packet.header.values.has_audio_level) { /* of the payload the padding is no media */
+        printf("%" PRIu64 ": %d dB, %zu bytes\n", number, packet.header.values.audio_level, packet.unpadded_len);
     }
 }
 

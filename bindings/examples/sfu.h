@@ -1,8 +1,9 @@
 /*
  * The core of an SFU, without sockets, clock or memory of its own: the packets of a sender go on to each of
  * several receivers under SSRCs, numbers, ids of extensions and mids of their own. As many datagrams as have come are
- * read and judged at once, where they lie. Receivers that get the same ids, elements and lengths are a group: of each
- * packet one header is made for the group, and then written for each of them. No payload is copied.
+ * read at once, where they lie. A sender that starts again under its SSRC goes on with its second packet. Receivers that
+ * get the same ids, elements and lengths are a group, which is prepared once: of each packet one header is made for the
+ * group, and then written for each of them. No payload is copied, and none goes on with its padding.
  */
 #ifndef SFU_H
 #define SFU_H
@@ -14,7 +15,7 @@ enum {
     SFU_STREAMS = 16,   /* and so many SSRCs of the sender */
     SFU_DATAGRAMS = 32, /* and so many datagrams at once */
     SFU_HEADER = 2048,  /* a header that is sent on has at most so many bytes */
-    SFU_WINDOW = 128,   /* so many numbers up to the highest one a receiver of a stream keeps */
+    SFU_WORDS = 2,      /* of the window of a stream: so many times 64 numbers up to the highest one */
     SFU_LONGEST_MID = 32,
     SFU_DATA = SFU_LONGEST_MID + 2 + 3 /* of a mid, a transport number and a send time */
 };
@@ -46,24 +47,24 @@ typedef struct {
 
 typedef struct {
     sfu_terms terms;
-    rtpw_element elements[SFU_PUTS]; /* those that are put into each packet */
-    size_t element_count;
-    size_t receivers[SFU_RECEIVERS]; /* the places of their routes */
+    rtpw_group prepared[RTPW_OTHER_FORM + 1]; /* for a packet whose block has this form */
+    size_t receivers[SFU_RECEIVERS];          /* the places of their routes */
     size_t receiver_count;
 } sfu_group;
 
 typedef struct {
     uint32_t ssrc;
-    uint64_t highest; /* the highest number taken */
+    rtpw_wide_restarting_receiver receiver; /* not for SRTP: there rtpw_wide_receiver takes what is authentic */
+    uint64_t words[SFU_WORDS];
 } sfu_stream;
 
 /* What became of the datagrams: each one is counted in one of the first six. */
 typedef struct {
     unsigned long taken;
     unsigned long replays; /* taken before */
-    unsigned long late;    /* too old to tell */
+    unsigned long late;    /* too old to tell, or far from the stream */
     unsigned long rtcp;    /* for who answers it: here nobody */
-    unsigned long unreadable;
+    unsigned long unreadable; /* no packets, or with malformed padding */
     unsigned long strangers; /* of one more SSRC than there is room for */
     unsigned long sent;      /* packets to receivers */
     unsigned long unsent;    /* to a receiver whose header had no room */
@@ -76,7 +77,6 @@ typedef struct {
     sfu_group groups[SFU_RECEIVERS];
     size_t group_count;
     sfu_stream streams[SFU_STREAMS];
-    rtpw_receiver receivers[SFU_STREAMS]; /* of the streams */
     size_t stream_count;
     sfu_counts counts;
 } sfu;
@@ -86,7 +86,7 @@ typedef struct {
     size_t receiver;
     const uint8_t *header;
     size_t header_len;
-    const uint8_t *payload; /* with the padding that it came with, which isn't media: P of the header stays set */
+    const uint8_t *payload; /* without its padding: P of the header is clear */
     size_t payload_len;
 } sfu_packet;
 

@@ -5,7 +5,7 @@ import (
 	"fmt"
 	"testing"
 
-	"rtpwire"
+	"rtp-wire.example/rtpwire"
 )
 
 // A datagram that is no packet tells nothing of the one that stood at its place before.
@@ -147,7 +147,7 @@ func TestRefusedPacketsAreRead(t *testing.T) {
 			datagram := append(plain(row.low), byte(row.low))
 			number, verdict, err := r.ReceivePacket(datagram, nil, &p)
 			same(t, "verdict", []any{judged{row.low, number, verdict}, err}, []any{row, nil})
-			same(t, "read", []any{p.SequenceNumber, p.Payload()}, []any{row.low, []byte{'h', 'i', byte(row.low)}})
+			same(t, "read", []any{p.SequenceNumber(), p.Payload()}, []any{row.low, []byte{'h', 'i', byte(row.low)}})
 			same(t, "of this datagram", &p.Datagram()[0] == &datagram[0], true)
 		}
 		before := p
@@ -173,7 +173,7 @@ func TestReceivedIsOfAllReports(t *testing.T) {
 
 // Values that were set and taken away again are those that were never set, and a header with them has no block.
 func TestClearedValuesAreNone(t *testing.T) {
-	all := parsed(t, everyValue, everyKind(t)).Values
+	all := parsed(t, everyValue, everyKind(t)).Header().Values
 	for kind := rtpwire.KindAbsSendTime; kind <= rtpwire.KindLayers; kind++ {
 		same(t, "with "+kind.String(), rtpwire.NewHeader(all).HasExtension, true)
 		all.Clear(kind)
@@ -181,7 +181,7 @@ func TestClearedValuesAreNone(t *testing.T) {
 	same(t, "none is left", all, rtpwire.Values{})
 	same(t, "a block", rtpwire.NewHeader(all).HasExtension, false)
 	for kind := rtpwire.KindAbsSendTime; kind <= rtpwire.KindLayers; kind++ {
-		one := parsed(t, everyValue, everyKind(t)).Values
+		one := parsed(t, everyValue, everyKind(t)).Header().Values
 		for it := rtpwire.KindAbsSendTime; it <= rtpwire.KindLayers; it++ {
 			if it != kind {
 				one.Clear(it)
@@ -392,11 +392,11 @@ func TestEachNumberOfAForm(t *testing.T) {
 	for number := 0; number < 256; number++ {
 		form := rtpwire.Form(number)
 		buf := append(sample(), make([]byte, 40)...)
-		_, err := rtpwire.ChangeForm(buf, 37, form)
+		_, err := rtpwire.ChangeFormIn(buf, 37, form)
 		same(t, "changed to "+form.String(), err == nil, number == 1 || number == 2)
-		_, err = rtpwire.AddElement(append(sample(), make([]byte, 40)...), 37, 3, []byte{1}, form)
+		_, err = rtpwire.AddElementIn(append(sample(), make([]byte, 40)...), 37, 3, []byte{1}, rtpwire.Forms(form))
 		same(t, "added in "+form.String(), err == nil, number <= 2)
-		_, err = rtpwire.PutElement(append(sample(), make([]byte, 40)...), 37, 3, []byte{1}, form)
+		_, err = rtpwire.PutElementIn(append(sample(), make([]byte, 40)...), 37, 3, []byte{1}, rtpwire.Forms(form))
 		same(t, "put in "+form.String(), err == nil, number <= 2)
 	}
 }

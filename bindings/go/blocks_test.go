@@ -8,7 +8,7 @@ import (
 	"strings"
 	"testing"
 
-	"rtpwire"
+	"rtp-wire.example/rtpwire"
 )
 
 // written is the packet that is written as its first byte, and what follows its twelve.
@@ -65,15 +65,15 @@ func stays(t *testing.T, before string, call blockCall, wanted error) {
 	same(t, before, []any{made, err, buf}, []any{[]byte(nil), wanted, left})
 }
 
-func adds(id uint8, data string, allowed rtpwire.Form) blockCall {
+func adds(id uint8, data string, allowed rtpwire.Forms) blockCall {
 	return func(buf []byte, length int) ([]byte, error) {
-		return rtpwire.AddElement(buf, length, id, []byte(data), allowed)
+		return rtpwire.AddElementIn(buf, length, id, []byte(data), allowed)
 	}
 }
 
 // By RFC 8285, 4.2 and 4.3: an element behind all others, in the one-byte form where that can carry it.
 func TestAddElement(t *testing.T) {
-	const one, two, both = rtpwire.OneByteForm, rtpwire.TwoByteForm, rtpwire.AnyForm
+	const one, two, both = rtpwire.OnlyOneByteForm, rtpwire.OnlyTwoByteForm, rtpwire.AnyForm
 	becomes(t, "90 BEDE0001 10AA0000 01", adds(1, "\xBB", both), "90 BEDE0001 10AA10BB 01")
 	becomes(t, "90 BEDE0001 10AA0000 01", adds(1, "\xBB", one), "90 BEDE0001 10AA10BB 01")
 	becomes(t, "90 BEDE0001 10AA0000 01", adds(2, "\x07\x08", both), "90 BEDE0002 10AA2107 08000000 01")
@@ -98,7 +98,7 @@ func TestAddElement(t *testing.T) {
 	stays(t, "90 BEDE0001 10AA0000 01", adds(0, "\x07", both), rtpwire.ErrBadID)
 	stays(t, "90 BEDE0001 10AA0000 01", adds(1, strings.Repeat("7", 256), both), rtpwire.ErrBadField)
 	stays(t, "90 BEDE0001 10AA0000 01", adds(1, strings.Repeat("7", 65537), both), rtpwire.ErrBadField)
-	stays(t, "90 BEDE0001 10AA0000 01", adds(1, "\x07", rtpwire.OtherForm), rtpwire.ErrBadField)
+	stays(t, "90 BEDE0001 10AA0000 01", adds(1, "\x07", 3), rtpwire.ErrBadField)
 	stays(t, "90 BEDE0002 10AA0000 01", adds(1, "\x07", both), rtpwire.CutBlock)
 	// What an element of 16 bytes is in one form, one of 17 is in the other.
 	becomes(t, "80", adds(14, strings.Repeat("7", 16), both), "90 BEDE0005 EF"+strings.Repeat("37", 16)+"000000")
@@ -112,20 +112,20 @@ func TestElementsOfOneID(t *testing.T) {
 	datagram := buf[:copy(buf, written(t, "90 BEDE0001 10AA0000 01"))]
 	for _, data := range []string{"\xBB", "\xCC\xDD", "\xEE"} {
 		var err error
-		datagram, err = rtpwire.AddElement(buf, len(datagram), 1, []byte(data), rtpwire.OneByteForm)
+		datagram, err = rtpwire.AddElementIn(buf, len(datagram), 1, []byte(data), rtpwire.OnlyOneByteForm)
 		same(t, "added", err, nil)
 	}
 	same(t, "four", datagram, written(t, "90 BEDE0003 10AA10BB 11CCDD10 EE000000 01"))
 	packet := parsed(t, datagram, nil)
 	data, ok := packet.Element(1)
 	same(t, "the last", []any{data, ok, len(packet.AppendPlaces(nil))}, []any{[]byte{0xEE}, true, 4})
-	datagram, err := rtpwire.PutElement(buf, len(datagram), 1, []byte{7}, rtpwire.OneByteForm)
+	datagram, err := rtpwire.PutElementIn(buf, len(datagram), 1, []byte{7}, rtpwire.OnlyOneByteForm)
 	same(t, "put", []any{datagram, err}, []any{written(t, "90 BEDE0003 10070000 00000000 00000000 01"), nil})
 }
 
 func changes(form rtpwire.Form) blockCall {
 	return func(buf []byte, length int) ([]byte, error) {
-		return rtpwire.ChangeForm(buf, length, form)
+		return rtpwire.ChangeFormIn(buf, length, form)
 	}
 }
 
@@ -165,14 +165,14 @@ func TestChangeForm(t *testing.T) {
 	ids := new(rtpwire.NewIDs)
 	ids.Set(1, 200)
 	same(t, "in the one-byte form", rtpwire.Renumber(buf[:21], ids), rtpwire.ErrLongID)
-	datagram, err := rtpwire.ChangeForm(buf, 21, rtpwire.TwoByteForm)
+	datagram, err := rtpwire.ChangeFormIn(buf, 21, rtpwire.TwoByteForm)
 	same(t, "changed", []any{len(datagram), err, rtpwire.Renumber(datagram, ids)}, []any{21, nil, nil})
 	same(t, "renumbered", datagram, written(t, "90 10000001 C801AA00 01"))
 }
 
 func puts(profile uint16, body string) blockCall {
 	return func(buf []byte, length int) ([]byte, error) {
-		return rtpwire.PutBlock(buf, length, profile, []byte(body))
+		return rtpwire.PutBlockIn(buf, length, profile, []byte(body))
 	}
 }
 
@@ -193,7 +193,7 @@ func TestPutBlock(t *testing.T) {
 	stays(t, "40 01", puts(0xABAC, ""), rtpwire.OtherVersion)
 	stays(t, "90 BEDE0002 10AA0000 01", puts(0xABAC, ""), rtpwire.CutBlock)
 	buf := append([]byte{0x80}, make([]byte, 12+4+262140)...)
-	datagram, err := rtpwire.PutBlock(buf, 13, 0xABAC, bytes.Repeat([]byte{7}, 262140))
+	datagram, err := rtpwire.PutBlockIn(buf, 13, 0xABAC, bytes.Repeat([]byte{7}, 262140))
 	same(t, "the longest", []any{len(datagram), err, datagram[:18]},
 		[]any{13 + 4 + 262140, nil, []byte{0x90, 0, 0, 0, 0, 0, 0, 0, 0, 0, 0, 0, 0xAB, 0xAC, 0xFF, 0xFF, 7, 7}})
 }
@@ -233,36 +233,36 @@ func TestLongBlocks(t *testing.T) {
 		bytes.Repeat(append([]byte{0x3F}, element[:16]...), 15420)...)
 	same(t, "lengths", []int{len(full), len(short)}, []int{16 + 262140, 16 + 262140})
 	for what, call := range map[string]func(buf []byte) ([]byte, error){
-		"put":   func(buf []byte) ([]byte, error) { return rtpwire.PutElement(buf, len(full), 4, nil, rtpwire.AnyForm) },
-		"added": func(buf []byte) ([]byte, error) { return rtpwire.AddElement(buf, len(full), 3, nil, rtpwire.AnyForm) },
+		"put":   func(buf []byte) ([]byte, error) { return rtpwire.PutElementIn(buf, len(full), 4, nil, rtpwire.AnyForm) },
+		"added": func(buf []byte) ([]byte, error) { return rtpwire.AddElementIn(buf, len(full), 3, nil, rtpwire.AnyForm) },
 	} {
 		buf := append(append([]byte(nil), full...), make([]byte, 600)...)
 		made, err := call(buf)
 		same(t, what, []any{made, err, bytes.Equal(buf[:len(full)], full)}, []any{[]byte(nil), rtpwire.ErrLongBlock, true})
 	}
 	buf := append(append([]byte(nil), short...), make([]byte, 70000)...)
-	made, err := rtpwire.ChangeForm(buf, len(short), rtpwire.TwoByteForm)
+	made, err := rtpwire.ChangeFormIn(buf, len(short), rtpwire.TwoByteForm)
 	same(t, "changed", []any{made, err, bytes.Equal(buf[:len(short)], short)}, []any{[]byte(nil), rtpwire.ErrLongBlock, true})
 	// One element fewer, and there is room for one of 255 bytes.
 	buf = append(append([]byte(nil), full...), 1)
 	copy(buf[16+1019*257:], make([]byte, 257))
-	made, err = rtpwire.AddElement(buf, len(buf), 9, element[2:], rtpwire.TwoByteForm)
+	made, err = rtpwire.AddElementIn(buf, len(buf), 9, element[2:], rtpwire.OnlyTwoByteForm)
 	same(t, "the last", []any{len(made), err, made[16+1019*257 : 16+1019*257+3]}, []any{len(full) + 1, nil, []byte{9, 255, 7}})
 }
 
 // PutElement tells a bad id, one above 14 and a form that isn't allowed from other bad fields.
 func TestWhatIsRefusedOfElements(t *testing.T) {
 	stays(t, "90 BEDE0001 10AA0000 01", func(buf []byte, length int) ([]byte, error) {
-		return rtpwire.PutElement(buf, length, 0, nil, rtpwire.AnyForm)
+		return rtpwire.PutElementIn(buf, length, 0, nil, rtpwire.AnyForm)
 	}, rtpwire.ErrBadID)
 	stays(t, "90 BEDE0001 10AA0000 01", func(buf []byte, length int) ([]byte, error) {
-		return rtpwire.PutElement(buf, length, 15, nil, rtpwire.OneByteForm)
+		return rtpwire.PutElementIn(buf, length, 15, nil, rtpwire.OnlyOneByteForm)
 	}, rtpwire.ErrLongID)
 	stays(t, "90 BEDE0001 10AA0000 01", func(buf []byte, length int) ([]byte, error) {
-		return rtpwire.PutElement(buf, length, 14, nil, rtpwire.OneByteForm)
+		return rtpwire.PutElementIn(buf, length, 14, nil, rtpwire.OnlyOneByteForm)
 	}, rtpwire.ErrFormNotAllowed)
 	stays(t, "90 10000001 0101AA00 01", func(buf []byte, length int) ([]byte, error) {
-		return rtpwire.PutElement(buf, length, 1, []byte{7}, rtpwire.OneByteForm)
+		return rtpwire.PutElementIn(buf, length, 1, []byte{7}, rtpwire.OnlyOneByteForm)
 	}, rtpwire.ErrFormNotAllowed)
 }
 
@@ -300,11 +300,11 @@ func TestDataOfTheBufferInABlock(t *testing.T) {
 		at := random.Intn(50)
 		end, id, words := at+random.Intn(17), uint8(1+random.Intn(20)), random.Intn(8)
 		both("added", packet, func(buf, data []byte) ([]byte, error) {
-			return rtpwire.AddElement(buf, 37, id, data, rtpwire.AnyForm)
+			return rtpwire.AddElementIn(buf, 37, id, data, rtpwire.AnyForm)
 		}, at, end)
 		from := random.Intn(len(packet) - 4*words)
 		both("block", packet, func(buf, data []byte) ([]byte, error) {
-			return rtpwire.PutBlock(buf, 37, 0xABAC, data)
+			return rtpwire.PutBlockIn(buf, 37, 0xABAC, data)
 		}, from, from+4*words)
 	}
 }
@@ -342,15 +342,15 @@ func FuzzBlocks(f *testing.F) {
 			same(t, "none was there", bare, datagram)
 		} else {
 			buf := append(bare, make([]byte, 4+len(body))...)
-			back, err := rtpwire.PutBlock(buf, len(bare), packet.BlockProfile(), body)
+			back, err := rtpwire.PutBlockIn(buf, len(bare), packet.BlockProfile(), body)
 			same(t, "put again", []any{back, err}, []any{datagram, nil})
 		}
-		if made, err := rtpwire.AddElement(copied(), len(datagram), id, data, rtpwire.AnyForm); err == nil {
+		if made, err := rtpwire.AddElementIn(copied(), len(datagram), id, data, rtpwire.AnyForm); err == nil {
 			elements, behind := elementsOf(t, made)
 			same(t, "added", []any{elements, behind}, []any{append(before, string(append([]byte{id}, data...))), payload})
 		}
 		for _, form := range []rtpwire.Form{rtpwire.OneByteForm, rtpwire.TwoByteForm} {
-			if made, err := rtpwire.ChangeForm(copied(), len(datagram), form); err == nil {
+			if made, err := rtpwire.ChangeFormIn(copied(), len(datagram), form); err == nil {
 				elements, behind := elementsOf(t, made)
 				same(t, "changed", []any{elements, behind}, []any{before, payload})
 			}

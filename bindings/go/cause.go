@@ -43,6 +43,8 @@ var (
 	ErrLongBlock error = badField("rtpwire: an extension block of more than 65,535 words")
 	// ErrRefused: a replay, or too old to tell.
 	ErrRefused = errors.New("rtpwire: a replay, or too old to tell")
+	// ErrRTCP: the datagram is one of RTCP, on a port that RTP and RTCP share ([Packet.ParseMuxed]).
+	ErrRTCP = errors.New("rtpwire: a packet of RTCP")
 	// ErrNotFound: the packet has no such element, or no such place in its CSRC list.
 	ErrNotFound = errors.New("rtpwire: no such element")
 )
@@ -97,26 +99,28 @@ func (c Cause) Is(target error) bool {
 // errorOf is the error that a status of the library means; nil where the call did what it is for.
 func errorOf(status int32) error {
 	switch status {
-	case 0:
+	case statusOK:
 		return nil
-	case 5:
+	case statusUnknownForm:
 		return ErrOtherForm
-	case 8:
+	case statusShortBuffer:
 		return ErrShortBuffer
-	case 9:
+	case statusBadField:
 		return ErrBadField
-	case 10:
+	case statusRefused:
 		return ErrRefused
-	case 11:
+	case statusNone:
 		return ErrNotFound
-	case 13:
+	case statusBadID:
 		return ErrBadID
-	case 14:
+	case statusFormNotAllowed:
 		return ErrFormNotAllowed
-	case 15:
+	case statusLongBlock:
 		return ErrLongBlock
-	case 16:
+	case statusLongID:
 		return ErrLongID
+	case statusRTCP:
+		return ErrRTCP
 	default:
 		return Cause(status)
 	}

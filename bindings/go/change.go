@@ -47,9 +47,9 @@ func (f *Fields) Apply(datagram []byte) error {
 	return setFields(datagram, f)
 }
 
-// SetCSRC sets the contributing source at this place of the packet's list, counted from 0. It returns ErrNotFound
+// SetCSRCAt sets the contributing source at this place of the packet's list, counted from 0. It returns ErrNotFound
 // where the list has no such place.
-func SetCSRC(datagram []byte, index int, source uint32) error {
+func SetCSRCAt(datagram []byte, index int, source uint32) error {
 	return setCSRC(datagram, index, source)
 }
 
@@ -87,7 +87,7 @@ func RemovePadding(datagram []byte) ([]byte, error) {
 	return datagram[:length], nil
 }
 
-// PutElement puts an element, of an id from 1 on with at most 255 bytes of data, into the packet in the first length
+// PutElementIn puts an element, of an id from 1 on with at most 255 bytes of data, into the packet in the first length
 // bytes of the buffer, whose other bytes are the room for it, and returns the packet's bytes. It then has exactly one
 // element of the id, in place of the last one of the id or as the last of all; the other elements stay, in order, but
 // those of the id 0, behind which a receiver that follows RFC 8285, 4.2, reads nothing, and all other parts stay too.
@@ -98,16 +98,16 @@ func RemovePadding(datagram []byte) ([]byte, error) {
 // header alone is enough. Data that overlap the buffer are copied first.
 //
 // A one-byte block that can't carry the element becomes a two-byte one, where the forms that are allowed let it:
-// AnyForm; OneByteForm alone, as for a peer that hasn't agreed to both in one stream (RFC 8285, 4.1.2); or TwoByteForm
-// alone, which the block then gets.
+// AnyForm; OnlyOneByteForm, as for a peer that hasn't agreed to both in one stream (RFC 8285, 4.1.2); or
+// OnlyTwoByteForm, which the block then gets.
 //
 // It returns ErrBadField where the length isn't one of the buffer, allowed is none of the three, or there are more than
 // 255 bytes of data; [ErrBadID] where the id is 0; ErrOtherForm where the block has another form, and so carries no
-// elements; [ErrLongID] where the id is above 14, and OneByteForm alone is allowed; [ErrFormNotAllowed] where else it
-// has, or the element needs, a form that isn't allowed (OneByteForm alone: it has TwoByteForm, or the element has no
+// elements; [ErrLongID] where the id is above 14, and OnlyOneByteForm is allowed; [ErrFormNotAllowed] where else it
+// has, or the element needs, a form that isn't allowed (OnlyOneByteForm: it has TwoByteForm, or the element has no
 // data or more than 16 bytes of them); [ErrLongBlock] where it would have more than 65,535 words; and ErrShortBuffer
 // where the buffer has no room. Where it returns an error nothing changes.
-func PutElement(buf []byte, length int, id uint8, data []byte, allowed Form) ([]byte, error) {
+func PutElementIn(buf []byte, length int, id uint8, data []byte, allowed Forms) ([]byte, error) {
 	if length < 0 {
 		return nil, ErrBadField
 	}
@@ -118,11 +118,11 @@ func PutElement(buf []byte, length int, id uint8, data []byte, allowed Form) ([]
 	return buf[:end], nil
 }
 
-// AddElement puts an element behind all others, and those of its id stay: an id may have several, of which the last one
+// AddElementIn puts an element behind all others, and those of its id stay: an id may have several, of which the last one
 // counts ([Packet.Element]). The id, the data, the forms that are allowed, the form that the block gets, the room behind
-// the packet and the errors are as those of [PutElement]. The block is always made anew: elements of the id 0, which is
+// the packet and the errors are as those of [PutElementIn]. The block is always made anew: elements of the id 0, which is
 // padding's, go, and so does what stands where reading ends.
-func AddElement(buf []byte, length int, id uint8, data []byte, allowed Form) ([]byte, error) {
+func AddElementIn(buf []byte, length int, id uint8, data []byte, allowed Forms) ([]byte, error) {
 	if length < 0 {
 		return nil, ErrBadField
 	}
@@ -133,7 +133,7 @@ func AddElement(buf []byte, length int, id uint8, data []byte, allowed Form) ([]
 	return buf[:end], nil
 }
 
-// ChangeForm makes a block of the other form one of this form, OneByteForm or TwoByteForm, in the packet in the first
+// ChangeFormIn makes a block of the other form one of this form, OneByteForm or TwoByteForm, in the packet in the first
 // length bytes of the buffer, and returns the packet's bytes. Its elements stay, in order, and all other parts of the
 // packet too; the payload moves where the body has to grow, and a body never becomes shorter ([Compact]). Elements of
 // the id 0, which is padding's, go, and so does what stands where reading ends. A block that has the form, and a packet
@@ -145,7 +145,7 @@ func AddElement(buf []byte, length int, id uint8, data []byte, allowed Form) ([]
 // [ErrFormNotAllowed] where none has, and one has no data or more than 16 bytes of them; [ErrLongBlock] where the block
 // would have more than 65,535 words; and ErrShortBuffer where the buffer has no room. Where it returns an error nothing
 // changes.
-func ChangeForm(buf []byte, length int, form Form) ([]byte, error) {
+func ChangeFormIn(buf []byte, length int, form Form) ([]byte, error) {
 	if length < 0 {
 		return nil, ErrBadField
 	}
@@ -156,7 +156,7 @@ func ChangeForm(buf []byte, length int, form Form) ([]byte, error) {
 	return buf[:end], nil
 }
 
-// PutBlock gives the packet in the first length bytes of the buffer a block that begins with these 16 bits, which a
+// PutBlockIn gives the packet in the first length bytes of the buffer a block that begins with these 16 bits, which a
 // profile defines (RFC 3550, 5.3.1), and has this body, in place of the block that is there, and returns the packet's
 // bytes: X is set, and the payload moves. What the body holds isn't looked at: of 0xBEDE and 0x1000 to 0x100F it is read
 // as elements. A header alone is enough. A body that overlaps the buffer is copied first.
@@ -164,7 +164,7 @@ func ChangeForm(buf []byte, length int, form Form) ([]byte, error) {
 // It returns ErrBadField where the length isn't one of the buffer, or the body is no whole number of words of four
 // bytes; [ErrLongBlock] where it has more than 65,535 words; and ErrShortBuffer where the buffer has no room. Where it
 // returns an error nothing changes.
-func PutBlock(buf []byte, length int, profile uint16, body []byte) ([]byte, error) {
+func PutBlockIn(buf []byte, length int, profile uint16, body []byte) ([]byte, error) {
 	if length < 0 {
 		return nil, ErrBadField
 	}
@@ -214,11 +214,11 @@ func Pad(buf []byte, headerLen int, padLen uint8, blockSize int) (int, error) {
 // ReadOriginal is the original sequence number that the payload of a retransmission packet begins with (RFC 4588, 4),
 // and the original payload behind it. It returns ErrShortBuffer of fewer than two bytes.
 func ReadOriginal(payload []byte) (number uint16, original []byte, err error) {
-	read, err := readOriginal(payload)
+	number, err = readOriginal(payload)
 	if err != nil {
 		return 0, nil, err
 	}
-	return uint16(read), payload[2:], nil
+	return number, payload[2:], nil
 }
 
 // WriteOriginal writes the low 16 bits of the original sequence number to the front of the payload of a
@@ -227,7 +227,7 @@ func WriteOriginal(payload []byte, number uint64) error {
 	return writeOriginal(payload, number)
 }
 
-// ToRetransmission makes the packet in the first length bytes of the buffer a retransmission, in place, and returns its
+// ToRetransmissionIn makes the packet in the first length bytes of the buffer a retransmission, in place, and returns its
 // bytes (RFC 4588, 4): it has this SSRC, payload type and number of its own, the elements under their new ids
 // ([NewIDsToRetransmission]), and as payload the original number in two bytes and the original payload without its
 // padding. P becomes clear, and all else stays, M and the timestamp too, and so do the bytes behind it.
@@ -235,7 +235,7 @@ func WriteOriginal(payload []byte, number uint64) error {
 // It returns the first that applies: ErrBadField where the payload type is above 127 or the length isn't one of the
 // buffer; a [Cause]; ErrBadField where the padding's last byte counts more bytes than the payload has; [ErrLongID] where
 // the packet's form can't carry a new id; ErrShortBuffer where there is no room for the two bytes. Nothing changes then.
-func ToRetransmission(
+func ToRetransmissionIn(
 	buf []byte, length int, ssrc uint32, payloadType uint8, number uint16, ids *NewIDs,
 ) ([]byte, error) {
 	if length < 0 {
@@ -248,14 +248,14 @@ func ToRetransmission(
 	return buf[:end], nil
 }
 
-// FromRetransmission makes the retransmission in the first length bytes of the buffer the packet that it repeats, in
+// FromRetransmissionIn makes the retransmission in the first length bytes of the buffer the packet that it repeats, in
 // place, and returns its bytes: it has this SSRC and payload type, the original number, the elements under their new
 // ids ([NewIDsFromRetransmission]), and as payload what follows that number, without padding. P becomes clear, and all
 // else stays, and so do the bytes behind it.
 //
-// It returns errors as ToRetransmission does, but for the last one; and before ErrLongID ErrNotFound, where the payload
+// It returns errors as ToRetransmissionIn does, but for the last one; and before ErrLongID ErrNotFound, where the payload
 // without its padding has fewer than the two bytes of a number. Nothing changes then.
-func FromRetransmission(buf []byte, length int, ssrc uint32, payloadType uint8, ids *NewIDs) ([]byte, error) {
+func FromRetransmissionIn(buf []byte, length int, ssrc uint32, payloadType uint8, ids *NewIDs) ([]byte, error) {
 	if length < 0 {
 		return nil, ErrBadField
 	}

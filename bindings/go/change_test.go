@@ -5,7 +5,7 @@ import (
 	"errors"
 	"testing"
 
-	"rtpwire"
+	"rtp-wire.example/rtpwire"
 )
 
 // changed is what the call makes of the sample, which has to be the sample with these bytes at these places.
@@ -53,10 +53,10 @@ func TestFields(t *testing.T) {
 }
 
 func TestParts(t *testing.T) {
-	changed(t, "a source", func(d []byte) error { return rtpwire.SetCSRC(d, 1, 0x0A0B0C0D) }, nil,
+	changed(t, "a source", func(d []byte) error { return rtpwire.SetCSRCAt(d, 1, 0x0A0B0C0D) }, nil,
 		map[int]byte{16: 10, 17: 11, 18: 12, 19: 13})
 	for _, index := range []int{2, 15, -1} {
-		changed(t, "no source", func(d []byte) error { return rtpwire.SetCSRC(d, index, 1) }, rtpwire.ErrNotFound, nil)
+		changed(t, "no source", func(d []byte) error { return rtpwire.SetCSRCAt(d, index, 1) }, rtpwire.ErrNotFound, nil)
 	}
 	changed(t, "an element", func(d []byte) error { return rtpwire.SetElement(d, 2, []byte{1, 2}) }, nil,
 		map[int]byte{27: 1, 28: 2})
@@ -92,9 +92,9 @@ func TestNewIDs(t *testing.T) {
 func TestPutElement(t *testing.T) {
 	buf := append(sample(), make([]byte, 27)...)
 	datagram := buf[:37]
-	put := func(at string, id uint8, data []byte, allowed rtpwire.Form, length int, err error) {
+	put := func(at string, id uint8, data []byte, allowed rtpwire.Forms, length int, err error) {
 		t.Helper()
-		grown, found := rtpwire.PutElement(buf, len(datagram), id, data, allowed)
+		grown, found := rtpwire.PutElementIn(buf, len(datagram), id, data, allowed)
 		same(t, at, []any{len(grown), found}, []any{length, err})
 		if err == nil {
 			datagram = grown
@@ -102,21 +102,21 @@ func TestPutElement(t *testing.T) {
 	}
 	put("in place", 2, []byte{1, 2}, rtpwire.AnyForm, 37, nil)
 	same(t, "body", datagram[24:32], []byte{0x10, 0xAA, 0x21, 1, 2, 0x10, 0xDD, 0})
-	put("longer", 2, []byte{3, 3, 3, 3, 3}, rtpwire.OneByteForm, 41, nil)
+	put("longer", 2, []byte{3, 3, 3, 3, 3}, rtpwire.OnlyOneByteForm, 41, nil)
 	same(t, "body", datagram[22:36], []byte{0, 3, 0x10, 0xAA, 0x24, 3, 3, 3, 3, 3, 0x10, 0xDD, 0, 0})
 	same(t, "payload", datagram[36:], sample()[32:])
-	put("form not allowed", 14, nil, rtpwire.OneByteForm, 0, rtpwire.ErrFormNotAllowed)
-	put("long id", 15, []byte{4}, rtpwire.OneByteForm, 0, rtpwire.ErrLongID)
+	put("form not allowed", 14, nil, rtpwire.OnlyOneByteForm, 0, rtpwire.ErrFormNotAllowed)
+	put("long id", 15, []byte{4}, rtpwire.OnlyOneByteForm, 0, rtpwire.ErrLongID)
 	put("no such form", 1, []byte{4}, 3, 0, rtpwire.ErrBadField)
 	put("in the two-byte form", 15, []byte{4}, rtpwire.AnyForm, 45, nil)
-	_, err := rtpwire.PutElement(buf[:48], 45, 16, []byte{4, 5, 6}, rtpwire.AnyForm)
+	_, err := rtpwire.PutElementIn(buf[:48], 45, 16, []byte{4, 5, 6}, rtpwire.AnyForm)
 	same(t, "no room", err, error(rtpwire.ErrShortBuffer))
 	for _, data := range [][]byte{make([]byte, 256), make([]byte, 300), make([]byte, 65537)} {
-		_, err := rtpwire.PutElement(make([]byte, 70000), 12, 1, data, rtpwire.AnyForm)
+		_, err := rtpwire.PutElementIn(make([]byte, 70000), 12, 1, data, rtpwire.AnyForm)
 		same(t, "more than 255 bytes", err, error(rtpwire.ErrBadField))
 	}
 	for _, length := range []int{-1, 65} {
-		_, err := rtpwire.PutElement(buf, length, 1, nil, rtpwire.AnyForm)
+		_, err := rtpwire.PutElementIn(buf, length, 1, nil, rtpwire.AnyForm)
 		same(t, "no length", err, error(rtpwire.ErrBadField))
 	}
 	same(t, "removed", rtpwire.RemoveElement(datagram, 2), nil)
@@ -200,20 +200,20 @@ func TestRetransmissions(t *testing.T) {
 		{31, 11, 99, rtpwire.CutFixedPart},
 		{27, 27, 99, rtpwire.ErrBadField},
 	} {
-		_, err := rtpwire.ToRetransmission(buf[:row.size], row.length, 7, row.payloadType, 1, there)
+		_, err := rtpwire.ToRetransmissionIn(buf[:row.size], row.length, 7, row.payloadType, 1, there)
 		same(t, "refused", err, row.err)
-		_, err = rtpwire.FromRetransmission(buf[:row.size], row.length, 7, row.payloadType, back)
+		_, err = rtpwire.FromRetransmissionIn(buf[:row.size], row.length, 7, row.payloadType, back)
 		same(t, "refused", err, row.err)
 		same(t, "unchanged", buf, packet)
 	}
-	made, err := rtpwire.ToRetransmission(buf, 29, 0x090A0B0C, 99, 1, there)
+	made, err := rtpwire.ToRetransmissionIn(buf, 29, 0x090A0B0C, 99, 1, there)
 	same(t, "sent", []any{made, err}, []any{sent, nil})
-	_, err = rtpwire.ToRetransmission(buf[:30], 29, 7, 98, 2, there)
+	_, err = rtpwire.ToRetransmissionIn(buf[:30], 29, 7, 98, 2, there)
 	same(t, "no room", err, rtpwire.ErrShortBuffer)
 	same(t, "behind it", buf, append(append([]byte(nil), sent...), 0x77, 0x77))
-	made, err = rtpwire.FromRetransmission(buf, 29, 0x05060708, 96, back)
+	made, err = rtpwire.FromRetransmissionIn(buf, 29, 0x05060708, 96, back)
 	same(t, "restored", []any{made, err}, []any{restored, nil})
-	_, err = rtpwire.FromRetransmission(buf, 25, 1, 2, back)
+	_, err = rtpwire.FromRetransmissionIn(buf, 25, 1, 2, back)
 	same(t, "no number", err, rtpwire.ErrNotFound)
 }
 
@@ -232,23 +232,23 @@ func TestOtherFormsAreChanged(t *testing.T) {
 	for _, refused := range []struct{ got, wanted error }{
 		{rtpwire.SetElement(datagram, 14, []byte{7}), rtpwire.ErrNotFound},
 		{rtpwire.RemoveElement(datagram, 14), rtpwire.ErrNotFound},
-		{rtpwire.SetCSRC(datagram, 0, 1), rtpwire.ErrNotFound},
+		{rtpwire.SetCSRCAt(datagram, 0, 1), rtpwire.ErrNotFound},
 		{rtpwire.Renumber(datagram, new(rtpwire.NewIDs)), nil},
 	} {
 		same(t, "no elements", refused.got, refused.wanted)
 	}
-	_, err := rtpwire.PutElement(datagram[:64], 31, 1, []byte{7}, rtpwire.AnyForm)
+	_, err := rtpwire.PutElementIn(datagram[:64], 31, 1, []byte{7}, rtpwire.AnyForm)
 	same(t, "put", err, rtpwire.ErrOtherForm)
 	same(t, "a packet", errors.Is(err, rtpwire.ErrNotAPacket), false)
-	_, err = rtpwire.PutElement(datagram[:64], 31, 1, []byte{7}, rtpwire.OtherForm)
+	_, err = rtpwire.PutElementIn(datagram[:64], 31, 1, []byte{7}, 3)
 	same(t, "no form to put", err, rtpwire.ErrBadField)
 	short, err := rtpwire.Compact(datagram)
 	same(t, "compact", []any{len(short), err}, []any{31, nil})
-	sent, err := rtpwire.ToRetransmission(datagram[:33], 31, 45, 99, 9, new(rtpwire.NewIDs))
+	sent, err := rtpwire.ToRetransmissionIn(datagram[:33], 31, 45, 99, 9, new(rtpwire.NewIDs))
 	same(t, "sent", []any{len(sent), err}, []any{33, nil})
 	same(t, "block", sent[12:28], camera()[12:28])
 	same(t, "payload", sent[28:], []byte{1, 2, 0x41, 0x42, 0x43})
-	back, err := rtpwire.FromRetransmission(datagram[:33], 33, 44, 96, new(rtpwire.NewIDs))
+	back, err := rtpwire.FromRetransmissionIn(datagram[:33], 33, 44, 96, new(rtpwire.NewIDs))
 	same(t, "back", []any{len(back), err}, []any{31, nil})
 	same(t, "behind the header", back[12:], camera()[12:])
 }
@@ -257,7 +257,7 @@ func TestHeadersAreWritten(t *testing.T) {
 	header := rtpwire.Header{PayloadType: 33, SequenceNumber: 47000, Timestamp: 10000, SSRC: 44, Marker: true}
 	same(t, "sources", header.SetCSRC([]uint32{9}), nil)
 	buf := bytes.Repeat([]byte{0xEE}, 20)
-	n, err := header.Write(buf, nil)
+	n, err := header.WriteInto(buf, nil)
 	same(t, "written", []any{n, err}, []any{16, nil})
 	same(t, "bytes", buf, []byte{
 		0x81, 0xA1, 0xB7, 0x98, 0, 0, 0x27, 0x10, 0, 0, 0, 0x2C, 0, 0, 0, 9, 0xEE, 0xEE, 0xEE, 0xEE,
@@ -268,11 +268,11 @@ func TestHeadersAreWritten(t *testing.T) {
 	same(t, "none", []any{header.SetCSRC(nil), len(header.CSRC())}, []any{nil, 0})
 
 	for _, short := range [][]byte{nil, make([]byte, 11)} {
-		n, err = header.Write(short, nil)
+		n, err = header.WriteInto(short, nil)
 		same(t, "short", []any{n, err}, []any{0, rtpwire.ErrShortBuffer})
 	}
 	header.PayloadType = 128
-	n, err = header.Write(buf, nil)
+	n, err = header.WriteInto(buf, nil)
 	same(t, "PT 128", []any{n, err}, []any{0, rtpwire.ErrBadField})
 	_, err = header.WireLen(nil)
 	same(t, "PT 128", err, rtpwire.ErrBadField)
@@ -323,11 +323,13 @@ func TestElementsAreWritten(t *testing.T) {
 	for _, place := range []rtpwire.Place{{ID: 15, Len: 1}, {ID: 1}} {
 		_, err = header.WriteWithForm(buf, rtpwire.OneByteForm, data, []rtpwire.Place{place})
 		same(t, "not in the one-byte form", err, rtpwire.ErrBadField)
-		n, err = header.WriteWithForm(buf, rtpwire.NoBlock, data, []rtpwire.Place{place})
+		n, err = header.WriteWith(buf, data, []rtpwire.Place{place})
 		same(t, "in any form", []any{n, err}, []any{20, nil})
 	}
-	_, err = header.WriteWithForm(buf, 3, data, places)
-	same(t, "no form", err, rtpwire.ErrBadField)
+	for _, form := range []rtpwire.Form{rtpwire.NoBlock, rtpwire.OtherForm} {
+		_, err = header.WriteWithForm(buf, form, data, places)
+		same(t, "no form", err, rtpwire.ErrBadField)
+	}
 
 	// The elements of a packet, under other ids.
 	packet := parsed(t, sample(), nil)

@@ -3,15 +3,15 @@
 // and a replay window of 128. It does no input or output.
 //
 // The work is done by a library each function of which is proved: it returns for every input, and its result is
-// what its contract says. Its assembly text is in this package, which go build builds by cgo and a C compiler,
-// for Linux on x86-64 and ARM. The Go code around it isn't proved: it is tested.
+// what its contract says. Its text is in this package as Go's assembler takes it, so that go build needs no cgo and no C
+// compiler: for amd64 (x86-64-v2) and arm64, on any system. The Go code around it isn't proved: it is tested.
 //
-// A call of the library takes 70 nanoseconds before it does anything, on a Xeon at 2.5 GHz. So there is one call for a
-// whole packet: [Packet.Parse] reads all fields, values and places, and [Receiver.ReceivePacket] judges the packet too.
-// What is a look at these needs no call: the fields, the values, [Packet.UnpaddedPayload], [Header.CSRC].
+// A call of the library takes some 3 nanoseconds before it does anything, and no memory. [Packet.Parse] reads all fields,
+// values and places, and [Receiver.ReceivePacket] judges the packet too. What is a look at these needs no call: the fields,
+// the values, [Packet.UnpaddedPayload], [Header.CSRC].
 //
 // Where many datagrams lie in one buffer one call reads them all ([HeaderBatch], [PacketBatch]), and another judges
-// them ([ArrivalBatch]): of 32 at once each then takes less than half of that time.
+// them ([ArrivalBatch]).
 //
 // A packet that goes to many receivers gets all their headers by one call, each with fields and data of its own, while
 // the payload stays where it lies ([RouteBatch]).
@@ -36,8 +36,11 @@
 //
 // No function keeps a pointer to what it is given, but a Packet the datagram that it was read from, and a batch the
 // buffer. Calls from several goroutines at once are safe as long as nothing that one of them changes is used by
-// another; an [OwnURIs] may be. No race detector (go test -race) sees what the library reads and writes: it reports two
-// goroutines at one [Header], where Go code reads and writes it, and not at one [Receiver] or datagram.
+// another; an [OwnURIs] may be. A program that is built with a race detector (go test -race) reports two goroutines at one
+// Receiver or one datagram: each call then tells what it reads, and what it changes, of a packet's header all of it.
+//
+// A nil pointer panics as elsewhere in Go. While a call runs no other goroutine has its turn on that processor: the
+// longest one, of a packet whose block takes 262,140 bytes, less than a millisecond.
 //
 // On a port that RTP and RTCP share [IsRTCP] comes before [Packet.Parse], which would take a receiver report
 // for RTP.

@@ -5,7 +5,7 @@ import (
 	"math"
 	"testing"
 
-	"rtpwire"
+	"rtp-wire.example/rtpwire"
 )
 
 // with is a packet with this number and payload.
@@ -26,7 +26,7 @@ func TestFieldsAndBytesAreOfOneDatagram(t *testing.T) {
 		reads := func(call call, datagram []byte, wanted error) {
 			t.Helper()
 			_, err := call(datagram, nil, &packet)
-			same(t, what, []any{err, packet.SequenceNumber, packet.Payload(), packet.Datagram()},
+			same(t, what, []any{err, packet.SequenceNumber(), packet.Payload(), packet.Datagram()},
 				[]any{wanted, uint16(datagram[2])<<8 | uint16(datagram[3]), datagram[12:], datagram})
 		}
 		reads(calls[0], with(5, "checked"), nil)
@@ -53,7 +53,7 @@ func TestFieldsAndBytesAreOfOneDatagram(t *testing.T) {
 	} {
 		number, verdict, err := restarting.ReceivePacket(row.datagram, nil, &packet)
 		same(t, "verdict", []any{number, verdict, err}, []any{row.number, row.verdict, nil})
-		same(t, "read", []any{packet.SequenceNumber, packet.Payload(), packet.Datagram()},
+		same(t, "read", []any{packet.SequenceNumber(), packet.Payload(), packet.Datagram()},
 			[]any{uint16(row.number) | uint16(row.datagram[2])<<8 | uint16(row.datagram[3]), row.datagram[12:], row.datagram})
 	}
 	same(t, "verdicts", []rtpwire.Verdict{rtpwire.Refused, rtpwire.Taken, rtpwire.Restarted}, []rtpwire.Verdict{0, 1, 2})
@@ -122,15 +122,15 @@ func TestFirstBytesOfTheBuffer(t *testing.T) {
 			t.Errorf("%s: %d of %d bytes, %v", what, len(made), cap(made), err)
 		}
 	}
-	made, err := rtpwire.PutElement(buf, 37, 3, []byte{1}, rtpwire.AnyForm)
+	made, err := rtpwire.PutElementIn(buf, 37, 3, []byte{1}, rtpwire.AnyForm)
 	is("put", made, err, 41)
 	made, err = rtpwire.RemovePadding(made)
 	is("without padding", made, err, 39)
 	made, err = rtpwire.Compact(made)
 	is("compact", made, err, 39)
-	made, err = rtpwire.ToRetransmission(buf, 39, 1, 2, 3, new(rtpwire.NewIDs))
+	made, err = rtpwire.ToRetransmissionIn(buf, 39, 1, 2, 3, new(rtpwire.NewIDs))
 	is("sent again", made, err, 41)
-	made, err = rtpwire.FromRetransmission(buf, 41, 1, 2, new(rtpwire.NewIDs))
+	made, err = rtpwire.FromRetransmissionIn(buf, 41, 1, 2, new(rtpwire.NewIDs))
 	is("restored", made, err, 39)
 	data, err := new(rtpwire.Values).DataOf(rtpwire.KindMID, buf)
 	same(t, "no mid", []any{data, err}, []any{[]byte(nil), rtpwire.ErrNotFound})
@@ -179,15 +179,15 @@ func TestLengthsOfNoBuffer(t *testing.T) {
 	buf := append(sample(), make([]byte, 27)...)
 	before := append([]byte(nil), buf...)
 	for _, length := range []int{-1, math.MinInt64, 65, math.MaxInt64, -1 << 32, 1<<32 + 37} {
-		made, err := rtpwire.PutElement(buf, length, 1, nil, rtpwire.AnyForm)
+		made, err := rtpwire.PutElementIn(buf, length, 1, nil, rtpwire.AnyForm)
 		same(t, "put", []any{made, err}, []any{[]byte(nil), rtpwire.ErrBadField})
-		made, err = rtpwire.ToRetransmission(buf, length, 1, 2, 3, new(rtpwire.NewIDs))
+		made, err = rtpwire.ToRetransmissionIn(buf, length, 1, 2, 3, new(rtpwire.NewIDs))
 		same(t, "sent again", []any{made, err}, []any{[]byte(nil), rtpwire.ErrBadField})
-		made, err = rtpwire.FromRetransmission(buf, length, 1, 2, new(rtpwire.NewIDs))
+		made, err = rtpwire.FromRetransmissionIn(buf, length, 1, 2, new(rtpwire.NewIDs))
 		same(t, "restored", []any{made, err}, []any{[]byte(nil), rtpwire.ErrBadField})
 	}
 	for _, index := range []int{2, math.MaxInt64, math.MinInt64, 1 << 32, 1 << 8} {
-		same(t, "no source", rtpwire.SetCSRC(buf, index, 9), rtpwire.ErrNotFound)
+		same(t, "no source", rtpwire.SetCSRCAt(buf, index, 9), rtpwire.ErrNotFound)
 	}
 	same(t, "unchanged", buf, before)
 	// Data whose length has the low bits of another one: 1 byte, 2 bytes, and none.
@@ -199,17 +199,17 @@ func TestLengthsOfNoBuffer(t *testing.T) {
 	same(t, "unchanged", buf, before)
 	// All forms that may be allowed, and all others. The id 0 is none.
 	for form := 0; form < 256; form++ {
-		_, err := rtpwire.PutElement(append([]byte(nil), buf...), 37, 1, []byte{9}, rtpwire.Form(form))
+		_, err := rtpwire.PutElementIn(append([]byte(nil), buf...), 37, 1, []byte{9}, rtpwire.Forms(form))
 		same(t, "form", err == nil, form <= 2)
 		same(t, "no form", err == rtpwire.ErrBadField, form > 2)
 		places := []rtpwire.Place{{ID: 1, Len: 1}}
-		_, err = new(rtpwire.Header).WriteWithForm(make([]byte, 64), rtpwire.Form(form), []byte{9}, places)
-		same(t, "form of a header", []bool{err == nil, err == rtpwire.ErrBadField}, []bool{form <= 2, form > 2})
 		_, err = rtpwire.WriteElements(make([]byte, 64), rtpwire.Form(form), []byte{9}, places)
 		is := form == 1 || form == 2
 		same(t, "form of elements", []bool{err == nil, err == rtpwire.ErrBadField}, []bool{is, !is})
+		_, err = new(rtpwire.Header).WriteWithForm(make([]byte, 64), rtpwire.Form(form), []byte{9}, places)
+		same(t, "form of a header", []bool{err == nil, err == rtpwire.ErrBadField}, []bool{is, !is})
 	}
-	_, err := rtpwire.PutElement(buf, 37, 0, nil, rtpwire.AnyForm)
+	_, err := rtpwire.PutElementIn(buf, 37, 0, nil, rtpwire.AnyForm)
 	same(t, "the id 0", []any{err, errors.Is(err, rtpwire.ErrBadField)}, []any{rtpwire.ErrBadID, true})
 	same(t, "unchanged", buf, before)
 }
@@ -225,13 +225,13 @@ func TestNothingBehindASliceIsRead(t *testing.T) {
 	}
 	for _, length := range []int{36, 20, 0} {
 		for _, err := range []error{
-			func() error { _, err := rtpwire.PutElement(buf[:length], 37, 1, nil, rtpwire.AnyForm); return err }(),
+			func() error { _, err := rtpwire.PutElementIn(buf[:length], 37, 1, nil, rtpwire.AnyForm); return err }(),
 			func() error {
-				_, err := rtpwire.ToRetransmission(buf[:length], 37, 1, 2, 3, new(rtpwire.NewIDs))
+				_, err := rtpwire.ToRetransmissionIn(buf[:length], 37, 1, 2, 3, new(rtpwire.NewIDs))
 				return err
 			}(),
 			func() error {
-				_, err := rtpwire.FromRetransmission(buf[:length], 37, 1, 2, new(rtpwire.NewIDs))
+				_, err := rtpwire.FromRetransmissionIn(buf[:length], 37, 1, 2, new(rtpwire.NewIDs))
 				return err
 			}(),
 		} {
@@ -264,7 +264,7 @@ func TestChangesOfNoPackets(t *testing.T) {
 	} {
 		for what, call := range map[string]func([]byte) error{
 			"fields":   func(d []byte) error { return new(rtpwire.Fields).Apply(d) },
-			"csrc":     func(d []byte) error { return rtpwire.SetCSRC(d, 0, 7) },
+			"csrc":     func(d []byte) error { return rtpwire.SetCSRCAt(d, 0, 7) },
 			"set":      func(d []byte) error { return rtpwire.SetElement(d, 1, []byte{7}) },
 			"remove":   func(d []byte) error { return rtpwire.RemoveElement(d, 1) },
 			"renumber": func(d []byte) error { return rtpwire.Renumber(d, new(rtpwire.NewIDs)) },
@@ -272,15 +272,15 @@ func TestChangesOfNoPackets(t *testing.T) {
 			"padding":  func(d []byte) error { _, err := rtpwire.RemovePadding(d); return err },
 			"compact":  func(d []byte) error { _, err := rtpwire.Compact(d); return err },
 			"put": func(d []byte) error {
-				_, err := rtpwire.PutElement(d, len(d), 1, []byte{7}, rtpwire.AnyForm)
+				_, err := rtpwire.PutElementIn(d, len(d), 1, []byte{7}, rtpwire.AnyForm)
 				return err
 			},
 			"sent again": func(d []byte) error {
-				_, err := rtpwire.ToRetransmission(d, len(d), 1, 2, 3, new(rtpwire.NewIDs))
+				_, err := rtpwire.ToRetransmissionIn(d, len(d), 1, 2, 3, new(rtpwire.NewIDs))
 				return err
 			},
 			"restored": func(d []byte) error {
-				_, err := rtpwire.FromRetransmission(d, len(d), 1, 2, new(rtpwire.NewIDs))
+				_, err := rtpwire.FromRetransmissionIn(d, len(d), 1, 2, new(rtpwire.NewIDs))
 				return err
 			},
 		} {
@@ -358,7 +358,7 @@ func TestNilMapsAreNotSet(t *testing.T) {
 
 	// elements of the ids 1 and 2: the mid "a" and the rid "b" where a map says so
 	datagram := []byte{0x90, 0, 0, 5, 0, 0, 0, 1, 0, 0, 0, 0x2C, 0xBE, 0xDE, 0, 1, 0x10, 'a', 0x20, 'b'}
-	same(t, "values", parsed(t, datagram, nil).Values, rtpwire.Values{})
+	same(t, "values", parsed(t, datagram, nil).Header().Values, rtpwire.Values{})
 	same(t, "ids", []uint8{none.IDOf(rtpwire.KindMID), none.IDOf(rtpwire.KindRID)}, []uint8{0, 0})
 	var values rtpwire.Values
 	same(t, "the mid", values.SetMID("a"), nil)

@@ -11,8 +11,15 @@ const (
 	OtherForm   Form = 3 // another one ([Packet.BlockProfile]), in which no elements are read
 )
 
-// AnyForm allows both forms ([PutElement]).
-const AnyForm Form = 0
+// Forms are those that a block may get where an element is put ([PutElement]).
+type Forms uint8
+
+// The forms that are allowed.
+const (
+	AnyForm         Forms = 0 // either of the two
+	OnlyOneByteForm Forms = 1 // as for a peer that hasn't agreed to both in one stream (RFC 8285, 4.1.2)
+	OnlyTwoByteForm Forms = 2
+)
 
 // String names the form.
 func (f Form) String() string {
@@ -52,6 +59,10 @@ type Place struct {
 // call of the library and no memory.
 func (p *Packet) AppendPlaces(places []Place) []Place {
 	form, body := p.Block()
+	return appendPlaces(places, form, body)
+}
+
+func appendPlaces(places []Place, form Form, body []byte) []Place {
 	at := 0
 	for form.hasElements() {
 		if len(places) == cap(places) {

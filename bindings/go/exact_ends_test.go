@@ -2,29 +2,10 @@ package rtpwire_test
 
 import (
 	"bytes"
-	"os"
-	"syscall"
 	"testing"
 
-	"rtpwire"
+	"rtp-wire.example/rtpwire"
 )
-
-// atEnd is a copy of the bytes that ends where a page begins that may not be touched.
-func atEnd(t *testing.T, data []byte) []byte {
-	t.Helper()
-	page := os.Getpagesize()
-	pages, err := syscall.Mmap(-1, 0, 2*page, syscall.PROT_READ|syscall.PROT_WRITE, syscall.MAP_ANON|syscall.MAP_PRIVATE)
-	if err == nil {
-		err = syscall.Mprotect(pages[page:], syscall.PROT_NONE)
-	}
-	if err != nil {
-		t.Fatal(err)
-	}
-	t.Cleanup(func() { _ = syscall.Munmap(pages) })
-	copied := pages[page-len(data) : page : page]
-	copy(copied, data)
-	return copied
-}
 
 func TestNothingPastTheEndIsTouched(t *testing.T) {
 	m := everyKind(t)
@@ -56,15 +37,15 @@ func TestNothingPastTheEndIsTouched(t *testing.T) {
 			places := packet.AppendPlaces(nil)
 			buf := atEnd(t, make([]byte, packet.HeaderLen()))
 			_, body := packet.Block()
-			if n, err := packet.Header.WriteWith(buf, body, places); err != nil || n > len(buf) {
+			if n, err := packet.Header().WriteWith(buf, body, places); err != nil || n > len(buf) {
 				t.Fatal(n, err)
 			}
 			buf = atEnd(t, make([]byte, 20))
-			n, err := packet.Header.Write(buf, m)
+			n, err := packet.Header().WriteInto(buf, m)
 			if err != rtpwire.ErrShortBuffer || n != 0 {
 				t.Fatal(n, err)
 			}
-			n, err = packet.Header.WriteLayers(buf, m, &layers)
+			n, err = packet.Header().WriteLayers(buf, m, &layers)
 			if err != rtpwire.ErrShortBuffer || n != 0 {
 				t.Fatal(n, err)
 			}

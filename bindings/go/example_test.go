@@ -6,7 +6,7 @@ import (
 	"log"
 	"time"
 
-	"rtpwire"
+	"rtp-wire.example/rtpwire"
 )
 
 // This receives a stream whose packets needn't be authenticated: a replay is refused.
@@ -38,8 +38,8 @@ func Example() {
 			fmt.Println("padding that is longer than its payload")
 			continue
 		}
-		fmt.Printf("%d: payload type %d, %q\n", number, packet.PayloadType, media)
-		if level, voice, ok := packet.Values.AudioLevel(); ok {
+		fmt.Printf("%d: payload type %d, %q\n", number, packet.PayloadType(), media)
+		if level, voice, ok := packet.Values().AudioLevel(); ok {
 			fmt.Println("audio at", level, "dB, voice", voice)
 		}
 	}
@@ -52,7 +52,7 @@ func Example() {
 
 // With SRTP a forged packet must change nothing: the number is recorded once the packet is authenticated.
 func ExampleReceiver_CheckPacket() {
-	isAuthentic := func(packet *rtpwire.Packet, number uint64) bool { return packet.SSRC == 7 }
+	isAuthentic := func(packet *rtpwire.Packet, number uint64) bool { return packet.SSRC() == 7 }
 	var receiver rtpwire.Receiver // the packet indices of a new key begin at the rollover count 0
 	var packet rtpwire.Packet
 	for _, ssrc := range []byte{8, 7, 7} {
@@ -72,7 +72,7 @@ func ExampleReceiver_CheckPacket() {
 }
 
 // A packet like one that was read, under another SSRC and number: without the padding of that, and so without P.
-func ExampleHeader_Write() {
+func ExampleHeader_WriteInto() {
 	datagram := []byte{0xA0, 96, 0, 5, 0, 0, 0, 160, 0, 0, 0, 7, 'h', 'i', 0, 2}
 	var packet rtpwire.Packet
 	if err := packet.Parse(datagram, nil); err != nil {
@@ -82,11 +82,11 @@ func ExampleHeader_Write() {
 	if !ok {
 		log.Fatal("padding that is longer than its payload")
 	}
-	header := packet.Header // a copy
+	header := packet.Header() // a copy
 	header.SSRC, header.SequenceNumber = 44, 47000
 	header.HasPadding = false
 	buf := make([]byte, 1500)
-	n, err := header.Write(buf, nil)
+	n, err := header.WriteInto(buf, nil)
 	if err != nil {
 		log.Fatal(err)
 	}
@@ -323,7 +323,7 @@ func ExamplePacket_Token() {
 		if err := packet.Parse(datagram, m); err != nil {
 			log.Fatal(err)
 		}
-		mid, _ := packet.Values.MID()
+		mid, _ := packet.Values().MID()
 		token, ok := packet.Token(m.IDOf(rtpwire.KindMID))
 		fmt.Println(mid, token, ok, rtpwire.KindMID.Keeps(token))
 	}
@@ -433,7 +433,7 @@ func ExampleAppendTransmissionOffset() {
 	if err != nil {
 		log.Fatal(err)
 	}
-	datagram, err := rtpwire.PutElement(buf, 12, id, data, rtpwire.AnyForm)
+	datagram, err := rtpwire.PutElementIn(buf, 12, id, data, rtpwire.AnyForm)
 	if err != nil {
 		log.Fatal(err)
 	}
@@ -458,9 +458,9 @@ func one() (buf []byte, length int) {
 
 func ExampleAddElement() {
 	buf, length := one()
-	datagram, err := rtpwire.AddElement(buf, length, 1, []byte{0xBB}, rtpwire.AnyForm)
+	datagram, err := rtpwire.AddElementIn(buf, length, 1, []byte{0xBB}, rtpwire.AnyForm)
 	fmt.Printf("% X %v\n", datagram[12:], err)
-	_, err = rtpwire.AddElement(buf, length, 15, []byte{0xBB}, rtpwire.OneByteForm)
+	_, err = rtpwire.AddElementIn(buf, length, 15, []byte{0xBB}, rtpwire.OnlyOneByteForm)
 	fmt.Println(errors.Is(err, rtpwire.ErrLongID), errors.Is(err, rtpwire.ErrFormNotAllowed))
 	// Output:
 	// BE DE 00 01 10 AA 10 BB 01 <nil>
@@ -470,7 +470,7 @@ func ExampleAddElement() {
 // In the two-byte form an element may have an id above 14.
 func ExampleChangeForm() {
 	buf, length := one()
-	datagram, err := rtpwire.ChangeForm(buf, length, rtpwire.TwoByteForm)
+	datagram, err := rtpwire.ChangeFormIn(buf, length, rtpwire.TwoByteForm)
 	fmt.Printf("% X %v\n", datagram[12:], err)
 	ids := new(rtpwire.NewIDs)
 	ids.Set(1, 200)
@@ -483,9 +483,9 @@ func ExampleChangeForm() {
 
 func ExamplePutBlock() {
 	buf, length := one()
-	datagram, err := rtpwire.PutBlock(buf, length, 0xABAC, []byte{1, 2, 3, 4, 5, 6, 7, 8})
+	datagram, err := rtpwire.PutBlockIn(buf, length, 0xABAC, []byte{1, 2, 3, 4, 5, 6, 7, 8})
 	fmt.Printf("% X %v\n", datagram[12:], err)
-	_, err = rtpwire.PutBlock(buf, length, 0xABAC, make([]byte, 4*65536))
+	_, err = rtpwire.PutBlockIn(buf, length, 0xABAC, make([]byte, 4*65536))
 	fmt.Println(errors.Is(err, rtpwire.ErrLongBlock))
 	// Output:
 	// AB AC 00 02 01 02 03 04 05 06 07 08 01 <nil>

@@ -1,3 +1,3 @@
-module rtpwire
+module rtp-wire.example/rtpwire
 
 go 1.19

@@ -2,11 +2,13 @@ package rtpwire_test
 
 import (
 	"os"
+	"path/filepath"
 	"regexp"
+	"strings"
 	"sync"
 	"testing"
 
-	"rtpwire"
+	"rtp-wire.example/rtpwire"
 )
 
 // Calls of many goroutines at once, each with values of its own, give what they give one after another.
@@ -24,14 +26,18 @@ func TestManyGoroutines(t *testing.T) {
 	group.Wait()
 }
 
-// No call keeps anything in memory that goroutines share: whatever is static in C is a function.
-func TestNothingIsKeptInC(t *testing.T) {
-	calls, err := os.ReadFile("calls.h")
-	same(t, "read", err, nil)
-	found := regexp.MustCompile(`\bstatic\b( inline)?`).FindAllString(string(calls), -1)
-	same(t, "there are", len(found) > 20, true)
-	for _, it := range found {
-		same(t, "static", it, "static inline")
+// No call keeps anything in memory that goroutines share: no word of data is in the texts but those that are only read.
+func TestNothingIsKept(t *testing.T) {
+	names, err := filepath.Glob("rtp_wire_*.s")
+	same(t, "there are", len(names) > 0 && err == nil, true)
+	for _, name := range names {
+		text, err := os.ReadFile(name)
+		same(t, "read", err, nil)
+		found := regexp.MustCompile(`(?m)^GLOBL .*$`).FindAllString(string(text), -1)
+		same(t, "there is one", len(found) > 0, true)
+		for _, it := range found {
+			same(t, it, strings.Contains(it, ", RODATA, "), true)
+		}
 	}
 }
 
@@ -50,7 +56,7 @@ func alone(t *testing.T, own byte, round uint16) {
 	var receiver rtpwire.Receiver
 	var restarting rtpwire.RestartingReceiver
 	is("parse", 0, 0, packet.Parse(datagram, nil))
-	is("SSRC", uint64(packet.SSRC), uint64(own), nil)
+	is("SSRC", uint64(packet.SSRC()), uint64(own), nil)
 	extended, err := receiver.CheckPacket(datagram, nil, &packet)
 	is("checked", extended, uint64(number), err)
 	extended, err = receiver.ReceivePacket(datagram, nil, &packet)
@@ -66,7 +72,7 @@ func alone(t *testing.T, own byte, round uint16) {
 
 	header := rtpwire.Header{SequenceNumber: number}
 	is("sources", 0, 0, header.SetCSRC(make([]uint32, own)))
-	length, err := header.Write(buf, nil)
+	length, err := header.WriteInto(buf, nil)
 	is("written", uint64(length), 12+4*uint64(own), err)
 	length, err = header.WireLen(nil)
 	is("length", uint64(length), 12+4*uint64(own), err)
@@ -79,7 +85,7 @@ func alone(t *testing.T, own byte, round uint16) {
 	data, err := v.DataOf(rtpwire.KindMID, buf)
 	is("data", uint64(len(data)), uint64(own), err)
 	copy(buf, datagram)
-	made, err := rtpwire.PutElement(buf, 14, own, make([]byte, own), rtpwire.AnyForm)
+	made, err := rtpwire.PutElementIn(buf, 14, own, make([]byte, own), rtpwire.AnyForm)
 	is("put", uint64(len(made)), 14+4+(uint64(own)+1+3)/4*4, err)
 	element, ok := func() ([]byte, bool) {
 		is("parse", 0, 0, packet.Parse(made, nil))
@@ -87,19 +93,19 @@ func alone(t *testing.T, own byte, round uint16) {
 	}()
 	is("element", uint64(len(element)), uint64(own), nil)
 	is("there", map[bool]uint64{true: 1}[ok], 1, nil)
-	made, err = rtpwire.ToRetransmission(buf, len(made), 1, 2, 3, new(rtpwire.NewIDs))
+	made, err = rtpwire.ToRetransmissionIn(buf, len(made), 1, 2, 3, new(rtpwire.NewIDs))
 	is("sent again", uint64(len(made)), 16+4+(uint64(own)+1+3)/4*4, err)
-	made, err = rtpwire.FromRetransmission(buf, len(made), 1, 2, new(rtpwire.NewIDs))
+	made, err = rtpwire.FromRetransmissionIn(buf, len(made), 1, 2, new(rtpwire.NewIDs))
 	is("restored", uint64(len(made)), 14+4+(uint64(own)+1+3)/4*4, err)
 	made, err = rtpwire.Compact(made)
 	is("compact", uint64(len(made)), 18, err)
 	made, err = rtpwire.RemovePadding(made)
 	is("without padding", uint64(len(made)), 18, err)
-	made, err = rtpwire.AddElement(buf, 18, own, make([]byte, own), rtpwire.OneByteForm)
+	made, err = rtpwire.AddElementIn(buf, 18, own, make([]byte, own), rtpwire.OnlyOneByteForm)
 	is("added", uint64(len(made)), 18+(uint64(own)+1+3)/4*4, err)
-	made, err = rtpwire.ChangeForm(buf, len(made), rtpwire.TwoByteForm)
+	made, err = rtpwire.ChangeFormIn(buf, len(made), rtpwire.TwoByteForm)
 	is("changed", uint64(len(made)), 18+(uint64(own)+2+3)/4*4, err)
-	made, err = rtpwire.PutBlock(buf, len(made), 0xABAC, make([]byte, 4*int(own)))
+	made, err = rtpwire.PutBlockIn(buf, len(made), 0xABAC, make([]byte, 4*int(own)))
 	is("block", uint64(len(made)), 18+4*uint64(own), err)
 	made, err = rtpwire.RemoveBlock(made)
 	is("no block", uint64(len(made)), 14, err)

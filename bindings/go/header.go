@@ -1,7 +1,7 @@
 package rtpwire
 
-// A Header is the header of a packet (RFC 3550, 5.1), with the values of its block: a [Packet] has the one that was
-// read, and [Header.Write] writes one. It may be copied.
+// A Header is the header of a packet (RFC 3550, 5.1), with the values of its block: [Packet.Header] is a copy of the one
+// that was read, and [Header.WriteInto] writes one. It may be copied.
 type Header struct {
 	headerLen int
 	// Timestamp is the moment of the payload's first byte, in ticks of the payload's own clock.
@@ -51,12 +51,12 @@ func (h *Header) SetCSRC(sources []uint32) error {
 	return nil
 }
 
-// WireLen is how many bytes Write writes: a multiple of 4. It returns ErrBadField as Write does.
+// WireLen is how many bytes WriteInto writes: a multiple of 4. It returns ErrBadField as WriteInto does.
 func (h *Header) WireLen(m *Map) (int, error) {
 	return h.wireLen(m)
 }
 
-// Write writes the header to the front of the buffer, and returns how many bytes it took: the payload follows there.
+// WriteInto writes the header to the front of the buffer, and returns how many bytes it took: the payload follows there.
 // Those after them stay. Where there is a block it has an element for each mapped id whose value is there, by rising
 // id, in the one-byte form where no id above 14 and no KindLayers is mapped, and no text that is written is empty. A
 // layer allocation isn't written ([Header.WriteLayers]). A value without an id, or without a block, is left out, and no
@@ -65,7 +65,7 @@ func (h *Header) WireLen(m *Map) (int, error) {
 //
 // It returns ErrBadField where the payload type is above 127, the orientation none of the four, or the audio level none
 // of -127 to 0, and else ErrShortBuffer where the buffer has too few bytes; nothing is written then.
-func (h *Header) Write(buf []byte, m *Map) (int, error) {
+func (h *Header) WriteInto(buf []byte, m *Map) (int, error) {
 	return h.write(buf, m)
 }
 
@@ -74,7 +74,7 @@ func (h *Header) WireLenLayers(m *Map, layers *Layers) (int, error) {
 	return h.wireLenLayers(m, layers)
 }
 
-// WriteLayers writes the header as Write does, and these layers, in an element for each id that means KindLayers: so
+// WriteLayers writes the header as WriteInto does, and these layers, in an element for each id that means KindLayers: so
 // what [Layers.Parse] read is written again. A stream is written without the layers at its end that aren't active.
 //
 // It returns ErrBadField also where no element can carry the layers, mapped or not: the packet's stream is above 3, or
@@ -84,9 +84,9 @@ func (h *Header) WriteLayers(buf []byte, m *Map, layers *Layers) (int, error) {
 	return h.writeLayers(buf, m, layers)
 }
 
-// LeftOut is the kinds of which there is a value that Write leaves out: all that are there where HasExtension is false,
+// LeftOut is the kinds of which there is a value that WriteInto leaves out: all that are there where HasExtension is false,
 // and else those that aren't mapped; those of which a second value is absent, as an audio level without voice or one of two
-// playout delays; and KindLayers where a layer allocation was read. It returns ErrBadField as Write does.
+// playout delays; and KindLayers where a layer allocation was read. It returns ErrBadField as WriteInto does.
 func (h *Header) LeftOut(m *Map) (KindSet, error) {
 	return h.leftOut(m)
 }
@@ -97,7 +97,7 @@ func (h *Header) LeftOutLayers(m *Map, layers *Layers) (KindSet, error) {
 	return h.leftOutLayers(m, layers)
 }
 
-// WriteAll writes the header as Write does, where no value is left out. It returns the errors of Write; and after
+// WriteAll writes the header as WriteInto does, where no value is left out. It returns the errors of WriteInto; and after
 // ErrBadField and before ErrShortBuffer a *[LeftOutError], where LeftOut tells any kind. Nothing is written then.
 func (h *Header) WriteAll(buf []byte, m *Map) (int, error) {
 	kinds, err := h.leftOut(m)
@@ -107,7 +107,7 @@ func (h *Header) WriteAll(buf []byte, m *Map) (int, error) {
 	if kinds != 0 {
 		return 0, &LeftOutError{kinds}
 	}
-	return h.Write(buf, m)
+	return h.WriteInto(buf, m)
 }
 
 // WriteAllLayers writes the header as WriteLayers does, where no value is left out. It returns the errors of WriteLayers,
@@ -135,9 +135,42 @@ func (h *Header) WriteWith(buf, data []byte, places []Place) (int, error) {
 }
 
 // WriteWithForm writes as WriteWith does, in this form alone, for a peer that hasn't agreed to both forms in one
-// stream (RFC 8285, 4.1.2): OneByteForm or TwoByteForm; with NoBlock it does what WriteWith does.
+// stream (RFC 8285, 4.1.2): OneByteForm or TwoByteForm.
 //
 // It returns ErrBadField also where the form is another number, or can't carry an element.
 func (h *Header) WriteWithForm(buf []byte, form Form, data []byte, places []Place) (int, error) {
+	if form == NoBlock {
+		return 0, ErrBadField
+	}
 	return h.writeWith(buf, form, data, places)
+}
+
+// WireLenWith is how many bytes WriteWith writes: a multiple of 4. It returns ErrBadField as WriteWith does.
+func (h *Header) WireLenWith(data []byte, places []Place) (int, error) {
+	return h.wireLenWith(NoBlock, data, places)
+}
+
+// WireLenWithForm is how many bytes WriteWithForm writes: a multiple of 4. It returns ErrBadField as WriteWithForm does.
+func (h *Header) WireLenWithForm(form Form, data []byte, places []Place) (int, error) {
+	if form == NoBlock {
+		return 0, ErrBadField
+	}
+	return h.wireLenWith(form, data, places)
+}
+
+func (h *Header) wireLenWith(form Form, data []byte, places []Place) (int, error) {
+	_, err := h.writeWith(nil, form, data, places)
+	if err != ErrShortBuffer {
+		return 0, err
+	}
+	body, fitsOneByte := 0, form != TwoByteForm
+	for _, it := range places {
+		body += it.Len
+		fitsOneByte = fitsOneByte && it.ID <= 14 && 1 <= it.Len && it.Len <= 16
+	}
+	each := 2
+	if fitsOneByte {
+		each = 1
+	}
+	return 12 + 4*int(h.csrcCount) + 4 + (body+each*len(places)+3)/4*4, nil
 }

@@ -6,7 +6,7 @@ import (
 	"strings"
 	"testing"
 
-	"rtpwire"
+	"rtp-wire.example/rtpwire"
 )
 
 // The expected bytes are worked out by hand from RFC 3550, 5.1, RFC 4588, 4, and RFC 8285, 4.3.
@@ -123,7 +123,7 @@ func TestPaddingIsClearedWhereItIsSaid(t *testing.T) {
 	header, _ := batch.At(1)
 	read := parsed(t, append(append([]byte(nil), header...), packet[12:14]...), nil)
 	payload, ok := read.UnpaddedPayload()
-	same(t, "a packet", []any{string(payload), ok, read.HasPadding}, []any{"hi", true, false})
+	same(t, "a packet", []any{string(payload), ok, read.HasPadding()}, []any{"hi", true, false})
 	batch.ClearPadding(1, false)
 	batch.ClearPadding(2, true)
 	firsts("the third", 0xA0, 0xA0, 0x80)

@@ -23,10 +23,12 @@ func TestStructsLieAsThoseOfC(t *testing.T) {
 		la Layer
 		s  Stream
 		l  Layers
+		wp wholePacket
 		dg datagram
 		dh datagramHeader
 		a  arrival
 		te template
+		pg PreparedGroup
 		rh routedHeader
 		fm FrameMarking
 		o  Orientation
@@ -54,6 +56,23 @@ func TestStructsLieAsThoseOfC(t *testing.T) {
 		{"packet.padding_fits", unsafe.Offsetof(p.paddingFits), 54},
 		{"packet.block_form", unsafe.Offsetof(p.form), 55},
 		{"packet.block_profile", unsafe.Offsetof(p.profile), 56},
+		{"whole_packet", unsafe.Sizeof(wp), 256},
+		{"whole_packet.header", unsafe.Offsetof(wp.header), 0},
+		{"whole_packet.unpadded_len", unsafe.Offsetof(wp.unpaddedLen), 224},
+		{"whole_packet.body_at", unsafe.Offsetof(wp.bodyAt), 232},
+		{"whole_packet.body_len", unsafe.Offsetof(wp.bodyLen), 240},
+		{"whole_packet.block_profile", unsafe.Offsetof(wp.profile), 248},
+		{"whole_packet.block_form", unsafe.Offsetof(wp.form), 250},
+		{"whole_packet.padding_fits", unsafe.Offsetof(wp.paddingFits), 251},
+		{"group", unsafe.Sizeof(pg), 550},
+		{"group.new_ids", unsafe.Offsetof(pg.newIDs), 0},
+		{"group.numbers", unsafe.Offsetof(pg.numbers), 256},
+		{"group.element_ids", unsafe.Offsetof(pg.elementIDs), 512},
+		{"group.data_lens", unsafe.Offsetof(pg.dataLens), 528},
+		{"group.data_total", unsafe.Offsetof(pg.dataTotal), 544},
+		{"group.count", unsafe.Offsetof(pg.count), 546},
+		{"group.allowed", unsafe.Offsetof(pg.allowed), 547},
+		{"group.one_byte", unsafe.Offsetof(pg.oneByte), 548},
 		{"fields", unsafe.Sizeof(f), 20},
 		{"fields.ssrc", unsafe.Offsetof(f.ssrc), 4},
 		{"fields.sequence_number", unsafe.Offsetof(f.sequenceNumber), 8},

@@ -42,7 +42,7 @@ func TestLeftOutIsToldOrRefused(t *testing.T) {
 	if buf[0] != 0xEE {
 		t.Fatal("something is written")
 	}
-	if n, err := h.Write(buf, m); n != 20 || err != nil {
+	if n, err := h.WriteInto(buf, m); n != 20 || err != nil {
 		t.Fatal(n, err)
 	}
 	h.HasExtension = false

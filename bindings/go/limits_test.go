@@ -10,7 +10,7 @@ import (
 	"testing"
 	"time"
 
-	"rtpwire"
+	"rtp-wire.example/rtpwire"
 )
 
 const far = uint64(1) << 40 // past 2^32
@@ -179,15 +179,15 @@ func TestNumbersPastTwoToThe32(t *testing.T) {
 	datagram := append(sample(), make([]byte, 300)...)
 	before := append([]byte(nil), datagram...)
 	for _, at := range []int{1 << 32, 1<<32 + 1, -1 << 32} {
-		same(t, "no source", rtpwire.SetCSRC(datagram[:37], at, 7), rtpwire.ErrNotFound)
+		same(t, "no source", rtpwire.SetCSRCAt(datagram[:37], at, 7), rtpwire.ErrNotFound)
 		for what, call := range map[string]func() error{
-			"put": func() error { _, err := rtpwire.PutElement(datagram, at+37, 1, nil, rtpwire.AnyForm); return err },
+			"put": func() error { _, err := rtpwire.PutElementIn(datagram, at+37, 1, nil, rtpwire.AnyForm); return err },
 			"sent": func() error {
-				_, err := rtpwire.ToRetransmission(datagram, at+37, 1, 2, 3, new(rtpwire.NewIDs))
+				_, err := rtpwire.ToRetransmissionIn(datagram, at+37, 1, 2, 3, new(rtpwire.NewIDs))
 				return err
 			},
 			"back": func() error {
-				_, err := rtpwire.FromRetransmission(datagram, at+37, 1, 2, new(rtpwire.NewIDs))
+				_, err := rtpwire.FromRetransmissionIn(datagram, at+37, 1, 2, new(rtpwire.NewIDs))
 				return err
 			},
 		} {
@@ -241,19 +241,19 @@ func TestEnds(t *testing.T) {
 	header := rtpwire.Header{SSRC: 5}
 	same(t, "set", header.SetCSRC(most), nil)
 	buf := make([]byte, 72)
-	n, err := header.Write(buf, nil)
+	n, err := header.WriteInto(buf, nil)
 	same(t, "written", []any{n, err, buf[0]}, []any{72, nil, byte(0x8F)})
 	packet := parsed(t, buf, nil)
 	same(t, "sources", packet.CSRC(), most)
 	same(t, "not set", []any{header.SetCSRC(make([]uint32, 16)), header.CSRC()}, []any{rtpwire.ErrBadField, most})
-	same(t, "the last source", []error{rtpwire.SetCSRC(buf, 14, 9), rtpwire.SetCSRC(buf, 15, 9)}, []error{nil, rtpwire.ErrNotFound})
+	same(t, "the last source", []error{rtpwire.SetCSRCAt(buf, 14, 9), rtpwire.SetCSRCAt(buf, 15, 9)}, []error{nil, rtpwire.ErrNotFound})
 	same(t, "bytes", buf[68:], []byte{0, 0, 0, 9})
 
 	// Of a block of another form the sources are read too, all of them.
 	datagram := append(append([]byte{0x9F, 96}, buf[2:]...), 0xAB, 0xAC, 0, 0, 7)
 	other := parsed(t, datagram, everyKind(t))
 	most[14] = 9
-	same(t, "sources", []any{other.CSRC(), other.HeaderLen(), other.SSRC, other.HasExtension, other.HasPadding, other.Marker},
+	same(t, "sources", []any{other.CSRC(), other.HeaderLen(), other.SSRC(), other.HasExtension(), other.HasPadding(), other.Marker()},
 		[]any{most, 76, uint32(5), true, false, false})
 
 	var layer rtpwire.Layer
@@ -321,7 +321,8 @@ func TestNames(t *testing.T) {
 		forms = append(forms, form.String())
 	}
 	same(t, "forms", forms, []string{"no block", "one-byte form", "two-byte form", "other form", "unknown form"})
-	same(t, "numbers", []rtpwire.Form{rtpwire.AnyForm, rtpwire.OneByteForm, rtpwire.TwoByteForm, rtpwire.OtherForm}, []rtpwire.Form{0, 1, 2, 3})
+	same(t, "numbers", []rtpwire.Form{rtpwire.NoBlock, rtpwire.OneByteForm, rtpwire.TwoByteForm, rtpwire.OtherForm}, []rtpwire.Form{0, 1, 2, 3})
+	same(t, "allowed", []rtpwire.Forms{rtpwire.AnyForm, rtpwire.OnlyOneByteForm, rtpwire.OnlyTwoByteForm}, []rtpwire.Forms{0, 1, 2})
 	same(t, "no verdict", rtpwire.Verdict(9).String(), "refused")
 	same(t, "room", rtpwire.MostData, 16)
 }
@@ -391,7 +392,7 @@ func TestLongBuffers(t *testing.T) {
 	// 4 + 65,540 bytes of a block, and 70,000 of payload
 	datagram := append([]byte{0x90, 96, 0, 5, 0, 0, 0, 1, 0, 0, 0, 7, 0xBE, 0xDE, 0x40, 1}, make([]byte, 65540+70000)...)
 	copy(datagram[65552:], []byte{0x61, 8, 9})
-	number, ok := parsed(t, datagram, everyKind(t)).Values.TransportNumber()
+	number, ok := parsed(t, datagram, everyKind(t)).Values().TransportNumber()
 	same(t, "value", []any{number, ok}, []any{uint16(0x0809), true})
 	packet := parsed(t, datagram, nil)
 	same(t, "lengths", []int{packet.HeaderLen(), len(packet.Payload())}, []int{65556, 70000})
@@ -405,11 +406,11 @@ func TestLongBuffers(t *testing.T) {
 	same(t, "written", []any{n, err, buf[16:20]}, []any{20, nil, []byte{0x61, 6, 7, 0}})
 	length := len(datagram)
 	datagram = append(datagram, 0, 0)
-	sent, err := rtpwire.ToRetransmission(datagram, length, 9, 97, 0xFFFE, new(rtpwire.NewIDs))
+	sent, err := rtpwire.ToRetransmissionIn(datagram, length, 9, 97, 0xFFFE, new(rtpwire.NewIDs))
 	same(t, "sent again", []any{len(sent), err, sent[2:4]}, []any{length + 2, nil, []byte{0xFF, 0xFE}})
 	short, err := rtpwire.Compact(sent)
 	same(t, "without its block", []any{len(short), err}, []any{16 + 70002, nil})
-	grown, err := rtpwire.PutElement(datagram, len(short), 300-45, make([]byte, 255), rtpwire.AnyForm)
+	grown, err := rtpwire.PutElementIn(datagram, len(short), 300-45, make([]byte, 255), rtpwire.AnyForm)
 	same(t, "put", []any{len(grown), err}, []any{16 + 260 + 70002, nil})
 	count, err := rtpwire.Pad(datagram, len(grown), 3, 1)
 	same(t, "padded", []any{count, err, datagram[len(grown)+2]}, []any{3, nil, byte(3)})

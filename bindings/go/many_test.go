@@ -8,7 +8,7 @@ import (
 	"reflect"
 	"testing"
 
-	"rtpwire"
+	"rtp-wire.example/rtpwire"
 )
 
 // joined is the datagrams in one buffer, each behind a byte of no datagram, and where each begins.
@@ -92,10 +92,10 @@ func TestManyAreReadAsEachAlone(t *testing.T) {
 			continue
 		}
 		alone := parsed(t, row.datagram, m)
-		same(t, what+": header", *header, alone.Header)
+		same(t, what+": header", *header, *alone.Header())
 		same(t, what+": fields",
 			[]any{fields.Timestamp, fields.SSRC, fields.SequenceNumber, fields.PayloadType, fields.Marker, fields.HasPadding},
-			[]any{alone.Timestamp, alone.SSRC, alone.SequenceNumber, alone.PayloadType, alone.Marker, alone.HasPadding})
+			[]any{alone.Timestamp(), alone.SSRC(), alone.SequenceNumber(), alone.PayloadType(), alone.Marker(), alone.HasPadding()})
 		same(t, what+": lengths", lengths, []int{alone.HeaderLen(), alone.HeaderLen()})
 		same(t, what+": payloads", payloads, [][]byte{alone.Payload(), alone.Payload()})
 		wanted, ok := alone.UnpaddedPayload()
@@ -451,7 +451,7 @@ func agree(t *testing.T, buf []byte, m *rtpwire.Map, headers *rtpwire.HeaderBatc
 		aloneUnpadded, aloneOK := alone.UnpaddedPayload()
 		form, body := packets.Block(i)
 		aloneForm, aloneBody := alone.Block()
-		if *header != alone.Header || fields.SSRC != alone.SSRC || ok != aloneOK || otherOK != aloneOK || form != aloneForm ||
+		if *header != *alone.Header() || fields.SSRC != alone.SSRC() || ok != aloneOK || otherOK != aloneOK || form != aloneForm ||
 			!bytes.Equal(unpadded, aloneUnpadded) || !bytes.Equal(otherUnpadded, aloneUnpadded) || !bytes.Equal(body, aloneBody) ||
 			!bytes.Equal(headers.Payload(i), alone.Payload()) || !bytes.Equal(packets.Payload(i), alone.Payload()) {
 			t.Fatalf("% x", datagram)

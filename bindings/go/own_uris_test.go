@@ -5,7 +5,7 @@ import (
 	"sync"
 	"testing"
 
-	"rtpwire"
+	"rtp-wire.example/rtpwire"
 )
 
 const (

@@ -1,12 +1,22 @@
 package rtpwire
 
-// A Packet is a packet in the bytes of its datagram, of which nothing is copied but the header: its fields and
-// values are those of the Header, and its methods lend parts of the datagram: an append to one copies, so that nothing of
-// the packet or behind it changes. Use one again for the next packet: what it lent stays as it is.
+// A Packet is a packet in the bytes of its datagram, as they were when it was read: its methods tell the fields and the
+// values, and lend parts of the datagram: an append to one copies, so that nothing of the packet or behind it changes. To
+// change it, change the bytes ([Fields], [PutElement]), and read what they become, or write a [Packet.Header]. Use one again
+// for the next packet: what it lent stays as it is.
 type Packet struct {
-	Header
-	parts    PacketFields
+	wholePacket
 	datagram []byte
+}
+
+// wholePacket is rtpw_whole_packet in C.
+type wholePacket struct {
+	header          Header
+	unpaddedLen     int
+	bodyAt, bodyLen int
+	profile         uint16
+	form            Form
+	paddingFits     bool
 }
 
 // PacketFields are what the header of a packet says without its values, and where the parts of the packet lie:
@@ -32,17 +42,83 @@ type PacketFields struct {
 	profile     uint16
 }
 
-// Parse reads the packet that the datagram is, in one call of the library: the fields, the values of its block under
-// the map, and where its parts lie. A block of another form gives no values. On a port that RTP and RTCP share
-// [IsRTCP] comes first.
+// Parse reads the fields of the packet that the datagram is, and where its parts lie, and no value of its block: in half of
+// the time of [Packet.Parse]. On a port that RTP and RTCP share [IsRTCP] comes first.
+//
+// It returns the first Cause for which the datagram is no packet; nothing changes then.
+func (p *PacketFields) Parse(datagram []byte) error {
+	return errorOf(rtpw_packet_parse(first(datagram), size(datagram), p.c()))
+}
+
+// HeaderLen is how many bytes the header takes: 12 to 262,216.
+func (p *PacketFields) HeaderLen() int {
+	return p.payloadAt
+}
+
+// CSRCCount is how many contributing sources the packet has, 0 to 15: [Packet.Parse] reads them.
+func (p *PacketFields) CSRCCount() int {
+	return int(p.csrcCount)
+}
+
+// Block is the form and the body of the extension block of the datagram that was read last, as [Packet.Block] tells them.
+func (p *PacketFields) Block(datagram []byte) (Form, []byte) {
+	return p.form, datagram[p.bodyAt:p.payloadAt:p.payloadAt]
+}
+
+// BlockProfile is the 16 bits that the block begins with, and 0 where there is none.
+func (p *PacketFields) BlockProfile() uint16 {
+	return p.profile
+}
+
+// AppendPlaces appends the places of the elements of the block of the datagram that was read last, as
+// [Packet.AppendPlaces] does.
+func (p *PacketFields) AppendPlaces(places []Place, datagram []byte) []Place {
+	return appendPlaces(places, p.form, datagram[p.bodyAt:p.payloadAt])
+}
+
+// NextPlace makes of the place of an element that of the next one in the block of the datagram that was read last, and of a
+// zero Place that of the first one. It is false, and the place stays, where there is none: as AppendPlaces tells them.
+func (p *PacketFields) NextPlace(place *Place, datagram []byte) bool {
+	return p.form.hasElements() && place.end < p.bodyLen && place.next(datagram[p.bodyAt:p.payloadAt], p.form)
+}
+
+// UnpaddedPayload is the payload of the datagram that was read last without its padding. It is not ok where the padding's
+// last byte counts more bytes than the payload has.
+func (p *PacketFields) UnpaddedPayload(datagram []byte) (payload []byte, ok bool) {
+	if !p.paddingFits {
+		return nil, false
+	}
+	end := p.payloadAt + p.unpaddedLen
+	return datagram[p.payloadAt:end:end], true
+}
+
+// Payload is the payload of the datagram that was read last, with any padding.
+func (p *PacketFields) Payload(datagram []byte) []byte {
+	end := p.payloadAt + p.payloadLen
+	return datagram[p.payloadAt:end:end]
+}
+
+// Parse reads the packet that the datagram is, in one call of the library: the fields, the values of its block under the
+// map, and where its parts lie. A block of another form gives no values. On a port that RTP and RTCP share
+// [Packet.ParseMuxed] tells RTCP.
 //
 // It returns the first Cause for which the datagram is no packet; nothing changes then.
 func (p *Packet) Parse(datagram []byte, m *Map) error {
-	err := p.parse(datagram, m)
-	if err == nil {
+	status := p.parse(datagram, m)
+	if status == statusOK {
 		p.datagram = datagram
 	}
-	return err
+	return errorOf(status)
+}
+
+// ParseMuxed reads as [Packet.Parse] does from a port that RTP and RTCP share (RFC 5761), and returns [ErrRTCP] of RTCP
+// ([IsRTCP]), before any Cause: such a datagram isn't lost, nor taken for RTP. Nothing changes then.
+func (p *Packet) ParseMuxed(datagram []byte, m *Map) error {
+	status := p.read(datagram, m)
+	if status == statusOK {
+		p.datagram = datagram
+	}
+	return errorOf(status)
 }
 
 // Datagram is the whole datagram.
@@ -53,37 +129,89 @@ func (p *Packet) Datagram() []byte {
 
 // HeaderLen is how many bytes the header takes: 12 to 262,216.
 func (p *Packet) HeaderLen() int {
-	return p.parts.payloadAt
+	return p.header.headerLen
+}
+
+// SequenceNumber is the low 16 bits of the packet's number.
+func (p *Packet) SequenceNumber() uint16 {
+	return p.header.SequenceNumber
+}
+
+// Timestamp is the moment of the payload's first byte, in ticks of the payload's own clock.
+func (p *Packet) Timestamp() uint32 {
+	return p.header.Timestamp
+}
+
+// SSRC is the stream's source.
+func (p *Packet) SSRC() uint32 {
+	return p.header.SSRC
+}
+
+// PayloadType says what the payload is, 0 to 127.
+func (p *Packet) PayloadType() uint8 {
+	return p.header.PayloadType
+}
+
+// Marker is M.
+func (p *Packet) Marker() bool {
+	return p.header.Marker
+}
+
+// HasPadding is P: whether there is padding at the end of the payload ([Packet.UnpaddedPayload]).
+func (p *Packet) HasPadding() bool {
+	return p.header.HasPadding
+}
+
+// HasExtension is X: whether there is a block of extensions ([Packet.Block]).
+func (p *Packet) HasExtension() bool {
+	return p.header.HasExtension
+}
+
+// CSRC is the contributing sources, at most 15, in order: those that were read, not bytes of the datagram.
+func (p *Packet) CSRC() []uint32 {
+	return p.header.CSRC()
+}
+
+// Values are what the elements of the block say under the map that the packet was read with, until it is used again: none
+// without a block, or in a block of another form.
+func (p *Packet) Values() *ReadValues {
+	return &p.header.Values.ReadValues
+}
+
+// Header is a copy of the header, to be changed and written. It takes no memory where the compiler sees that it isn't kept.
+func (p *Packet) Header() *Header {
+	header := p.header
+	return &header
 }
 
 // Payload is the payload with any padding, as the packet is sent on. What is played is [Packet.UnpaddedPayload]: of a
 // packet with P set the last bytes of this one are no media.
 func (p *Packet) Payload() []byte {
 	size := len(p.datagram)
-	return p.datagram[p.parts.payloadAt:size:size]
+	return p.datagram[p.header.headerLen:size:size]
 }
 
 // UnpaddedPayload is the payload without its padding: the media. It is not ok where the padding's last byte counts more
 // bytes than the payload has: drop the packet. Of SRTP the padding is encrypted: decrypt first.
 func (p *Packet) UnpaddedPayload() (payload []byte, ok bool) {
-	if !p.parts.paddingFits {
+	if !p.paddingFits {
 		return nil, false
 	}
-	end := p.parts.payloadAt + p.parts.unpaddedLen
-	return p.datagram[p.parts.payloadAt:end:end], true
+	end := p.header.headerLen + p.unpaddedLen
+	return p.datagram[p.header.headerLen:end:end], true
 }
 
 // Block is the form and the body of the extension block, after the four bytes of its header. Where there is none (X is
 // clear) the form is NoBlock. Of a block of OtherForm [Packet.BlockProfile] says more.
 func (p *Packet) Block() (Form, []byte) {
-	return p.parts.form, p.datagram[p.parts.bodyAt:p.parts.payloadAt:p.parts.payloadAt]
+	return p.form, p.datagram[p.bodyAt:p.header.headerLen:p.header.headerLen]
 }
 
 // BlockProfile is the 16 bits that the extension block begins with, those of a form or others, which the block's
 // profile defines (RFC 3550, 5.3.1): 0xABAC of ONVIF's cameras, say, and 0xC0DE and 0xC2DE of Cryptex (RFC 9335).
 // It is 0 where there is no block.
 func (p *Packet) BlockProfile() uint16 {
-	return p.parts.profile
+	return p.profile
 }
 
 // PeekSSRC is where a packet has its SSRC, to find the Receiver of a datagram before [Receiver.ReceivePacket] reads
@@ -97,8 +225,8 @@ func PeekSSRC(datagram []byte) (ssrc uint32, ok bool) {
 }
 
 // IsRTCP is whether a datagram on a port that RTP and RTCP share is RTCP (RFC 5761, 4): it has version 2, and its
-// second byte, the RTCP packet type, is 192 to 223. It comes before [Packet.Parse], which would take a receiver
+// second byte, the RTCP packet type, is 192 to 223. [Packet.ParseMuxed] tells it too; [Packet.Parse] would take a receiver
 // report for RTP: as RTP that byte is M and a payload type of 64 to 95, which a stream on such a port must not have.
 func IsRTCP(datagram []byte) bool {
-	return len(datagram) >= 2 && datagram[0]>>6 == 2 && 192 <= datagram[1] && datagram[1] <= 223
+	return isRTCP(datagram)
 }

@@ -9,7 +9,7 @@ import (
 	"strings"
 	"testing"
 
-	"rtpwire"
+	"rtp-wire.example/rtpwire"
 )
 
 // sample is V=2, P, X, CC=2; M, PT=33; 47,000; 10,000; 44; the sources 1 and 2; a block of two words in the one-byte
@@ -39,14 +39,14 @@ func same(t *testing.T, what string, got, wanted any) {
 
 func TestPacketIsRead(t *testing.T) {
 	packet := parsed(t, sample(), nil)
-	same(t, "marker", packet.Marker, true)
-	same(t, "payload type", packet.PayloadType, uint8(33))
-	same(t, "sequence number", packet.SequenceNumber, uint16(47000))
-	same(t, "timestamp", packet.Timestamp, uint32(10000))
-	same(t, "SSRC", packet.SSRC, uint32(44))
+	same(t, "marker", packet.Marker(), true)
+	same(t, "payload type", packet.PayloadType(), uint8(33))
+	same(t, "sequence number", packet.SequenceNumber(), uint16(47000))
+	same(t, "timestamp", packet.Timestamp(), uint32(10000))
+	same(t, "SSRC", packet.SSRC(), uint32(44))
 	same(t, "CSRC", packet.CSRC(), []uint32{1, 2})
-	same(t, "P", packet.HasPadding, true)
-	same(t, "X", packet.HasExtension, true)
+	same(t, "P", packet.HasPadding(), true)
+	same(t, "X", packet.HasExtension(), true)
 	same(t, "header", packet.HeaderLen(), 32)
 	same(t, "payload", packet.Payload(), []byte{1, 2, 3, 0, 2})
 	unpadded, ok := packet.UnpaddedPayload()
@@ -55,7 +55,7 @@ func TestPacketIsRead(t *testing.T) {
 	form, body := packet.Block()
 	same(t, "form", form, rtpwire.OneByteForm)
 	same(t, "body", body, sample()[24:32])
-	same(t, "values", packet.Values, rtpwire.Values{})
+	same(t, "values", packet.Header().Values, rtpwire.Values{})
 	same(t, "datagram", packet.Datagram(), sample())
 }
 
@@ -76,7 +76,7 @@ func TestPacketWithoutParts(t *testing.T) {
 		t.Fatal(err)
 	}
 	same(t, "CSRC", len(packet.CSRC()), 0)
-	same(t, "values", packet.Values, rtpwire.Values{})
+	same(t, "values", packet.Header().Values, rtpwire.Values{})
 	same(t, "header", packet.HeaderLen(), 12)
 }
 
@@ -190,16 +190,16 @@ func TestOtherForms(t *testing.T) {
 		same(t, "form", form, rtpwire.OtherForm)
 		same(t, "body", body, datagram[16:28])
 		same(t, "profile", packet.BlockProfile(), profile)
-		same(t, "values", packet.Values, rtpwire.Values{})
+		same(t, "values", packet.Header().Values, rtpwire.Values{})
 		same(t, "places", packet.AppendPlaces(nil), []rtpwire.Place(nil))
 		_, ok := packet.Element(14)
 		same(t, "an element", ok, false)
-		same(t, "marker", packet.Marker, true)
-		same(t, "payload type", packet.PayloadType, uint8(96))
-		same(t, "sequence number", packet.SequenceNumber, uint16(5))
-		same(t, "timestamp", packet.Timestamp, uint32(90000))
-		same(t, "SSRC", packet.SSRC, uint32(44))
-		same(t, "X", packet.HasExtension, true)
+		same(t, "marker", packet.Marker(), true)
+		same(t, "payload type", packet.PayloadType(), uint8(96))
+		same(t, "sequence number", packet.SequenceNumber(), uint16(5))
+		same(t, "timestamp", packet.Timestamp(), uint32(90000))
+		same(t, "SSRC", packet.SSRC(), uint32(44))
+		same(t, "X", packet.HasExtension(), true)
 		same(t, "header", packet.HeaderLen(), 28)
 		same(t, "payload", packet.Payload(), []byte{0x41, 0x42, 0x43})
 		for length, cause := range map[int]rtpwire.Cause{15: rtpwire.CutBlockHeader, 27: rtpwire.CutBlock} {
@@ -218,7 +218,7 @@ func TestOtherForms(t *testing.T) {
 	datagram = append(append(datagram, 0, 0, 0, 1, 0, 0, 0, 2), camera()[12:]...)
 	packet := parsed(t, datagram, nil)
 	same(t, "CSRC", packet.CSRC(), []uint32{1, 2})
-	same(t, "P", packet.HasPadding, true)
+	same(t, "P", packet.HasPadding(), true)
 	same(t, "header", packet.HeaderLen(), 36)
 	datagram[0] = 0x82
 	same(t, "no profile", parsed(t, datagram, nil).BlockProfile(), uint16(0))
@@ -277,7 +277,7 @@ func FuzzParse(f *testing.F) {
 			}
 			return
 		}
-		if ssrc, ok := rtpwire.PeekSSRC(datagram); !ok || ssrc != packet.SSRC {
+		if ssrc, ok := rtpwire.PeekSSRC(datagram); !ok || ssrc != packet.SSRC() {
 			t.Fatal("SSRC")
 		}
 		if packet.HeaderLen()+len(packet.Payload()) != len(datagram) {
@@ -307,18 +307,16 @@ func TestNothingIsRead(t *testing.T) {
 	}
 }
 
-// The header of a Packet may be replaced, and the parts of the datagram are where they are.
-func TestHeaderIsReplaced(t *testing.T) {
+// A header of a Packet is a copy: what is changed in it changes no other, and not the packet.
+func TestHeaderIsACopy(t *testing.T) {
 	packet := parsed(t, sample(), nil)
-	for _, header := range []rtpwire.Header{{}, parsed(t, camera(), nil).Header} {
-		packet.Header = header
-		same(t, "lengths", []int{packet.HeaderLen(), len(packet.Payload())}, []int{32, 5})
-		unpadded, fits := packet.UnpaddedPayload()
-		form, body := packet.Block()
-		element, is := packet.Element(2)
-		same(t, "parts", []any{unpadded, fits, form, body, element, is, packet.BlockProfile()},
-			[]any{[]byte{1, 2, 3}, true, rtpwire.OneByteForm, sample()[24:32], []byte{0xBB, 0xCC}, true, uint16(0xBEDE)})
-	}
+	header := packet.Header()
+	*header = *parsed(t, camera(), nil).Header()
+	same(t, "sources", header.SetCSRC([]uint32{7, 8, 9}), nil)
+	header.Values.SetTransportNumber(7)
+	_, has := packet.Values().TransportNumber()
+	same(t, "fields", []any{packet.SSRC(), packet.CSRC(), packet.HeaderLen(), has}, []any{uint32(44), []uint32{1, 2}, 32, false})
+	same(t, "another", *packet.Header(), *parsed(t, sample(), nil).Header())
 }
 
 // Where there are no elements, room for one place is enough.
@@ -329,4 +327,41 @@ func TestRoomForOnePlace(t *testing.T) {
 		room = packet.AppendPlaces(room)
 	})
 	same(t, "no memory", []any{taken, len(room), cap(room)}, []any{0.0, 0, 1})
+}
+
+// The fields alone are those of a whole packet, and where it is none nothing changes.
+func TestFieldsAlone(t *testing.T) {
+	var fields rtpwire.PacketFields
+	for length := 0; length <= len(sample()); length++ {
+		datagram, before := sample()[:length], fields
+		var packet rtpwire.Packet
+		err := packet.Parse(datagram, nil)
+		same(t, "error", fields.Parse(datagram), err)
+		if err != nil {
+			same(t, "fields", fields, before)
+			continue
+		}
+		same(t, "number", fields.SequenceNumber, packet.SequenceNumber())
+		same(t, "timestamp", fields.Timestamp, packet.Timestamp())
+		same(t, "SSRC", fields.SSRC, packet.SSRC())
+		same(t, "payload type", fields.PayloadType, packet.PayloadType())
+		same(t, "marker", fields.Marker, packet.Marker())
+		same(t, "padding", fields.HasPadding, packet.HasPadding())
+		same(t, "payload", string(fields.Payload(datagram)), string(packet.Payload()))
+		same(t, "room", cap(fields.Payload(datagram)), len(packet.Payload()))
+		var place rtpwire.Place
+		var places []rtpwire.Place
+		for fields.NextPlace(&place, datagram) {
+			places = append(places, place)
+		}
+		same(t, "places", places, packet.AppendPlaces(nil))
+		same(t, "places at once", fields.AppendPlaces(nil, datagram), packet.AppendPlaces(nil))
+		form, body := fields.Block(datagram)
+		wantedForm, wantedBody := packet.Block()
+		same(t, "block", []any{form, string(body), fields.BlockProfile()}, []any{wantedForm, string(wantedBody), packet.BlockProfile()})
+		same(t, "header", []int{fields.HeaderLen(), fields.CSRCCount()}, []int{packet.HeaderLen(), len(packet.CSRC())})
+		unpadded, ok := fields.UnpaddedPayload(datagram)
+		wantedUnpadded, wantedOK := packet.UnpaddedPayload()
+		same(t, "unpadded", []any{string(unpadded), ok}, []any{string(wantedUnpadded), wantedOK})
+	}
 }

@@ -6,22 +6,22 @@ import (
 	"math"
 	"testing"
 
-	"rtpwire"
+	"rtp-wire.example/rtpwire"
 )
 
 // What a caller meets with other peers than str0m, and what its hand finds first. The expected values are worked out
 // by hand from RFC 3550, RFC 5450, RFC 8285, 4.2 and 4.3, RFC 9626 and 3GPP TS 26.114, 7.4.5.
 
-func putsElement(id uint8, data string, allowed rtpwire.Form) blockCall {
+func putsElement(id uint8, data string, allowed rtpwire.Forms) blockCall {
 	return func(buf []byte, length int) ([]byte, error) {
-		return rtpwire.PutElement(buf, length, id, []byte(data), allowed)
+		return rtpwire.PutElementIn(buf, length, id, []byte(data), allowed)
 	}
 }
 
 // Behind an element of the id 0 with length bits a receiver that follows the RFC reads nothing: it goes, also where
 // only as many bytes of another element would change.
 func TestElementsOfTheID0Go(t *testing.T) {
-	const one, both = rtpwire.OneByteForm, rtpwire.AnyForm
+	const one, both = rtpwire.OnlyOneByteForm, rtpwire.AnyForm
 	becomes(t, "90 BEDE0001 01AABB00 09", putsElement(1, "\xCC", both), "90 BEDE0001 10CC0000 09")
 	becomes(t, "90 BEDE0002 01AABB00 10770000 09", putsElement(1, "\xCC", one), "90 BEDE0002 10CC0000 00000000 09")
 	becomes(t, "90 BEDE0002 107701AA BB000000 09", putsElement(1, "\xCC", both), "90 BEDE0002 10CC0000 00000000 09")
@@ -47,17 +47,17 @@ func TestNoElementOfTheID0IsWritten(t *testing.T) {
 // The form is the one that alone is allowed, also where an element would only change; and where it isn't put the form
 // of the block tells whether that or the element is at fault.
 func TestFormsOfAPutElement(t *testing.T) {
-	const one, two = rtpwire.OneByteForm, rtpwire.TwoByteForm
+	const one, two = rtpwire.OnlyOneByteForm, rtpwire.OnlyTwoByteForm
 	becomes(t, "90 BEDE0001 10AA0000 09", putsElement(1, "\xBB", one), "90 BEDE0001 10BB0000 09")
 	becomes(t, "90 BEDE0001 10AA0000 09", putsElement(1, "\xBB", two), "90 10000001 0101BB00 09")
 	becomes(t, "90 10050001 0101AA00 09", putsElement(1, "\xBB", two), "90 10050001 0101BB00 09")
-	for before, form := range map[string]rtpwire.Form{
+	for before, form := range map[string]rtpwire.Forms{
 		"90 10050001 0101AA00 09": two, "90 BEDE0001 10AA0000 09": one,
 	} {
 		stays(t, before, putsElement(15, "\xBB", one), rtpwire.ErrLongID)
 		stays(t, before, putsElement(14, "", one), rtpwire.ErrFormNotAllowed)
 		found, _ := parsed(t, written(t, before), nil).Block()
-		same(t, before, found, form)
+		same(t, before, rtpwire.Forms(found), form)
 	}
 	stays(t, "90 BEDE0001 10AA0000 09", putsElement(0, "\xBB", one), rtpwire.ErrBadID)
 	for _, err := range []error{rtpwire.ErrBadID, rtpwire.ErrLongID, rtpwire.ErrFormNotAllowed, rtpwire.ErrLongBlock} {
@@ -72,7 +72,7 @@ func TestIDsAbove14AfterAChangeOfForm(t *testing.T) {
 	ids.Set(1, 200)
 	ids.Set(2, 15)
 	same(t, "too high", rtpwire.Renumber(buf[:21], ids), rtpwire.ErrLongID)
-	datagram, err := rtpwire.ChangeForm(buf, 21, rtpwire.TwoByteForm)
+	datagram, err := rtpwire.ChangeFormIn(buf, 21, rtpwire.TwoByteForm)
 	same(t, "changed", err, nil)
 	same(t, "renumbered", rtpwire.Renumber(datagram, ids), nil)
 	same(t, "packet", datagram, written(t, "90 10000002 C801AA0F 01BB0000 09"))
@@ -87,9 +87,9 @@ func TestElementsOfTheStandards(t *testing.T) {
 	}
 	datagram := written(t, "90 BEDE0003 12FFFFA6 22A90207 300D0000 09")
 	packet := parsed(t, datagram, m)
-	_, hasOffset := packet.Values.TransmissionOffset()
-	_, hasMarking := packet.Values.FrameMarking()
-	turn, ok := packet.Values.VideoOrientation()
+	_, hasOffset := packet.Values().TransmissionOffset()
+	_, hasMarking := packet.Values().FrameMarking()
+	turn, ok := packet.Values().VideoOrientation()
 	same(t, "values", []any{hasOffset, hasMarking, turn, ok}, []any{false, false, uint16(270), true})
 	data := func(id uint8) []byte {
 		data, _ := packet.Element(id)
@@ -105,7 +105,7 @@ func TestElementsOfTheStandards(t *testing.T) {
 	same(t, "orientation", []any{orientation, err}, []any{rtpwire.Orientation{Turn: 270, Camera: rtpwire.BackCamera, Flip: true}, nil})
 
 	buf := make([]byte, 32)
-	n, err := packet.Header.Write(buf, m)
+	n, err := packet.Header().WriteInto(buf, m)
 	same(t, "written", []any{buf[12:n], err}, []any{[]byte{0xBE, 0xDE, 0, 1, 0x30, 0x01, 0, 0}, nil})
 	again, err := orientation.Append(nil)
 	same(t, "appended", err, nil)

@@ -109,14 +109,16 @@ func (s Standing) String() string {
 }
 
 // StandingOf is what is known of the number. A packet that was refused changed nothing, so after ErrRefused
-// r.StandingOf(r.NumberOf(p.SequenceNumber)) says why.
+// r.StandingOf(r.NumberOf(p.SequenceNumber())) says why.
 func (r *Receiver) StandingOf(number uint64) Standing {
 	return r.standingOf(number)
 }
 
-// Record records that the number is taken. One that isn't accepted changes nothing.
-func (r *Receiver) Record(number uint64) {
+// Record records that the number is taken. It is not ok, and nothing changes, where the number isn't accepted.
+func (r *Receiver) Record(number uint64) (ok bool) {
+	ok = r.accepts(number)
 	r.record(number)
+	return ok
 }
 
 // Extend16 is the number nearest to the previous one, modulo 2^64, that ends in these 16 bits. Where two are equally

@@ -4,7 +4,7 @@ import (
 	"errors"
 	"testing"
 
-	"rtpwire"
+	"rtp-wire.example/rtpwire"
 )
 
 func TestStandings(t *testing.T) {
@@ -146,7 +146,7 @@ func TestThreeSteps(t *testing.T) {
 	same(t, "number", r.NumberOf(99), uint64(99))
 	same(t, "accepted", []bool{r.Accepts(99), r.Accepts(100), r.Accepts(101)}, []bool{true, false, true})
 	same(t, "the receiver", r, before)
-	r.Record(99)
+	same(t, "recorded", []bool{r.Record(99), r.Record(99)}, []bool{true, false})
 	same(t, "accepted", r.Accepts(99), false)
 }
 
@@ -166,7 +166,7 @@ func TestPacketsAreReceived(t *testing.T) {
 	}
 	number, err := r.ReceivePacket(datagram, m, &packet)
 	same(t, "received", []any{number, err}, []any{uint64(65541), nil})
-	level, voice, ok := packet.Values.AudioLevel()
+	level, voice, ok := packet.Values().AudioLevel()
 	same(t, "level", []any{level, voice, ok, string(packet.Payload())}, []any{int8(-10), true, true, "hi"})
 
 	// A replay is read, and changes nothing of the receiver.
@@ -212,6 +212,7 @@ func TestNoMemoryIsTaken(t *testing.T) {
 	var restarting rtpwire.RestartingReceiver
 	var elementData [rtpwire.MostData]byte
 	var layers rtpwire.Layers
+	header := parsed(t, datagram, m).Header()
 	number := uint16(0)
 	taken := testing.AllocsPerRun(100, func() {
 		number++
@@ -228,19 +229,19 @@ func TestNoMemoryIsTaken(t *testing.T) {
 			_, _, err = restarting.ReceivePacket(datagram, m, &packet)
 		}
 		if err == nil {
-			_, err = packet.Values.DataOf(rtpwire.KindAudioLevel, elementData[:])
+			_, err = packet.Values().DataOf(rtpwire.KindAudioLevel, elementData[:])
 		}
 		if err == nil {
 			err = rtpwire.Renumber(datagram, ids)
 		}
 		if err == nil {
-			_, err = packet.Header.Write(buf, m)
+			_, err = header.WriteInto(buf, m)
 		}
 		if err == nil {
 			err = layers.Parse(datagram, m)
 		}
 		if err == nil {
-			_, err = packet.Header.WriteLayers(buf, m, &layers)
+			_, err = header.WriteLayers(buf, m, &layers)
 		}
 		places = packet.AppendPlaces(places[:0])
 		_, isThere := packet.Element(1)

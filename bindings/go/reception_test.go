@@ -3,7 +3,7 @@ package rtpwire_test
 import (
 	"testing"
 
-	"rtpwire"
+	"rtp-wire.example/rtpwire"
 )
 
 // reports compares the next report with that of RFC 3550, A.3 and A.8, by hand.

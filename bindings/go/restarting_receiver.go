@@ -36,7 +36,7 @@ type RestartingReceiver struct {
 // A Verdict is what a [RestartingReceiver] says of a packet. Two of the three take it: drop a packet where it is Refused,
 // and not where it isn't Taken, which would lose the first packet of each epoch.
 //
-//	number, verdict := receiver.Receive(packet.SequenceNumber)
+//	number, verdict := receiver.Receive(packet.SequenceNumber())
 //	if verdict == rtpwire.Refused {
 //		continue
 //	}
@@ -108,7 +108,7 @@ func (r *RestartingReceiver) NumberOf(sequenceNumber uint16) uint64 {
 }
 
 // StandingOf is what is known of the number in the epoch, as [Receiver.StandingOf]. After Refused, and with an InRow of
-// 0, r.StandingOf(r.NumberOf(p.SequenceNumber)) says why.
+// 0, r.StandingOf(r.NumberOf(p.SequenceNumber())) says why.
 func (r *RestartingReceiver) StandingOf(number uint64) Standing {
 	return standingIn(r.c(), r.words[:], number)
 }

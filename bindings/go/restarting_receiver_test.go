@@ -4,7 +4,7 @@ import (
 	"errors"
 	"testing"
 
-	"rtpwire"
+	"rtp-wire.example/rtpwire"
 )
 
 type judged struct {
@@ -161,7 +161,7 @@ func TestPacketsAreJudged(t *testing.T) {
 		datagram[2], datagram[3] = byte(row.low>>8), byte(row.low)
 		number, verdict, err := r.ReceivePacket(datagram, nil, &packet)
 		same(t, "judged", []any{number, verdict, err}, []any{row.number, row.verdict, nil})
-		same(t, "read", []any{packet.SequenceNumber, string(packet.Payload())}, []any{row.low, "hi"})
+		same(t, "read", []any{packet.SequenceNumber(), string(packet.Payload())}, []any{row.low, "hi"})
 	}
 	read, before := packet, r
 	number, verdict, err := r.ReceivePacket(datagram[:11], nil, &packet)

@@ -6,7 +6,7 @@ import (
 	"math"
 	"testing"
 
-	"rtpwire"
+	"rtp-wire.example/rtpwire"
 )
 
 // The expected bytes are worked out by hand from RFC 3550, 5.1, RFC 4588, 4, and RFC 8285, 4.2.
@@ -19,7 +19,7 @@ func again(original uint16) []byte {
 }
 
 // addAgain adds the receiver of which again has the header.
-func addAgain(batch *rtpwire.RouteBatch, dataAt int, original uint16) *rtpwire.Fields {
+func addAgain(batch *rtpwire.RouteBatch, dataAt int, original uint16) rtpwire.RoutedFields {
 	fields := batch.AddRetransmission(dataAt, original)
 	fields.SetPayloadType(97)
 	fields.SetSequenceNumber(9)
@@ -159,8 +159,8 @@ func TestFirstCauseOfARetransmission(t *testing.T) {
 	} {
 		packet := written(t, header+row.payload)
 		before := append([]byte(nil), packet...)
-		_, to := rtpwire.ToRetransmission(packet, len(packet), 45, 97, 9, newIDs([2]uint8{1, 15}))
-		_, from := rtpwire.FromRetransmission(packet, len(packet), 45, 97, newIDs([2]uint8{1, 15}))
+		_, to := rtpwire.ToRetransmissionIn(packet, len(packet), 45, 97, 9, newIDs([2]uint8{1, 15}))
+		_, from := rtpwire.FromRetransmissionIn(packet, len(packet), 45, 97, newIDs([2]uint8{1, 15}))
 		same(t, row.payload, []any{to, from, packet}, []any{row.to, row.from, before})
 	}
 }

@@ -6,7 +6,7 @@ import (
 	"testing"
 	"time"
 
-	"rtpwire"
+	"rtp-wire.example/rtpwire"
 )
 
 // plain is a packet without sources, block or padding.
@@ -30,7 +30,7 @@ func TestNothingOfTheLastPacketStays(t *testing.T) {
 	}
 	packet := parsed(t, everyValue, m)
 	same(t, "parsed", packet.Parse(everyValue, nil), nil)
-	same(t, "without a map", packet.Values, rtpwire.Values{})
+	same(t, "without a map", packet.Header().Values, rtpwire.Values{})
 }
 
 // What was lent stays, whatever the Packet reads next, and what it read stays, whatever becomes of the datagram.
@@ -38,7 +38,7 @@ func TestDatagramsAreChangedAndGivenBack(t *testing.T) {
 	m := everyKind(t)
 	datagram := append([]byte(nil), everyValue...)
 	packet := parsed(t, datagram, m)
-	payload, header := packet.Payload(), packet.Header
+	payload, header := packet.Payload(), packet.Header()
 	element, _ := packet.Element(12)
 	same(t, "parsed", packet.Parse(plain(5), m), nil)
 	same(t, "lent", []any{string(payload), string(element)}, []any{"p", "audio_1"})
@@ -47,7 +47,7 @@ func TestDatagramsAreChangedAndGivenBack(t *testing.T) {
 	}
 	mid, _ := header.Values.MID()
 	same(t, "copied", []any{mid, header.SSRC, string(payload)}, []any{"audio_1", uint32(3), "\xFF"})
-	same(t, "the next", []any{string(packet.Payload()), packet.SSRC}, []any{"hi", uint32(7)})
+	same(t, "the next", []any{string(packet.Payload()), packet.SSRC()}, []any{"hi", uint32(7)})
 }
 
 func TestShortTextsAfterLongOnes(t *testing.T) {
@@ -63,7 +63,7 @@ func TestShortTextsAfterLongOnes(t *testing.T) {
 }
 
 // there is whether each value is there, by its kind; of two in an element whether one of them is.
-func there(v *rtpwire.Values) map[rtpwire.Kind]bool {
+func there(v *rtpwire.ReadValues) map[rtpwire.Kind]bool {
 	is := make(map[rtpwire.Kind]bool)
 	_, is[rtpwire.KindAbsSendTime] = v.SendTime()
 	_, captured := v.CaptureTime()
@@ -88,21 +88,21 @@ func there(v *rtpwire.Values) map[rtpwire.Kind]bool {
 func TestClear(t *testing.T) {
 	m := everyKind(t)
 	for kind := 0; kind < 256; kind++ {
-		packet := parsed(t, everyValue, m)
-		before := there(&packet.Values)
+		header := parsed(t, everyValue, m).Header()
+		before := there(&header.Values.ReadValues)
 		same(t, "all", len(before), 14)
 		for it, is := range before {
 			same(t, it.String(), is, true)
 		}
-		packet.Values.Clear(rtpwire.Kind(kind))
-		for it, is := range there(&packet.Values) {
+		header.Values.Clear(rtpwire.Kind(kind))
+		for it, is := range there(&header.Values.ReadValues) {
 			same(t, it.String()+" without "+rtpwire.Kind(kind).String(), is, it != rtpwire.Kind(kind))
 		}
 		buf := make([]byte, 200)
-		n, err := packet.Header.Write(buf, m)
+		n, err := header.WriteInto(buf, m)
 		same(t, "written", err, nil)
 		again := parsed(t, buf[:n], m)
-		for it, is := range there(&again.Values) {
+		for it, is := range there(again.Values()) {
 			same(t, it.String()+" as written", is, it != rtpwire.Kind(kind) && it != rtpwire.KindLayers)
 		}
 	}
@@ -179,19 +179,19 @@ func TestZerosAreThere(t *testing.T) {
 	v.SetFrameMarking(0)
 	same(t, "texts", []error{v.SetMID(""), v.SetRID(""), v.SetRepairedRID("")}, []error{nil, nil, nil})
 	buf := make([]byte, 200)
-	n, err := header.Write(buf, m)
+	n, err := header.WriteInto(buf, m)
 	// The two-byte form, for the texts: 14 elements of 2 bytes, and 3 + 16 + 1 + 4 + 1 + 2 + 3 + 1 + 13 + 4 of data
 	// are 74, and 2 of padding.
 	same(t, "written", []any{n, err}, []any{16 + 76, nil})
 	packet := parsed(t, buf[:n], m)
-	for it, is := range there(&packet.Values) {
+	for it, is := range there(packet.Values()) {
 		same(t, it.String(), is, it != rtpwire.KindLayers)
 	}
-	level, voice, _ := packet.Values.AudioLevel()
-	least, most, _ := packet.Values.PlayoutDelay()
-	offset, _ := packet.Values.CaptureOffset()
-	timing, _ := packet.Values.VideoTiming()
-	mid, _ := packet.Values.MID()
+	level, voice, _ := packet.Values().AudioLevel()
+	least, most, _ := packet.Values().PlayoutDelay()
+	offset, _ := packet.Values().CaptureOffset()
+	timing, _ := packet.Values().VideoTiming()
+	mid, _ := packet.Values().MID()
 	same(t, "zeros", []any{level, voice, least, most, offset, timing, mid},
 		[]any{int8(0), false, time.Duration(0), time.Duration(0), int64(0), rtpwire.VideoTiming{}, ""})
 
@@ -232,14 +232,14 @@ func TestElementsAndBodiesOfNoBytes(t *testing.T) {
 	same(t, "set", []error{rtpwire.SetElement(datagram, 1, nil), rtpwire.SetElement(datagram, 1, []byte{}),
 		rtpwire.SetElement(datagram, 2, nil)}, []error{nil, nil, rtpwire.ErrNotFound})
 	buf := append(plain(5), make([]byte, 10)...)
-	grown, err := rtpwire.PutElement(buf, 14, 7, nil, rtpwire.AnyForm)
+	grown, err := rtpwire.PutElementIn(buf, 14, 7, nil, rtpwire.AnyForm)
 	same(t, "put", []any{grown, err}, []any{append([]byte{0x90, 96, 0, 5, 0, 0, 0, 1, 0, 0, 0, 7, 0x10, 0, 0, 1, 7, 0, 0, 0}, 'h', 'i'), nil})
 
 	// A block of no words has a form, and no body.
 	packet = parsed(t, []byte{0x90, 0, 0, 1, 0, 0, 0, 2, 0, 0, 0, 3, 0xBE, 0xDE, 0, 0, 7}, everyKind(t))
 	form, body := packet.Block()
-	same(t, "block", []any{form, len(body), packet.HasExtension, packet.HeaderLen()}, []any{rtpwire.OneByteForm, 0, true, 16})
-	same(t, "elements", []any{len(packet.AppendPlaces(nil)), packet.Values}, []any{0, rtpwire.Values{}})
+	same(t, "block", []any{form, len(body), packet.HasExtension(), packet.HeaderLen()}, []any{rtpwire.OneByteForm, 0, true, 16})
+	same(t, "elements", []any{len(packet.AppendPlaces(nil)), *packet.Values()}, []any{0, rtpwire.ReadValues{}})
 	same(t, "payload", packet.Payload(), []byte{7})
 	unpadded, ok := packet.UnpaddedPayload()
 	same(t, "unpadded", []any{unpadded, ok}, []any{[]byte{7}, true})
@@ -320,7 +320,7 @@ func TestNil(t *testing.T) {
 	var fields rtpwire.Fields
 	for _, none := range [][]byte{nil, {}} {
 		for what, err := range map[string]error{
-			"parse": packet.Parse(none, nil), "fields": fields.Apply(none), "csrc": rtpwire.SetCSRC(none, 0, 1),
+			"parse": packet.Parse(none, nil), "fields": fields.Apply(none), "csrc": rtpwire.SetCSRCAt(none, 0, 1),
 			"set": rtpwire.SetElement(none, 1, none), "remove": rtpwire.RemoveElement(none, 1),
 			"padding": rtpwire.SetPadding(none, true), "renumber": rtpwire.Renumber(none, new(rtpwire.NewIDs)),
 		} {
@@ -330,17 +330,17 @@ func TestNil(t *testing.T) {
 			t.Helper()
 			same(t, what, []any{made, err}, []any{[]byte(nil), rtpwire.CutFixedPart})
 		}
-		made, err := rtpwire.PutElement(none, 0, 1, none, rtpwire.AnyForm)
+		made, err := rtpwire.PutElementIn(none, 0, 1, none, rtpwire.AnyForm)
 		refused("put", made, err)
 		made, err = rtpwire.RemovePadding(none)
 		refused("padding", made, err)
-		made, err = rtpwire.ToRetransmission(none, 0, 1, 2, 3, new(rtpwire.NewIDs))
+		made, err = rtpwire.ToRetransmissionIn(none, 0, 1, 2, 3, new(rtpwire.NewIDs))
 		refused("sent again", made, err)
-		made, err = rtpwire.FromRetransmission(none, 0, 1, 2, new(rtpwire.NewIDs))
+		made, err = rtpwire.FromRetransmissionIn(none, 0, 1, 2, new(rtpwire.NewIDs))
 		refused("restored", made, err)
 		made, err = rtpwire.Compact(none)
 		refused("compact", made, err)
-		_, err = new(rtpwire.Header).Write(none, nil)
+		_, err = new(rtpwire.Header).WriteInto(none, nil)
 		same(t, "write", err, rtpwire.ErrShortBuffer)
 		for _, places := range [][]rtpwire.Place{nil, {}} {
 			n, err := rtpwire.WriteElements(none, rtpwire.TwoByteForm, none, places)
@@ -372,10 +372,10 @@ func TestNoBitIsLost(t *testing.T) {
 		header := rtpwire.Header{SSRC: word, Timestamp: ^word, SequenceNumber: half, PayloadType: uint8(half) & 127, Marker: bit%2 == 0}
 		same(t, "sources", header.SetCSRC([]uint32{word, ^word}), nil)
 		buf := make([]byte, 200)
-		n, err := header.Write(buf, nil)
+		n, err := header.WriteInto(buf, nil)
 		same(t, "written", []any{n, err, buf[1:12], buf[0]}, []any{20, nil, datagram[1:], byte(0x82)})
 		packet := parsed(t, buf[:n], nil)
-		same(t, "read", []any{packet.SSRC, packet.Timestamp, packet.SequenceNumber, packet.PayloadType, packet.Marker, packet.CSRC()},
+		same(t, "read", []any{packet.SSRC(), packet.Timestamp(), packet.SequenceNumber(), packet.PayloadType(), packet.Marker(), packet.CSRC()},
 			[]any{word, ^word, half, uint8(half) & 127, bit%2 == 0, []uint32{word, ^word}})
 		ssrc, ok := rtpwire.PeekSSRC(datagram)
 		same(t, "SSRC", []any{ssrc, ok}, []any{word, true})
@@ -391,10 +391,10 @@ func TestNoBitIsLost(t *testing.T) {
 		v.SetAudioLevel(-int8(half&127), bit%2 == 0)
 		v.SetVideoTiming(rtpwire.VideoTiming{Flags: ^uint8(half), EncodeStart: half, EncodeFinish: ^half,
 			PacketizeComplete: half<<1 | half>>15, LastLeftPacer: half<<2 | half>>14})
-		n, err = header.Write(buf, m)
+		n, err = header.WriteInto(buf, m)
 		same(t, "written", err, nil)
 		packet = parsed(t, buf[:n], m)
-		same(t, "values", packet.Values, header.Values)
-		same(t, "P", packet.HasPadding, bit%3 == 0)
+		same(t, "values", packet.Header().Values, header.Values)
+		same(t, "P", packet.HasPadding(), bit%3 == 0)
 	}
 }

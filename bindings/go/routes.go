@@ -11,7 +11,7 @@ type Group struct {
 	Elements []Place
 	// Allowed are the forms that the block may get, where an element is put ([PutElement]) or gets an id above 14; else
 	// it keeps its form.
-	Allowed Form
+	Allowed Forms
 }
 
 // template is what a header that was made for a group is: rtpw_template in C.
@@ -48,9 +48,6 @@ func (t *HeaderTemplate) claim() {
 // mostHeader is how many bytes a header has at most.
 const mostHeader = 12 + 15*4 + 4 + 4*65535
 
-// shortBuffer is RTPW_SHORT_BUFFER.
-const shortBuffer = 8
-
 // Make makes the header that the packet in the datagram gets for the group: each element has its new id ([Renumber]), in
 // the two-byte form where one of them is above 14 and that form is allowed ([ChangeForm]), those of the group are put,
 // with their data, one after the other ([PutElement]), and the block is as short as it can be ([Compact]). The payload
@@ -59,25 +56,25 @@ const shortBuffer = 8
 // It returns ErrBadField, before all else, where Allowed is none of the three forms, there are more than 16 elements, or
 // the data of one reach past the data; the first [Cause] for which the datagram is no packet; ErrBadField where two
 // elements have one id; and then what the first of these calls returns that refuses: [ErrLongID] where a new id is above
-// 14, the packet's form is the one-byte form, and OneByteForm alone is allowed; [ErrLongBlock] where the packet's own
+// 14, the packet's form is the one-byte form, and OnlyOneByteForm is allowed; [ErrLongBlock] where the packet's own
 // elements have no room in the two-byte form; and of the group's elements in turn [ErrBadID], ErrBadField of more than 255
 // bytes of data, ErrOtherForm, ErrLongID, [ErrFormNotAllowed] or ErrLongBlock. No header is made then.
 func (t *HeaderTemplate) Make(datagram []byte, group *Group, data []byte) error {
 	t.claim()
 	status := t.make(datagram, group, data)
-	for status == shortBuffer && t.grow(datagram, group) {
+	for status == statusShortBuffer && t.grow(datagram, len(group.Elements)) {
 		status = t.make(datagram, group, data)
 	}
 	return t.ended(status)
 }
 
 // grow gives the buffer the room that any header of such a datagram takes, and is whether it hadn't it.
-func (t *HeaderTemplate) grow(datagram []byte, group *Group) bool {
+func (t *HeaderTemplate) grow(datagram []byte, elements int) bool {
 	length := len(datagram)
 	if length > mostHeader {
 		length = mostHeader
 	}
-	room := 2*length + 264*len(group.Elements)
+	room := 2*length + 264*elements
 	if len(t.buf) >= room {
 		return false
 	}
@@ -161,9 +158,8 @@ func (b *RouteBatch) Reset() {
 }
 
 // Add adds a receiver. Its data begin there in the data: those of the group's elements, one after the other in their
-// order. It returns the receiver's fields, of which none is set yet, and which are to be set before the next Add; later
-// [RouteBatch.Fields] tells them.
-func (b *RouteBatch) Add(dataAt int) *Fields {
+// order. It returns the receiver's fields, of which none is set yet; later [RouteBatch.Fields] tells them.
+func (b *RouteBatch) Add(dataAt int) RoutedFields {
 	n := len(b.given)
 	if n == cap(b.given) {
 		b.given = append(b.given, routedHeader{})
@@ -171,7 +167,7 @@ func (b *RouteBatch) Add(dataAt int) *Fields {
 	b.given = b.given[:n+1]
 	r := &b.given[n]
 	*r = routedHeader{dataAt: dataAt}
-	return &r.Fields
+	return RoutedFields{b, n}
 }
 
 // AddRetransmission adds a receiver as Add does, which gets the packet as a retransmission (RFC 4588, 4). Its fields are
@@ -179,7 +175,7 @@ func (b *RouteBatch) Add(dataAt int) *Fields {
 // own. P is clear, and original, the number that it got the packet with, stands behind the header in two bytes. The
 // packet's payload follows without its padding, which isn't looked at here. That is what [ToRetransmission] makes of what
 // the receiver got, where each id stays.
-func (b *RouteBatch) AddRetransmission(dataAt int, original uint16) *Fields {
+func (b *RouteBatch) AddRetransmission(dataAt int, original uint16) RoutedFields {
 	fields := b.Add(dataAt)
 	r := &b.given[len(b.given)-1]
 	r.originalNumber, r.isRetransmission = original, true
@@ -187,9 +183,45 @@ func (b *RouteBatch) AddRetransmission(dataAt int, original uint16) *Fields {
 }
 
 // Fields are those of a receiver that was added, to be set for the next packet: a retransmission keeps its original
-// number. They are the batch's: an Add may move them.
-func (b *RouteBatch) Fields(i int) *Fields {
-	return &b.given[i].Fields
+// number.
+func (b *RouteBatch) Fields(i int) RoutedFields {
+	return RoutedFields{b, i}
+}
+
+// RoutedFields are the fields of a receiver of a RouteBatch ([Fields]): those of the batch itself, until its next Reset.
+type RoutedFields struct {
+	batch *RouteBatch
+	i     int
+}
+
+// Set makes them these: what isn't set in them is the packet's.
+func (f RoutedFields) Set(fields Fields) {
+	f.batch.given[f.i].Fields = fields
+}
+
+// SetTimestamp gives the receiver's header this timestamp.
+func (f RoutedFields) SetTimestamp(timestamp uint32) {
+	f.batch.given[f.i].SetTimestamp(timestamp)
+}
+
+// SetSSRC gives the receiver's header this source.
+func (f RoutedFields) SetSSRC(ssrc uint32) {
+	f.batch.given[f.i].SetSSRC(ssrc)
+}
+
+// SetSequenceNumber gives the receiver's header this number.
+func (f RoutedFields) SetSequenceNumber(number uint16) {
+	f.batch.given[f.i].SetSequenceNumber(number)
+}
+
+// SetPayloadType gives the receiver's header this payload type, 0 to 127.
+func (f RoutedFields) SetPayloadType(payloadType uint8) {
+	f.batch.given[f.i].SetPayloadType(payloadType)
+}
+
+// SetMarker sets or clears M in the receiver's header.
+func (f RoutedFields) SetMarker(marker bool) {
+	f.batch.given[f.i].SetMarker(marker)
 }
 
 // ClearPadding says whether P is clear in the header of a receiver that was added, for a payload that is sent without
@@ -221,7 +253,7 @@ func (b *RouteBatch) Write(t *HeaderTemplate, data, buf []byte) error {
 func (b *RouteBatch) Route(datagram []byte, group *Group, data, buf []byte) error {
 	b.buf, b.written = nil, nil
 	status := route(&b.own, datagram, group, data, b.given, buf)
-	for status == shortBuffer && b.own.grow(datagram, group) {
+	for status == statusShortBuffer && b.own.grow(datagram, len(group.Elements)) {
 		status = route(&b.own, datagram, group, data, b.given, buf)
 	}
 	return b.ended(buf, status)

@@ -7,7 +7,7 @@ import (
 	"math/rand"
 	"testing"
 
-	"rtpwire"
+	"rtp-wire.example/rtpwire"
 )
 
 // The expected bytes are worked out by hand from RFC 3550, 5.1, and RFC 8285, 4.1.2, 4.2 and 4.3.
@@ -102,7 +102,7 @@ func routedAs(t *testing.T, packet string, group *rtpwire.Group, data string) st
 }
 
 func TestGroups(t *testing.T) {
-	const one, two, both = rtpwire.OneByteForm, rtpwire.TwoByteForm, rtpwire.AnyForm
+	const one, two, both = rtpwire.OnlyOneByteForm, rtpwire.OnlyTwoByteForm, rtpwire.AnyForm
 	four := []rtpwire.Place{{ID: 4, Len: 2}}
 	three := "90 BEDE0002 1061 216263 1064 00 09" // the elements 1, 2 and 1 again
 	none := []rtpwire.Place(nil)
@@ -110,7 +110,7 @@ func TestGroups(t *testing.T) {
 		packet   string
 		ids      *rtpwire.NewIDs
 		elements []rtpwire.Place
-		allowed  rtpwire.Form
+		allowed  rtpwire.Forms
 		data     string
 		wanted   string
 	}{
@@ -160,13 +160,13 @@ func TestHeadersThatAreNotMade(t *testing.T) {
 		packet   []byte
 		ids      *rtpwire.NewIDs
 		elements []rtpwire.Place
-		allowed  rtpwire.Form
+		allowed  rtpwire.Forms
 		err      error
 	}{
 		{routable(), nil, sixteen[:16], rtpwire.AnyForm, nil},
 		{routable(), nil, sixteen, rtpwire.AnyForm, rtpwire.ErrBadField},
-		{routable(), nil, sixteen[:1], rtpwire.OtherForm, rtpwire.ErrBadField},
-		{routable()[:11], nil, sixteen[:1], rtpwire.OtherForm, rtpwire.ErrBadField},
+		{routable(), nil, sixteen[:1], 3, rtpwire.ErrBadField},
+		{routable()[:11], nil, sixteen[:1], 3, rtpwire.ErrBadField},
 		{routable()[:11], nil, sixteen[:1], rtpwire.AnyForm, rtpwire.CutFixedPart},
 		{nil, nil, nil, rtpwire.AnyForm, rtpwire.CutFixedPart},
 		{otherVersion, nil, sixteen[:1], rtpwire.AnyForm, rtpwire.OtherVersion},
@@ -183,11 +183,11 @@ func TestHeadersThatAreNotMade(t *testing.T) {
 		{routable(), nil, with(rtpwire.Place{ID: 21, Len: 256}), rtpwire.AnyForm, rtpwire.ErrBadField},
 		{routable(), nil, with(rtpwire.Place{ID: 20, Len: 1}), rtpwire.AnyForm, rtpwire.ErrBadField},
 		{routable(), nil, with(rtpwire.Place{ID: 0, Len: 1}), rtpwire.AnyForm, rtpwire.ErrBadID},
-		{routable(), nil, with(rtpwire.Place{ID: 0, Len: 1}), rtpwire.OneByteForm, rtpwire.ErrLongID}, // 20, before that
-		{routable(), newIDs([2]uint8{1, 15}), nil, rtpwire.OneByteForm, rtpwire.ErrLongID},
+		{routable(), nil, with(rtpwire.Place{ID: 0, Len: 1}), rtpwire.OnlyOneByteForm, rtpwire.ErrLongID}, // 20, before that
+		{routable(), newIDs([2]uint8{1, 15}), nil, rtpwire.OnlyOneByteForm, rtpwire.ErrLongID},
 		{routable(), newIDs([2]uint8{1, 15}), nil, rtpwire.AnyForm, nil},
 		{routable(), newIDs([2]uint8{1, 14}), nil, rtpwire.AnyForm, nil},
-		{routable(), nil, with(rtpwire.Place{ID: 21, Len: 1}), rtpwire.OneByteForm, rtpwire.ErrLongID},
+		{routable(), nil, with(rtpwire.Place{ID: 21, Len: 1}), rtpwire.OnlyOneByteForm, rtpwire.ErrLongID},
 	}
 	var template rtpwire.HeaderTemplate
 	var batch rtpwire.RouteBatch
@@ -322,7 +322,7 @@ func TestTemplatesKeepNothing(t *testing.T) {
 		packet[i] = 0xFF
 	}
 	group.IDs.Set(1, 9)
-	group.Elements[0], group.Allowed = rtpwire.Place{ID: 7, Len: 3}, rtpwire.OtherForm
+	group.Elements[0], group.Allowed = rtpwire.Place{ID: 7, Len: 3}, 3
 	data[0], data[1] = 1, 2
 	buf := make([]byte, 100)
 	var batch, second rtpwire.RouteBatch
@@ -404,7 +404,7 @@ func TestTheLongestBlock(t *testing.T) {
 	header, err := batch.At(1)
 	same(t, "length", []any{len(header), err}, []any{16 + 4*0x8000, nil})
 	// In the other form each of the 65,534 elements takes three bytes, which a new batch has room for too.
-	group.Allowed = rtpwire.TwoByteForm
+	group.Allowed = rtpwire.OnlyTwoByteForm
 	batch, template = rtpwire.RouteBatch{}, rtpwire.HeaderTemplate{}
 	batch.Add(0)
 	packet = packet[:16+4*0x7FFF]
@@ -504,8 +504,8 @@ func byCalls(packet []byte, fields rtpwire.Fields, group *rtpwire.Group, data []
 		ids = new(rtpwire.NewIDs)
 	}
 	err := rtpwire.Renumber(header, ids)
-	if err == rtpwire.ErrLongID && group.Allowed != rtpwire.OneByteForm {
-		if header, err = rtpwire.ChangeForm(buf, len(header), rtpwire.TwoByteForm); err != nil {
+	if err == rtpwire.ErrLongID && group.Allowed != rtpwire.OnlyOneByteForm {
+		if header, err = rtpwire.ChangeFormIn(buf, len(header), rtpwire.TwoByteForm); err != nil {
 			return nil, err
 		}
 		err = rtpwire.Renumber(header, ids)
@@ -515,7 +515,7 @@ func byCalls(packet []byte, fields rtpwire.Fields, group *rtpwire.Group, data []
 	}
 	for _, element := range group.Elements {
 		var err error
-		if header, err = rtpwire.PutElement(buf, len(header), element.ID, data[:element.Len], group.Allowed); err != nil {
+		if header, err = rtpwire.PutElementIn(buf, len(header), element.ID, data[:element.Len], group.Allowed); err != nil {
 			return nil, err
 		}
 		data = data[element.Len:]
@@ -538,11 +538,11 @@ func sentAgain(packet []byte, fields rtpwire.Fields, original uint16, group *rtp
 	if header, err = byCalls(packet, fields, group, data); err != nil {
 		return nil, err
 	}
-	if own.HasPadding {
+	if own.HasPadding() {
 		header = append(header, 1) // a payload that is padding alone
 	}
 	buf := append(header[:len(header):len(header)], 0, 0)
-	return rtpwire.ToRetransmission(buf, len(header), own.SSRC, own.PayloadType, own.SequenceNumber, each())
+	return rtpwire.ToRetransmissionIn(buf, len(header), own.SSRC(), own.PayloadType(), own.SequenceNumber(), each())
 }
 
 // receiver is one of a group, the number of the packet that it gets again, if it does, and whether its P is cleared.
@@ -561,9 +561,9 @@ func receiverOf(bits uint64) receiver {
 
 func (r receiver) add(batch *rtpwire.RouteBatch, dataAt int) {
 	if r.isAgain {
-		*batch.AddRetransmission(dataAt, r.original) = r.Fields
+		batch.AddRetransmission(dataAt, r.original).Set(r.Fields)
 	} else {
-		*batch.Add(dataAt) = r.Fields
+		batch.Add(dataAt).Set(r.Fields)
 	}
 }
 
@@ -670,7 +670,7 @@ func TestRoutesAtRandom(t *testing.T) {
 		if round%8 == 0 {
 			packet = packet[:random.Intn(len(packet)+1)]
 		}
-		group := rtpwire.Group{Allowed: rtpwire.Form(random.Intn(3)), IDs: new(rtpwire.NewIDs)}
+		group := rtpwire.Group{Allowed: rtpwire.Forms(random.Intn(3)), IDs: new(rtpwire.NewIDs)}
 		for id := 1; id < 256; id++ {
 			switch random.Intn(4) {
 			case 0:
@@ -700,7 +700,7 @@ func FuzzRoutes(f *testing.F) {
 	f.Add(camera(), []byte{}, uint8(1), uint8(4), uint8(0), uint8(4), uint8(3), []byte("0123"), uint64(7), uint64(8<<40|8))
 	f.Add(everyValue, []byte{4, 20, 20, 4}, uint8(2), uint8(200), uint8(17), uint8(0), uint8(3), make([]byte, 40), uint64(1), uint64(129<<40|8))
 	f.Fuzz(func(t *testing.T, packet, pairs []byte, allowed, id, length, otherID, otherLength uint8, data []byte, first, second uint64) {
-		group := rtpwire.Group{IDs: each(), Allowed: rtpwire.Form(allowed % 3)}
+		group := rtpwire.Group{IDs: each(), Allowed: rtpwire.Forms(allowed % 3)}
 		for i := 0; i+1 < len(pairs); i += 2 {
 			group.IDs.Set(pairs[i], pairs[i+1])
 		}

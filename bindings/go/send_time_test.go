@@ -5,7 +5,7 @@ import (
 	"testing"
 	"time"
 
-	"rtpwire"
+	"rtp-wire.example/rtpwire"
 )
 
 // Each of the 2^24 times is read and appended as it lies.

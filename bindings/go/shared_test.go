@@ -5,7 +5,7 @@ import (
 	"math/rand"
 	"testing"
 
-	"rtpwire"
+	"rtp-wire.example/rtpwire"
 )
 
 // A setter may be given a part of what it sets.
@@ -74,13 +74,13 @@ func TestDataOfTheBufferItself(t *testing.T) {
 		at := random.Intn(50)
 		end, id, offset := at+random.Intn(17), uint8(1+random.Intn(3)), random.Intn(40)
 		both("put", packet, func(buf, data []byte) (int, error) {
-			grown, err := rtpwire.PutElement(buf, 37, id, data, rtpwire.AnyForm)
+			grown, err := rtpwire.PutElementIn(buf, 37, id, data, rtpwire.AnyForm)
 			return len(grown), err
 		}, at, end)
 		// The packet fills the buffer then, over data that end where that does.
 		full := append(sample(), byte(i), byte(i>>8), 3, 4)
 		both("put up to the end", full, func(buf, data []byte) (int, error) {
-			grown, err := rtpwire.PutElement(buf, 37, 3, data[:3], rtpwire.AnyForm)
+			grown, err := rtpwire.PutElementIn(buf, 37, 3, data[:3], rtpwire.AnyForm)
 			return len(grown), err
 		}, 38-i%8, 41)
 		long, from := long(random), random.Intn(24)
@@ -103,7 +103,7 @@ func TestDataOfTheBufferItself(t *testing.T) {
 // Data may begin in the last byte of the buffer, which the packet then fills.
 func TestDataThatBeginInTheLastByte(t *testing.T) {
 	whole := append(sample(), 0, 0, 0, 7, 8, 9)
-	grown, err := rtpwire.PutElement(whole[:41], 37, 3, whole[40:], rtpwire.AnyForm)
+	grown, err := rtpwire.PutElementIn(whole[:41], 37, 3, whole[40:], rtpwire.AnyForm)
 	same(t, "put", []any{len(grown), err}, []any{41, nil})
 	same(t, "block", whole[20:36], []byte{0xBE, 0xDE, 0, 3, 0x10, 0xAA, 0x21, 0xBB, 0xCC, 0x10, 0xDD, 0x32, 7, 8, 9, 0})
 	same(t, "payload, and what is behind it", whole[36:], []byte{1, 2, 3, 0, 2, 8, 9})
@@ -114,20 +114,20 @@ func TestNothingBehindASliceIsWritten(t *testing.T) {
 	buf := append(sample(), bytes.Repeat([]byte{0xEE}, 27)...)
 	before := append([]byte(nil), buf...)
 	header := buf[:32]
-	_, err := rtpwire.PutElement(header, len(header), 9, []byte{1, 2, 3}, rtpwire.AnyForm)
+	_, err := rtpwire.PutElementIn(header, len(header), 9, []byte{1, 2, 3}, rtpwire.AnyForm)
 	same(t, "no room", []any{err, buf}, []any{rtpwire.ErrShortBuffer, before})
 	for _, length := range []int{33, 64} {
-		_, err = rtpwire.PutElement(header, length, 9, []byte{1}, rtpwire.AnyForm)
+		_, err = rtpwire.PutElementIn(header, length, 9, []byte{1}, rtpwire.AnyForm)
 		same(t, "no length", []any{err, buf}, []any{rtpwire.ErrBadField, before})
 	}
 	_, err = rtpwire.Pad(header, 30, 3, 1)
 	same(t, "padding", []any{err, buf}, []any{rtpwire.ErrShortBuffer, before})
-	_, err = rtpwire.ToRetransmission(buf[:37], 37, 7, 8, 9, new(rtpwire.NewIDs))
+	_, err = rtpwire.ToRetransmissionIn(buf[:37], 37, 7, 8, 9, new(rtpwire.NewIDs))
 	same(t, "sent again", []any{len(buf), err, buf[37:]}, []any{64, nil, before[37:]})
 
 	before = append([]byte(nil), buf...)
 	for _, size := range []int{0, 11} {
-		n, err := new(rtpwire.Header).Write(buf[:size], nil)
+		n, err := new(rtpwire.Header).WriteInto(buf[:size], nil)
 		same(t, "written", []any{n, err, buf}, []any{0, rtpwire.ErrShortBuffer, before})
 	}
 }
@@ -159,9 +159,9 @@ func TestWhatIsLent(t *testing.T) {
 	original[0] = 9
 	same(t, "shared", datagram[35], byte(9))
 
-	read := packet.Header
+	read := packet.Header()
 	_ = append(packet.CSRC(), 7)
-	same(t, "header after an append", packet.Header, read)
+	same(t, "header after an append", packet.Header(), read)
 	packet.CSRC()[0] = 5
 	same(t, "shared", []any{packet.CSRC(), read.CSRC(), datagram[15]}, []any{[]uint32{5, 2}, []uint32{1, 2}, byte(1)})
 

@@ -119,7 +119,7 @@ func (o Orientation) Append(data []byte) ([]byte, error) {
 
 // ParseToken reads the text of a mid or of a stream id as it lies, to be compared with the SDP's byte by byte: a token
 // (RFC 8866, 9), as a mid is (RFC 5888, 4), "cam-1" say. It returns ErrBadField where the data are none, or have more
-// than 255 bytes. What is written is the text itself: PutElement(buf, length, id, []byte("cam-1"), AnyForm). For one that
+// than 255 bytes. What is written is the text itself: PutElementIn(buf, length, id, []byte("cam-1"), AnyForm). For one that
 // is sent as a stream id see [IsStreamID].
 func ParseToken(data []byte) (string, error) {
 	if !isToken(data) {

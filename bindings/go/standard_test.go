@@ -7,7 +7,7 @@ import (
 	"strings"
 	"testing"
 
-	"rtpwire"
+	"rtp-wire.example/rtpwire"
 )
 
 // read is what a Parse function returns, in one.
@@ -186,12 +186,12 @@ func TestTokensOfAPacket(t *testing.T) {
 		datagram := make([]byte, 200)
 		datagram[0] = 0x80
 		id := map[string]uint8{"mid": 1, "rid": 2, "repaired": 3}[row.kind]
-		datagram, err := rtpwire.PutElement(datagram, 12, id, []byte(row.token), rtpwire.AnyForm)
+		datagram, err := rtpwire.PutElementIn(datagram, 12, id, []byte(row.token), rtpwire.AnyForm)
 		same(t, "put", err, nil)
 		packet := parsed(t, datagram, m)
-		mid, _ := packet.Values.MID()
-		rid, _ := packet.Values.RID()
-		repaired, _ := packet.Values.RepairedRID()
+		mid, _ := packet.Values().MID()
+		rid, _ := packet.Values().RID()
+		repaired, _ := packet.Values().RepairedRID()
 		same(t, "told", mid+rid+repaired, row.told)
 		token, ok := packet.Token(id)
 		same(t, "token", []any{token, ok}, []any{row.token, true})
@@ -203,7 +203,7 @@ func TestTokensOfAPacket(t *testing.T) {
 	for _, text := range []string{"a b", ""} {
 		datagram := make([]byte, 100)
 		datagram[0] = 0x80
-		datagram, err := rtpwire.PutElement(datagram, 12, 1, []byte(text), rtpwire.AnyForm)
+		datagram, err := rtpwire.PutElementIn(datagram, 12, 1, []byte(text), rtpwire.AnyForm)
 		same(t, "put", err, nil)
 		token, ok := parsed(t, datagram, m).Token(1)
 		same(t, "no token", []any{token, ok}, []any{"", false})

@@ -5,7 +5,7 @@ import (
 	"testing"
 	"time"
 
-	"rtpwire"
+	"rtp-wire.example/rtpwire"
 )
 
 // Of each kind the data are those of the element in a packet with all of them, in a buffer of so many bytes and no fewer.
@@ -16,9 +16,9 @@ func TestDataOfEachKind(t *testing.T) {
 		same(t, kind.String(), ok, true)
 		buf := make([]byte, len(wanted)+1)
 		buf[len(wanted)] = 7
-		data, err := packet.Values.DataOf(kind, buf)
+		data, err := packet.Values().DataOf(kind, buf)
 		same(t, kind.String(), []any{data, err, buf[len(wanted)]}, []any{wanted, nil, byte(7)})
-		data, err = packet.Values.DataOf(kind, buf[:len(wanted)-1])
+		data, err = packet.Values().DataOf(kind, buf[:len(wanted)-1])
 		same(t, kind.String()+", short", []any{data, err}, []any{[]byte(nil), rtpwire.ErrShortBuffer})
 		_, err = new(rtpwire.Values).DataOf(kind, buf)
 		same(t, kind.String()+", none", err, rtpwire.ErrNotFound)
@@ -43,11 +43,11 @@ func TestOneValueAlone(t *testing.T) {
 		rtpwire.KindFrameMarking:       func(v *rtpwire.Values) { v.SetFrameMarking(1) },
 	}
 	same(t, "kinds", len(setters), 13)
-	all := parsed(t, everyValue, everyKind(t)).Values
+	all := parsed(t, everyValue, everyKind(t)).Header().Values
 	for kind, set := range setters {
 		var v rtpwire.Values
 		set(&v)
-		for it, is := range there(&v) {
+		for it, is := range there(&v.ReadValues) {
 			same(t, it.String()+" where "+kind.String()+" is set", is, it == kind)
 		}
 		_, offset := v.CaptureOffset()
@@ -112,7 +112,7 @@ func TestPlayoutDelays(t *testing.T) {
 	for _, hundredths := range []int{0, 1, 255, 256, 4094, 4095} {
 		other := 4095 - hundredths
 		datagram[17], datagram[18], datagram[19] = byte(hundredths>>4), byte(hundredths<<4|other>>8), byte(other)
-		least, most, ok := parsed(t, datagram, everyKind(t)).Values.PlayoutDelay()
+		least, most, ok := parsed(t, datagram, everyKind(t)).Values().PlayoutDelay()
 		same(t, "read", []any{least, most, ok}, []any{time.Duration(hundredths) * hundredth, time.Duration(other) * hundredth, true})
 	}
 }
@@ -124,7 +124,7 @@ func TestLevels(t *testing.T) {
 		v.SetAudioLevel(level, true)
 		header := rtpwire.NewHeader(v)
 		_, err := v.DataOf(rtpwire.KindAudioLevel, make([]byte, 1))
-		_, written := header.Write(make([]byte, 100), rtpwire.StandardMap())
+		_, written := header.WriteInto(make([]byte, 100), rtpwire.StandardMap())
 		_, whole := header.WriteAll(make([]byte, 100), nil)
 		_, length := header.WireLen(nil)
 		_, left := header.LeftOut(nil)

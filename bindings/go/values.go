@@ -3,10 +3,14 @@ package rtpwire
 import "time"
 
 // Values are what the elements of a packet say under a map: for each kind the last element whose id means it and whose
-// data are well-formed for it. Each is told with whether it is there, and set to be written. They may be copied, and
-// those that were read may be compared with ==. Some are read as str0m does and not as the standard of the extension
-// has them: what says so names the call that does.
+// data are well-formed for it, to be set and written. They may be copied, and those that were read may be compared with ==.
 type Values struct {
+	ReadValues
+}
+
+// ReadValues are what the elements of a packet say ([Packet.Values]), each told with whether it is there. Some are read as
+// str0m does and not as the standard of the extension has them: what says so names the call that does.
+type ReadValues struct {
 	sendTime              uint64
 	captureTime           uint64
 	captureOffset         int64
@@ -65,7 +69,7 @@ type VideoTiming struct {
 
 // SendTime is when the packet left its sender, in whole microseconds: as read modulo 64 seconds. [ParseSendTime] has the
 // exact units.
-func (v *Values) SendTime() (micros uint64, ok bool) {
+func (v *ReadValues) SendTime() (micros uint64, ok bool) {
 	return v.sendTime, v.hasSendTime
 }
 
@@ -76,7 +80,7 @@ func (v *Values) SetSendTime(micros uint64) {
 }
 
 // CaptureTime is when the frame was captured, as an NTP timestamp with 32 bits of fraction.
-func (v *Values) CaptureTime() (ntp uint64, ok bool) {
+func (v *ReadValues) CaptureTime() (ntp uint64, ok bool) {
 	return v.captureTime, v.hasCaptureTime
 }
 
@@ -86,7 +90,7 @@ func (v *Values) SetCaptureTime(ntp uint64) {
 }
 
 // CaptureOffset is how far the capturer's clock is ahead of the sender's, in seconds with 32 bits of fraction.
-func (v *Values) CaptureOffset() (offset int64, ok bool) {
+func (v *ReadValues) CaptureOffset() (offset int64, ok bool) {
 	return v.captureOffset, v.hasCaptureOffset
 }
 
@@ -97,7 +101,7 @@ func (v *Values) SetCaptureOffset(offset int64) {
 
 // PlayoutDelay is for how long the receiver may hold the frame at least and at most: whole hundredths of a second, up
 // to 40.95 seconds.
-func (v *Values) PlayoutDelay() (least, most time.Duration, ok bool) {
+func (v *ReadValues) PlayoutDelay() (least, most time.Duration, ok bool) {
 	return v.playoutMin.duration(), v.playoutMax.duration(), v.hasPlayoutMin && v.hasPlayoutMax
 }
 
@@ -124,7 +128,7 @@ func ticksOf(d time.Duration) ticks {
 
 // TransmissionOffset is str0m's, in ticks of the stream's clock: an element of four bytes without a sign. RFC 5450 has
 // three, which this never reads: [ParseTransmissionOffset] does.
-func (v *Values) TransmissionOffset() (ticks uint32, ok bool) {
+func (v *ReadValues) TransmissionOffset() (ticks uint32, ok bool) {
 	return v.transmissionOffset, v.hasTransmissionOffset
 }
 
@@ -136,7 +140,7 @@ func (v *Values) SetTransmissionOffset(ticks uint32) {
 
 // FrameMarking is the first four bytes of the frame marking, which is str0m's reading and not that of RFC 9626:
 // [ParseFrameMarking].
-func (v *Values) FrameMarking() (marking uint32, ok bool) {
+func (v *ReadValues) FrameMarking() (marking uint32, ok bool) {
 	return v.frameMarking, v.hasFrameMarking
 }
 
@@ -147,7 +151,7 @@ func (v *Values) SetFrameMarking(marking uint32) {
 
 // TransportNumber is the packet's number over all streams of the transport, without the request for feedback of
 // transport-wide-cc-02: [ParseTransportNumber].
-func (v *Values) TransportNumber() (number uint16, ok bool) {
+func (v *ReadValues) TransportNumber() (number uint16, ok bool) {
 	return v.transportNumber, v.hasTransportNumber
 }
 
@@ -158,7 +162,7 @@ func (v *Values) SetTransportNumber(number uint16) {
 
 // VideoOrientation is how the picture is to be turned, in degrees counter-clockwise: 0, 90, 180 or 270. The element
 // also says which camera it is of and whether it is mirrored, which is lost here: [ParseOrientation].
-func (v *Values) VideoOrientation() (degrees uint16, ok bool) {
+func (v *ReadValues) VideoOrientation() (degrees uint16, ok bool) {
 	return v.videoOrientation, v.hasVideoOrientation
 }
 
@@ -170,7 +174,7 @@ func (v *Values) SetVideoOrientation(degrees uint16) {
 
 // VideoTiming is when the frame was encoded and sent. Of 12 bytes, the older form, it takes the first for flags, and it
 // has neither network time: [ParseTiming].
-func (v *Values) VideoTiming() (timing VideoTiming, ok bool) {
+func (v *ReadValues) VideoTiming() (timing VideoTiming, ok bool) {
 	t := v.videoTiming
 	return VideoTiming{v.timingFlags, t.encodeStart, t.encodeFinish, t.packetizeComplete, t.lastLeftPacer}, v.hasVideoTiming
 }
@@ -182,7 +186,7 @@ func (v *Values) SetVideoTiming(t VideoTiming) {
 }
 
 // VideoContentType is 0 unspecified, 1 a screen.
-func (v *Values) VideoContentType() (contentType uint8, ok bool) {
+func (v *ReadValues) VideoContentType() (contentType uint8, ok bool) {
 	return v.videoContentType, v.hasVideoContentType
 }
 
@@ -192,7 +196,7 @@ func (v *Values) SetVideoContentType(contentType uint8) {
 }
 
 // AudioLevel is in decibels relative to the overload point, -127 to 0, and whether the audio has voice.
-func (v *Values) AudioLevel() (level int8, voice, ok bool) {
+func (v *ReadValues) AudioLevel() (level int8, voice, ok bool) {
 	return v.audioLevel, v.voiceActivity, v.hasAudioLevel && v.hasVoiceActivity
 }
 
@@ -206,7 +210,7 @@ func (v *Values) SetAudioLevel(level int8, voice bool) {
 // MID is the media section that the packet is of (RFC 9143), up to 16 characters. Each other character than a letter or a
 // digit is read as an underscore, and what is longer is cut: "cam-1", "cam_1" and "cam.1" are one. [Packet.Token] has
 // the text as it lies, for a mid that the peer chose.
-func (v *Values) MID() (mid string, ok bool) {
+func (v *ReadValues) MID() (mid string, ok bool) {
 	return textOf(v.mid[:]), v.hasMID
 }
 
@@ -218,7 +222,7 @@ func (v *Values) SetMID(mid string) error {
 
 // RID is the stream that the packet is of (RFC 8852), up to 8 characters where the RFC has up to 255, changed and cut as
 // MID is: [Packet.Token].
-func (v *Values) RID() (rid string, ok bool) {
+func (v *ReadValues) RID() (rid string, ok bool) {
 	return textOf(v.rid[:]), v.hasRID
 }
 
@@ -228,7 +232,7 @@ func (v *Values) SetRID(rid string) error {
 }
 
 // RepairedRID is the stream that this one repairs (RFC 8852), cut as RID is: [Packet.Token].
-func (v *Values) RepairedRID() (rid string, ok bool) {
+func (v *ReadValues) RepairedRID() (rid string, ok bool) {
 	return textOf(v.repairedRID[:]), v.hasRepairedRID
 }
 
@@ -240,7 +244,7 @@ func (v *Values) SetRepairedRID(rid string) error {
 // MostData is enough room for the data of an element of each kind.
 const MostData = 16
 
-// DataOf writes the data that an element of the kind has for these values, as [Header.Write] would, to the front of the
+// DataOf writes the data that an element of the kind has for these values, as [Header.WriteInto] would, to the front of the
 // buffer, and returns them; the bytes after them stay. So one value is set where it lies:
 //
 //	var buf [rtpwire.MostData]byte
@@ -252,12 +256,32 @@ const MostData = 16
 // It returns ErrBadField where the kind is KindNone or one of 21 to 127, or a value, of this kind or not, is one that
 // can't be written; ErrNotFound where a value that the kind needs isn't there, and always for KindColorSpace
 // ([ColorSpace.Append]), KindLayers, those behind it and your own kinds; ErrShortBuffer. Then nothing changes.
-func (v *Values) DataOf(kind Kind, buf []byte) ([]byte, error) {
+func (v *ReadValues) DataOf(kind Kind, buf []byte) ([]byte, error) {
 	length, err := v.dataOf(kind, buf)
 	if err != nil {
 		return nil, err
 	}
 	return buf[:length], nil
+}
+
+// AppendData appends the data of an element of this kind, as DataOf tells them, to the data: without a packet around them.
+//
+// It returns ErrNotFound where the value isn't there or the kind has no data here, and the data alone then.
+func (v *ReadValues) AppendData(data []byte, kind Kind) ([]byte, error) {
+	var room [MostData]byte
+	own, err := v.DataOf(kind, room[:])
+	if err != nil {
+		return data, err
+	}
+	return append(data, own...), nil
+}
+
+// ParseValue is the value that these data of an element mean under this kind, as [Packet.Parse] has it: an audio level, say,
+// without a packet around them. All other values aren't there.
+//
+// It returns ErrBadField where the data aren't well-formed for the kind, or it has no value among [Values].
+func ParseValue(kind Kind, data []byte) (Values, error) {
+	return parseValue(kind, data)
 }
 
 // Clear takes the value of the kind away, and those that an element of it has beside it: none of them is then left.
@@ -298,7 +322,7 @@ func (v *Values) Clear(kind Kind) {
 }
 
 // HasLayers is whether there is a layer allocation: [Layers.Parse] reads it.
-func (v *Values) HasLayers() bool {
+func (v *ReadValues) HasLayers() bool {
 	return v.hasLayers
 }
 

@@ -7,7 +7,7 @@ import (
 	"testing"
 	"time"
 
-	"rtpwire"
+	"rtp-wire.example/rtpwire"
 )
 
 // The ids 1 to 14 mean the kinds of the numbers 1 to 14, and 15 a layer allocation.
@@ -45,7 +45,7 @@ var everyValue = []byte{
 func TestEveryValueIsRead(t *testing.T) {
 	packet := parsed(t, everyValue, everyKind(t))
 	same(t, "payload", packet.Payload(), []byte("p"))
-	v := &packet.Values
+	v := packet.Values()
 	sendTime, ok := v.SendTime()
 	same(t, "send time", []any{sendTime, ok}, []any{uint64(40_000_000), true})
 	captureTime, ok := v.CaptureTime()
@@ -80,7 +80,7 @@ func TestEveryValueIsRead(t *testing.T) {
 func TestNoValueIsThere(t *testing.T) {
 	for _, m := range []*rtpwire.Map{nil, new(rtpwire.Map)} {
 		packet := parsed(t, everyValue, m)
-		same(t, "values", packet.Values, rtpwire.Values{})
+		same(t, "values", packet.Header().Values, rtpwire.Values{})
 	}
 	var v rtpwire.Values
 	_, sendTime := v.SendTime()
@@ -125,7 +125,7 @@ func TestEveryValueIsWritten(t *testing.T) {
 		}
 	}
 	buf := bytes.Repeat([]byte{0xEE}, 200)
-	n, err := header.Write(buf, m)
+	n, err := header.WriteInto(buf, m)
 	if err != nil {
 		t.Fatal(err)
 	}
@@ -142,7 +142,7 @@ func TestEveryValueIsWritten(t *testing.T) {
 	for kind := rtpwire.KindAbsSendTime; kind < rtpwire.KindLayers; kind++ {
 		v.Clear(kind)
 	}
-	n, err = header.Write(buf, m)
+	n, err = header.WriteInto(buf, m)
 	same(t, "an empty block", []any{buf[12:n], err}, []any{[]byte{0x10, 0, 0, 0}, nil})
 }
 
@@ -225,13 +225,13 @@ func TestLayersAreWritten(t *testing.T) {
 	same(t, "made", made, read)
 
 	buf := atEnd(t, make([]byte, 28))
-	n, err := packet.Header.WriteLayers(buf[:27], m, &made)
+	n, err := packet.Header().WriteLayers(buf[:27], m, &made)
 	same(t, "no room", []any{n, err, buf[0]}, []any{0, rtpwire.ErrShortBuffer, uint8(0)})
-	n, err = packet.Header.WireLenLayers(m, &made)
+	n, err = packet.Header().WireLenLayers(m, &made)
 	same(t, "length", []any{n, err}, []any{28, nil})
-	n, err = packet.Header.WriteLayers(buf, m, &made)
+	n, err = packet.Header().WriteLayers(buf, m, &made)
 	same(t, "written", []any{n, err, buf}, []any{28, nil, datagram})
-	n, err = packet.Header.WriteLayers(buf, nil, &made)
+	n, err = packet.Header().WriteLayers(buf, nil, &made)
 	same(t, "not mapped", []any{n, err, buf[12:16]}, []any{16, nil, []byte{0xBE, 0xDE, 0, 0}})
 
 	same(t, "five", []error{made.SetStreams(make([]rtpwire.Stream, 5)...), streams[0].SetLayers(make([]rtpwire.Layer, 5)...),
@@ -239,15 +239,15 @@ func TestLayersAreWritten(t *testing.T) {
 	same(t, "unchanged", []any{made, streams[0].Layers()[0], small.Kbps()}, []any{read, small, []uint64{5}})
 	made.SetCurrent(4)
 	for _, m := range []*rtpwire.Map{m, nil} {
-		n, err = packet.Header.WireLenLayers(m, &made)
+		n, err = packet.Header().WireLenLayers(m, &made)
 		same(t, "length of none", []any{n, err}, []any{0, rtpwire.ErrBadField})
-		n, err = packet.Header.WriteLayers(nil, m, &made)
+		n, err = packet.Header().WriteLayers(nil, m, &made)
 		same(t, "none", []any{n, err}, []any{0, rtpwire.ErrBadField})
 	}
 	same(t, "nothing sent", made.SetStreams(), nil)
 	made.SetCurrent(0)
 	same(t, "zero", made, rtpwire.Layers{})
-	n, err = packet.Header.WriteLayers(buf, m, &made)
+	n, err = packet.Header().WriteLayers(buf, m, &made)
 	same(t, "nothing is sent", []any{n, err, buf[12:20]}, []any{20, nil, []byte{0x10, 0, 0, 1, 5, 1, 0, 0}})
 }
 
@@ -305,7 +305,7 @@ func TestOwnKinds(t *testing.T) {
 
 	datagram := []byte{0x90, 96, 0, 5, 0, 0, 0, 1, 0, 0, 0, 7, 0xBE, 0xDE, 0, 1, 0x50, 0xAB, 0x60, 'a'}
 	packet := parsed(t, datagram, from)
-	mid, ok := packet.Values.MID()
+	mid, ok := packet.Values().MID()
 	same(t, "the mid alone", []any{mid, ok}, []any{"a", true})
 	same(t, "renumbered", rtpwire.Renumber(datagram, ids), nil)
 	same(t, "elements", datagram[16:], []byte{0x80, 0xAB, 0x90, 'a'})
@@ -370,5 +370,36 @@ func TestLettersOfURIs(t *testing.T) {
 	same(t, "mid", rtpwire.KindOfURI(uri), rtpwire.KindMID)
 	for _, other := range []string{uri + " ", " " + uri, uri + "\r", uri + "\n", uri + "\t", uri + "\x00", uri + "/", uri[:len(uri)-1]} {
 		same(t, other, rtpwire.KindOfURI(other), rtpwire.KindNone)
+	}
+}
+
+// The data of an element are read and written without a packet around them.
+func TestValuesWithoutAPacket(t *testing.T) {
+	values, err := rtpwire.ParseValue(rtpwire.KindAudioLevel, []byte{0x8A}) // V, and 10 below 0 dBov (RFC 6464, 3)
+	same(t, "error", err, nil)
+	level, voice, ok := values.AudioLevel()
+	same(t, "level", []any{level, voice, ok}, []any{int8(-10), true, true})
+	_, ok = values.TransportNumber()
+	same(t, "number", ok, false)
+	data, err := values.AppendData([]byte{7}, rtpwire.KindAudioLevel)
+	same(t, "data", []any{data, err}, []any{[]byte{7, 0x8A}, nil})
+	data, err = values.AppendData([]byte{7}, rtpwire.KindMID)
+	same(t, "none", []any{data, err}, []any{[]byte{7}, rtpwire.ErrNotFound})
+
+	values, err = rtpwire.ParseValue(rtpwire.KindTransportNumber, []byte{0x12, 0x34})
+	number, ok := values.TransportNumber()
+	same(t, "number", []any{number, ok, err}, []any{uint16(0x1234), true, nil})
+	values, err = rtpwire.ParseValue(rtpwire.KindMID, []byte("audio"))
+	mid, ok := values.MID()
+	same(t, "mid", []any{mid, ok, err}, []any{"audio", true, nil})
+	for _, it := range []struct {
+		kind rtpwire.Kind
+		data []byte
+	}{
+		{rtpwire.KindAudioLevel, nil}, {rtpwire.KindTransportNumber, []byte{1}}, {rtpwire.KindNone, []byte{1}},
+		{rtpwire.KindMID, make([]byte, 300)}, {rtpwire.Kind(200), []byte{1}},
+	} {
+		values, err = rtpwire.ParseValue(it.kind, it.data)
+		same(t, "bad", []any{values, err}, []any{rtpwire.Values{}, rtpwire.ErrBadField})
 	}
 }

@@ -4,7 +4,7 @@ import (
 	"errors"
 	"testing"
 
-	"rtpwire"
+	"rtp-wire.example/rtpwire"
 )
 
 func wide(t *testing.T, words int, rolloverCount uint64) *rtpwire.WideReceiver {

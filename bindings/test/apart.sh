@@ -12,7 +12,7 @@ program=$1
 . "$top/generated/anew.sh"
 proved=$(mktemp --suffix .s)
 trap 'rm -f -- "$proved"' EXIT
-awk -v end="$not_proved" '$0 == end { exit } { print }' "$(text_of rtp_wire "$(uname -m)")" >"$proved"
+awk -v end="$not_proved" '$0 == end { exit } { print }' "$(text_of rtp_wire "Linux-$(uname -m)")" >"$proved"
 for name in $(in_front); do printf '\t.globl\trtp_proved_%s\n' "$name"; done >>"$proved"
 mkdir -p -- "$(dirname -- "$program")"
 cc -std=gnu99 -O2 -Wall -Wextra -Werror "$top/generated/apart.c" "$top/bindings/c/test/apart.c" "$proved" -o "$program"

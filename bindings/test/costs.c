@@ -30,6 +30,7 @@ static size_t len, count;
 static uint32_t kinds;
 static uint64_t number;
 static rtpw_packet parts;
+static rtpw_whole_packet whole;
 static rtpw_header header, written;
 static rtpw_values values;
 static rtpw_element element;
@@ -67,6 +68,7 @@ static size_t at_once = MOST;
 static uint8_t packets[MOST][sizeof packet];
 static rtpw_datagram datagrams[MOST];
 static rtpw_datagram_header datagram_headers[MOST];
+static rtpw_whole_datagram wholes[MOST];
 static rtpw_arrival arrivals[MOST];
 static rtpw_receiver before, after;
 /* The header of the packet for receivers of a transport number and a send time of their own, and these receivers. */
@@ -74,6 +76,7 @@ static uint8_t group[1024];
 static rtpw_element group_puts[2];
 static rtpw_new_ids group_ids;
 static rtpw_template made;
+static rtpw_group prepared;
 static rtpw_routed_header receivers[MOST];
 
 /* The status of a call that is timed may be any. */
@@ -83,6 +86,7 @@ enum { BODY_AT = 16, BODY_LEN = 16 };
 static uint8_t body[BODY_LEN];
 
 #define MANY(X)                                                                                                       \
+    X(rtpw_read_many, (rtpw_read_many(packets[0], sizeof packets, &map, wholes, at_once), 0))                         \
     X(rtpw_packet_parse_many, (rtpw_packet_parse_many(packets[0], sizeof packets, datagrams, at_once), 0))            \
     X(rtpw_parse_many, (rtpw_parse_many(packets[0], sizeof packets, &map, datagram_headers, at_once), 0))             \
     X(rtpw_receive_many, (after = before, rtpw_receive_many(&after, 1, arrivals, at_once), 0))                        \
@@ -92,6 +96,7 @@ static uint8_t body[BODY_LEN];
 #define CALLS(X)                                                                                                      \
     X(rtpw_version, rtpw_version())                                                                                   \
     X(rtpw_is_rtcp, rtpw_is_rtcp(rtcp, sizeof rtcp))                                                                  \
+    X(rtpw_read, rtpw_read(packet, sizeof packet, &map, &whole))                                                      \
     X(rtpw_packet_parse, rtpw_packet_parse(packet, sizeof packet, &parts))                                            \
     X(rtpw_parse, rtpw_parse(packet, sizeof packet, &map, &header))                                                   \
     X(rtpw_parse_layers, rtpw_parse_layers(packet, sizeof packet, &map, &header, &layers))                            \
@@ -193,6 +198,8 @@ static uint8_t body[BODY_LEN];
     MANY(X)                                                                                                           \
     X(rtpw_make_template, rtpw_make_template(packet, sizeof packet, &group_ids, data, sizeof data, group_puts, 2,           \
       RTPW_ANY_FORM, group, sizeof group, &made))                                                                     \
+    X(rtpw_prepare_group, rtpw_prepare_group(&group_ids, group_puts, 2, RTPW_ANY_FORM, &prepared))                    \
+    X(rtpw_make_from_group, rtpw_make_from_group(&prepared, packet, sizeof packet, group, sizeof group, &made))       \
     X(rtpw_extend_u8, rtpw_extend_u8(number, 7))                                                                      \
     X(rtpw_extend_u15, rtpw_extend_u15(number, 7))                                                                    \
     X(rtpw_extend_u16, rtpw_extend_u16(number, 7))                                                                    \
@@ -257,8 +264,8 @@ int main(int argc, char **argv) {
     before.recorded_low = before.started = 1;
     for (i = 0; i < MOST; i++) {
         memcpy(packets[i], packet, sizeof packet);
-        datagrams[i].at = datagram_headers[i].at = (size_t)i * sizeof packet;
-        datagrams[i].len = datagram_headers[i].len = sizeof packet;
+        datagrams[i].at = datagram_headers[i].at = wholes[i].at = (size_t)i * sizeof packet;
+        datagrams[i].len = datagram_headers[i].len = wholes[i].len = sizeof packet;
         arrivals[i].sequence_number = (uint16_t)(100 + i);
         receivers[i].fields.has_ssrc = receivers[i].fields.has_sequence_number = 1;
         receivers[i].fields.has_timestamp = 1;
@@ -270,6 +277,7 @@ int main(int argc, char **argv) {
     group_puts[1].id = 2;
     group_puts[1].data_len = 3;
     for (i = 0; i < 15; i++) group_ids.id[i] = (uint8_t)i;
+    if (rtpw_prepare_group(&group_ids, group_puts, 2, RTPW_ANY_FORM, &prepared) != RTPW_OK) return 1;
     if (rtpw_make_template(packet, sizeof packet, &group_ids, data, sizeof data, group_puts, 2, RTPW_ANY_FORM, group, sizeof group, &made) != RTPW_OK) return 1;
     nothing = nanoseconds(run_nothing, calls);
 #define PRINT(name, call) printf(#name " %.1f\n", nanoseconds(run_##name, calls) - nothing);

@@ -9,7 +9,7 @@ set -euo pipefail
 cd -- "$(dirname -- "$0")/../.."
 scratch=$(mktemp -d)
 trap 'rm -rf -- "$scratch"' EXIT
-cc -std=c99 -O2 -Wall -Wextra -Wno-unused-result -I bindings/c bindings/test/costs.c "generated/rtp_wire-$(uname -m).s" \
+cc -std=c99 -O2 -Wall -Wextra -Wno-unused-result -I bindings/c bindings/test/costs.c "generated/rtp_wire-Linux-$(uname -m).s" \
     -o "$scratch/costs"
 calls=${1:-1000000}
 # What the program prints, and beside each the instructions of a call, of which callgrind sees 900, and of those that

@@ -179,13 +179,13 @@ if [ -e "$folder/receive" ]; then
     # 5 with the rollover count 1 is 65,541. Of the sixth packet's six bytes three are padding. Two numbers in a row
     # outside of the stream are one of a sender that has started again, whose rollover count is 2 more: 3 * 65,536 + 40,001.
     refused='a replay, too old, or not of the stream yet'
-    printf '%s\n' '65541: -10 dB, 2 bytes' "$refused" 'no RTP packet' 'no RTP packet' '65542: -11 dB, 3 bytes' "$refused" \
+    printf '%s\n' '65541: -10 dB, 2 bytes' "$refused" 'fewer than twelve bytes' 'a packet of RTCP' '65542: -11 dB, 3 bytes' "$refused" \
         'the sender has started again' '236609: -10 dB, 2 bytes' '236610: -10 dB, 2 bytes' >"$scratch/expected"
     "$folder/receive" | diff "$scratch/expected" - >&2 || fail receive
 fi
 if [ -e "$folder/receive_rust" ]; then
-    # 65,536 and 5: the first packet has the rollover count 1. The third one is no packet.
-    printf '%s\n' '65541: Some(-10) dB, [1, 2]' 'fewer than twelve bytes' >"$scratch/expected"
+    # 65,536 and 5: the first packet has the rollover count 1. The third one is no packet, and the fourth a report.
+    printf '%s\n' '65541: Some(-10) dB, [1, 2]' 'fewer than twelve bytes' 'a packet of RTCP' >"$scratch/expected"
     "$folder/receive_rust" | diff "$scratch/expected" - >&2 || fail receive_rust
 fi
 
@@ -194,9 +194,10 @@ uppercase=$(printf %02X {0..255})
 forwards() {
     # SSRC 44 -> 77; 47,000 - 46,000 = 1,000; at 5 s the send time is 5 * 2^18 = 0x140000, and 40 ms later
     # 1,321,205 = 0x1428F5; its id 4 becomes 2, and the mid (id 3) becomes padding. The second packet says no send
-    # time, and the third line is no packet.
+    # time, the third line is no packet, and the fourth a receiver report.
     printf '%s\n' 9021B798000027100000002CBEDE000242AABBCC303100000102 9021B799000027110000002CBEDE0001303100000304 80 \
-        9021B79A000027110000002CBEDE000142AABBCC05 | "$folder/forward" 77 -46000 5 >"$scratch/forwarded"
+        81C900070000002C0000002D0000000000000000000000000000000000000000 9021B79A000027110000002CBEDE000142AABBCC05 |
+        "$folder/forward" 77 -46000 5 >"$scratch/forwarded"
     printf '%s\n' 902103E8000027100000004DBEDE000222140000000000000102 902103E9000027110000004DBEDE0001000000000304 \
         902103EA000027110000004DBEDE0001221428F505 >"$scratch/expected"
     diff "$scratch/expected" "$scratch/forwarded" >&2 || fail 'the forwarder'
@@ -255,7 +256,7 @@ forwards() {
 [ ! -e "$folder/forward" ] || forwards
 
 # The SFU, in C and in Rust: what three receivers get of a packet with a mid of one character, a transport number and
-# a level (ids 1 to 3), which comes twice; of one with P, a contributing source and no block; of one that jumps
+# a level (ids 1 to 3), which comes twice; of one with padding, a contributing source and no block; of one that jumps
 # ahead, after which another comes too late; and of a camera's, whose block of another form stays. Between them a
 # receiver report, and a datagram that is no packet. The first receiver gets the numbers as they are, the second one
 # plus 40,000, the third one less 1; the datagrams come 20 ms apart, so that the send times are 0, 60 ms (15,728 =
@@ -272,9 +273,9 @@ cat >"$scratch/sfu.expected" <<END
 1 906F0005000000A0000003E8BEDE0003216D30510000908A720000000102
 2 906F9C45000000A0000007D0100000091415${second}30C802000001018AFF03000000000102
 3 906F0004000000A000000BB8BEDE0006EF${alice}30110000320000000102
-1 B1EFFFFF00000001000003E900000009BEDE0003216D3151000172003D700000AABB0002
-2 B1EF9C3F00000001000007D100000009100000081415${second}31C8020001FF03003D70AABB0002
-3 B1EFFFFE0000000100000BB900000009BEDE0006EF${alice}3111000132003D70AABB0002
+1 91EFFFFF00000001000003E900000009BEDE0003216D3151000172003D700000AABB
+2 91EF9C3F00000001000007D100000009100000081415${second}31C8020001FF03003D70AABB
+3 91EFFFFE0000000100000BB900000009BEDE0006EF${alice}3111000132003D70AABB
 1 906F00CD000000A0000003E8BEDE0003216D30510002720066660000
 2 906F9D0D000000A0000007D0100000081415${second}30C8020002FF03006666
 3 906F00CC000000A000000BB8BEDE0006EF${alice}3011000232006666
@@ -343,11 +344,11 @@ printf '%s\n' 1\ 90E000CE00015F90000003E8ABAC0001E58B3C40 \
     1\ 906F00CF000000A0000003E8BEDE0003216D305100007200147A0000 >"$scratch/camera.expected"
 # A URI that the library doesn't know has a number in the maps of the sender and of two receivers: its id 6 becomes the
 # first one's 12, and goes nowhere at the third one, which hasn't agreed to it. Another URI, as long, has another number.
-# The second packet has padding, as it is sent on; 20 ms are 5,242.88 units (0x147A).
+# The second packet goes on without its padding; 20 ms are 5,242.88 units (0x147A).
 printf '%s\n' 'map 6 urn:example:seat' 'map 7 urn:example:door' 90000001000000010000002CBEDE000261AABB71CCDD000009 \
     B0000002000000010000002CBEDE000161AABB00090002 >"$scratch/own.lines"
 printf '%s\n' 1\ 9000000100000001000003E8BEDE0004C1AABB216D305100007200000000000009 \
-    1\ B000000200000001000003E8BEDE0004C1AABB216D305100017200147A000000090002 >"$scratch/own.expected"
+    1\ 9000000200000001000003E8BEDE0004C1AABB216D305100017200147A00000009 >"$scratch/own.expected"
 if [ -e "$folder/sfu_c" ]; then
     "$folder/sfu_c" <"$scratch/own.lines" >"$scratch/said"
     grep '^1 ' "$scratch/said" | diff "$scratch/own.expected" - >&2 || fail 'the SFU, a URI of its own'

@@ -38,6 +38,11 @@ uint32_t kinds_left(const rtpw_map *map, const rtpw_header *header, bool with_la
 
 /* What has to be told of the packet that the bytes are, as the walk found it. */
 void packet_told(const uint8_t *bytes, size_t len, const walked *it, rtpw_packet *packet);
+/* What rtpw_read has to return of the bytes, as the walk found them. */
+int32_t whole_status(const uint8_t *bytes, size_t len, const walked *it);
+/* Whether this is told of the whole packet that the bytes are, as the walk found it. */
+bool whole_is_told(const uint8_t *bytes, size_t len, const walked *it, const rtpw_map *map,
+                   const rtpw_whole_packet *packet);
 /* The bytes after the last field of a packet that is told may be anything. */
 #define PACKET_BYTES (offsetof(rtpw_packet, block_profile) + 2)
 
@@ -54,6 +59,7 @@ void reception_round(void);
 void wide_restarting_round(void);
 void values_round(void);
 void headers_round(void);
+void wholes_round(void);
 void maps_round(void);
 void writing_round(void);
 void layers_round(void);
@@ -76,6 +82,7 @@ static inline void every_round(void) {
     wide_restarting_round();
     values_round();
     headers_round();
+    wholes_round();
     maps_round();
     writing_round();
     layers_round();

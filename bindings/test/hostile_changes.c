@@ -52,7 +52,7 @@ static void fixed_part(void) {
         put_number(8, 4, (uint32_t)(x >> 32));
     }
     expect(rtpw_set_ssrc(bytes, len, (uint32_t)(x >> 32)), it.cause);
-    size_t index = random_u64() % 4 == 0 ? (size_t)random_u64() >> random_below(64) : random_below(4);
+    size_t index = random_u64() % 4 == 0 ? (size_t)random_up_to_64_bits() : random_below(4);
     bool is_there = it.cause == 0 && index < it.csrc_count;
     if (is_there) {
         put_number(12 + 4 * index, 4, (uint32_t)x);

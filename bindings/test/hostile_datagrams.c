@@ -1,4 +1,4 @@
-/* rtpw_packet_parse_many, rtpw_parse_many */
+/* rtpw_read_many, rtpw_packet_parse_many, rtpw_parse_many */
 #include "hostile.h"
 
 #include "walk_values.h"
@@ -10,7 +10,7 @@ typedef struct {
     size_t at, len;
 } place;
 
-static memory buffers, arrays, header_arrays, maps;
+static memory buffers, arrays, header_arrays, whole_arrays, maps;
 static uint8_t copy[LONGEST];
 
 /* Mostly within the buffer. Others are a byte too long, begin past the end, or reach past the last address, from
@@ -103,11 +103,41 @@ static void headers_told(const uint8_t *bytes, size_t size, const place *places,
     CHECK(memcmp(map, &same_map, sizeof same_map) == 0);
 }
 
+static void wholes_told(const uint8_t *bytes, size_t size, const place *places, size_t count) {
+    static rtpw_whole_datagram before[MOST];
+    rtpw_whole_datagram *datagrams = block_in(&whole_arrays, count * sizeof *datagrams);
+    rtpw_map *map = block_in(&maps, sizeof *map), same_map;
+    random_map(map);
+    memcpy(&same_map, map, sizeof same_map);
+    for (size_t i = 0; i < count; i++) {
+        fill(&datagrams[i], sizeof *datagrams);
+        datagrams[i].at = places[i].at;
+        datagrams[i].len = places[i].len;
+        memcpy(&before[i], &datagrams[i], sizeof *before);
+    }
+    rtpw_read_many(bytes, size, map, datagrams, count);
+    for (size_t i = 0; i < count; i++) {
+        const rtpw_whole_datagram *told = &datagrams[i];
+        CHECK(told->at == places[i].at && told->len == places[i].len);
+        int32_t status = RTPW_BAD_FIELD;
+        if (is_within(places[i], size)) {
+            const uint8_t *datagram = copy + told->at;
+            walked it = walk(datagram, told->len);
+            status = whole_status(datagram, told->len, &it);
+            CHECK(status != RTPW_OK || whole_is_told(datagram, told->len, &it, &same_map, &told->packet));
+        }
+        CHECK(told->status == status);
+        CHECK(status == RTPW_OK || memcmp(&told->packet, &before[i].packet, sizeof told->packet) == 0);
+    }
+    CHECK(memcmp(map, &same_map, sizeof same_map) == 0);
+}
+
 void datagrams_round(void) {
     if (buffers.size == 0) {
         buffers = memory_of(LONGEST);
         arrays = memory_of(MOST * sizeof(rtpw_datagram));
         header_arrays = memory_of(MOST * sizeof(rtpw_datagram_header));
+        whole_arrays = memory_of(MOST * sizeof(rtpw_whole_datagram));
         maps = memory_of(sizeof(rtpw_map));
     }
     size_t size = random_len(), count = random_below(MOST + 1);
@@ -127,5 +157,6 @@ void datagrams_round(void) {
     }
     packets_told(bytes, size, places, count);
     headers_told(bytes, size, places, count);
+    wholes_told(bytes, size, places, count);
     CHECK(size == 0 || memcmp(bytes, copy, size) == 0);
 }

@@ -52,7 +52,7 @@ void elements_round(void) {
 
     /* any offset at all */
     memcpy(&before, element, sizeof before);
-    size_t far = len + 1 + (size_t)(random_u64() >> random_below(64)) % (SIZE_MAX - len);
+    size_t far = len + 1 + (size_t)random_up_to_64_bits() % (SIZE_MAX - len);
     expect(rtpw_next_element(body, len, form, far, element), RTPW_BAD_FIELD, element, &before, &it);
 
     uint8_t id = random_id();

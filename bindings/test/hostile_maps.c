@@ -46,7 +46,8 @@ static void uri(void) {
         fill(copy, sizeof copy);
         len = random_below(sizeof copy);
     } else if (way == 1 && len != 0) {
-        copy[random_below(len)] ^= (uint8_t)(1u << random_below(8));
+        size_t at = random_below(len);
+        copy[at] ^= (uint8_t)(1u << random_below(8));
     } else if (way == 2) {
         len = random_below(len + 2); /* with a zero behind it, say */
     }

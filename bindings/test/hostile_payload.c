@@ -13,8 +13,8 @@ static void pad(size_t len, uint8_t *datagram) {
     same_count = *count;
     uint64_t x = random_u64();
     uint8_t pad_len = x % 8 == 0 ? 0 : (uint8_t)(x >> 8);
-    size_t block = x / 8 % 4 == 0 ? (size_t)random_u64() >> random_below(64) : blocks[random_below(11)];
-    size_t header_len = x / 32 % 4 == 0 ? (size_t)random_u64() >> random_below(64) : random_below(len + 2);
+    size_t block = x / 8 % 4 == 0 ? (size_t)random_up_to_64_bits() : blocks[random_below(11)];
+    size_t header_len = x / 32 % 4 == 0 ? (size_t)random_up_to_64_bits() : random_below(len + 2);
     /* the first multiple of the block that is not below pad_len, at most 240 */
     size_t wanted = pad_len == 0 ? 0 : block;
     while (block != 0 && wanted < pad_len) {

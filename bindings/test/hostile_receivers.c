@@ -147,7 +147,7 @@ void receivers_round(void) {
 
     random_receiver(receiver);
     memcpy(&before, receiver, sizeof before);
-    uint64_t count = random_u64() >> random_below(64);
+    uint64_t count = random_up_to_64_bits();
     bool is_count = count < (uint64_t)1 << 48;
     CHECK(rtpw_receiver_start(receiver, count) == (is_count ? RTPW_OK : RTPW_BAD_FIELD));
     if (is_count) {

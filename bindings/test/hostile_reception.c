@@ -72,8 +72,8 @@ static rtpw_report report_of(const packet *packets, size_t count, size_t reporte
 }
 
 static packet random_packet_after(const packet *before) {
-    uint64_t x = random_u64();
-    packet it = {before->number, (uint32_t)random_u64(), (uint32_t)random_u64()};
+    uint64_t x = random_u64(), y = random_u64();
+    packet it = {before->number, (uint32_t)y, (uint32_t)(y >> 32)};
     switch (x % 16) {
     case 0: it.number = random_u64() >> x / 16 % 64; break;
     case 1: it.number -= it.number < 200 ? it.number : x / 16 % 200; break;
@@ -96,7 +96,8 @@ static bool are_same(const rtpw_report *a, const rtpw_report *b) {
 static void a_stream(rtpw_reception *reception, rtpw_report *report) {
     packet packets[MOST] = {{0, 0, 0}};
     size_t count = random_below(MOST), reported = 0;
-    packet before = {random_u64() >> random_u64() % 64, (uint32_t)random_u64(), (uint32_t)random_u64()};
+    uint64_t first = random_up_to_64_bits(), times = random_u64();
+    packet before = {first, (uint32_t)times, (uint32_t)(times >> 32)};
     memset(reception, 0, sizeof *reception);
     for (size_t i = 0; i < count; i++) {
         packets[i] = before = i == 0 ? before : random_packet_after(&before);
@@ -136,7 +137,8 @@ static void any_value(rtpw_reception *reception, rtpw_report *report) {
         CHECK(memcmp(&old, reception, sizeof old) == 0 && memcmp(&as_before, report, sizeof as_before) == 0);
     }
     old = *reception;
-    rtpw_reception_record(reception, random_u64(), (uint32_t)random_u64(), (uint32_t)random_u64());
+    uint64_t number = random_u64(), times = random_u64();
+    rtpw_reception_record(reception, number, (uint32_t)times, (uint32_t)(times >> 32));
     CHECK(reception->received == (old.received == UINT64_MAX ? UINT64_MAX : old.received + 1));
     CHECK(reception->received_before == old.received_before && reception->expected_before == old.expected_before);
 }

@@ -1,4 +1,4 @@
-/* rtpw_make_template, rtpw_write_headers */
+/* rtpw_make_template, rtpw_prepare_group, rtpw_make_from_group, rtpw_write_headers */
 #include "hostile.h"
 
 #include "walk.h"
@@ -15,7 +15,7 @@ typedef struct {
 static part parts[LONGEST + 20];
 static size_t part_count;
 static uint8_t packet_before[LONGEST], data_before[DATA], expected[LONGEST + 16 * 264], room_before[LONGEST], headers_expected[4 * LONGEST];
-static memory packets, ids_memory, datas, element_memory, rooms, mades, receiver_memory, outputs, copies;
+static memory packets, ids_memory, datas, element_memory, rooms, mades, receiver_memory, outputs, copies, shape_memory, group_memory;
 
 static size_t header_of(int form) {
     return form == 1 ? 1 : 2;
@@ -444,8 +444,89 @@ static void random_element(rtpw_element *element, size_t data_len, size_t i) {
     element->id = (uint8_t)(x / 8192 % 32 == 0 ? random_id() : 1 + random_below(6) + 6 * i);
 }
 
+/* Why no group is prepared of these, or RTPW_OK. */
+static int32_t group_status(const rtpw_element *elements, size_t count, unsigned allowed) {
+    if (allowed > 2 || count > 16) {
+        return RTPW_BAD_FIELD;
+    }
+    for (size_t i = 0; i < count; i++) {
+        if (elements[i].data_len > 255) {
+            return RTPW_BAD_FIELD;
+        }
+        for (size_t j = 0; j < i; j++) {
+            if (elements[i].id == elements[j].id) {
+                return RTPW_BAD_FIELD;
+            }
+        }
+    }
+    for (size_t i = 0; i < count; i++) {
+        if (elements[i].id == 0) {
+            return RTPW_BAD_ID;
+        }
+    }
+    return RTPW_OK;
+}
+
+static void tear_group(rtpw_group *group) {
+    uint64_t x = random_u64();
+    uint8_t *bytes = (uint8_t *)group;
+    for (uint64_t i = 0; i <= x % 3; i++, x = random_u64()) {
+        switch (x / 4 % 4) {
+        case 0: bytes[x / 16 % sizeof *group] = (uint8_t)(x >> 56); break;
+        case 1: bytes[512 + x / 16 % (sizeof *group - 512)] += (uint8_t)(x >> 56) % 3; break;
+        case 2: group->numbers[group->element_ids[x / 16 % 16]] = (uint8_t)(x >> 56) % 20; break;
+        default: group->new_ids[x / 16 % 256] = (uint8_t)(x >> 56); break;
+        }
+    }
+}
+
+/* The same of a group that is prepared: it makes what rtpw_make_template makes with zeros as the data. */
+static void prepare(const uint8_t *packet, size_t len, const rtpw_new_ids *ids, const rtpw_element *given, size_t count,
+                    uint8_t allowed, size_t size) {
+    rtpw_element *shapes = block_in(&shape_memory, count * sizeof *shapes), zeros[20];
+    rtpw_group *group = block_in(&group_memory, sizeof *group), before;
+    rtpw_template *made = block_in(&mades, sizeof *made), wanted, as_it_was;
+    uint8_t *buf = block_in(&rooms, size);
+    for (size_t i = 0; i < count; i++) {
+        shapes[i] = given[i];
+        shapes[i].data_at = random_u64();
+        zeros[i] = given[i];
+        zeros[i].data_at = 0;
+    }
+    fill(group, sizeof *group);
+    memcpy(&before, group, sizeof before);
+    int32_t status = group_status(shapes, count, allowed);
+    CHECK(rtpw_prepare_group(ids, shapes, count, allowed, group) == status);
+    fill(made, sizeof *made);
+    memcpy(&wanted, made, sizeof wanted);
+    memcpy(&as_it_was, made, sizeof as_it_was);
+    if (status != RTPW_OK) {
+        CHECK(memcmp(group, &before, sizeof before) == 0);
+    } else {
+        memset(data_before, 0, sizeof data_before);
+        status = make(len, ids, sizeof data_before, zeros, count, allowed, size, &wanted);
+        memcpy(&before, group, sizeof before);
+        CHECK(rtpw_make_from_group(group, packet, len, buf, size, made) == status);
+        CHECK(memcmp(group, &before, sizeof before) == 0);
+        if (status == RTPW_OK) {
+            CHECK(memcmp(made, &wanted, offsetof(rtpw_template, data_len) + 16) == 0);
+            CHECK(memcmp(buf, expected, made->header_len) == 0);
+        } else {
+            CHECK(memcmp(made, &as_it_was, sizeof as_it_was) == 0);
+        }
+        tear_group(group);
+    }
+    /* Whatever numbers it is given, it writes nothing but the buffer, and tells of a header in it or nothing. */
+    memcpy(made, &as_it_was, sizeof as_it_was);
+    status = rtpw_make_from_group(group, packet, len, buf, size, made);
+    CHECK(status == RTPW_OK ? made->header_len <= size && made->count <= 16
+                            : memcmp(made, &as_it_was, sizeof as_it_was) == 0);
+}
+
 void routed_round(void) {
     if (packets.size == 0) {
+        shape_memory = memory_of(20 * sizeof(rtpw_element));
+        group_memory = memory_of(sizeof(rtpw_group));
         packets = memory_of(LONGEST);
         ids_memory = memory_of(sizeof(rtpw_new_ids));
         datas = memory_of(DATA);
@@ -510,4 +591,7 @@ void routed_round(void) {
     }
     write_headers(made, buf, size, data, data_len);
     CHECK(size == 0 || memcmp(buf, room_before, size) == 0);
+    prepare(packet, len, ids, elements, count, allowed, size);
+    CHECK(len == 0 || memcmp(packet, packet_before, len) == 0);
+    CHECK(memcmp(ids, &same_ids, sizeof same_ids) == 0);
 }

@@ -150,7 +150,7 @@ void wide_receivers_round(void) {
 
     random_receiver(receiver, words, count);
     memcpy(&before, receiver, sizeof before);
-    uint64_t rollovers = random_u64() >> random_below(64);
+    uint64_t rollovers = random_up_to_64_bits();
     bool is_count = rollovers < (uint64_t)1 << 48;
     CHECK(rtpw_wide_receiver_start(receiver, rollovers) == (is_count ? RTPW_OK : RTPW_BAD_FIELD));
     if (is_count) {

@@ -39,7 +39,7 @@ static void random_time(rtpw_time *time) {
     uint64_t x = random_u64();
     time->hertz = x % 8 == 0 ? (uint32_t)(x >> 32) : clocks[x / 8 % 6];
     time->hertz = x % 128 == 1 ? 0 : time->hertz;
-    time->ticks = random_u64() >> random_below(64);
+    time->ticks = random_up_to_64_bits();
 }
 
 static void random_values(rtpw_values *values) {

@@ -25,10 +25,10 @@ static size_t random_elements(rtpw_element elements[MOST], size_t data_len) {
         it->data_len = it->data_len < data_len ? it->data_len : data_len;
         it->data_at = y / 16384 % 4 == 0 ? data_len - it->data_len : random_below(data_len - it->data_len + 1);
         if (y >> 56 == 0) {
-            it->data_at += (size_t)(random_u64() >> random_below(64));
+            it->data_at += (size_t)random_up_to_64_bits();
         }
         if (y >> 56 == 1) {
-            it->data_len += (size_t)(random_u64() >> random_below(64));
+            it->data_len += (size_t)random_up_to_64_bits();
         }
     }
     return count;

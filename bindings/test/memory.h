@@ -37,6 +37,12 @@ static inline size_t random_below(size_t bound) {
     return (size_t)(random_u64() % bound);
 }
 
+/* A number of up to 64 bits, of each count of them. */
+static inline uint64_t random_up_to_64_bits(void) {
+    uint64_t x = random_u64();
+    return x >> random_below(64);
+}
+
 static inline void fill(void *block, size_t len) {
     uint8_t *bytes = block;
     for (size_t i = 0; i < len; i += 8) {

@@ -19,8 +19,9 @@ package=bindings/rust/rtp-wire
 mkdir -p other/{generated,$package/assembly} program/src
 cp -r -- "$crate"/{Cargo.toml,README.md,src} other/$package
 sed -i 's/^version = .*/version = "2.0.0"/' other/$package/Cargo.toml
-sed '/^rtpw_version:/a movl $131072, %eax; retq' "$here/generated/rtp_wire-x86_64.s" >other/generated/rtp_wire-x86_64.s
-sed '/^rtpw_version:/a mov w0, #131072; ret' "$here/generated/rtp_wire-aarch64.s" >other/generated/rtp_wire-aarch64.s
+cp -- "$here"/generated/rtp_wire-*.s other/generated
+sed '/^rtpw_version:/a movl $131072, %eax; retq' "$here/generated/rtp_wire-Linux-x86_64.s" >other/generated/rtp_wire-Linux-x86_64.s
+sed '/^rtpw_version:/a mov w0, #131072; ret' "$here/generated/rtp_wire-Linux-aarch64.s" >other/generated/rtp_wire-Linux-aarch64.s
 top=$PWD/other
 # shellcheck source=generated/copies.sh
 . "$here/generated/copies.sh"

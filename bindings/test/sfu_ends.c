@@ -259,28 +259,68 @@ static int numbers(void) {
     return 0;
 }
 
-/* Three numbers for each 65,536, up to one past 2^32: the same again is a replay, and 128 below it is too late. */
+/* Twenty-two numbers for each 65,536, up to one past 2^32: the same again is a replay, and 128 below it is too late. */
 static int past_32_bits(void) {
     static sfu sfu;
     uint8_t plain[] = {0x80, 0, 0, 0, 0, 0, 0, 1, 0x12, 0x34, 0x56, 0x78};
-    for (unsigned long i = 0; i <= 3 * 65536; i++) {
-        unsigned number = i % 3 * 21845;
+    for (unsigned long i = 0; i <= 22 * 65536; i++) {
+        unsigned number = i % 22 * 2979;
         plain[2] = (uint8_t)(number >> 8), plain[3] = (uint8_t)number;
         take(&sfu, plain, sizeof plain, 0, NULL);
     }
-    CHECK(sfu.counts.taken == 3 * 65536 + 1 && sfu.counts.replays == 0 && sfu.counts.late == 0);
+    CHECK(sfu.counts.taken == 22 * 65536 + 1 && sfu.counts.replays == 0 && sfu.counts.late == 0);
     take(&sfu, plain, sizeof plain, 0, NULL);
     plain[2] = 0xFF, plain[3] = 0xFF; /* one below it */
     take(&sfu, plain, sizeof plain, 0, NULL);
     take(&sfu, plain, sizeof plain, 0, NULL);
     plain[3] = 0x80; /* 128 below it */
     take(&sfu, plain, sizeof plain, 0, NULL);
-    CHECK(sfu.counts.taken == 3 * 65536 + 2 && sfu.counts.replays == 2 && sfu.counts.late == 1);
+    CHECK(sfu.counts.taken == 22 * 65536 + 2 && sfu.counts.replays == 2 && sfu.counts.late == 1);
     CHECK(sfu.counts.sent == 0 && sfu.counts.unsent == 0 && sfu.stream_count == 1);
+    return 0;
+}
+
+/* A sender that starts again far away: its second packet there is taken, and what is of the old numbers then isn't, but
+ * two in a row are. */
+static int starts_again(void) {
+    static const struct {
+        uint16_t number;
+        unsigned long taken, replays, late; /* until then */
+    } ROWS[] = {{100, 1, 0, 0},   {101, 2, 0, 0},   {40000, 2, 0, 1}, {40001, 3, 0, 1}, {40001, 3, 1, 1},
+                {40002, 4, 1, 1}, {102, 4, 1, 2},   {40003, 5, 1, 2}, {40000, 6, 1, 2}, {103, 6, 1, 3},
+                {105, 6, 1, 4},   {106, 7, 1, 4},   {40004, 7, 1, 5}, {107, 8, 1, 5}};
+    static sfu sfu;
+    uint8_t plain[] = {0x80, 0, 0, 0, 0, 0, 0, 1, 0x12, 0x34, 0x56, 0x78};
+    for (size_t i = 0; i < sizeof ROWS / sizeof *ROWS; i++) {
+        plain[2] = (uint8_t)(ROWS[i].number >> 8), plain[3] = (uint8_t)ROWS[i].number;
+        take(&sfu, plain, sizeof plain, 0, NULL);
+        CHECK(sfu.counts.taken == ROWS[i].taken && sfu.counts.replays == ROWS[i].replays);
+        CHECK(sfu.counts.late == ROWS[i].late);
+    }
+    return 0;
+}
+
+/* Padding doesn't go on: P is clear, and the payload is shorter. One that counts more bytes than there are is malformed,
+ * and a packet of padding alone goes on without a payload. */
+static int padding(void) {
+    static sfu sfu;
+    uint8_t padded[] = {0xA0, 0, 0, 4, 0, 0, 0, 1, 0x12, 0x34, 0x56, 0x78, 'h', 'i', 0, 2};
+    const sfu_peer peer = {{{0}}, "", 9, 0};
+    sent it = {0};
+    CHECK(sfu_add(&sfu, &NOTHING, &peer));
+    take(&sfu, padded, sizeof padded, 0, &it);
+    CHECK(it.count == 1 && it.header_len == 12 && memcmp(it.header, "\x80\0\0\4\0\0\0\1\0\0\0\x09", 12) == 0);
+    CHECK(it.payload == padded + 12 && it.payload_len == 2);
+    padded[3] = 5, padded[15] = 5;
+    take(&sfu, padded, sizeof padded, 0, &it);
+    CHECK(it.count == 1 && sfu.counts.unreadable == 1 && sfu.counts.taken == 1);
+    padded[15] = 4;
+    take(&sfu, padded, sizeof padded, 0, &it);
+    CHECK(it.count == 2 && it.payload_len == 0 && sfu.counts.taken == 2);
     return 0;
 }
 
 int main(void) {
     return forms() || times() || one_byte() || two_byte() || long_mid_without_an_id() || room() || apart() || numbers() ||
-           past_32_bits();
+           past_32_bits() || starts_again() || padding();
 }

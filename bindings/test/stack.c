@@ -19,6 +19,7 @@ bool uses_malloc;
 /* The longest packet: 15 sources, and a block of 65,535 words whose elements have one byte each. */
 static uint8_t datagram[12 + 60 + 4 + 262140 + 8];
 static rtpw_packet packet;
+static rtpw_whole_packet whole;
 static rtpw_element element;
 static rtpw_fields fields = {2, 3, 1, 96, 1, 1, 1, 1, 1, 1};
 static rtpw_receiver receiver;
@@ -31,8 +32,10 @@ static rtpw_wide_restarting_receiver wide_restarting;
 /* the longest packet, and one that isn't within the buffer */
 static rtpw_datagram datagrams[2] = {{.len = sizeof datagram}, {.at = 1, .len = SIZE_MAX}};
 static rtpw_datagram_header datagram_headers[2] = {{.len = sizeof datagram}, {.at = 1, .len = SIZE_MAX}};
+static rtpw_whole_datagram wholes[2] = {{.len = sizeof datagram}, {.at = 1, .len = SIZE_MAX}};
 static rtpw_arrival arrivals[3] = {{.sequence_number = 99}, {.sequence_number = 98}, {.receiver = 1}};
 static rtpw_template made;
+static rtpw_group group;
 static uint8_t headers[12 + 60 + 4 + 262140 + 16 * 264], written_headers[sizeof headers], zeros[16];
 static rtpw_routed_header routed[3] = {{.clears_padding = 1}, {.data_at = SIZE_MAX}, {.is_retransmission = 1}};
 static rtpw_map map;
@@ -173,11 +176,20 @@ static void make_template_long(void) { /* whose block is too long for one walk *
     status = rtpw_make_template(datagram, sizeof datagram, &ids, data, sizeof data, many + 1, 16, RTPW_ANY_FORM, headers,
                                 sizeof headers, &made);
 }
+static void prepare_group(void) { status = rtpw_prepare_group(&ids, many + 1, 16, RTPW_ANY_FORM, &group); }
+static void make_from_group(void) {
+    status = rtpw_make_from_group(&group, datagram, few_elements(), headers, sizeof headers, &made);
+}
+static void make_from_group_long(void) {
+    datagram[74] = datagram[75] = 0xFF;
+    status = rtpw_make_from_group(&group, datagram, sizeof datagram, headers, sizeof headers, &made);
+}
 static void write_headers(void) { /* from what was made before */
     status = rtpw_write_headers(&made, headers, sizeof headers, zeros, sizeof zeros, routed, 3, written_headers,
                                 sizeof written_headers);
 }
 static void packet_parse_many(void) { rtpw_packet_parse_many(datagram, sizeof datagram, datagrams, 2); }
+static void read_many(void) { rtpw_read_many(datagram, sizeof datagram, &map, wholes, 2); }
 static void parse_many(void) { rtpw_parse_many(datagram, sizeof datagram, &map, datagram_headers, 2); }
 static void values_read(void) { status = rtpw_values_read(datagram + 76, 262140, RTPW_ONE_BYTE_FORM, &map, &values); }
 static void kind_of_uri(void) { number = rtpw_kind_of_uri((const uint8_t *)LAST_URI, sizeof LAST_URI - 1); }
@@ -190,6 +202,7 @@ static void map_get(void) { number = rtpw_map_get(&map, 3); }
 static void id_of(void) { number = rtpw_id_of(&map, 255); }
 static void data_of(void) { status = rtpw_data_of(RTPW_KIND_MID, &given.values, datagram, sizeof datagram, &count); }
 static void map_standard(void) { rtpw_map_standard(&usual); }
+static void read(void) { status = rtpw_read(datagram, sizeof datagram, &map, &whole); }
 static void parse(void) { status = rtpw_parse(datagram, sizeof datagram, &map, &header); }
 static void parse_layers(void) { status = rtpw_parse_layers(datagram, sizeof datagram, &map, &header, &layers); }
 static void wire_len(void) { status = rtpw_wire_len(&map, &given, &count); }
@@ -299,13 +312,14 @@ int main(void) {
         CALL(reception_report), CALL(write_report), CALL(extend_u16),
         CALL(extend_u8), CALL(extend_u15), CALL(extend_u32), CALL(is_rtcp), CALL(set_padding), CALL(remove_padding),
         CALL(values_read), CALL(kind_of_uri), CALL(uri_of_kind), CALL(map_set), CALL(map_remove), CALL(map_get), CALL(map_standard), CALL(id_of), CALL(data_of),
-        CALL(parse),
+        CALL(read), CALL(parse),
         CALL(parse_layers), CALL(wire_len), CALL(write), CALL(wire_len_layers), CALL(write_layers), CALL(left_out), CALL(left_out_layers), CALL(write_with), CALL(write_with_form),
         CALL(write_elements),
         CALL(new_ids_between), CALL(renumber), CALL(pad), CALL(read_original), CALL(write_original), CALL(version),
         CALL(new_ids_to_retransmission), CALL(new_ids_from_retransmission), CALL(to_retransmission),
-        CALL(from_retransmission), CALL(packet_parse_many), CALL(parse_many), CALL(receive_many),
+        CALL(from_retransmission), CALL(read_many), CALL(packet_parse_many), CALL(parse_many), CALL(receive_many),
         CALL(make_template), CALL(make_template_long), CALL(write_headers),
+        CALL(prepare_group), CALL(make_from_group), CALL(make_from_group_long),
         CALL(read_send_time), CALL(write_send_time), CALL(extend_send_time),
         CALL(read_transmission_offset), CALL(write_transmission_offset), CALL(read_frame_marking), CALL(write_frame_marking),
         CALL(read_orientation), CALL(write_orientation), CALL(is_token), CALL(is_stream_id), CALL(read_timing), CALL(write_timing),

@@ -125,6 +125,36 @@ static void headers(void) {
     CHECK(told[13].header.csrc_count == 1 && told[13].header.csrc[0] == 0x40600001);
 }
 
+/* RTCP is told by the status, before what it would be as RTP. */
+static void wholes(void) {
+    rtpw_whole_datagram told[COUNT], before;
+    rtpw_map map;
+    size_t i;
+    memset(&map, 0, sizeof map);
+    CHECK(rtpw_map_set(&map, 1, RTPW_KIND_AUDIO_LEVEL) == RTPW_OK);
+    memset(told, 0x5A, sizeof told);
+    before = told[0];
+    for (i = 0; i < COUNT; i++) {
+        told[i].at = ROWS[i].at;
+        told[i].len = ROWS[i].len;
+    }
+    rtpw_read_many(BYTES, SIZE, &map, told, COUNT);
+    for (i = 0; i < COUNT; i++) {
+        const rtpw_header *header = &told[i].packet.header;
+        CHECK(told[i].at == ROWS[i].at && told[i].len == ROWS[i].len);
+        CHECK(told[i].status == (ROWS[i].is_rtcp ? RTPW_RTCP : ROWS[i].status));
+        if (told[i].status == RTPW_OK) {
+            CHECK(header->sequence_number == ROWS[i].number && header->ssrc == 0x0A0B0C0D);
+            CHECK(header->header_len == ROWS[i].payload_at && told[i].packet.unpadded_len == ROWS[i].payload_len);
+            CHECK(header->values.has_audio_level == (i == 2) && header->has_extension == (i == 2 || i == 6));
+        } else {
+            CHECK(memcmp(&told[i].packet, &before.packet, sizeof before.packet) == 0);
+        }
+    }
+    CHECK(told[2].packet.header.values.audio_level == -42 && told[2].packet.body_at == 16);
+    CHECK(told[6].packet.block_form == RTPW_OTHER_FORM && told[6].packet.block_profile == 0xABAC);
+}
+
 static void none(void) {
     rtpw_map map;
     rtpw_datagram datagram;
@@ -133,6 +163,7 @@ static void none(void) {
     rtpw_packet_parse_many(BYTES, SIZE, NULL, 0);
     rtpw_packet_parse_many(NULL, 0, NULL, 0);
     rtpw_parse_many(NULL, 0, &map, NULL, 0);
+    rtpw_read_many(NULL, 0, &map, NULL, 0);
     rtpw_receive_many(NULL, 0, NULL, 0);
     rtpw_packet_parse_many(NULL, 0, &datagram, 1);
     CHECK(datagram.status == RTPW_CUT_FIXED_PART && datagram.is_rtcp == 0);
@@ -172,6 +203,7 @@ static void arrivals(void) {
 int main(void) {
     packets();
     headers();
+    wholes();
     none();
     arrivals();
     return failed;

@@ -247,6 +247,29 @@ static void kinds_have_uris(void) {
     CHECK(rtpw_uri_of_kind(RTPW_KIND_NONE, uri, sizeof uri, &len) == RTPW_NONE);
 }
 
+/* A URI with one bit changed, or of another length, names no kind, whatever stands behind it; but for a bit of the
+ * "s" of ssrc-audio-level (RFC 6464), which makes it csrc-audio-level (RFC 6465), and that back. */
+static void what_is_nearly_a_uri(void) {
+    const unsigned none = RTPW_KIND_NONE, voice = RTPW_KIND_AUDIO_LEVEL, mixer = RTPW_KIND_MIXER_LEVELS;
+    uint8_t uri[2 * RTPW_URI_SIZE];
+    unsigned kind;
+    for (kind = RTPW_KIND_ABS_SEND_TIME; kind <= RTPW_KIND_NTP_56; kind++) {
+        size_t len = 0, i;
+        CHECK(rtpw_uri_of_kind((uint8_t)kind, uri, sizeof uri, &len) == RTPW_OK);
+        memset(uri + len, '0', sizeof uri - len);
+        for (i = 0; i <= sizeof uri; i++) {
+            CHECK(rtpw_kind_of_uri(uri, i) == (i == len ? kind : none));
+        }
+        for (i = 0; i < 8 * len; i++) {
+            unsigned is_other = i == 8 * sizeof "urn:ietf:params:rtp-hdrext:" - 8 + 4;
+            unsigned other = kind == voice ? mixer : kind == mixer ? voice : none;
+            uri[i / 8] ^= (uint8_t)(1u << i % 8);
+            CHECK(rtpw_kind_of_uri(uri, len) == (is_other ? other : none));
+            uri[i / 8] ^= (uint8_t)(1u << i % 8);
+        }
+    }
+}
+
 /* Four were expected, from the first one's number to the highest, and one of them is lost. */
 static void packets_are_expected(void) {
     rtpw_reception reception = {0};
@@ -269,6 +292,7 @@ int main(void) {
     ids_above_14_after_a_change_of_form();
     why_an_element_is_not_put();
     kinds_have_uris();
+    what_is_nearly_a_uri();
     packets_are_expected();
     return failed;
 }

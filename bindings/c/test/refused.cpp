@@ -22,6 +22,9 @@ void taken(std::vector<std::uint8_t> &kept, const rtpw_map &map, std::vector<rtp
     const auto packet = rtpw::packet_parse(kept);
     const auto payload = rtpw::unpadded_payload(rtpw::bytes(kept), *packet);
     const auto text = rtpw::token({kept.data(), kept.size()}, *packet, 1);
+    const auto whole = rtpw::read(kept, map);
+    (void)rtpw::payload({kept.data(), kept.size()}, *whole), (void)rtpw::body(kept, *whole);
+    (void)rtpw::unpadded_payload(rtpw::bytes(kept), *whole), (void)rtpw::data_of_element(kept, *whole, 1);
     (void)rtpw::set_ssrc(lent(), ssrc);
     (void)rtpw::set_ssrc({kept.data(), kept.size()}, payload[0]);
     (void)rtpw::set_ssrc(kept, mid && text);
@@ -32,11 +35,14 @@ void taken(std::vector<std::uint8_t> &kept, const rtpw_map &map, std::vector<rtp
     for (const rtpw::element &it : rtpw::elements(kept, *packet)) {
         (void)it;
     }
+    rtpw::own_uris uris, moved = std::move(uris);
+    rtpw::uri_map named(map);
+    (void)moved.set(named, 1, "urn:x");
 }
 
 void refused(std::vector<std::uint8_t> &kept, const rtpw_map &map, const rtpw_packet &packet,
-             std::vector<mine> &derived, rtpw::span<rtpw_arrival> arrivals, const my_element *elements) {
-    (void)kept, (void)map, (void)packet, (void)derived, (void)arrivals, (void)elements;
+             const rtpw_whole_packet &whole, std::vector<mine> &derived, rtpw::span<rtpw_arrival> arrivals, const my_element *elements) {
+    (void)kept, (void)map, (void)packet, (void)whole, (void)derived, (void)arrivals, (void)elements;
 #if REFUSED == 1 // the text is gone
     (void)rtpw::mid((*rtpw::parse(kept, map)).values);
 #elif REFUSED == 2
@@ -69,5 +75,21 @@ void refused(std::vector<std::uint8_t> &kept, const rtpw_map &map, const rtpw_pa
     (void)rtpw::write_elements(kept, elements, 2, RTPW_ONE_BYTE_FORM, kept);
 #elif REFUSED == 16
     (void)rtpw::write_with({}, kept, elements, 2, kept);
+#elif REFUSED == 17 // the bytes are gone here too
+    (void)rtpw::payload(datagram(), whole);
+#elif REFUSED == 18
+    (void)rtpw::unpadded_payload(datagram(), whole);
+#elif REFUSED == 19
+    (void)rtpw::elements(datagram(), whole);
+#elif REFUSED == 20 // and what tells where they lie is a packet
+    (void)rtpw::body(kept, map);
+#elif REFUSED == 21 // the text of a result that isn't kept
+    (void)rtpw::mid((*rtpw::read(kept, map)).header.values);
+#elif REFUSED == 22 // both would give one number to two URIs
+    const rtpw::own_uris uris, copied = uris;
+#elif REFUSED == 23 // nothing says of whom the numbers are
+    rtpw::own_uris uris;
+    rtpw_map plain = map;
+    (void)uris.set(plain, 1, "urn:x");
 #endif
 }

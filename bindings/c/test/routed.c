@@ -452,8 +452,100 @@ static void torn(void) {
     is_none(&made, bytes, sizeof bytes, RTPW_CUT_BLOCK);
 }
 
+/* What is prepared once makes what rtpw_make_template makes of the same, with zeros as the elements' data. */
+static void prepared(void) {
+    static const uint8_t first[] = {0x90, 96, 0, 9, REST_45, 0xBE, 0xDE, 0, 2, 0x30, 0xAA, 0x41, 0, 7, 0, 0, 0};
+    static const uint8_t common[] = {0x90, 96, 0, 5, REST, 0xBE, 0xDE, 0, 2, 0x30, 0xAA, 0x41, 0, 0, 0, 0, 0};
+    static const uint8_t other[] = {0x90, 97, 0, 6, REST, 0x10, 0, 0, 1, 2, 1, 0xBB, 0};
+    static const uint8_t wide[] = {0x90, 97, 0, 6, REST, 0x10, 0, 0, 1, 4, 2, 0, 0};
+    static const uint8_t zeros[4] = {0};
+    const rtpw_new_ids ids = ids_of(1, 3);
+    rtpw_element element = element_of(1000, 2, 4); /* where its data lie isn't looked at */
+    rtpw_template as_before;
+    rtpw_routed_header receiver;
+    rtpw_group group;
+    uint8_t headers[24];
+    int i;
+    memset(&group, 0x5A, sizeof group);
+    CHECK(rtpw_prepare_group(&ids, &element, 1, RTPW_ANY_FORM, &group) == RTPW_OK);
+    CHECK(group.count == 1 && group.data_total == 2 && group.element_ids[0] == 4 && group.data_lens[0] == 2);
+    CHECK(group.allowed == RTPW_ANY_FORM && group.one_byte == 1);
+    for (i = 0; i < 256; i++) {
+        CHECK(group.new_ids[i] == (i == 1 ? 3 : 0) && group.numbers[i] == (i == 4 ? 1 : 0));
+    }
+    memset(&made, 0x5A, sizeof made);
+    CHECK(rtpw_make_from_group(&group, SAMPLE, sizeof SAMPLE, header, sizeof header, &made) == RTPW_OK);
+    CHECK(made.header_len == sizeof common && memcmp(header, common, sizeof common) == 0);
+    CHECK(made.count == 1 && made.data_at[0] == 19 && made.data_len[0] == 2 && made.data_total == 2);
+    memset(&receiver, 0, sizeof receiver);
+    receiver.fields.has_sequence_number = receiver.fields.has_ssrc = 1;
+    receiver.fields.sequence_number = 9;
+    receiver.fields.ssrc = 45;
+    CHECK(rtpw_write_headers(&made, header, sizeof header, NUMBERS, sizeof NUMBERS, &receiver, 1, headers,
+                             sizeof headers) == RTPW_OK);
+    CHECK(receiver.status == RTPW_OK && memcmp(headers, first, sizeof first) == 0);
+    element.data_at = 1;
+    CHECK(rtpw_make_template(SAMPLE, sizeof SAMPLE, &ids, zeros, sizeof zeros, &element, 1, RTPW_ANY_FORM, header,
+                             sizeof header, &as_before) == RTPW_OK);
+    CHECK(memcmp(&made, &as_before, (size_t)((uint8_t *)made.data_len - (uint8_t *)&made) + 16) == 0);
+    CHECK(memcmp(header, common, sizeof common) == 0);
+    /* the same group, a packet in the two-byte form, whose element has no new id */
+    CHECK(rtpw_make_from_group(&group, other, sizeof other, header, sizeof header, &made) == RTPW_OK);
+    CHECK(made.header_len == sizeof wide && memcmp(header, wide, sizeof wide) == 0 && made.data_at[0] == 18);
+    CHECK(rtpw_make_from_group(&group, SAMPLE, 11, header, sizeof header, &made) == RTPW_CUT_FIXED_PART);
+    CHECK(rtpw_make_from_group(&group, SAMPLE, sizeof SAMPLE, header, 19, &made) == RTPW_SHORT_BUFFER);
+    CHECK(rtpw_prepare_group(&ids, NULL, 0, RTPW_ONE_BYTE_FORM, &group) == RTPW_OK);
+    CHECK(rtpw_make_from_group(&group, other, sizeof other, header, sizeof header, &made) == RTPW_OK);
+    CHECK(made.header_len == 16 && made.count == 0);
+}
+
+/* What can't be a group's, and numbers that are none. */
+static void not_prepared(void) {
+    const rtpw_new_ids ids = ids_of(1, 3);
+    rtpw_element elements[17];
+    rtpw_group group, before, torn_group;
+    size_t i;
+    for (i = 0; i < 17; i++) {
+        elements[i] = element_of(0, i, (uint8_t)(1 + i));
+    }
+    memset(&group, 0x5A, sizeof group);
+    before = group;
+    CHECK(rtpw_prepare_group(&ids, elements, 17, RTPW_ANY_FORM, &group) == RTPW_BAD_FIELD);
+    CHECK(rtpw_prepare_group(&ids, elements, 1, 3, &group) == RTPW_BAD_FIELD);
+    elements[1].data_len = 256;
+    CHECK(rtpw_prepare_group(&ids, elements, 2, RTPW_ANY_FORM, &group) == RTPW_BAD_FIELD);
+    elements[1].data_len = 255;
+    elements[1].id = 1;
+    CHECK(rtpw_prepare_group(&ids, elements, 2, RTPW_ANY_FORM, &group) == RTPW_BAD_FIELD);
+    elements[1].id = 0;
+    CHECK(rtpw_prepare_group(&ids, elements, 2, RTPW_ANY_FORM, &group) == RTPW_BAD_ID);
+    CHECK(memcmp(&group, &before, sizeof group) == 0);
+    elements[1].id = 2;
+    CHECK(rtpw_prepare_group(&ids, elements, 16, RTPW_TWO_BYTE_FORM, &group) == RTPW_OK);
+    CHECK(group.data_total == 0 + 255 + (2 + 15) * 14 / 2 && group.one_byte == 0 && group.count == 16);
+    memset(&made, 0x5A, sizeof made);
+    for (i = 0; i < 9; i++) {
+        torn_group = group;
+        switch (i) {
+        case 0: torn_group.count = 17; break;
+        case 1: torn_group.allowed = 3; break;
+        case 2: torn_group.new_ids[0] = 1; break;
+        case 3: torn_group.numbers[0] = 1; break;
+        case 4: torn_group.numbers[2] = 1; break;
+        case 5: torn_group.element_ids[3] = 200; break;
+        case 6: torn_group.data_lens[3]++; break;
+        case 7: torn_group.data_total--; break;
+        default: torn_group.one_byte = 1; break;
+        }
+        CHECK(rtpw_make_from_group(&torn_group, SAMPLE, sizeof SAMPLE, header, sizeof header, &made) == RTPW_BAD_FIELD);
+    }
+    CHECK(made.count == 0x5A);
+}
+
 int main(void) {
     two_receivers();
+    prepared();
+    not_prepared();
     retransmissions();
     groups();
     refusals();

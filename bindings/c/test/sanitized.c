@@ -212,6 +212,22 @@ static void data_of(void) {
     done(rtpw_data_of(RTPW_KIND_AUDIO_LEVEL, values, bytes, 5, len));
     set(bytes, *len);
 }
+static void read_whole(void) {
+    const uint8_t *bytes = PACKET;
+    const rtpw_map *kinds = MAP;
+    rtpw_whole_packet *it = out(sizeof *it);
+    done(rtpw_read(bytes, LEN, kinds, it));
+    set(it, sizeof *it);
+}
+static void read_rtcp(void) { /* of which only two bytes are looked at, and nothing is written */
+    static const uint8_t report[] = {0x81, 201, 0, 7};
+    const uint8_t *bytes = in(report, 2);
+    const rtpw_map *kinds = MAP;
+    rtpw_whole_packet it;
+    if (rtpw_read(bytes, 2, kinds, &it) != RTPW_RTCP) {
+        _exit(3);
+    }
+}
 static void parse(void) {
     const uint8_t *bytes = PACKET;
     const rtpw_map *kinds = MAP;
@@ -683,6 +699,20 @@ static void packet_parse_many(void) {
     }
     set(&it[0].packet, sizeof it[0].packet);
 }
+static void read_many(void) {
+    const uint8_t *bytes = PACKET;
+    const rtpw_map *kinds = MAP;
+    rtpw_whole_datagram these[2], *it;
+    these[0].at = 0;
+    these[1].at = 1;
+    these[0].len = these[1].len = LEN;
+    it = in_out(these, sizeof these);
+    rtpw_read_many(bytes, LEN, kinds, it, 2);
+    if (it[0].status != RTPW_OK || it[1].status != RTPW_BAD_FIELD) {
+        _exit(3);
+    }
+    set(&it[0].packet, sizeof it[0].packet);
+}
 static void parse_many(void) {
     const uint8_t *bytes = PACKET;
     const rtpw_map *kinds = MAP;
@@ -731,6 +761,35 @@ static void make_template(void) {
     buf = out(400);
     made = out(sizeof *made);
     done(rtpw_make_template(packet, LEN, given_ids, data, 2, elements, 1, RTPW_ANY_FORM, buf, 400, made));
+    set(made, sizeof *made);
+    set(buf, made->header_len);
+}
+static void prepare_group(void) {
+    rtpw_new_ids ids;
+    rtpw_element element;
+    rtpw_group *group;
+    memset(&ids, 3, sizeof ids);
+    memset(&element, 0, sizeof element);
+    element.data_len = 2;
+    element.id = 4;
+    const rtpw_new_ids *given_ids = in(&ids, sizeof ids);
+    const rtpw_element *elements = in(&element, sizeof element);
+    group = out(sizeof *group);
+    done(rtpw_prepare_group(given_ids, elements, 1, RTPW_ANY_FORM, group));
+    set(group, sizeof *group);
+}
+static void make_from_group(void) {
+    rtpw_new_ids ids;
+    rtpw_group group;
+    rtpw_template *made;
+    uint8_t *buf;
+    memset(&ids, 3, sizeof ids);
+    done(rtpw_prepare_group(&ids, NULL, 0, RTPW_ANY_FORM, &group));
+    const uint8_t *packet = PACKET;
+    const rtpw_group *given = in(&group, sizeof group);
+    buf = out(400);
+    made = out(sizeof *made);
+    done(rtpw_make_from_group(given, packet, LEN, buf, 400, made));
     set(made, sizeof *made);
     set(buf, made->header_len);
 }
@@ -828,6 +887,7 @@ static void no_bytes(void) { /* NULL, where the size is 0 */
     memset(&routed, 0, sizeof routed); /* a receiver without data */
     done(rtpw_write_headers(&made, bytes, made.header_len, NULL, 0, &routed, 1, bytes + 30, 30));
     done(routed.status);
+    rtpw_read_many(NULL, 0, &map, NULL, 0);
     rtpw_packet_parse_many(NULL, 0, NULL, 0);
     rtpw_parse_many(NULL, 0, &map, NULL, 0);
     rtpw_receive_many(NULL, 0, NULL, 0);
@@ -867,6 +927,8 @@ static const struct called cases[] = {
     CASE(id_of),
     CASE(map_standard),
     CASE(data_of),
+    CASE(read_whole),
+    CASE(read_rtcp),
     CASE(parse),
     CASE(parse_layers),
     CASE(wire_len),
@@ -934,10 +996,13 @@ static const struct called cases[] = {
     CASE(wide_restarting_first),
     CASE(receiver_standing_of),
     CASE(wide_receiver_standing_of),
+    CASE(read_many),
     CASE(packet_parse_many),
     CASE(parse_many),
     CASE(receive_many),
     CASE(make_template),
+    CASE(prepare_group),
+    CASE(make_from_group),
     CASE(write_headers),
     CASE(write_headers_new),
     CASE(no_bytes)};

@@ -21,6 +21,9 @@ static const uint8_t empty[LEN - 4] = {0x92, 0xef, 1, 2, 0, 0, 3, 4,    0,    0,
 /* Without a block. */
 static const uint8_t plain[LEN - 8] = {0xa2, 0xef, 1, 2, 0, 0, 3, 4, 0, 0, 0, 44, 0, 0, 0, 9, 0, 0, 0, 7, 5, 6, 7, 8, 1};
 
+/* A receiver report on a source, of which RTP would look at more. */
+static const uint8_t report[12] = {0x81, 201, 0, 7, 0, 0, 0, 44, 0, 0, 0, 9};
+
 /* Without a payload, though P is set. */
 static const uint8_t header[12 + 4] = {0xa1, 0xef, 1, 2, 0, 0, 3, 4, 0, 0, 0, 44, 0, 0, 0, 9};
 
@@ -45,6 +48,14 @@ static void packet_parse(void) {
     rtpw_packet it;
     done(rtpw_packet_parse(buf, len, &it));
 }
+static void read_whole(void) {
+    rtpw_whole_packet it;
+    done(rtpw_read(buf, len, &map, &it));
+}
+static void read_rtcp(void) {
+    rtpw_whole_packet it;
+    done(rtpw_read(buf, len, &map, &it) == RTPW_RTCP ? RTPW_OK : -1);
+}
 static void parse(void) {
     rtpw_header it;
     done(rtpw_parse(buf, len, &map, &it));
@@ -60,6 +71,12 @@ static void packet_parse_many(void) {
     it.len = len;
     rtpw_packet_parse_many(buf, sizeof buf, &it, 1);
     done(it.status);
+}
+static void read_many(void) {
+    rtpw_whole_datagram it;
+    it.at = 0;
+    it.len = len;
+    rtpw_read_many(buf, sizeof buf, &map, &it, 1);
 }
 static void parse_many(void) {
     rtpw_datagram_header it;
@@ -171,6 +188,12 @@ static const struct {
     ROW(packet_parse, plain, "rrrrrrrrrrrr" SOURCES "====r", 0),
     ROW(packet_parse, header, "rrrrrrrrrrrr" "====", 0),
     ROW(packet_parse_many, packet, "rrrrrrrrrrrr" SOURCES "rrrr====" "====r", 0),
+    ROW(read_whole, packet, "rrrrrrrrrrrrrrrrrrrrrrrrrrrr" "====r", 0),
+    ROW(read_whole, empty, "rrrrrrrrrrrrrrrrrrrrrrrr" PAYLOAD, 0),
+    ROW(read_whole, plain, "rrrrrrrrrrrrrrrrrrrr" "====r", 0),
+    ROW(read_whole, header, "rrrrrrrrrrrrrrrr", 0),
+    ROW(read_rtcp, report, "rr==========", 0),
+    ROW(read_many, packet, "rrrrrrrrrrrrrrrrrrrrrrrrrrrr" "====r", 0),
     ROW(parse, packet, "rrrrrrrrrrrrrrrrrrrrrrrrrrrr" PAYLOAD, 0),
     ROW(parse, empty, "rrrrrrrrrrrrrrrrrrrrrrrr" PAYLOAD, 0),
     ROW(parse_layers, packet, "rrrrrrrrrrrrrrrrrrrrrrrrrrrr" PAYLOAD, 0),

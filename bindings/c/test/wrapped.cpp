@@ -72,6 +72,23 @@ void reads() {
     CHECK((*rtpw::last_element(rtpw::body(datagram, *packet), RTPW_ONE_BYTE_FORM, 3)).data_at == 1);
     CHECK(rtpw::next_element(rtpw::body(datagram, *packet), RTPW_ONE_BYTE_FORM, 2).status() == status::none);
 
+    const auto whole = rtpw::read(datagram, level_is_3());
+    CHECK(whole && whole->header.ssrc == 44 && whole->header.values.audio_level == -10 && whole->padding_fits == 1);
+    CHECK(same(rtpw::payload(datagram, *whole), {7, 8, 1}));
+    CHECK(same(rtpw::unpadded_payload(datagram, *whole), {7, 8}));
+    CHECK(same(rtpw::body(datagram, *whole), {0x30, 0x8a, 0, 0}));
+    for (const rtpw::element &it : rtpw::elements(datagram, *whole)) {
+        CHECK(it.id == 3 && same(it.data, {0x8a}));
+        count++;
+    }
+    CHECK(count == 2);
+    const auto again = rtpw::data_of_element(datagram, *whole, 3);
+    CHECK(again && same(*again, {0x8a}) && !rtpw::data_of_element(datagram, *whole, 4));
+    CHECK(!rtpw::token(datagram, *whole, 3) && !rtpw::token(datagram, *whole, 4));
+    const auto rtcp = rtpw::read(report, level_is_3());
+    CHECK(!rtcp && rtcp.status() == status::rtcp && rtpw::status_text(rtcp.status()) == "a packet of RTCP");
+    CHECK(rtpw::read({datagram.data(), 11}, level_is_3()).status() == status::cut_fixed_part);
+
     const auto cut = rtpw::packet_parse({datagram.data(), 11});
     CHECK(!cut && cut.status() == status::cut_fixed_part && cut->ssrc == 0);
     CHECK(rtpw::status_text(cut.status()) == "fewer than twelve bytes");
@@ -407,6 +424,17 @@ void many() {
     CHECK(status(packets[1].status) == status::cut_fixed_part && packets[1].is_rtcp == 1);
     CHECK(status(packets[2].status) == status::bad_field && packets[2].is_rtcp == 0);
 
+    std::vector<rtpw_whole_datagram> wholes(4);
+    wholes[0].len = 27;
+    wholes[1].at = 27;
+    wholes[2].at = 28;
+    wholes[1].len = wholes[2].len = wholes[3].len = 2;
+    rtpw::read_many(buf, level_is_3(), {wholes.data(), 3});
+    CHECK(status(wholes[0].status) == status::ok && wholes[0].packet.header.values.audio_level == -10);
+    CHECK(same(rtpw::unpadded_payload(first, wholes[0].packet), {7, 8}));
+    CHECK(status(wholes[1].status) == status::rtcp && status(wholes[2].status) == status::bad_field);
+    CHECK(wholes[3].status == 0 && wholes[3].packet.header.header_len == 0); // it isn't passed
+
     std::vector<rtpw_datagram_header> headers(3);
     headers[0].at = 27;
     headers[0].len = 2;
@@ -453,6 +481,27 @@ void routes() {
     CHECK(status(receivers[0].status) == status::ok && receivers[0].at == 0 && receivers[0].len == 24);
     CHECK(status(receivers[1].status) == status::ok && receivers[1].at == 24 && receivers[1].len == 24);
     CHECK(rtpw::write_headers(*made, {header, 23}, data, receivers, headers) == status::bad_field);
+
+    // Prepared once, the group needs no data: the header that is made from it has zeros where each receiver's come.
+    const auto group = rtpw::prepare_group(ids, elements);
+    CHECK(group && group->count == 1 && group->data_total == 2 && group->new_ids[1] == 3 && group->allowed == 0);
+    std::uint8_t prepared[24];
+    const auto from_group = rtpw::make_from_group(*group, packet, prepared);
+    CHECK(from_group && std::memcmp(&*from_group, &*made, offsetof(rtpw_template, data_len) + sizeof made->data_len) == 0);
+    CHECK(
+        same(prepared, {0x90, 96, 0, 5, 0, 0, 0, 100, 0, 0, 0, 44, 0xBE, 0xDE, 0, 2, 0x30, 0xAA, 0x41, 0, 0, 0, 0, 0}));
+    std::uint8_t routed[48];
+    CHECK(rtpw::write_headers(*from_group, prepared, data, receivers, routed) == status::ok);
+    CHECK(std::memcmp(routed, headers, sizeof routed) == 0);
+    const auto two_byte = rtpw::prepare_group(ids, elements, RTPW_TWO_BYTE_FORM);
+    CHECK((*rtpw::make_from_group(*two_byte, packet, header)).data_at[0] == 21);
+    CHECK(rtpw::make_from_group(*group, packet, {prepared, 19}).status() == status::short_buffer);
+    rtpw_group wrong = *group;
+    wrong.count = 17;
+    CHECK(rtpw::make_from_group(wrong, packet, prepared).status() == status::bad_field);
+    CHECK(rtpw::prepare_group(ids, elements, 3).status() == status::bad_field);
+    const rtpw_element none[] = {{0, 2, 0, 0}};
+    CHECK(rtpw::prepare_group(ids, none).status() == status::bad_id);
 
     // The first gets a retransmission (RFC 4588, 4) of the packet 0x0102, and for its number there are two bytes more.
     receivers[0].fields.has_sequence_number = 1;
@@ -744,7 +793,7 @@ void bits_of_numbers() {
 // URIs that the library doesn't know have the same numbers in each map, and their elements go on.
 void own_uris() {
     rtpw::own_uris uris;
-    rtpw_map publisher{}, subscriber{};
+    rtpw::uri_map publisher, subscriber;
     CHECK(uris.set(publisher, 1, "urn:example:one") == status::ok);
     CHECK(uris.set(publisher, 2, "urn:ietf:params:rtp-hdrext:sdes:mid") == status::ok);
     CHECK(uris.set(publisher, 3, "urn:example:two") == status::ok);
@@ -762,6 +811,52 @@ void own_uris() {
     }
     CHECK(uris.set(publisher, 5, "128") == status::bad_field && publisher.kind[5] == RTPW_KIND_NONE);
     CHECK(uris.set(publisher, 5, "127") == status::ok && publisher.kind[5] == 255);
+}
+
+// The new ids of the ids 1 to 4.
+template <class From, class To> std::vector<int> new_ids(const From &from, const To &to) {
+    const rtpw_new_ids ids = rtpw::new_ids_between(from, to);
+    return {ids.id[1], ids.id[2], ids.id[3], ids.id[4]};
+}
+
+// Numbers of two tables aren't taken for the same: between their maps only what is known goes on.
+void two_tables_of_uris() {
+    using ids = std::vector<int>;
+    const char *mid = "urn:ietf:params:rtp-hdrext:sdes:mid";
+    rtpw::own_uris one, other;
+    rtpw::uri_map from, to, known, standard{rtpw::map_standard()};
+    CHECK(one.set(from, 1, "urn:a") == status::ok && one.set(from, 2, mid) == status::ok &&
+          one.set(from, 3, "urn:b") == status::ok);
+    CHECK(one.set(to, 0, "urn:a") == status::bad_field && other.set(to, 4, "urn:b") == status::ok &&
+          other.set(to, 5, mid) == status::ok);
+    CHECK(from.kind[1] == 128 && to.kind[4] == 128); // of two URIs
+    CHECK(new_ids(from, to) == (ids{0, 5, 0, 0}) && new_ids(to, from) == (ids{0, 0, 0, 0}));
+    CHECK(new_ids(from, from) == (ids{1, 2, 3, 0}) && from.kind[3] == 129);
+    // A map has numbers of one table.
+    CHECK(one.set(to, 9, "urn:b") == status::bad_field && one.set(to, 4, "urn:x") == status::bad_field);
+    CHECK(one.set(to, 9, mid) == status::ok && to.kind[4] == 128 && to.kind[9] == RTPW_KIND_MID &&
+          one.unknown().size() == 2);
+    CHECK(other.set(to, 10, "urn:x") == status::ok && to.kind[10] == 129);
+    // What is known is of any table, and so is what was chosen by hand.
+    CHECK(one.set(known, 6, mid) == status::ok && other.set(known, 7, "urn:b") == status::ok);
+    CHECK(new_ids(to, known) == (ids{0, 0, 0, 7}) && new_ids(from, known) == (ids{0, 6, 0, 0}));
+    CHECK(new_ids(from, standard) == (ids{0, 4, 0, 0}) && one.set(standard, 9, "urn:a") == status::ok);
+    CHECK(new_ids(from, standard) == (ids{9, 4, 0, 0}) && new_ids(to, standard) == (ids{0, 0, 0, 0}));
+    rtpw_map by_hand{};
+    CHECK(rtpw::map_set(by_hand, 8, 128) == status::ok);
+    CHECK(new_ids(from, by_hand) == (ids{8, 0, 0, 0}) && new_ids(to, by_hand) == (ids{0, 0, 0, 8}));
+    const rtpw::uri_map chosen(by_hand);
+    CHECK(new_ids(from, chosen) == (ids{8, 0, 0, 0}) && new_ids(to, chosen) == (ids{0, 0, 0, 8}));
+    // What is moved is the same table, and what is left is another one.
+    rtpw::own_uris moved = std::move(one);
+    rtpw::uri_map again, left, after;
+    CHECK(moved.set(again, 12, "urn:b") == status::ok && again.kind[12] == 129 &&
+          new_ids(from, again) == (ids{0, 0, 12, 0}));
+    CHECK(one.set(left, 14, "urn:z") == status::ok && left.kind[14] == 128 && new_ids(from, left) == (ids{0, 0, 0, 0}));
+    other = std::move(moved);
+    CHECK(other.set(again, 13, "urn:a") == status::ok && new_ids(from, again) == (ids{13, 0, 12, 0}));
+    CHECK(moved.set(after, 14, "urn:z") == status::ok && after.kind[14] == 128 &&
+          new_ids(from, after) == (ids{0, 0, 0, 0}));
 }
 
 // Spans are made of what has values, and of none.
@@ -799,6 +894,7 @@ int main() {
     bits_of_numbers();
     if (!STRINGS_LOOK_UNSET) {
         own_uris();
+        two_tables_of_uris();
     }
     spans();
 }

@@ -383,23 +383,26 @@ void alike_many() {
     const std::vector<std::uint8_t> buf(2 * count, 0x80);
     std::vector<rtpw_datagram> packets(count);
     std::vector<rtpw_datagram_header> headers(count);
+    std::vector<rtpw_whole_datagram> wholes(count);
     std::vector<rtpw_arrival> arrivals(count);
     std::vector<rtpw_receiver> receivers(count);
     for (std::size_t i = 0; i < count; i++) {
-        packets[i].at = headers[i].at = 2 * i;
-        packets[i].len = headers[i].len = i % 2 == 0 ? 2 : 12;
+        packets[i].at = headers[i].at = wholes[i].at = 2 * i;
+        packets[i].len = headers[i].len = wholes[i].len = i % 2 == 0 ? 2 : 12;
         arrivals[i].receiver = i;
         arrivals[i].sequence_number = static_cast<std::uint16_t>(i);
-        packets[i].status = headers[i].status = arrivals[i].status = 77;
+        packets[i].status = headers[i].status = wholes[i].status = arrivals[i].status = 77;
     }
     rtpw::packet_parse_many(buf, packets);
     rtpw::parse_many(buf, rtpw::map_standard(), headers);
+    rtpw::read_many(buf, rtpw::map_standard(), wholes);
     rtpw::receive_many(receivers, arrivals);
     for (std::size_t i = 0; i < count; i++) {
         const auto alone = i % 2 == 0                 ? status::cut_fixed_part
                            : 2 * i + 12 <= buf.size() ? status::ok
                                                       : status::bad_field;
         CHECK(status(packets[i].status) == alone && status(headers[i].status) == alone);
+        CHECK(status(wholes[i].status) == alone);
         CHECK(arrivals[i].status == RTPW_OK && arrivals[i].number == (i & 0xffff) &&
               receivers[i].highest == (i & 0xffff));
     }
@@ -444,6 +447,17 @@ void alike_routes() {
     const std::size_t fields = offsetof(rtpw_template, data_len) + sizeof other.data_len; // a byte behind them is none's
     CHECK(static_cast<std::int32_t>(made.status()) == is && std::memcmp(&*made, &other, fields) == 0);
     CHECK(its == others);
+    rtpw_group other_group{};
+    const auto group = rtpw::prepare_group(ids, {elements.data(), count}, allowed);
+    const std::int32_t group_is = rtpw_prepare_group(&ids, elements.data(), count, allowed, &other_group);
+    const std::size_t numbers = offsetof(rtpw_group, one_byte) + 1; // a byte behind them is none's
+    CHECK(static_cast<std::int32_t>(group.status()) == group_is && std::memcmp(&*group, &other_group, numbers) == 0);
+    std::vector<std::uint8_t> from_it(room, 0xee), from_other(room, 0xee);
+    rtpw_template other_made{};
+    const auto from_group = rtpw::make_from_group(*group, packet, from_it);
+    const std::int32_t from_is = rtpw_make_from_group(&other_group, packet.data(), packet.size(), from_other.data(), room, &other_made);
+    CHECK(static_cast<std::int32_t>(from_group.status()) == from_is && std::memcmp(&*from_group, &other_made, fields) == 0);
+    CHECK(from_it == from_other);
     if (allowed == RTPW_ANY_FORM && room == 600) { // no form is named
         std::vector<std::uint8_t> of_any(room, 0xee);
         const auto any = rtpw::make_template(packet, ids, data, {elements.data(), count}, of_any);

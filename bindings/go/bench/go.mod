@@ -1,10 +1,10 @@
-module rtpwire/bench
+module rtp-wire.example/rtpwire/bench
 
 go 1.19
 
 require (
 	github.com/pion/rtp v1.7.13
-	rtpwire v0.0.0
+	rtp-wire.example/rtpwire v0.0.0
 )
 
 require github.com/pion/randutil v0.1.0 // indirect
@@ -12,5 +12,5 @@ require github.com/pion/randutil v0.1.0 // indirect
 replace (
 	github.com/pion/randutil => /usr/share/gocode/src/github.com/pion/randutil
 	github.com/pion/rtp => /usr/share/gocode/src/github.com/pion/rtp
-	rtpwire => ../
+	rtp-wire.example/rtpwire => ../
 )

@@ -5,7 +5,7 @@ import (
 	"testing"
 
 	"github.com/pion/rtp"
-	"rtpwire"
+	"rtp-wire.example/rtpwire"
 )
 
 // atOnce is how many datagrams lie in one buffer, each in so many bytes of it: a time is that of one of them.

@@ -10,7 +10,7 @@ import (
 	"testing"
 
 	"github.com/pion/rtp"
-	"rtpwire"
+	"rtp-wire.example/rtpwire"
 )
 
 // plain is V=2, PT=96, 47,000, a timestamp and an SSRC, and a payload of 100 bytes.
@@ -73,10 +73,10 @@ func BenchmarkReadFourRtpwire(b *testing.B) {
 		if err := packet.Parse(four, m); err != nil {
 			b.Fatal(err)
 		}
-		level, _, _ := packet.Values.AudioLevel()
-		sent, _ := packet.Values.SendTime()
-		number, _ := packet.Values.TransportNumber()
-		mid, _ := packet.Values.MID()
+		level, _, _ := packet.Values().AudioLevel()
+		sent, _ := packet.Values().SendTime()
+		number, _ := packet.Values().TransportNumber()
+		mid, _ := packet.Values().MID()
 		sink += int(level) + int(sent) + int(number) + len(mid) + len(packet.Payload())
 	}
 }

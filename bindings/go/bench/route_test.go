@@ -5,7 +5,7 @@ import (
 	"testing"
 
 	"github.com/pion/rtp"
-	"rtpwire"
+	"rtp-wire.example/rtpwire"
 )
 
 // A packet of four elements is sent to each of several receivers, with an SSRC, a number, a timestamp, a mid and a

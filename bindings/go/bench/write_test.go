@@ -4,7 +4,7 @@ import (
 	"testing"
 
 	"github.com/pion/rtp"
-	"rtpwire"
+	"rtp-wire.example/rtpwire"
 )
 
 func BenchmarkReceiveFourRtpwire(b *testing.B) {
@@ -30,7 +30,7 @@ func BenchmarkWritePlainRtpwire(b *testing.B) {
 	header := rtpwire.Header{PayloadType: 96, SSRC: 44}
 	for i := 0; i < b.N; i++ {
 		header.SequenceNumber = uint16(i)
-		n, err := header.Write(buf, m)
+		n, err := header.WriteInto(buf, m)
 		if err != nil {
 			b.Fatal(err)
 		}
@@ -64,7 +64,7 @@ func BenchmarkWriteFourRtpwire(b *testing.B) {
 		header.Values.SetAudioLevel(-10, true)
 		header.Values.SetSendTime(uint64(i))
 		header.Values.SetTransportNumber(uint16(i))
-		n, err := header.Write(buf, m)
+		n, err := header.WriteInto(buf, m)
 		if err != nil {
 			b.Fatal(err)
 		}

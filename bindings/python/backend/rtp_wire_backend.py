@@ -2,7 +2,8 @@
 assembly text for this machine, and its source distribution, with the texts for all machines.
 
 In the repository the texts are taken from where they lie there; a source distribution has them in the folder `texts`.
-The compiler is $CC, or else cc, gcc or clang. Linux on x86-64 or ARM (aarch64), with a Python of 64 bits.
+The compiler is $CC, or else cc, gcc or clang. Linux on x86-64 or ARM (aarch64), with a Python of 64 bits; the wheels for
+these and for other systems, which take no compiler, are made by rtp_wire_wheels.py.
 """
 
 import base64
@@ -21,21 +22,26 @@ import tarfile
 import tempfile
 import zipfile
 from pathlib import Path
-from typing import Any, Dict, List, Optional, Tuple
+from typing import Any, Dict, List, Optional, Sequence, Tuple
 
 HERE = Path(__file__).resolve().parent.parent
 REPOSITORY = HERE.parent.parent
 # Where each text lies in the repository.
 TEXTS = {
     "rtp_wire.h": "bindings/c",
-    "rtp_wire-x86_64.s": "generated",
-    "rtp_wire-aarch64.s": "generated",
+    "rtp_wire-Linux-x86_64.s": "generated",
+    "rtp_wire-Linux-aarch64.s": "generated",
     "LICENSE-APACHE": ".",
     "LICENSE-MIT": ".",
     "NOTICE": ".",
 }
 LICENCES = ("LICENSE-APACHE", "LICENSE-MIT", "NOTICE")
 MACHINES = {"x86_64": "x86_64", "amd64": "x86_64", "aarch64": "aarch64", "arm64": "aarch64"}
+# What pip says where it has found no wheel and can't build one.
+NOT_HERE = (
+    "rtp_wire: there is nothing for {system} on {machine} with a Python of {bits} bits. It is for a Python of 64 bits"
+    " on Linux (x86-64, aarch64), macOS 11 and later (arm64, x86-64: by a wheel), and Windows (x86-64: by a wheel)."
+)
 METADATA = """\
 Metadata-Version: 2.1
 Name: rtp-wire
@@ -47,6 +53,8 @@ Classifier: Development Status :: 4 - Beta
 Classifier: Intended Audience :: Developers
 Classifier: License :: OSI Approved :: Apache Software License
 Classifier: License :: OSI Approved :: MIT License
+Classifier: Operating System :: MacOS :: MacOS X
+Classifier: Operating System :: Microsoft :: Windows
 Classifier: Operating System :: POSIX :: Linux
 Classifier: Programming Language :: Python :: 3
 Classifier: Programming Language :: Python :: Implementation :: CPython
@@ -92,13 +100,18 @@ def this_machine() -> str:
     """The end of the name of the text for this machine."""
     machine = MACHINES.get(platform.machine().lower())
     if not sys.platform.startswith("linux") or machine is None or struct.calcsize("P") != 8:
-        raise SystemExit("rtp_wire: there is a text for Linux on x86-64 and ARM (aarch64), of 64 bits, alone")
+        bits = struct.calcsize("P") * 8
+        raise SystemExit(NOT_HERE.format(system=sys.platform, machine=platform.machine(), bits=bits))
     return machine
 
 
-def tag() -> str:
-    """The library is called by ctypes: any Python 3 can load it, on this system and machine."""
-    return f"py3-none-linux_{this_machine()}"
+def platform_here() -> str:
+    return f"linux_{this_machine()}"
+
+
+def tag(platforms: str) -> str:
+    """The library is called by ctypes: any Python 3 can load it, on these systems and machines."""
+    return f"py3-none-{platforms}"
 
 
 def compiler() -> List[str]:
@@ -114,12 +127,12 @@ def library(machine: str) -> bytes:
     """The shared library for a machine. Only the functions of rtp_wire.h and those of src can be seen."""
     with tempfile.TemporaryDirectory() as folder:
         names, made = Path(folder, "names"), Path(folder, "librtp_wire.so")
-        names.write_text("{ global: rtpw_*; whole_packet_parse; columns_*; package_version; local: *; };", "utf-8")
+        names.write_text("{ global: rtpw_*; columns_*; package_version; local: *; };", "utf-8")
         found = texts()
         command = [*compiler(), "-shared", "-fPIC", "-std=c99", "-O2", "-s", "-o", str(made)]
         command += [f'-DPACKAGE_VERSION="{version()}"', f"-I{found['rtp_wire.h'].parent}"]
         command += [*map(str, sorted(HERE.glob("src/*.c")))]
-        command += [str(found[f"rtp_wire-{machine}.s"])]
+        command += [str(found[f"rtp_wire-Linux-{machine}.s"])]
         command += [f"-Wl,--version-script={names}", "-Wl,-soname,librtp_wire.so", "-Wl,--no-undefined"]
         command += ["-Wl,-z,noexecstack", "-Wl,-z,relro", "-Wl,-z,now"]
         if subprocess.run(command, check=False).returncode != 0:
@@ -131,7 +144,7 @@ def package_files() -> Dict[str, Path]:
     return {
         f"rtp_wire/{file.name}": file
         for file in sorted((HERE / "src/rtp_wire").iterdir())
-        if file.suffix == ".py" or file.name == "py.typed"
+        if file.suffix in (".py", ".json") or file.name == "py.typed"
     }
 
 
@@ -139,9 +152,10 @@ def digest_of(data: bytes) -> str:
     return base64.urlsafe_b64encode(hashlib.sha256(data).digest()).rstrip(b"=").decode()
 
 
-def info_files() -> Dict[str, bytes]:
+def info_files(platforms: Sequence[str]) -> Dict[str, bytes]:
     """The files of the folder .dist-info, but for the list of all files."""
-    wheel = f"Wheel-Version: 1.0\nGenerator: rtp_wire_backend\nRoot-Is-Purelib: false\nTag: {tag()}\n"
+    wheel = "Wheel-Version: 1.0\nGenerator: rtp_wire_backend\nRoot-Is-Purelib: false\n"
+    wheel += "".join(f"Tag: {tag(it)}\n" for it in platforms)
     files = {"METADATA": metadata(), "WHEEL": wheel.encode()}
     for name in LICENCES:
         files[f"licenses/{name}"] = texts()[name].read_bytes()
@@ -152,11 +166,30 @@ def prepare_metadata_for_build_wheel(
     metadata_directory: str, config_settings: Optional[Dict[str, Any]] = None
 ) -> str:
     folder = f"rtp_wire-{version()}.dist-info"
-    for name, data in info_files().items():
+    for name, data in info_files([platform_here()]).items():
         place = Path(metadata_directory, folder, name)
         place.parent.mkdir(parents=True, exist_ok=True)
         place.write_bytes(data)
     return folder
+
+
+def pack_wheel(folder: Path, platforms: Sequence[str], name: str, made: bytes) -> str:
+    """Writes the wheel for these platforms with their shared library, and gives back its name."""
+    info = f"rtp_wire-{version()}.dist-info"
+    files = {name: file.read_bytes() for name, file in package_files().items()}
+    files[f"rtp_wire/{name}"] = made
+    files.update({f"{info}/{it}": data for it, data in info_files(platforms).items()})
+    record = [f"{it},sha256={digest_of(data)},{len(data)}\n" for it, data in files.items()]
+    files[f"{info}/RECORD"] = "".join([*record, f"{info}/RECORD,,\n"]).encode()
+
+    wheel = f"rtp_wire-{version()}-{tag('.'.join(platforms))}.whl"
+    with zipfile.ZipFile(Path(folder, wheel), "w", zipfile.ZIP_DEFLATED) as archive:
+        for it, data in files.items():
+            item = zipfile.ZipInfo(it, DATE)
+            item.compress_type = zipfile.ZIP_DEFLATED
+            item.external_attr = (0o100755 if it == f"rtp_wire/{name}" else 0o100644) << 16
+            archive.writestr(item, data)
+    return wheel
 
 
 def build_wheel(
@@ -164,21 +197,8 @@ def build_wheel(
     config_settings: Optional[Dict[str, Any]] = None,
     metadata_directory: Optional[str] = None,
 ) -> str:
-    info = f"rtp_wire-{version()}.dist-info"
-    files = {name: file.read_bytes() for name, file in package_files().items()}
-    files["rtp_wire/librtp_wire.so"] = library(this_machine())
-    files.update({f"{info}/{name}": data for name, data in info_files().items()})
-    record = [f"{name},sha256={digest_of(data)},{len(data)}\n" for name, data in files.items()]
-    files[f"{info}/RECORD"] = "".join([*record, f"{info}/RECORD,,\n"]).encode()
-
-    wheel = f"rtp_wire-{version()}-{tag()}.whl"
-    with zipfile.ZipFile(Path(wheel_directory, wheel), "w", zipfile.ZIP_DEFLATED) as archive:
-        for name, data in files.items():
-            item = zipfile.ZipInfo(name, DATE)
-            item.compress_type = zipfile.ZIP_DEFLATED
-            item.external_attr = (0o100755 if name.endswith(".so") else 0o100644) << 16
-            archive.writestr(item, data)
-    return wheel
+    made = library(this_machine())
+    return pack_wheel(Path(wheel_directory), [platform_here()], "librtp_wire.so", made)
 
 
 def source_files() -> List[Tuple[str, Path]]:
@@ -189,6 +209,7 @@ def source_files() -> List[Tuple[str, Path]]:
         "backend/*.py",
         "src/*.c",
         "src/rtp_wire/*.py",
+        "src/rtp_wire/*.json",
         "src/rtp_wire/py.typed",
         "examples/*.py",
         "tests/*.py",

@@ -4,8 +4,9 @@
 
 #include <string.h>
 
-/* So many structs lie on the stack at once. */
-enum { AT_ONCE = 32 };
+/* So many structs lie on the stack at once: less than a page of 4,096 bytes, since for more a compiler for Windows calls a
+ * function of its own. */
+enum { AT_ONCE = 12 };
 
 /* A column: of each datagram the bytes that stand there in its struct. Those of the first one are put there, and those
  * of each other one so many bytes behind the one before. */
@@ -57,15 +58,15 @@ static void put_fields(const uint8_t *buf, size_t size, const uint64_t *at, cons
 
 static void put_values(const uint8_t *buf, size_t size, const rtpw_map *map, const uint64_t *at, const uint64_t *len,
                        size_t row, size_t count, const column *columns, size_t column_count) {
-    rtpw_datagram_header datagrams[AT_ONCE];
+    rtpw_whole_datagram datagrams[AT_ONCE];
     for (size_t i = 0; i < count; i++) {
         datagrams[i].at = at[row + i];
         datagrams[i].len = len[row + i];
     }
-    rtpw_parse_many(buf, size, map, datagrams, count);
+    rtpw_read_many(buf, size, map, datagrams, count);
     for (size_t i = 0; i < count; i++) {
         if (datagrams[i].status != RTPW_OK) {
-            memset(&datagrams[i].header, 0, sizeof datagrams[i].header);
+            memset(&datagrams[i].packet, 0, sizeof datagrams[i].packet);
         }
     }
     for (size_t i = 0; i < column_count; i++) {
@@ -75,7 +76,8 @@ static void put_values(const uint8_t *buf, size_t size, const rtpw_map *map, con
 
 /* Reads the datagrams of the buffer at these places: of each what the columns are for, and whether it is a packet and
  * not RTCP. The fields are columns of rtpw_datagram, payload_at counted from the buffer's first byte, and the values
- * of rtpw_datagram_header. Of one that is no packet, and so has a status, the fields and values are 0. */
+ * of rtpw_whole_datagram. Of one that is no packet, and so has a status, the fields and values are 0, and so are the
+ * values of RTCP. */
 void columns_parse(const uint8_t *buf, size_t size, const rtpw_map *map, const uint64_t *at, const uint64_t *len,
                    size_t count, const column *fields, size_t field_count, const column *values, size_t value_count,
                    const column *is_rtp) {

@@ -7,6 +7,7 @@ import gzip
 import hashlib
 import importlib.util
 import os
+import platform as platform_module
 import shlex
 import shutil
 import subprocess
@@ -21,6 +22,7 @@ from types import ModuleType
 from typing import Any, Dict, List
 
 ARM = "aarch64-linux-gnu-gcc"
+BACKEND = ("backend/rtp_wire_backend.py", "backend/rtp_wire_wheels.py")
 HERE = Path(__file__).resolve().parent.parent
 
 
@@ -55,8 +57,8 @@ class Build(unittest.TestCase):
         unpacked = self.unpacked()
         for name in (
             "rtp_wire.h",
-            "rtp_wire-x86_64.s",
-            "rtp_wire-aarch64.s",
+            "rtp_wire-Linux-x86_64.s",
+            "rtp_wire-Linux-aarch64.s",
             "LICENSE-MIT",
             "LICENSE-APACHE",
             "NOTICE",
@@ -103,9 +105,9 @@ class Build(unittest.TestCase):
         def names_of(folder: str) -> List[str]:
             return sorted(f"{folder}/{name}" for name in os.listdir(HERE / folder) if name.endswith(".py"))
 
-        wanted = ["PKG-INFO", "pyproject.toml", "README.md", "backend/rtp_wire_backend.py"]
-        wanted += ["src/columns.c", "src/version.c", "src/whole_packet.c"]
-        wanted += [*names_of("src/rtp_wire"), "src/rtp_wire/py.typed"]
+        wanted = ["PKG-INFO", "pyproject.toml", "README.md", *BACKEND]
+        wanted += ["src/columns.c", "src/version.c"]
+        wanted += [*names_of("src/rtp_wire"), "src/rtp_wire/tables.json", "src/rtp_wire/py.typed"]
         wanted += [*names_of("examples"), *names_of("tests")]
         wanted += [f"texts/{name}" for name in self.backend.TEXTS]
         glob, folder = Path.glob, f"rtp_wire-{self.backend.version()}"
@@ -152,7 +154,7 @@ class Build(unittest.TestCase):
         self.assertEqual(wheel.name, f"rtp_wire-{version}-py3-none-linux_{machine}.whl")
         info = f"rtp_wire-{version}.dist-info"
         parts = [f"rtp_wire/{it.name}" for it in (HERE / "src/rtp_wire").glob("*.py")]
-        parts += ["rtp_wire/py.typed", "rtp_wire/librtp_wire.so"]
+        parts += ["rtp_wire/py.typed", "rtp_wire/tables.json", "rtp_wire/librtp_wire.so"]
         parts += [f"{info}/{name}" for name in ("METADATA", "WHEEL", "RECORD")]
         parts += [f"{info}/licenses/{name}" for name in ("LICENSE-APACHE", "LICENSE-MIT", "NOTICE")]
         files = files_of(wheel)
@@ -186,8 +188,9 @@ class Build(unittest.TestCase):
         self.assertEqual((packed[:4], packed[4:8]), (b"\x1f\x8b\x08\0", bytes(4)))
         # PEP 517: in the format of POSIX, whose magic and version these are
         self.assertEqual(gzip.decompress(packed)[257:265], b"ustar\x0000")
-        parts = ["PKG-INFO", "pyproject.toml", "README.md", "backend/rtp_wire_backend.py"]
-        parts += ["src/columns.c", "src/version.c", "src/whole_packet.c", "src/rtp_wire/py.typed"]
+        parts = ["PKG-INFO", "pyproject.toml", "README.md", *BACKEND]
+        parts += ["src/columns.c", "src/version.c"]
+        parts += ["src/rtp_wire/py.typed", "src/rtp_wire/tables.json"]
         parts += ["examples/lines.py", "examples/pcap.py", "examples/pcap_dpkt.py", "examples/times.py"]
         for inner in ("src/rtp_wire", "tests"):
             parts += [str(it.relative_to(HERE)) for it in (HERE / inner).glob("*.py")]
@@ -200,7 +203,7 @@ class Build(unittest.TestCase):
         for item in items:
             self.assertTrue(item.isreg())
             self.assertEqual((item.mode, item.mtime, item.uid, item.gid), (0o644, 0, 0, 0))
-        sources = ("src/rtp_wire/_packet.py", "src/columns.c", "src/whole_packet.c")
+        sources = ("src/rtp_wire/_packet.py", "src/columns.c")
         for name in ("README.md", "tests/test_build.py", *sources):
             self.assertEqual(read[f"{folder}/{name}"], (HERE / name).read_bytes())
         for name, place in self.backend.texts().items():
@@ -237,6 +240,8 @@ class Build(unittest.TestCase):
             "Intended Audience :: Developers",
             "License :: OSI Approved :: Apache Software License",
             "License :: OSI Approved :: MIT License",
+            "Operating System :: MacOS :: MacOS X",
+            "Operating System :: Microsoft :: Windows",
             "Operating System :: POSIX :: Linux",
             "Programming Language :: Python :: 3",
             "Programming Language :: Python :: Implementation :: CPython",
@@ -271,20 +276,27 @@ class Build(unittest.TestCase):
             self.assertIn(option, asked)
         for option in ("--no-undefined", "-z,noexecstack", "-z,relro", "-z,now", "-soname,librtp_wire.so"):
             self.assertIn(f"-Wl,{option}", asked)
-        self.assertIn(str(self.backend.texts()["rtp_wire-aarch64.s"]), asked)
+        self.assertIn(str(self.backend.texts()["rtp_wire-Linux-aarch64.s"]), asked)
 
     def test_the_machine(self) -> None:
         rows = {"x86_64": "x86_64", "AMD64": "x86_64", "aarch64": "aarch64", "arm64": "aarch64"}
         for said, machine in rows.items():
             with unittest.mock.patch("platform.machine", lambda said=said: said):
                 self.assertEqual(self.backend.this_machine(), machine)
-                self.assertEqual(self.backend.tag(), f"py3-none-linux_{machine}")
-        for place, value in (("platform.machine", lambda: "riscv64"), ("struct.calcsize", lambda _: 4)):
-            with unittest.mock.patch(place, value), self.assertRaises(SystemExit):
-                self.backend.this_machine()
-        for system in ("win32", "darwin"):
-            with unittest.mock.patch("sys.platform", system), self.assertRaises(SystemExit):
-                self.backend.this_machine()
+                platform = self.backend.platform_here()
+                self.assertEqual(self.backend.tag(platform), f"py3-none-linux_{machine}")
+        there = "Linux (x86-64, aarch64), macOS 11 and later (arm64, x86-64: by a wheel), and Windows (x86-64: by a wheel)."
+        of_this = f"on {platform_module.machine()} with a Python of 64 bits."
+        for place, value, told in (
+            ("platform.machine", lambda: "riscv64", "nothing for linux on riscv64 with a Python of 64 bits."),
+            ("struct.calcsize", lambda _: 4, f"nothing for linux on {platform_module.machine()} with a Python of 32 bits."),
+            ("sys.platform", "win32", f"nothing for win32 {of_this}"),
+            ("sys.platform", "freebsd14", f"nothing for freebsd14 {of_this}"),
+        ):
+            with unittest.mock.patch(place, value), self.assertRaises(SystemExit) as raised:
+                self.backend.build_wheel(str(self.folder))
+            self.assertIn(told, str(raised.exception))
+            self.assertTrue(str(raised.exception).endswith(there))
 
     def test_texts_that_are_missing(self) -> None:
         # those of this folder come before those around it
@@ -311,7 +323,7 @@ class Build(unittest.TestCase):
         said = subprocess.run(command, stdout=subprocess.PIPE, check=True, text=True).stdout
         rows = [line.split() for line in said.splitlines()]
         seen = {row[-1] for row in rows if len(row) == 8 and row[4] in ("GLOBAL", "WEAK") and row[6] != "UND"}
-        own = {"whole_packet_parse", "columns_parse", "columns_receive", "package_version"}
+        own = {"columns_parse", "columns_receive", "package_version"}
         self.assertEqual({it for it in seen if not it.startswith("rtpw_")}, own)
         self.assertGreater(len(seen), 40)
         self.assertIn("Library soname: [librtp_wire.so]", said)

@@ -106,7 +106,9 @@ CALLS: Dict[Any, str] = {
     rtp_wire.structured_array: (
         "(buffer, at, lengths, map=None, values=(), receivers=None, rollover_count=1)"
     ),
+    rtp_wire.Group: "(ids, elements=(), allowed=None)",
     rtp_wire.HeaderTemplate: "(datagram, ids, elements=(), allowed=None)",
+    rtp_wire.HeaderTemplate.from_group: "(datagram, group)",
     rtp_wire.HeaderTemplate.write: "(self, routes)",
     rtp_wire.HeaderTemplate.write_into: "(self, buffer, routes)",
     rtp_wire.pad: "(datagram, header_len, pad_len, block_size=1)",
@@ -247,7 +249,7 @@ class Fields(unittest.TestCase):
         packet = Packet.parse(bytearray(PLAIN))
         states = (Receiver(0), WideReceiver(16, 1), RestartingReceiver())
         value: Any
-        for value in (packet, Map(), NewIds(), ReceptionStatistics(), *states):
+        for value in (packet, Map(), NewIds(), rtp_wire.Group(NewIds()), ReceptionStatistics(), *states):
             self.assertFalse(hasattr(value, "__dict__"), type(value))
             self.assertRaises(AttributeError, setattr, value, "sequence_numer", 5)
         for name in ("csrc", "form", "block_profile", "body", "payload", "header_len", "header_bytes", "values"):
@@ -438,9 +440,9 @@ SIZES = {
     _library.RawValues: 136,
     _library.RawHeader: 224,
     _library.RawDatagram: 88,
-    _library.RawDatagramHeader: 248,
     _library.RawArrival: 24,
     _library.RawTemplate: 88,
+    _library.RawGroup: 550,
     _library.RawRoutedHeader: 48,
     _library.RawColumn: 32,
     _library.RawLayer: 40,
@@ -448,7 +450,7 @@ SIZES = {
     _library.RawLayers: 680,
     _library.RawReceiver: 32,
     _library.RawWideReceiver: 16,
-    _library.RawRestartingReceiver: 24,
+    _library.RawWideRestartingReceiver: 24,
     _library.RawReception: 56,
     _library.RawReport: 16,
     _library.RawFrameMarking: 10,
@@ -459,12 +461,14 @@ SIZES = {
     _library.RawHdrMetadata: 24,
     _library.RawColorSpace: 32,
     _library.RawDependencyDescriptor: 6,
-    _library.WholePacket: 64 + 136 + 8,
+    _library.RawWholePacket: 256,
+    _library.RawWholeDatagram: 280,
 }
 SMALL = {
     _library.RawReport: 4,
     _library.RawFields: 4,
     _library.RawTemplate: 4,
+    _library.RawGroup: 2,
     _library.RawMap: 1,
     _library.RawNewIds: 1,
     _library.RawFrameMarking: 1,
@@ -502,11 +506,11 @@ class Structs(unittest.TestCase):
         datagram.append(0)
 
     def test_the_call_for_a_whole_packet(self) -> None:
-        made = _library.FUNCTIONS["whole_packet_parse"]
+        made = _library.FUNCTIONS["rtpw_read"]
         given = [ctypes.c_void_p, ctypes.c_size_t]
-        given += [ctypes.POINTER(_library.RawMap), ctypes.POINTER(_library.WholePacket)]
+        given += [ctypes.POINTER(_library.RawMap), ctypes.POINTER(_library.RawWholePacket)]
         self.assertEqual((made.restype, list(made.argtypes)), (ctypes.c_int32, given))
-        self.assertIs(_library.whole_packet_parse, made)
+        self.assertIs(_library.read, made)
         for name, function in _library.FUNCTIONS.items():
             self.assertIs(getattr(_library, name.replace("rtpw_", "", 1)), function)
 

@@ -29,16 +29,16 @@ STRUCTS = {
     "rtpw_values": _library.RawValues,
     "rtpw_header": _library.RawHeader,
     "rtpw_datagram": _library.RawDatagram,
-    "rtpw_datagram_header": _library.RawDatagramHeader,
     "rtpw_arrival": _library.RawArrival,
     "rtpw_template": _library.RawTemplate,
+    "rtpw_group": _library.RawGroup,
     "rtpw_routed_header": _library.RawRoutedHeader,
     "rtpw_layer": _library.RawLayer,
     "rtpw_stream": _library.RawStream,
     "rtpw_layers": _library.RawLayers,
     "rtpw_receiver": _library.RawReceiver,
     "rtpw_wide_receiver": _library.RawWideReceiver,
-    "rtpw_wide_restarting_receiver": _library.RawRestartingReceiver,
+    "rtpw_wide_restarting_receiver": _library.RawWideRestartingReceiver,
     "rtpw_reception": _library.RawReception,
     "rtpw_report": _library.RawReport,
     "rtpw_frame_marking": _library.RawFrameMarking,
@@ -49,13 +49,14 @@ STRUCTS = {
     "rtpw_hdr_metadata": _library.RawHdrMetadata,
     "rtpw_color_space": _library.RawColorSpace,
     "rtpw_dependency_descriptor": _library.RawDependencyDescriptor,
-    "whole_packet": _library.WholePacket,
+    "rtpw_whole_packet": _library.RawWholePacket,
+    "rtpw_whole_datagram": _library.RawWholeDatagram,
     "column": _library.RawColumn,
 }
 SOURCES = [it.read_text("utf-8") for it in sorted(HERE.glob("src/*.c"))]
 # Of the receivers for a sender that may start again the package has the one with a window of any size, and its version
-# is that of its metadata.
-OF_C_ALONE = {"rtpw_restarting_receive", "rtpw_version"}
+# is that of its metadata, and many packets with values are whole ones.
+OF_C_ALONE = {"rtpw_restarting_receive", "rtpw_version", "rtpw_parse_many"}
 NUMBERS: Dict[str, Any] = {
     "void": None,
     "bool": ctypes.c_bool,
@@ -74,9 +75,8 @@ def type_of(text: str) -> Any:
 
 def declared() -> Iterator[Tuple[str, Any, List[Any]]]:
     """The functions of rtp_wire.h, with the types of their results and parameters."""
-    for result, name, parameters in re.findall(
-        r"^(?:RTPW_CHECKED )?(\w+) (rtpw_\w+)\(([^)]*)\);", TEXT, re.M
-    ):
+    unmarked = re.sub(r"\bRTPW_[A-Z_]+(?:\([^()]*\))?\s+", "", TEXT)
+    for result, name, parameters in re.findall(r"^(\w+) (rtpw_\w+)\(([^)]*)\);", unmarked, re.M):
         if name in OF_C_ALONE:
             continue
         listed = [] if parameters == "void" else parameters.split(",")
@@ -96,8 +96,8 @@ def facts() -> Iterator[str]:
             places = [(field[0], described.offset, described.size)]
             if (name, field[0]) == ("rtpw_values", "has"):
                 places = [(f"has_{it}", described.offset + at, 1) for at, it in enumerate(_library.VALUES)]
-            if (name, field[0]) == ("whole_packet", "values"):
-                yield f"offsetof({name}, packet) == 0"
+            if (name, field[0]) == ("rtpw_whole_packet", "unpadded_len"):
+                yield f"offsetof({name}, header) == 0"  # whose fields are its own
             for place, offset, size in places:
                 yield f"offsetof({name}, {place}) == {offset}"
                 yield f"sizeof((({name} *)0)->{place}) == {size}"
@@ -114,7 +114,7 @@ class Library(unittest.TestCase):
         used = "".join(
             it.read_text("utf-8")
             for it in (HERE / "src/rtp_wire").glob("_[a-z]*.py")
-            if it.stem != "_library"
+            if it.stem not in ("_library", "_declared", "_loaded")
         )
         used += "".join([(HERE / "src/rtp_wire/__init__.py").read_text("utf-8"), *SOURCES])
         for name in _library.FUNCTIONS:
@@ -152,6 +152,18 @@ class Library(unittest.TestCase):
         self.assertEqual(tuple(everything[name] for name in forms), tuple(Form))
         texts = dict(re.findall(r'case RTPW_(\w+): return "(.*)";', TEXT))
         self.assertEqual({it.name: it.text for it in Status}, texts)
+
+    def test_each_kind_has_its_uri_and_its_values(self) -> None:
+        text = re.sub(r"/\*.*?\*/", " ", HEADER.read_text("utf-8"), flags=re.S)
+        rows = re.findall(r'\bRTPW_KIND_(\w+) = \d+\s+RTPW_KIND\("([^"]+)"(?:, ([^)]*))?\)', text)
+        self.assertEqual({name: uri for name, uri, _ in rows}, {it.name: it.uri for it in Kind if it.uri})
+        told = {field: Kind[name] for name, _, fields in rows for field in fields.split(", ") if field}
+        self.assertEqual(told.keys(), set(_library.VALUES))
+        for field, kind in told.items():  # without a block each value is left out
+            raw, kinds = _library.RawHeader(), ctypes.c_uint32()
+            raw.values.playout_delay_min.hertz = raw.values.playout_delay_max.hertz = 100
+            raw.values.has[_library.VALUES.index(field)] = 1
+            self.assertEqual((_library.left_out(_library.RawMap(), raw, kinds), kinds.value), (0, 1 << kind), field)
 
     def test_exceptions(self) -> None:
         kinds: Dict[Status, Type[rtp_wire.RtpError]] = {

@@ -264,6 +264,39 @@ class OtherForms(unittest.TestCase):
         self.assertEqual(data[:31], self.CAMERA)
 
 
+class AsRtp(unittest.TestCase):
+    """What is RTCP where both come to one port is a packet of RTP where its bytes are one: M and a payload type of 64
+    to 95, as a stream with a port of its own may have."""
+
+    def test_it_is_read(self) -> None:
+        datagram = bytes.fromhex("B2C90005 00000064 0000002C 00000001 00000002 BEDE0001 10AA0000 0102 0002")
+        self.assertTrue(rtp_wire.is_rtcp(datagram))
+        packet = Packet.parse(datagram, Map.standard())
+        self.assertEqual((packet.marker, packet.payload_type, packet.sequence_number), (True, 73, 5))
+        self.assertEqual((packet.timestamp, packet.ssrc, packet.csrc), (100, 44, (1, 2)))
+        self.assertEqual((packet.has_padding, packet.header_len, packet.form), (True, 28, Form.ONE_BYTE))
+        self.assertEqual((packet.values.audio_level, packet.values.voice_activity), (-42, True))
+        self.assertEqual((bytes(packet.payload), packet.unpadded_payload), (bytes([1, 2, 0, 2]), bytes([1, 2])))
+        self.assertEqual(Packet.parse(datagram).values, Values())
+
+    def test_with_a_block_of_another_form(self) -> None:
+        packet = Packet.parse(bytes.fromhex("90C90005 00000064 0000002C ABAC0001 10AA0000 01"), Map.standard())
+        self.assertEqual((packet.form, packet.block_profile, packet.header_len), (Form.OTHER, 0xABAC, 20))
+        self.assertEqual((bytes(packet.body), bytes(packet.payload)), (bytes.fromhex("10AA0000"), b"\1"))
+        self.assertEqual((packet.payload_type, packet.ssrc, packet.values), (73, 44, Values()))
+
+    def test_where_it_is_changed_to_that(self) -> None:
+        datagram = bytearray.fromhex("80480005 00000064 0000002C")
+        packet = Packet.parse(datagram)
+        packet.marker = True
+        self.assertEqual((packet.marker, packet.payload_type, datagram[1]), (True, 72, 200))
+
+    def test_a_report_that_is_no_packet(self) -> None:
+        with self.assertRaises(NotAPacket) as raised:
+            Packet.parse(bytes.fromhex("80C90001 0000002C"))
+        self.assertEqual(raised.exception.cause, Cause.CUT_FIXED_PART)
+
+
 class Changing(unittest.TestCase):
     def setUp(self) -> None:
         self.datagram = bytearray(SAMPLE)

@@ -34,7 +34,7 @@ from rtp_wire import (
     Values,
     VideoTiming,
     WideReceiver,
-    _library,
+    _loaded,
     _values,
 )
 
@@ -265,7 +265,7 @@ class Sharing(unittest.TestCase):
         self.assertEqual(len(Map.standard()), 7)
 
     def test_the_lock_is_kept(self) -> None:
-        self.assertIs(type(_library._LIBRARY), ctypes.PyDLL)
+        self.assertIs(type(_loaded._LIBRARY), ctypes.PyDLL)
         receiver = Receiver(1)
         taken: List[int] = []
 

@@ -14,6 +14,7 @@ from rtp_wire import (
     Cause,
     Form,
     FormNotAllowed,
+    Group,
     Header,
     HeaderTemplate,
     LongBlock,
@@ -133,6 +134,11 @@ class Making(unittest.TestCase):
             header = memoryview(bytearray(packet))[: Packet.parse(packet).header_len]
             others: List[Any] = [(id, array("B", data)) for id, data in elements]
             self.assertEqual(HeaderTemplate(header, ids, iter(others), allowed), made)
+            # of what was prepared, where each receiver brings its data
+            group = Group(ids, [(id, len(data)) for id, data in elements], allowed)
+            of_group, route = HeaderTemplate.from_group(header, group), Route(b"".join(it for _, it in elements))
+            self.assertEqual((of_group.header_len, of_group.data_len), (len(wanted), group.data_len))
+            self.assertEqual(of_group.write([route]), [wanted])
 
     def test_the_packet_may_change(self) -> None:
         datagram, data, ids = bytearray(SAMPLE), bytearray(b"\0\7"), NewIds({1: 3})
@@ -203,6 +209,87 @@ class Making(unittest.TestCase):
             self.assertEqual(made.header, with_block("10000001 C801AA00"))
         with_one = HeaderTemplate(SAMPLE, NewIds({1: 200}), [(4, b"\0\7")])
         self.assertEqual(with_one.header, with_block("10000002 C801AA04 02000700"))
+
+
+class Groups(unittest.TestCase):
+    def test_two_packets_of_one_group(self) -> None:
+        ids = NewIds({1: 3})
+        group = Group(ids, iter([(4, 2)]))
+        ids[1] = 5  # it has ids of its own
+        made = HeaderTemplate.from_group(SAMPLE, group)
+        self.assertEqual((made.header, made.header_len, made.data_len), (put_in(MADE, 20, b"\0"), 24, 2))
+        routes = [Route(b"\0\7"), Route(b"\0\x08", ssrc=46)]
+        wanted = [MADE, bytes.fromhex("90600005 00000064 0000002E BEDE0002 30AA4100 08000000")]
+        self.assertEqual(made.write(routes), wanted)
+        plain = HeaderTemplate.from_group(PLAIN, group)
+        self.assertEqual(plain.write([Route(b"\0\7")]), [with_block("BEDE0001 41000700")])
+        self.assertEqual(made, HeaderTemplate(SAMPLE, NewIds({1: 3}), [(4, bytes(2))]))
+
+    def test_elements_that_are_as_long_as_can_be(self) -> None:
+        group = Group(OWN, [(id, 255) for id in range(240, 256)])
+        made = HeaderTemplate.from_group(SAMPLE, group)
+        self.assertEqual((group.data_len, made.data_len), (4080, 4080))
+        data = b"".join(bytes([id]) * 255 for id in range(240, 256))
+        body = b"\1\1\xAA" + b"".join(bytes([id, 255]) + bytes([id]) * 255 for id in range(240, 256))
+        block = b"\x10\0\4\5" + body + b"\0"  # 4,115 bytes and one of padding: 1,029 words
+        self.assertEqual(made.write([Route(data)]), [SAMPLE[:12] + block])
+
+    def test_what_it_is_refused_for(self) -> None:
+        sixteen: List[Tuple[int, int]] = [(id, 1) for id in range(20, 36)]
+        wrong_form: Any = 3
+        self.assertEqual(Group(OWN, sixteen).data_len, 16)
+        rows: List[Tuple[Any, Callable[[], Any], str]] = [
+            (BadField, lambda: Group(OWN, [*sixteen, (1, 0)]), "the number of elements is 17, and not 0 to 16"),
+            (BadField, lambda: Group(OWN, [(4, 1), (4, 1)]), "two elements have the id 4"),
+            (BadField, lambda: Group(OWN, [(4, 256)]), "the length of data is 256, and not 0 to 255"),
+            (BadField, lambda: Group(OWN, [(4, -1)]), "the length of data is -1, and not 0 to 255"),
+            (BadId, lambda: Group(OWN, [(0, 1)]), "id is 0, and not 1 to 255"),
+            (BadId, lambda: Group(OWN, [(256, 1)]), "id is 256, and not 1 to 255"),
+            (BadField, lambda: Group(OWN, (), wrong_form), "allowed is 3, and not 0 to 2"),
+            (TypeError, lambda: Group({1: 3}), "new ids are dict, and not NewIds"),  # type: ignore[arg-type]
+            (TypeError, lambda: Group(OWN, [(4, b"a")]), "the length of data is bytes"),  # type: ignore[list-item]
+            (
+                TypeError,
+                lambda: HeaderTemplate.from_group(SAMPLE, OWN),  # type: ignore[arg-type]
+                "a group is NewIds, and not Group",
+            ),
+        ]
+        for kind, make, told in rows:
+            with self.assertRaisesRegex(kind, told) as raised:
+                make()
+            self.assertIs(type(raised.exception), kind)
+
+    def test_what_a_packet_is_refused_for(self) -> None:
+        full = PLAIN.replace(b"\x80", b"\x90", 1) + b"\x10\0\xFF\xFF" + b"\2\xFF".ljust(257, b"\0") * 1020
+        rows: List[Tuple[Any, bytes, Group]] = [
+            (NotAPacket, SAMPLE[:19], Group(OWN)),
+            (NotAPacket, b"", Group(OWN)),
+            (OtherForm, with_block("ABAC0000"), Group(OWN, [(4, 1)])),
+            (LongId, SAMPLE, Group(NewIds({1: 15}), allowed=Form.ONE_BYTE)),
+            (LongId, SAMPLE, Group(OWN, [(15, 1)], Form.ONE_BYTE)),
+            (FormNotAllowed, SAMPLE, Group(OWN, [(4, 0)], Form.ONE_BYTE)),
+            (LongBlock, full, Group(OWN, [(9, 1)])),
+        ]
+        for kind, packet, group in rows:
+            with self.assertRaises(kind) as raised:
+                HeaderTemplate.from_group(packet, group)
+            self.assertIs(type(raised.exception), kind)
+
+    def test_copies(self) -> None:
+        group = Group(NewIds({1: 3}), [(4, 2), (2, 0)], Form.ONE_BYTE)
+        others = [
+            Group(NewIds({1: 4}), [(4, 2), (2, 0)], Form.ONE_BYTE),
+            Group(NewIds({1: 3}), [(2, 0), (4, 2)], Form.ONE_BYTE),
+            Group(NewIds({1: 3}), [(4, 3), (2, 0)], Form.ONE_BYTE),
+            Group(NewIds({1: 3}), [(4, 2), (2, 0)]),
+        ]
+        for copied in (copy.copy(group), copy.deepcopy(group), pickle.loads(pickle.dumps(group))):
+            self.assertEqual((copied, hash(copied), type(copied)), (group, hash(group), Group))
+            self.assertEqual(len({group, copied, *others}), 5)
+        for other in (*others, None):
+            self.assertNotEqual(group, other)
+        self.assertEqual(repr(group), "Group(NewIds({1: 3}), [(4, 2), (2, 0)], <Form.ONE_BYTE: 1>)")
+        self.assertEqual(repr(Group(NewIds())), "Group(NewIds({}), [], None)")
 
 
 class Writing(unittest.TestCase):

@@ -5,6 +5,7 @@ mod RoutedLemmas
 mod StatusLemmas
 mod HeaderStatusLemmas
 mod PacketLemmas
+mod WholePacketLemmas
 mod ChangeLemmas
 mod PutLemmas
 mod BlockLemmas

@@ -1,7 +1,7 @@
 -- The statuses are different numbers.
 use Rattle.rtp_c.proofs.Common.{◌≡◌, CutFixedPart, OtherVersion, CutSources, CutBlockHeader, CutBlock, ok, none, bad_field, short_buffer, cause_status}
 use Rattle.rtp_wire.specs.declared.packet.not_a_packet.NotAPacket.{NotAPacket}
-use Rattle.rtp_c.specs.Status.{long_block, long_id}
+use Rattle.rtp_c.specs.Status.{long_block, long_id, rtcp}
 
 pub none≢ok : none ≡ ok → ⊥
 none≢ok same = cc
@@ -24,3 +24,13 @@ ok≢cause OtherVersion same = cc
 ok≢cause CutSources same = cc
 ok≢cause CutBlockHeader same = cc
 ok≢cause CutBlock same = cc
+
+pub rtcp≢ok : rtcp ≡ ok → ⊥
+rtcp≢ok same = cc
+
+pub rtcp≢cause : (cause : NotAPacket) → rtcp ≡ cause_status cause → ⊥
+rtcp≢cause CutFixedPart same = cc
+rtcp≢cause OtherVersion same = cc
+rtcp≢cause CutSources same = cc
+rtcp≢cause CutBlockHeader same = cc
+rtcp≢cause CutBlock same = cc

@@ -3,8 +3,10 @@ use Rattle.std.specs.Prelude.{◌≡◌, ℕ, ◌+◌, ◌≤◌, ◌⊎◌, Lis
 use Rattle.rtp_wire.specs.Rtcp.{IsRtcp}
 use Rattle.rtp_c.specs.declared.datagrams.Datagram.{Datagram}
 use Rattle.rtp_c.specs.declared.datagrams.DatagramHeader.{DatagramHeader}
+use Rattle.rtp_c.specs.declared.datagrams.WholeDatagram.{WholeDatagram}
 use Rattle.rtp_c.specs.PacketView.{slice_at, IsPacketRead}
 use Rattle.rtp_c.specs.HeaderView.{IsHeaderRead}
+use Rattle.rtp_c.specs.WholePacket.{IsWholeRead}
 use Rattle.rtp_c.specs.Status.{bad_field}
 
 -- the bytes at this place, of this length, are bytes of the buffer
@@ -30,3 +32,10 @@ pub record IsDatagramHeaderRead (numbers buf : List ℕ) (old new : DatagramHead
   pub within : IsWithin buf old.at old.len → let bytes = slice_at buf old.at old.len in
       IsHeaderRead numbers bytes new.status old.header new.header × IsRtcpNumber bytes new.is_rtcp
   pub outside : (IsWithin buf old.at old.len → ⊥) → (new.status ≡ bad_field) × (new.is_rtcp ≡ 0) × (new.header ≡ old.header)
+
+-- the same of the whole packet
+pub record IsWholeDatagramRead (numbers buf : List ℕ) (old new : WholeDatagram) : Type 0 where
+  pub at_is : new.at ≡ old.at
+  pub len_is : new.len ≡ old.len
+  pub within : IsWithin buf old.at old.len → IsWholeRead numbers (slice_at buf old.at old.len) new.status old.packet new.packet
+  pub outside : (IsWithin buf old.at old.len → ⊥) → (new.status ≡ bad_field) × (new.packet ≡ old.packet)

@@ -4,7 +4,8 @@ use Rattle.rtp_base.specs.Flag.{bit}
 use Rattle.rtp_vla.specs.Allocation.{nothing_sent}
 use Rattle.rtp_ext.specs.ExtensionMap.{Slots}
 use Rattle.rtp_wire.specs.declared.header.rtp_header.RtpHeader.{RtpHeader}
-use Rattle.rtp_wire.specs.Header.{IsWire}
+use Rattle.rtp_wire.specs.Header.{IsHeaderOf, IsWire}
+use Rattle.rtp_wire.specs.Packet.{PacketParts}
 use Rattle.rtp_c.specs.declared.header.HeaderView.{HeaderView}
 use Rattle.rtp_c.specs.declared.layers.Layers.{Layers}
 use Rattle.rtp_c.specs.Status.{ok, IsHeaderStatus}
@@ -25,6 +26,14 @@ pub record IsViewOfHeader (header : RtpHeader) (view : HeaderView) : Type 0 wher
   pub sources_are : view.csrc ≡ header.csrc
   pub values_are : IsViewOfValues header.ext_vals view.values
   pub header_len_is : view.header_len ≡ header.header_len
+
+-- what C is told of the header of a packet of these parts: its fields, and the values that its block gives under the map of these numbers, none where there is no block or one of another form
+pub record IsHeaderTold (numbers : List ℕ) (parts : PacketParts) (view : HeaderView) : Type 0 where
+  pub slots : Slots
+  pub has_kinds : HasKinds numbers slots
+  pub header : RtpHeader
+  pub is_header : IsHeaderOf slots parts header
+  pub is_view : IsViewOfHeader header view
 
 -- the bytes begin with this header under the map of these numbers
 pub record BeginsWithHeader (numbers bytes : List ℕ) (header : RtpHeader) : Type 0 where

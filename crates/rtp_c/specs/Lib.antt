@@ -20,6 +20,7 @@ pub mod Told
 pub mod ValuesView
 pub mod LayersView
 pub mod HeaderView
+pub mod WholePacket
 pub mod Datagrams
 pub mod Given
 pub mod GivenLayers
@@ -30,7 +31,6 @@ pub mod WrittenElements
 pub mod WrittenHeader
 pub mod StandardData
 pub mod StandardTimes
-pub mod StandardStreamId
 pub mod StandardOffset
 pub mod StandardMarking
 pub mod StandardOrientation
@@ -41,4 +41,5 @@ pub mod StandardColor
 pub mod StandardDescriptor
 pub mod RoutedStatus
 pub mod StoredTemplate
+pub mod PreparedGroup
 pub mod RoutedHeaders

@@ -63,6 +63,10 @@ long_block = pos 15
 abbrev pub long_id : ℤ
 long_id = pos 16
 
+-- a datagram is RTCP
+abbrev pub rtcp : ℤ
+rtcp = pos 17
+
 -- the status of the first cause for which these bytes are no packet
 pub record IsCauseStatus (bytes : List ℕ) (status : ℤ) : Type 0 where
   pub cause : NotAPacket

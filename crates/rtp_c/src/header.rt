@@ -1,6 +1,7 @@
 //! A whole header, and how it is read from bytes.
 
-ghost use Rattle.std.specs.Prelude.{◌≡◌, ◌≢◌, ◌⊎◌, ◌↔◌, ◌≤◌, ◌-◌, ◌++◌, length, replicate, unwrap_or, None, IfOk, IfErr, IsErr};
+ghost use Rattle.std.specs.Prelude.{◌≡◌, ◌≢◌, ◌⊎◌, ◌↔◌, ◌<◌, ◌≤◌, ◌-◌, ◌++◌, ℕ, length, replicate, slice_index, unwrap_or, None, IfOk, IfErr, IfSome, IsErr};
+ghost use Rattle.std.specs.Option.{option_map};
 ghost use Rattle.rtp_values.specs.declared.value.values.ExtensionValues.{ExtensionValues};
 ghost use Rattle.rtp_wire.specs.PacketElements.{HasValues};
 ghost use Rattle.rtp_c.specs.StoredMap.{numbered_slots};
@@ -19,7 +20,7 @@ use super::kinds::StoredMap;
 use super::layers::{Layers, put_no_layers};
 use super::status::{OK, UNKNOWN_FORM, header_status_of};
 use super::values::{ValuesView, flag_number, put_no_values, put_values};
-use rtp_ext::read_apart;
+use rtp_ext::{ExtensionsForm, read_apart};
 use rtp_wire::{Csrcs, RtpHeader, RtpPacket};
 
 /// The header of a packet (RFC 3550, 5.1), with the values of its block: `rtpw_header` in C, 224
@@ -68,14 +69,16 @@ fn put_sources(sources: Csrcs<'_>, slots: &mut [u32; 15]) -> u8
     count
 }
 
-// Puts what C is told of the values that the packet's block gives under the map.
+// Puts what C is told of the values that this block gives under the map, and none without one.
 #[inline(always)]
-fn put_values_of(packet: &RtpPacket<'_>, map: &StoredMap, view: &mut ValuesView)
+pub fn put_values_of(block: Option<(ExtensionsForm, &[u8])>, map: &StoredMap, view: &mut ValuesView)
+    requires bytes { IfSome block (λ block. (i : ℕ) → slice_index block.1.now i < 256) }
     ensures { (values : ExtensionValues)
-        × HasValues (numbered_slots map.now.kind) (parts_of packet.now).block values
+        × HasValues (numbered_slots map.now.kind)
+        (option_map (λ block. (block.0, block.1.now)) block.entry) values
         × IsViewOfValues values view.new }
 {
-    match packet.block() {
+    match block {
         Some((form, body)) => put_values(body, form, map, view),
         None => put_no_values(view),
     }
@@ -109,7 +112,7 @@ fn put_values_and_layers_of(
 
 // Puts the fields of the packet's header, and leaves the values.
 #[inline(always)]
-fn put_fields(packet: &RtpPacket<'_>, view: &mut HeaderView)
+pub fn put_fields(packet: &RtpPacket<'_>, view: &mut HeaderView)
     requires sources { length (parts_of packet.now).sources ≤ 15 }
     ensures { (values : ExtensionValues) (told : ValuesView) → IsViewOfValues values told →
         IsViewOfHeader (header_of (parts_of packet.now) values) (record view.new { values = told }) }
@@ -161,7 +164,7 @@ pub fn read_header(buf: &[u8], map: &StoredMap, header: &mut HeaderView) -> i32
     match packet_in(buf) {
         Ok(packet) => {
             put_fields(&packet, header);
-            put_values_of(&packet, map, &mut header.values);
+            put_values_of(packet.block(), map, &mut header.values);
             OK
         }
         Err(status) => status,

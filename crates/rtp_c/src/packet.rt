@@ -1,6 +1,7 @@
 //! A packet where it lies: its fields, and where its parts and its elements begin.
 
-ghost use Rattle.std.specs.Prelude.{◌≡◌, ◌≢◌, ◌↔◌, ◌<◌, ◌≤◌, ◌⊎◌, List, length, drop, unwrap_or, Option, Some, IfSome, IfNone};
+ghost use Rattle.std.specs.Prelude.{◌≡◌, ◌≢◌, ◌↔◌, ◌<◌, ◌≤◌, ◌⊎◌, ◌+◌, ℕ, List, length, drop, slice_index, unwrap_or, Option, Some, IfSome, IfNone};
+ghost use Rattle.std.specs.Option.{option_map};
 ghost use Rattle.rtp_ext.specs.declared.form.ExtensionsForm.{ExtensionsForm};
 ghost use Rattle.rtp_ext.specs.Elements.{Element, AreElements};
 ghost use Rattle.rtp_ext.specs.ElementReading.{BeginsWithNoElement};
@@ -106,28 +107,52 @@ fn csrc_count_of(packet: &RtpPacket<'_>) -> u8
     packet.csrc().len() as u8
 }
 
-// The number of the block's form, the 16 bits that it begins with, and how many bytes its body has.
-fn block_numbers(packet: &RtpPacket<'_>) -> (u8, u16, usize)
+// Puts the number of the block's form, the 16 bits that it begins with, and where its body lies, and
+// returns the form and the body where the form is one of the two.
+#[inline(always)]
+pub fn put_block<'a>(
+    packet: &RtpPacket<'a>,
+    number: &mut u8,
+    profile: &mut u16,
+    body_at: &mut usize,
+    body_len: &mut usize,
+) -> Option<(ExtensionsForm, &'a [u8])>
     requires { IsPacket (datagram_of packet.now) (parts_of packet.now) }
-    ensures form { result.0
+    ensures block { option_map (λ block. (block.0, block.1.now)) result
+        ≡ (parts_of packet.now).block }
+    ensures bytes { IfSome result (λ block. (i : ℕ) → slice_index block.1.now i < 256) }
+    ensures number { number.new
         ≡ block_number (parts_of packet.now).block (parts_of packet.now).other_block }
-    ensures profile { result.1 ≡ unwrap_or (profile_in (datagram_of packet.now)) 0 }
-    ensures body { result.2
+    ensures profile { profile.new ≡ unwrap_or (profile_in (datagram_of packet.now)) 0 }
+    ensures body { body_len.new
         ≡ length (body_of_any (parts_of packet.now).block (parts_of packet.now).other_block) }
+    ensures ends { body_at.new + body_len.new ≡ header_len_of (parts_of packet.now) }
 {
-    let profile = packet.block_profile().unwrap_or(0);
+    let header_len = packet.header_len();
+    let bits = packet.block_profile().unwrap_or(0);
     let Some(body) = packet.body() else {
-        return (0, profile, 0);
+        *number = 0;
+        *profile = bits;
+        *body_at = header_len;
+        *body_len = 0;
+        return None;
     };
-    match packet.form() {
-        Some(ExtensionsForm::OneByte) => (1, profile, body.len()),
-        Some(ExtensionsForm::TwoByte) => (2, profile, body.len()),
-        None => (3, profile, body.len()),
-    }
+    *profile = bits;
+    *body_at = header_len - body.len();
+    *body_len = body.len();
+    let Some(form) = packet.form() else {
+        *number = 3;
+        return None;
+    };
+    *number = match form {
+        ExtensionsForm::OneByte => 1,
+        ExtensionsForm::TwoByte => 2,
+    };
+    Some((form, body))
 }
 
 // How many bytes the payload has without its padding, and whether the padding fits.
-fn unpadded_len_of(packet: &RtpPacket<'_>) -> (usize, u8)
+pub fn unpadded_len_of(packet: &RtpPacket<'_>) -> (usize, u8)
     ensures { IsUnpaddedLen (parts_of packet.now) result.1 result.0 }
 {
     match packet.unpadded_payload() {
@@ -142,13 +167,14 @@ fn put_view(packet: &RtpPacket<'_>, view: &mut PacketView)
     requires { IsPacket (datagram_of packet.now) (parts_of packet.now) }
     ensures { IsViewOf (datagram_of packet.now) (parts_of packet.now) view.new }
 {
-    let payload_at = packet.header_len();
-    let (block_form, block_profile, body_len) = block_numbers(packet);
-    view.payload_at = payload_at;
-    view.body_at = payload_at - body_len;
-    view.body_len = body_len;
-    view.block_form = block_form;
-    view.block_profile = block_profile;
+    let _ = put_block(
+        packet,
+        &mut view.block_form,
+        &mut view.block_profile,
+        &mut view.body_at,
+        &mut view.body_len,
+    );
+    view.payload_at = packet.header_len();
     let (unpadded_len, padding_fits) = unpadded_len_of(packet);
     view.payload_len = packet.payload().len();
     view.unpadded_len = unpadded_len;

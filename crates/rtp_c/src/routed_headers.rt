@@ -1,6 +1,6 @@
 //! One packet to all its receivers: a header for each, in one call.
 
-ghost use Rattle.std.specs.Prelude.{◌≡◌, ◌≢◌, ◌↔◌, ◌+◌, ◌<◌, ◌≤◌, length, All, IsOk, IfOk, IfErr, OnErr};
+ghost use Rattle.std.specs.Prelude.{◌≡◌, ◌≢◌, ◌↔◌, ◌+◌, ◌<◌, ◌≤◌, length, All, IsOk, IfOk, IfErr, IfSome, IfNone, OnErr};
 ghost use Rattle.rtp_wire.specs.ChangedPacket.{ChangesOnly};
 ghost use Rattle.rtp_wire.specs.GivenFields.{with_header_fields};
 ghost use Rattle.rtp_wire.specs.Packet.{PacketParts, IsPacket, header_len_of};
@@ -11,7 +11,7 @@ ghost use Rattle.rtp_route.specs.Retransmitted.{without_padding};
 ghost use Rattle.rtp_route.specs.Template.{total_of, LiesInHeader};
 ghost use Rattle.rtp_c.specs.RoutedHeaders.{header_in, IsWholeTemplate, IsTemplateStatus, IsWrittenAgain, IsWrittenAt, IsRefusedAt, IsHeaderWritten, AreHeadersWritten, AreApart, EndsWithin};
 ghost use Rattle.rtp_c.specs.SetFields.{fields_given, CanBeSet};
-ghost use Rattle.rtp_c.specs.Status.{ok, short_buffer};
+ghost use Rattle.rtp_c.specs.Status.{ok};
 ghost use Rattle.rtp_c.specs.StoredTemplate.{slots_of, IsInRange};
 
 use super::changing::{FieldsView, given_fields};
@@ -73,37 +73,37 @@ fn header_of<'a>(made: &StoredTemplate, bytes: &'a [u8]) -> Result<RtpPacket<'a>
     Ok(header)
 }
 
-// Writes the header of a retransmission at this place for a receiver that can be served, where the
-// number behind it has room too, and returns how many bytes they have. It stays out of line, since
-// few packets are sent again.
+// Writes the header of a retransmission at this place for a receiver that can be served, and returns
+// how many bytes it has with the number behind it; `None` where they have no room. It stays out of
+// line, since few packets are sent again.
 #[cold]
 #[inline(never)]
 fn write_again(
-    header: RtpPacket<'_>,
+    header: &RtpPacket<'_>,
     slots: StoredSlots<'_>,
     own: &[u8],
     receiver: &RoutedHeader,
     at: usize,
     buf: &mut [u8],
-) -> Result<usize, i32>
+) -> Option<usize>
     requires payload_type { CanBeSet receiver.now.fields }
     requires lengths { length own.now ≡ total_of (slots_of slots.made.now) }
-    requires within { All (LiesInHeader (parts_of header)) (slots_of slots.made.now) }
+    requires within { All (LiesInHeader (parts_of header.now)) (slots_of slots.made.now) }
     requires place { at ≤ length buf.old }
-    ensures written { IfOk result (λ len. IsWrittenAgain (calls.header_in header.entry)
+    ensures written { IfSome result (λ len. IsWrittenAgain (calls.header_in header.now)
         (slots_of slots.entry.made.now) own.now receiver.now at len buf.old buf.new) }
-    ensures short { IfErr result (λ status. (status ≡ short_buffer)
-        × (length buf.old < at + header_len_of (parts_of header.entry) + 2)) }
-    ensures unchanged { OnErr result (buf.new ≡ buf.old) }
+    ensures short { IfNone result
+        (length buf.old < at + header_len_of (parts_of header.now) + 2) }
+    ensures unchanged { IfNone result (buf.new ≡ buf.old) }
 {
     let len = header.header_len() + 2;
     if buf.len() - at < len {
-        return Err(SHORT_BUFFER);
+        return None;
     }
     let fields = given_fields(&receiver.fields);
     let number = receiver.original_number;
-    write_retransmission(&header, slots, &fields, number, own, &mut buf[at..at + len]);
-    Ok(len)
+    write_retransmission(header, slots, &fields, number, own, &mut buf[at..at + len]);
+    Some(len)
 }
 
 // Copies a header. It stays out of line, so that the loop over the receivers keeps its registers.
@@ -190,7 +190,10 @@ fn write_at(
         return Err(BAD_FIELD);
     };
     if receiver.is_retransmission != 0 {
-        return write_again(*header, slots, own, receiver, at, buf);
+        let Some(len) = write_again(header, slots, own, receiver, at, buf) else {
+            return Err(SHORT_BUFFER);
+        };
+        return Ok(len);
     }
     let len = header.header_len();
     if len > buf.len() - at {
@@ -202,6 +205,26 @@ fn write_at(
     fill_joined(copy, slots, own);
     clear_where_asked(copy, receiver.clears_padding);
     Ok(len)
+}
+
+// Tells a receiver that it gets nothing, and why, and returns where the next one begins. It stays out
+// of line, so that the loop over the receivers does nothing for it where each gets its header.
+#[cold]
+#[inline(never)]
+fn refuse(receiver: &mut RoutedHeader, at: usize, status: i32) -> usize
+    ensures others { receiver.new ≡ record receiver.old {
+      at = at;
+      status = receiver.new.status;
+      len = receiver.new.len;
+    } }
+    ensures status { receiver.new.status ≡ status }
+    ensures none { receiver.new.len ≡ 0 }
+    ensures next { result ≡ at }
+{
+    receiver.at = at;
+    receiver.status = status;
+    receiver.len = 0;
+    at
 }
 
 // Writes what a receiver gets at this place and tells of it, and returns where the next one begins.
@@ -230,12 +253,7 @@ fn write_one(
             receiver.len = len as u32;
             at + len
         }
-        Err(status) => {
-            receiver.at = at;
-            receiver.status = status;
-            receiver.len = 0;
-            at
-        }
+        Err(status) => refuse(receiver, at, status),
     }
 }
 

@@ -37,6 +37,8 @@ pub const FORM_NOT_ALLOWED: i32 = 14;
 pub const LONG_BLOCK: i32 = 15;
 /// An id is above 14, which the one-byte form can't carry.
 pub const LONG_ID: i32 = 16;
+/// A datagram is RTCP.
+pub const RTCP: i32 = 17;
 
 // The status of this cause.
 pub fn status_of(cause: NotAPacket) -> i32

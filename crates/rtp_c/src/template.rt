@@ -6,14 +6,16 @@ ghost use Rattle.rtp_ext.specs.NewIds.{new_id, ids_in_bytes};
 ghost use Rattle.rtp_wire.specs.NotAHeader.{IsNoPacket};
 ghost use Rattle.rtp_wire.specs.Packet.{PacketParts, IsPacket, header_len_of};
 ghost use Rattle.rtp_route.specs.declared.not_routed.NotRouted.{NotRouted};
-ghost use Rattle.rtp_route.specs.NotRouted.{KeepsFromTemplate};
+ghost use Rattle.rtp_route.specs.Calls.{no_fields};
+ghost use Rattle.rtp_route.specs.NotRouted.{KeepsFromRouting, KeepsFromTemplate};
+ghost use Rattle.rtp_route.specs.StoredGroup.{IsGroup, elements_in, ids_in, form_of};
 ghost use Rattle.rtp_route.specs.GroupHeader.{IsGroupHeader};
 ghost use Rattle.rtp_route.specs.Template.{total_of};
 ghost use Rattle.rtp_c.specs.PacketView.{form_number};
 ghost use Rattle.rtp_c.specs.Status.{ok, bad_field, IsCauseStatus};
 ghost use Rattle.rtp_c.specs.RoutedStatus.{not_routed_status, IsNotRoutedStatus};
 ghost use Rattle.rtp_c.specs.StoredTemplate.{slots_of, IsInRange, EndsInZeros, NamesGroup};
-ghost use Rattle.rtp_c.specs.WrittenElements.{elements_in};
+ghost use Rattle.rtp_c.specs.WrittenElements.{elements_in as named_elements};
 
 use super::growing::put_status_of;
 use super::map::StoredNewIds;
@@ -21,7 +23,9 @@ use super::named_elements::NamedElements;
 use super::packet::{ElementView, allowed_of};
 use super::status::{BAD_FIELD, LONG_ID, OK, status_of};
 use rtp_ext::{ElementList, NewIds};
-use rtp_route::{GroupOf, MAX_ELEMENTS, NotRouted, Slot, make_template};
+use rtp_route::{
+    GroupOf, KnownGroup, MAX_ELEMENTS, NotRouted, Slot, StoredGroup, make_from_table, make_template,
+};
 use rtp_wire::RtpPacket;
 
 /// How long a group's header is, and where in it the data of the group's elements lie:
@@ -71,7 +75,7 @@ impl StoredTemplate {
 // call does nothing for it where one is made.
 #[cold]
 #[inline(never)]
-fn not_routed_status(cause: NotRouted) -> i32
+pub fn not_routed_status(cause: NotRouted) -> i32
     ensures { result ≡ not_routed_status cause }
 {
     match cause {
@@ -106,7 +110,7 @@ pub extern "C" fn rtpw_make_template(
 ) -> i32
     ensures made { (form : Option ExtensionsForm) → form_number form ≡ allowed → result ≡ ok →
         IsGroupHeader datagram.now (new_id (ids_in_bytes ids.now.id))
-        (elements_in bytes.now elements.now) form (take made.new.header_len buf.new)
+        (named_elements bytes.now elements.now) form (take made.new.header_len buf.new)
         (slots_of made.new) }
     ensures in_range { result ≡ ok → IsInRange made.new (length buf.new) }
     ensures zeros { result ≡ ok → EndsInZeros made.new }
@@ -119,13 +123,13 @@ pub extern "C" fn rtpw_make_template(
         NamesGroup bytes.now elements.now allowed form → result ≢ ok →
         (parts : PacketParts) → IsPacket datagram.now parts →
         IsNotRoutedStatus (KeepsFromTemplate (take (header_len_of parts) datagram.now)
-        (new_id (ids_in_bytes ids.now.id)) (elements_in bytes.now elements.now) form
+        (new_id (ids_in_bytes ids.now.id)) (named_elements bytes.now elements.now) form
         (length buf.old)) result }
     ensures refused { (form : Option ExtensionsForm) →
         NamesGroup bytes.now elements.now allowed form →
         (parts : PacketParts) → IsPacket datagram.now parts → result ≢ ok
         ↔ ((cause : NotRouted) × KeepsFromTemplate (take (header_len_of parts) datagram.now)
-        (new_id (ids_in_bytes ids.now.id)) (elements_in bytes.now elements.now) form
+        (new_id (ids_in_bytes ids.now.id)) (named_elements bytes.now elements.now) form
         (length buf.old) cause) }
     ensures unchanged { result ≢ ok → made.new ≡ made.old }
 {
@@ -152,6 +156,58 @@ pub extern "C" fn rtpw_make_template(
     match make_template(&packet, &group, buf, &mut slots) {
         Ok(len) => {
             made.store(len as u32, &slots[..elements.count()]);
+            OK
+        }
+        Err(cause) => not_routed_status(cause),
+    }
+}
+
+/// Makes the header that the packet gets for a group at the front of the buffer, and tells where its
+/// parts lie, as [`rtpw_make_template`] does of the new ids, the elements and the form that
+/// [`rtpw_prepare_group`](super::group::rtpw_prepare_group) was given, with zeros as the elements'
+/// data.
+///
+/// `OK`; `BAD_FIELD` where these are not the numbers of a group; the status of the first cause for
+/// which the bytes are no packet; and then as there. Where it isn't `OK` the buffer may hold anything,
+/// and nothing else is written.
+#[unsafe(no_mangle)]
+pub extern "C" fn rtpw_make_from_group(
+    group: &StoredGroup,
+    datagram: &[u8],
+    buf: &mut [u8],
+    made: &mut StoredTemplate,
+) -> i32
+    ensures made { result ≡ ok → IsGroupHeader datagram.now (new_id (ids_in group.now))
+        (elements_in group.now) (form_of group.now.allowed)
+        (take made.new.header_len buf.new) (slots_of made.new) }
+    ensures in_range { result ≡ ok → IsInRange made.new (length buf.new) }
+    ensures zeros { result ≡ ok → EndsInZeros made.new }
+    ensures bad_group { (IsGroup group.now → ⊥) → result ≡ bad_field }
+    ensures cause { IsGroup group.now → IsNoPacket datagram.now →
+        IsCauseStatus datagram.now result }
+    ensures refusal { IsGroup group.now → result ≢ ok →
+        (parts : PacketParts) → IsPacket datagram.now parts →
+        IsNotRoutedStatus (KeepsFromRouting (take (header_len_of parts) datagram.now) no_fields
+        (new_id (ids_in group.now)) (elements_in group.now) (form_of group.now.allowed)
+        (length buf.old)) result }
+    ensures refused { IsGroup group.now →
+        (parts : PacketParts) → IsPacket datagram.now parts → result ≢ ok
+        ↔ ((cause : NotRouted) × KeepsFromRouting (take (header_len_of parts) datagram.now)
+        no_fields (new_id (ids_in group.now)) (elements_in group.now)
+        (form_of group.now.allowed) (length buf.old) cause) }
+    ensures unchanged { result ≢ ok → made.new ≡ made.old }
+{
+    let Some(group) = KnownGroup::new(group) else {
+        return BAD_FIELD;
+    };
+    let packet = match RtpPacket::parse(datagram) {
+        Ok(packet) => packet,
+        Err(cause) => return status_of(cause),
+    };
+    let mut slots = [Slot { start: 0, len: 0 }; MAX_ELEMENTS];
+    match make_from_table(&packet, group, buf, &mut slots) {
+        Ok(len) => {
+            made.store(len as u32, &slots[..group.count()]);
             OK
         }
         Err(cause) => not_routed_status(cause),

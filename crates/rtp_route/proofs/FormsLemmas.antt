@@ -1,5 +1,5 @@
 -- The form that a block has before the group's elements are put, and once each is.
-use Rattle.std.proofs.Common.{◌≡◌, ◌≢◌, ℕ, ◌+◌, ◌<◌, ◌≤◌, ◌⊎◌, inl, inr, All, List, [], ◌∷◌, ◌++◌, length, take, drop, slice_get, Option, Some, None, IfSome, refl, sym, ap, subst, ◌∙◌, arith, length-append}
+use Rattle.std.proofs.Common.{◌≡◌, ◌≢◌, ℕ, ◌+◌, ◌*◌, ◌<◌, ◌≤◌, ◌⊎◌, inl, inr, All, List, [], ◌∷◌, ◌++◌, length, take, drop, slice_get, Option, Some, None, IfSome, refl, sym, ap, subst, ◌∙◌, arith, length-append}
 use Rattle.std.specs.List.{AllByRecursion}
 use Rattle.std.proofs.lemmas.Bool.{cases_lt}
 use Rattle.std.proofs.lemmas.Option.{same_Some}
@@ -21,30 +21,38 @@ use Rattle.rtp_route.proofs.WideLemmas.{wide}
 
 -- ---- the form once each is put
 
--- the form once the elements before the index are put, and what is left of the room
-pub record IsFormTo (allowed : Option ExtensionsForm) (was : ExtensionsForm) (elements : List Element) (index : ℕ) (form : ExtensionsForm) (left room : ℕ) : Type 0 where
-  pub forms : (after : Option ExtensionsForm) → IsFormAfter allowed (Some form) (drop index elements) after → IsFormAfter allowed (Some was) elements after
-  pub carried : All (IsWritable TwoByte) (take index elements)
-  pub room_is : wide (take index elements) + left ≡ room
+-- the form once the elements before the index are put
+abbrev pub IsFormTo : Option ExtensionsForm → ExtensionsForm → List Element → ℕ → ExtensionsForm → Type 0
+IsFormTo allowed was elements index form = (after : Option ExtensionsForm) → IsFormAfter allowed (Some form) (drop index elements) after → IsFormAfter allowed (Some was) elements after
 
-pub IsFormTo-more : (allowed : Option ExtensionsForm) (was : ExtensionsForm) (elements : List Element) (index : ℕ) (form next : ExtensionsForm) (left rest room : ℕ) (element : Element)
-    → IsFormTo allowed was elements index form left room → slice_get elements index ≡ Some element → IsWritable TwoByte element → Some next ≡ allowed_form allowed (needed_form (Some form) element)
-    → rest + (2 + length element.1) ≡ left → IsFormTo allowed was elements (index + 1) next rest room
-IsFormTo-more allowed was elements index form next left rest room element is here can next-is rest-is =
+pub IsFormTo-more : (allowed : Option ExtensionsForm) (was : ExtensionsForm) (elements : List Element) (index : ℕ) (form next : ExtensionsForm) (element : Element)
+    → IsFormTo allowed was elements index form → slice_get elements index ≡ Some element → Some next ≡ allowed_form allowed (needed_form (Some form) element)
+    → IsFormTo allowed was elements (index + 1) next
+IsFormTo-more allowed was elements index form next element is here next-is after later =
+    is after (subst (λ (es : List Element). IsFormAfter allowed (Some form) es after) (sym (left-more elements index element here)) (next, sym next-is, later))
+
+-- the two-byte form can carry the elements before the index, and they take so many bytes in it
+pub record AreWideTo (elements : List Element) (index len : ℕ) : Type 0 where
+  pub carried : All (IsWritable TwoByte) (take index elements)
+  pub len_is : len ≡ wide (take index elements)
+  pub few : len ≤ 257 * index
+
+pub AreWideTo-more : (elements : List Element) (index len : ℕ) (element : Element) → AreWideTo elements index len → slice_get elements index ≡ Some element → IsWritable TwoByte element
+    → AreWideTo elements (index + 1) (len + (2 + length element.1))
+AreWideTo-more elements index len element are here can =
     let before : List Element = take index elements in
     let more : take (index + 1) elements ≡ before ++ element ∷ [] = taken-more elements index element here in
     record {
-      forms = λ after later. is.forms after (subst (λ (es : List Element). IsFormAfter allowed (Some form) es after) (sym (left-more elements index element here)) (next, sym next-is, later));
-      carried = subst (All (IsWritable TwoByte)) (sym more) (All-push (IsWritable TwoByte) before element is.carried can);
-      room_is = omega (
+      carried = subst (All (IsWritable TwoByte)) (sym more) (All-push (IsWritable TwoByte) before element are.carried can);
+      len_is = omega (
         arith,
-        is.room_is,
-        rest-is,
+        are.len_is,
         ap wide more,
         ap length (elements_bytes-append TwoByte before (element ∷ [])),
         length-append (elements_bytes TwoByte before) (elements_bytes TwoByte (element ∷ [])),
         length-append (element_bytes TwoByte element) [],
       );
+      few = omega (arith, are.few, can.1.2);
     }
 
 -- it carries what the block's form carries, and what is put
@@ -97,7 +105,7 @@ narrow-stays (new ∷ news) form is =
     by_form TwoByte served = absurd cc
 
 -- the two-byte form stays where it is allowed
-wide-after : (allowed : Option ExtensionsForm) → allowed ≢ Some OneByte → (news : List Element) → IsFormAfter allowed (Some TwoByte) news (Some TwoByte)
+pub wide-after : (allowed : Option ExtensionsForm) → allowed ≢ Some OneByte → (news : List Element) → IsFormAfter allowed (Some TwoByte) news (Some TwoByte)
 wide-after None is_allowed [] = refl
 wide-after None is_allowed (new ∷ news) = (TwoByte, refl, wide-after None is_allowed news)
 wide-after (Some TwoByte) is_allowed [] = refl

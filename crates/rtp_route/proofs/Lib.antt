@@ -11,6 +11,7 @@ mod NumberLemmas
 mod NotPutLemmas
 mod SetDataLemmas
 mod SlotLemmas
+pub mod KnownGroupLemmas
 pub mod LengthLemmas
 mod BodyLemmas
 mod OnlyLemmas
@@ -24,6 +25,7 @@ mod RoomLemmas
 mod NoneKeptLemmas
 mod WalkLemmas
 mod WalkedLemmas
+mod PreparingLemmas
 mod FormsLemmas
 mod FrontLemmas
 mod ByWalkLemmas

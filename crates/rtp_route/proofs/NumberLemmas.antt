@@ -20,7 +20,7 @@ own-push (first ∷ elements) new own none = (
 )
 
 -- an element before another one has another id
-own-before : (elements : List Element) (k i : ℕ) (one other : Element) → HaveOwnIds elements → slice_get elements k ≡ Some one → slice_get elements i ≡ Some other → k < i → one.0 ≢ other.0
+pub own-before : (elements : List Element) (k i : ℕ) (one other : Element) → HaveOwnIds elements → slice_get elements k ≡ Some one → slice_get elements i ≡ Some other → k < i → one.0 ≢ other.0
 own-before [] k i one other own here there before = absurd cc
 own-before (first ∷ elements) zero zero one other own here there before = absurd (omega (arith, before))
 own-before (first ∷ elements) (suc k) zero one other own here there before = absurd (omega (arith, before))

@@ -7,5 +7,7 @@ pub mod Template
 pub mod GroupHeader
 pub mod TemplateOf
 pub mod Retransmitted
+pub mod StoredGroup
 -- What the inside promises itself.
 pub mod Walk
+pub mod GroupLaws

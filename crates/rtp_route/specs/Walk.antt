@@ -4,6 +4,7 @@ use Rattle.std.specs.Int.{w16, to_be_bytes}
 use Rattle.std.specs.List.{filter_map}
 use Rattle.rtp_base.specs.Overwriting.{overwritten}
 use Rattle.rtp_ext.specs.declared.form.ExtensionsForm.{ExtensionsForm}
+use Rattle.rtp_ext.specs.declared.form.ExtensionsForm.TheVariants.{TwoByte}
 use Rattle.rtp_ext.specs.Form.{form_word}
 use Rattle.rtp_ext.specs.Elements.{Element, elements_bytes, AreElements}
 use Rattle.rtp_ext.specs.ElementsInARow.{IsWritable}
@@ -32,6 +33,12 @@ IsNumberOf news id number = ((number ≡ 0) × HasNone news id) ⊎ ((index : �
 -- so do these, of each id in turn
 abbrev pub AreNumbersOf : List Element → List ℕ → Type 0
 AreNumbersOf news numbers = (id : ℕ) → id < 256 → IsNumberOf news id (slice_index numbers id)
+
+-- these are the numbers of the group's elements, which can be put into a block of the two-byte form, and how many bytes they take in it
+pub record IsTabled (news : List Element) (numbers : List ℕ) (two_byte_len : ℕ) : Type 0 where
+  pub can : CanBePut TwoByte news
+  pub numbers_are : AreNumbersOf news numbers
+  pub len_is : two_byte_len ≡ length (elements_bytes TwoByte news)
 
 -- no place is known
 abbrev pub no_slots : List Slot

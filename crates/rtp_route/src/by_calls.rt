@@ -22,6 +22,7 @@ use super::by_walk::write_by_walk;
 use super::in_place::{change_form, copy_header, is_one_byte_only, known_ids, renumber};
 use super::numbers::{IDS, number_elements};
 use super::slots::{MAX_ELEMENTS, NO_SLOTS};
+use super::tabled::{TabledGroup, two_byte_len_of};
 use rtp_ext::{ElementList, ExtensionsForm, NewIds};
 use rtp_wire::{Fields, NotPut, RtpPacket, compact_copy, put_element_copy};
 
@@ -189,9 +190,16 @@ pub fn route_header<L: ElementList>(
 {
     let mut numbers = [0; IDS];
     if group.elements.count() <= MAX_ELEMENTS && number_elements(group.elements, &mut numbers) {
-        let mut slots = NO_SLOTS;
-        if let Some(len) = write_by_walk(packet, fields, group, &numbers, buf, &mut slots) {
-            return Ok(len);
+        if let Some(two_byte_len) = two_byte_len_of(group.elements) {
+            let mut slots = NO_SLOTS;
+            let tabled = TabledGroup {
+                group,
+                numbers: &numbers,
+                two_byte_len,
+            };
+            if let Some(len) = write_by_walk(packet, fields, tabled, buf, &mut slots) {
+                return Ok(len);
+            }
         }
     }
     make_header(packet, fields, group, buf)

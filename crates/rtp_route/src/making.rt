@@ -13,6 +13,8 @@ use super::by_calls::make_header;
 use super::by_walk::write_by_walk;
 use super::numbers::{IDS, number_elements};
 use super::slots::{MAX_ELEMENTS, Slot, slots_of};
+use super::table::GroupTable;
+use super::tabled::{TabledGroup, two_byte_len_of};
 use super::{GroupOf, NotRouted};
 use rtp_ext::ElementList;
 use rtp_wire::{Fields, RtpPacket};
@@ -50,6 +52,71 @@ fn make_by_calls<L: ElementList>(
     Ok(len)
 }
 
+// The same of a table.
+#[cold]
+#[inline(never)]
+fn make_by_calls_of<G: GroupTable>(
+    packet: RtpPacket<'_>,
+    group: G,
+    buf: &mut [u8],
+    slots: &mut [Slot; MAX_ELEMENTS],
+) -> Result<usize, NotRouted>
+    requires { G.is_table group }
+    ensures made { IfOk result (λ len. IsGroupHeader (datagram_of packet.entry)
+        (new_id (G.ids group)) (G.elements group) (G.allows group) (take len buf.new)
+        (take (length (G.elements group)) slots.new)) }
+    ensures room { IfOk result (λ len. len ≤ length buf.new) }
+    ensures short { IfOk result (λ len. len ≤ 262216) }
+    ensures within { IfOk result (λ len. All (λ slot. slot.start + slot.len ≤ len)
+        (take (length (G.elements group)) slots.new)) }
+    ensures cause { IfErr result (KeepsFromRouting (header_in packet.entry) no_fields
+        (new_id (G.ids group)) (G.elements group) (G.allows group) (length buf.old)) }
+    ensures none_refused { IfOk result (λ _. (cause : NotRouted) →
+        KeepsFromRouting (header_in packet.entry) no_fields (new_id (G.ids group))
+        (G.elements group) (G.allows group) (length buf.old) cause → ⊥) }
+{
+    let ids = group.new_ids();
+    let given = GroupOf {
+        ids: &ids,
+        elements: group,
+        allowed: group.allowed(),
+    };
+    make_by_calls(packet, &given, buf, slots)
+}
+
+/// Makes the header that the packet gets for the group at the front of the buffer, returns how many
+/// bytes it has, at most 262,216, and puts the places of the data in it at the front of `slots`, in
+/// the order of the group's elements. The cause is that of
+/// [`route_header`](super::route_header); the buffer and the places then are any, as are the buffer
+/// behind the header and the places after those.
+#[inline(always)]
+pub fn make_from_table<G: GroupTable>(
+    packet: &RtpPacket<'_>,
+    group: G,
+    buf: &mut [u8],
+    slots: &mut [Slot; MAX_ELEMENTS],
+) -> Result<usize, NotRouted>
+    requires { G.is_table group }
+    ensures made { IfOk result (λ len. IsGroupHeader (datagram_of packet.now)
+        (new_id (G.ids group)) (G.elements group) (G.allows group) (take len buf.new)
+        (take (length (G.elements group)) slots.new)) }
+    ensures few { IfOk result (λ _. length (G.elements group) ≤ 16) }
+    ensures room { IfOk result (λ len. len ≤ length buf.new) }
+    ensures short { IfOk result (λ len. len ≤ 262216) }
+    ensures within { IfOk result (λ len. All (λ slot. slot.start + slot.len ≤ len)
+        (take (length (G.elements group)) slots.new)) }
+    ensures cause { IfErr result (KeepsFromRouting (header_in packet.now) no_fields
+        (new_id (G.ids group)) (G.elements group) (G.allows group) (length buf.old)) }
+    ensures none_refused { IfOk result (λ _. (cause : NotRouted) →
+        KeepsFromRouting (header_in packet.now) no_fields (new_id (G.ids group))
+        (G.elements group) (G.allows group) (length buf.old) cause → ⊥) }
+{
+    match write_by_walk(packet, &Fields::default(), group, buf, slots) {
+        Some(len) => Ok(len),
+        None => make_by_calls_of(*packet, group, buf, slots),
+    }
+}
+
 /// Makes the header that the packet gets for the group at the front of the buffer, returns how many
 /// bytes it has, at most 262,216, and puts the places of the data in it at the front of `slots`, in
 /// the order of the group's elements. It is refused as
@@ -84,8 +151,13 @@ pub fn make_template<L: ElementList>(
     if !number_elements(group.elements, &mut numbers) {
         return Err(NotRouted::RepeatedId);
     }
-    match write_by_walk(packet, &Fields::default(), group, &numbers, buf, slots) {
-        Some(len) => Ok(len),
-        None => make_by_calls(*packet, group, buf, slots),
-    }
+    let Some(two_byte_len) = two_byte_len_of(group.elements) else {
+        return make_by_calls(*packet, group, buf, slots);
+    };
+    let tabled = TabledGroup {
+        group,
+        numbers: &numbers,
+        two_byte_len,
+    };
+    make_from_table(packet, tabled, buf, slots)
 }

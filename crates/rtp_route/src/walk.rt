@@ -12,13 +12,12 @@ ghost use Rattle.rtp_ext.specs.NewIds.{new_id};
 ghost use Rattle.rtp_ext.specs.WrittenBlock.{filled};
 ghost use Rattle.rtp_route.specs.Routing.{put_all};
 ghost use Rattle.rtp_route.specs.Template.{AreSlots};
-ghost use Rattle.rtp_route.specs.Walk.{no_slots, AreNumbersOf, CanBePut, ArePlaced, AreWritten, AreKept, IsBodyFor};
+ghost use Rattle.rtp_route.specs.Walk.{no_slots, CanBePut, ArePlaced, AreWritten, AreKept, IsBodyFor};
 
-use super::GroupOf;
-use super::numbers::{IDS, index_of};
 use super::slots::{MAX_ELEMENTS, Slot};
+use super::table::GroupTable;
 use rtp_base::{fill_word, put, put_few};
-use rtp_ext::{ElementList, Elements, ExtensionsForm};
+use rtp_ext::{Elements, ExtensionsForm};
 
 // Puts the header of an element at the offset, and returns where its data begin.
 #[inline(always)]
@@ -52,7 +51,7 @@ fn write_behind(
     ensures within { IfSome result (λ end. end ≤ length buf.old) }
 {
     // With the longer header of the two.
-    if buf.len() - at < 2 + bytes.len() {
+    if at + 2 + bytes.len() > buf.len() {
         return None;
     }
     let data_at = put_header(buf, at, form, id, bytes.len() as u8);
@@ -62,29 +61,28 @@ fn write_behind(
 
 // Writes the group's element at the index, and keeps the place of its data.
 #[inline(always)]
-fn write_own<L: ElementList>(
+fn write_own<G: GroupTable>(
     buf: &mut [u8],
     at: usize,
     form: ExtensionsForm,
-    elements: L,
+    group: G,
     index: usize,
     slots: &mut [Slot; MAX_ELEMENTS],
 ) -> Option<usize>
-    requires index { index < length (L.elements elements) }
-    requires elements { CanBePut form (L.elements elements) }
+    requires index { index < length (G.elements group) }
+    requires elements { CanBePut form (G.elements group) }
     requires room { at ≤ length buf.old }
     requires short { length buf.old ≤ 262140 }
     ensures written { IfSome result (λ end. (start : ℕ) (old : List ℕ) (written : List Element)
         (element : Element) →
-        drop index (L.elements elements)
-        ≡ element ∷ drop (index + 1) (L.elements elements) →
-        AreWritten form start (L.elements elements) old written slots.old buf.old at →
+        drop index (G.elements group) ≡ element ∷ drop (index + 1) (G.elements group) →
+        AreWritten form start (G.elements group) old written slots.old buf.old at →
         HasNone written element.0 →
-        AreWritten form start (L.elements elements) old (written ++ element ∷ [])
+        AreWritten form start (G.elements group) old (written ++ element ∷ [])
         slots.new buf.new end) }
     ensures within { IfSome result (λ end. end ≤ length buf.old) }
 {
-    let (id, bytes) = elements.at(index);
+    let (id, bytes) = group.at(index);
     let end = write_behind(buf, at, form, id, bytes)?;
     slots[index] = Slot {
         start: (end - bytes.len()) as u32,
@@ -96,38 +94,37 @@ fn write_own<L: ElementList>(
 // Writes an element of the packet under its new id, or in its place the group's element of that id;
 // `None` where this one is written before it.
 #[inline(always)]
-fn write_next<L: ElementList>(
+fn write_next<G: GroupTable>(
     buf: &mut [u8],
     at: usize,
     form: ExtensionsForm,
-    group: &GroupOf<'_, L>,
-    numbers: &[u8; IDS],
+    group: G,
     slots: &mut [Slot; MAX_ELEMENTS],
     id: u8,
     bytes: &[u8],
 ) -> Option<usize>
-    requires elements { CanBePut form (L.elements group.now.elements) }
-    requires numbers { AreNumbersOf (L.elements group.now.elements) numbers.now }
+    requires table { G.is_table group }
+    requires elements { CanBePut form (G.elements group) }
     requires room { at ≤ length buf.old }
     requires short { length buf.old ≤ 262140 }
     requires writable { IsWritable form (id, bytes.now) }
     ensures written { IfSome result (λ end. (start : ℕ) (old : List ℕ) (written : List Element) →
         1 ≤ start →
-        AreWritten form start (L.elements group.now.elements) old written slots.old buf.old
+        AreWritten form start (G.elements group) old written slots.old buf.old
         at →
         (element : Element) × (element.0 ≡ id)
-        × (HasNone (L.elements group.now.elements) id → element ≡ (id, bytes.now))
-        × AreWritten form start (L.elements group.now.elements) old
+        × (HasNone (G.elements group) id → element ≡ (id, bytes.now))
+        × AreWritten form start (G.elements group) old
         (written ++ element ∷ []) slots.new buf.new end) }
     ensures within { IfSome result (λ end. end ≤ length buf.old) }
 {
-    match index_of(numbers, id) {
+    match group.index_of(id) {
         None => write_behind(buf, at, form, id, bytes),
         Some(index) => {
             if slots[index].start != 0 {
                 return None;
             }
-            write_own(buf, at, form, group.elements, index, slots)
+            write_own(buf, at, form, group, index, slots)
         }
     }
 }
@@ -156,69 +153,101 @@ fn carries(was: ExtensionsForm, form: ExtensionsForm, id: u8, bytes: &[u8]) -> b
 
 // Writes the elements of a block's body under their new ids, those without one left out, and the
 // group's elements in the place of those of their ids; returns where they end. `None` where the form
-// can't carry one, or two have the id of one of the group's elements. It stays out of line, so that
-// the walk has the registers to itself.
-#[inline(never)]
-fn write_kept<L: ElementList>(
+// can't carry one, or two have the id of one of the group's elements.
+#[inline(always)]
+fn write_in_form<G: GroupTable>(
     buf: &mut [u8],
     at: usize,
     was: ExtensionsForm,
     form: ExtensionsForm,
     body: &[u8],
-    group: &GroupOf<'_, L>,
-    numbers: &[u8; IDS],
+    group: G,
     slots: &mut [Slot; MAX_ELEMENTS],
 ) -> Option<usize>
     requires some { 1 ≤ at }
-    requires elements { CanBePut form (L.elements group.now.elements) }
-    requires numbers { AreNumbersOf (L.elements group.now.elements) numbers.now }
+    requires table { G.is_table group }
+    requires elements { CanBePut form (G.elements group) }
     requires room { at ≤ length buf.old }
     requires short { length buf.old ≤ 262140 }
     requires carries { (element : Element) → IsWritable was element → IsWritable form element }
-    requires fresh { ArePlaced form at [] (L.elements group.now.elements) slots.old }
+    requires fresh { ArePlaced form at [] (G.elements group) slots.old }
     ensures kept { IfSome result (λ end. (elements : List Element) →
         AreElements was body.now elements →
-        AreKept form (new_id group.now.ids.now) (L.elements group.now.elements)
-        elements at buf.old slots.new buf.new end) }
+        AreKept form (new_id (G.ids group)) (G.elements group) elements at buf.old slots.new
+        buf.new end) }
     ensures within { IfSome result (λ end. end ≤ length buf.old) }
 {
     let mut end = at;
     for (id, bytes) in Elements::new(body, was) {
-        if let Some(new) = group.ids.new_id(id) {
+        if let Some(new) = group.new_id(id) {
             if !carries(was, form, new, bytes) {
                 return None;
             }
-            end = write_next(buf, end, form, group, numbers, slots, new, bytes)?;
+            end = write_next(buf, end, form, group, slots, new, bytes)?;
         }
     }
     Some(end)
 }
 
+// The same, by a loop of its own where both are the one-byte form, as they mostly are. It stays out of
+// line, so that the walk has the registers to itself.
+#[inline(never)]
+fn write_kept<G: GroupTable>(
+    buf: &mut [u8],
+    at: usize,
+    was: ExtensionsForm,
+    form: ExtensionsForm,
+    body: &[u8],
+    group: G,
+    slots: &mut [Slot; MAX_ELEMENTS],
+) -> Option<usize>
+    requires some { 1 ≤ at }
+    requires table { G.is_table group }
+    requires elements { CanBePut form (G.elements group) }
+    requires room { at ≤ length buf.old }
+    requires short { length buf.old ≤ 262140 }
+    requires carries { (element : Element) → IsWritable was element → IsWritable form element }
+    requires fresh { ArePlaced form at [] (G.elements group) slots.old }
+    ensures kept { IfSome result (λ end. (elements : List Element) →
+        AreElements was body.now elements →
+        AreKept form (new_id (G.ids group)) (G.elements group) elements at buf.old slots.new
+        buf.new end) }
+    ensures within { IfSome result (λ end. end ≤ length buf.old) }
+{
+    let narrow = ExtensionsForm::OneByte;
+    match (was, form) {
+        (ExtensionsForm::OneByte, ExtensionsForm::OneByte) => {
+            write_in_form(buf, at, narrow, narrow, body, group, slots)
+        }
+        _ => write_in_form(buf, at, was, form, body, group, slots),
+    }
+}
+
 // Writes those of the group's elements that have no place yet, and returns where they end.
 #[inline(always)]
-fn write_lacking<L: ElementList>(
+fn write_lacking<G: GroupTable>(
     buf: &mut [u8],
     at: usize,
     form: ExtensionsForm,
-    elements: L,
+    group: G,
     slots: &mut [Slot; MAX_ELEMENTS],
 ) -> Option<usize>
-    requires elements { CanBePut form (L.elements elements) }
+    requires elements { CanBePut form (G.elements group) }
     requires room { at ≤ length buf.old }
     requires short { length buf.old ≤ 262140 }
     ensures written { IfSome result (λ end. (start : ℕ) (old : List ℕ) (written : List Element) →
         1 ≤ start →
-        AreWritten form start (L.elements elements) old written slots.old buf.old at →
-        AreWritten form start (L.elements elements) old
-        (put_all (L.elements elements) written) slots.new buf.new end
-        × AreSlots form start (put_all (L.elements elements) written)
-        (L.elements elements) (take (length (L.elements elements)) slots.new)) }
+        AreWritten form start (G.elements group) old written slots.old buf.old at →
+        AreWritten form start (G.elements group) old
+        (put_all (G.elements group) written) slots.new buf.new end
+        × AreSlots form start (put_all (G.elements group) written)
+        (G.elements group) (take (length (G.elements group)) slots.new)) }
     ensures within { IfSome result (λ end. end ≤ length buf.old) }
 {
     let mut end = at;
-    for index in 0..elements.count() {
+    for index in 0..group.count() {
         if slots[index].start == 0 {
-            end = write_own(buf, end, form, elements, index, slots)?;
+            end = write_own(buf, end, form, group, index, slots)?;
         }
     }
     Some(end)
@@ -228,33 +257,32 @@ fn write_lacking<L: ElementList>(
 // and returns where it ends; the places are those of the group's elements. `None` where another way
 // has to be taken.
 #[inline(always)]
-pub(super) fn write_body<L: ElementList>(
+pub(super) fn write_body<G: GroupTable>(
     buf: &mut [u8],
     at: usize,
     was: ExtensionsForm,
     form: ExtensionsForm,
     body: &[u8],
-    group: &GroupOf<'_, L>,
-    numbers: &[u8; IDS],
+    group: G,
     slots: &mut [Slot; MAX_ELEMENTS],
 ) -> Option<usize>
     requires some { 1 ≤ at }
     requires whole { at % 4 ≡ 0 }
-    requires elements { CanBePut form (L.elements group.now.elements) }
-    requires numbers { AreNumbersOf (L.elements group.now.elements) numbers.now }
+    requires table { G.is_table group }
+    requires elements { CanBePut form (G.elements group) }
     requires room { at ≤ length buf.old }
     requires short { length buf.old ≤ 262140 }
     requires carries { (element : Element) → IsWritable was element → IsWritable form element }
     requires fresh { slots.old ≡ no_slots }
     ensures written { IfSome result (λ end. (elements : List Element) →
         AreElements was body.now elements →
-        IsBodyFor form (new_id group.now.ids.now) (L.elements group.now.elements)
-        elements at (take (length (L.elements group.now.elements)) slots.new)
+        IsBodyFor form (new_id (G.ids group)) (G.elements group)
+        elements at (take (length (G.elements group)) slots.new)
         buf.new end) }
     ensures within { IfSome result (λ end. end ≤ length buf.old) }
 {
-    let kept = write_kept(buf, at, was, form, body, group, numbers, slots)?;
-    let len = write_lacking(buf, kept, form, group.elements, slots)?;
+    let kept = write_kept(buf, at, was, form, body, group, slots)?;
+    let len = write_lacking(buf, kept, form, group, slots)?;
     let end = len.next_multiple_of(4);
     if end > buf.len() {
         return None;

@@ -13,7 +13,7 @@ pub mod StandardBits
 pub mod StandardNumbers
 pub mod StandardOrientation
 pub mod StandardMarking
-pub mod StandardNtp
+pub mod StandardTimes
 pub mod StandardTransport
 pub mod StandardDescriptor
 pub mod StandardTiming

@@ -1,4 +1,4 @@
--- A token of SDP (RFC 8866, 9), which a mid and a stream id are (RFC 5888, 4; RFC 8852, 3).
+-- A token of SDP (RFC 8866, 9), which a mid is (RFC 5888, 4), and the letters and digits that a stream id is (RFC 8852, 3).
 use Rattle.std.specs.Prelude.{◌==◌, ◌&&◌, ◌||◌, nat_le, ℕ, ◌≤◌, Bool, List, length, All, IsTrue}
 
 -- whether the byte lies between two others, both included
@@ -16,3 +16,13 @@ pub record IsToken (bytes : List ℕ) : Type 0 where
   pub some : 1 ≤ length bytes
   pub few : length bytes ≤ 255
   pub chars : All (λ c. IsTrue (is_token_char c)) bytes
+
+-- a digit or a letter of ASCII
+abbrev pub is_alphanumeric : ℕ → Bool
+is_alphanumeric c = is_between 0x30 0x39 c || is_between 0x41 0x5A c || is_between 0x61 0x7A c
+
+-- one or more of these, which an element has room for
+pub record IsStreamId (bytes : List ℕ) : Type 0 where
+  pub some : 1 ≤ length bytes
+  pub few : length bytes ≤ 255
+  pub chars : All (λ c. IsTrue (is_alphanumeric c)) bytes

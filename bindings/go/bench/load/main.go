@@ -1,7 +1,7 @@
 // Load has SFUs send packets on 127.0.0.1, to 1, 3 and 30 receivers, and prints how many packets of the sender each takes
 // in a second, and the processor time that each takes of them.
 //
-//	go build -o sfu rtpwire/examples/sfu && go build -o pionsfu ./pionsfu && go run ./load ./sfu ./pionsfu
+//	go build -o sfu rtp-wire.example/rtpwire/examples/sfu && go build -o pionsfu ./pionsfu && go run ./load ./sfu ./pionsfu
 //
 // Each packet has a payload of 1,200 bytes, and one of sixteen is sent twice. At most 32 are on their way at a time, so
 // that no socket has to lose any. Each receiver counts what comes: the packets that are lost, and those that come twice.

@@ -8,7 +8,7 @@ import (
 	"time"
 
 	"github.com/pion/rtp"
-	"rtpwire/examples/sfu/udp"
+	"rtp-wire.example/rtpwire/examples/sfu/udp"
 )
 
 // The ids of the receivers.

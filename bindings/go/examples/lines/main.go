@@ -1,6 +1,8 @@
 // Lines reads datagrams from standard input, one a line in hexadecimal, and prints of each its header, the values of
 // its extensions, and whether a receiver takes it. Each SSRC has a receiver of its own. Lines `map ID URI` before the
-// first datagram say which extension an id means.
+// first datagram say which extension an id means. It prints what the program rtp_lines does: a mid and a stream id with
+// an underscore for each character that isn't a letter or a digit, as cam_1 for a mid cam-1, and the first 16 characters
+// of a mid and 8 of a stream id. To compare one with that of an SDP take Packet.Token, the text as it lies.
 package main
 
 import (
@@ -15,7 +17,7 @@ import (
 	"strings"
 	"unicode/utf8"
 
-	"rtpwire"
+	"rtp-wire.example/rtpwire"
 )
 
 // errBadLine: the program ends with the status 2.
@@ -98,14 +100,14 @@ func printPacket(out io.Writer, count int, datagram []byte, m *rtpwire.Map, rece
 		return err
 	}
 	printHeader(out, count, &packet)
-	receiver, isKnown := receivers[packet.SSRC]
+	receiver, isKnown := receivers[packet.SSRC()]
 	if !isKnown {
 		// From the rollover count 0, as the program rtp_lines has it. NewReceiver(1) also has a number for a packet
 		// from before the first one.
 		receiver = new(rtpwire.Receiver)
-		receivers[packet.SSRC] = receiver
+		receivers[packet.SSRC()] = receiver
 	}
-	if number, ok := receiver.Receive(packet.SequenceNumber); ok {
+	if number, ok := receiver.Receive(packet.SequenceNumber()); ok {
 		fmt.Fprintf(out, "verdict %d: taken %d\n", count, number)
 	} else {
 		fmt.Fprintf(out, "verdict %d: refused\n", count)
@@ -114,11 +116,11 @@ func printPacket(out io.Writer, count int, datagram []byte, m *rtpwire.Map, rece
 }
 
 func printHeader(out io.Writer, count int, packet *rtpwire.Packet) {
-	fmt.Fprintf(out, "packet %d: pt %d seq %d ts %d ssrc %d", count, packet.PayloadType, packet.SequenceNumber,
-		packet.Timestamp, packet.SSRC)
-	fmt.Fprintf(out, " marker %s padding %s extension %s csrc %d header %d", yesOrNo(packet.Marker),
-		yesOrNo(packet.HasPadding), yesOrNo(packet.HasExtension), len(packet.CSRC()), packet.HeaderLen())
-	values := &packet.Values
+	fmt.Fprintf(out, "packet %d: pt %d seq %d ts %d ssrc %d", count, packet.PayloadType(), packet.SequenceNumber(),
+		packet.Timestamp(), packet.SSRC())
+	fmt.Fprintf(out, " marker %s padding %s extension %s csrc %d header %d", yesOrNo(packet.Marker()),
+		yesOrNo(packet.HasPadding()), yesOrNo(packet.HasExtension()), len(packet.CSRC()), packet.HeaderLen())
+	values := packet.Values()
 	if mid, ok := values.MID(); ok {
 		fmt.Fprintf(out, " mid %s", mid)
 	}

@@ -14,8 +14,8 @@ import (
 	"os"
 	"time"
 
-	"rtpwire"
-	"rtpwire/examples/sfu/udp"
+	"rtp-wire.example/rtpwire"
+	"rtp-wire.example/rtpwire/examples/sfu/udp"
 )
 
 const (
@@ -110,7 +110,7 @@ func (s *sfu) Take(buf []byte, now time.Duration, send udp.Send) {
 		s.counts.unreadable++
 	case from == nil:
 		s.counts.strangers++
-	case from.receiver.StandingOf(from.receiver.NumberOf(s.packet.SequenceNumber)) == rtpwire.StandingTaken:
+	case from.receiver.StandingOf(from.receiver.NumberOf(s.packet.SequenceNumber())) == rtpwire.StandingTaken:
 		s.counts.replays++
 	default:
 		s.counts.late++
@@ -178,7 +178,7 @@ func (s *sfu) describe(from *stream, now time.Duration) {
 	for i := 0; i < len(s.data)/own; i++ {
 		fields := s.batch.Fields(i)
 		fields.SetSSRC(uint32(1000*(i+1) + from.index))
-		fields.SetSequenceNumber(s.packet.SequenceNumber + uint16(1000*i))
+		fields.SetSequenceNumber(s.packet.SequenceNumber() + uint16(1000*i))
 		number := s.transport + uint16(i)
 		copy(s.data[own*i:own*i+own], []byte{
 			byte('0' + i/10%10), byte('0' + i%10), "0123456789ABCDEF"[from.index],

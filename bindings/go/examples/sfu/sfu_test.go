@@ -12,7 +12,7 @@ import (
 	"testing"
 	"time"
 
-	"rtpwire/examples/sfu/udp"
+	"rtp-wire.example/rtpwire/examples/sfu/udp"
 )
 
 const levelURI = "urn:ietf:params:rtp-hdrext:ssrc-audio-level"

@@ -25,6 +25,7 @@ from ._errors import (
     ShortBuffer,
     Status,
 )
+from ._group import Group
 from ._growing import add_element, change_form, compact, put_block, put_element, remove_block
 from ._header import Header, write_elements
 from ._kind import OWN_URIS, Kind, OwnUris
@@ -93,6 +94,7 @@ __all__ = [
     "FormNotAllowed",
     "FrameLayers",
     "FrameMarking",
+    "Group",
     "HdrMetadata",
     "Header",
     "HeaderTemplate",

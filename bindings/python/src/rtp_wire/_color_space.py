@@ -7,7 +7,7 @@ from enum import IntEnum
 from typing import TYPE_CHECKING, NamedTuple, Optional
 
 from . import _library
-from ._errors import unsigned, within
+from ._errors import ranged, unsigned
 from ._standard import read_data, written
 
 if TYPE_CHECKING:
@@ -133,9 +133,9 @@ class ColorSpace:
         raw = _library.RawColorSpace()
         for name in ("primaries", "transfer", "matrix"):
             setattr(raw, name, unsigned(name, getattr(self, name), 8))
-        raw.range = within("range", self.range, 0, 3)
-        raw.horizontal = within("horizontal", self.horizontal, 0, 2)
-        raw.vertical = within("vertical", self.vertical, 0, 2)
+        raw.range = ranged("RawColorSpace.range", self.range)
+        raw.horizontal = ranged("RawColorSpace.horizontal", self.horizontal)
+        raw.vertical = ranged("RawColorSpace.vertical", self.vertical)
         if self.hdr is not None:
             raw.has_hdr = 1
             _put_hdr(raw.hdr, self.hdr)

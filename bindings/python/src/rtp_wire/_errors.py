@@ -6,6 +6,8 @@ from enum import IntEnum
 from operator import index
 from typing import TYPE_CHECKING, FrozenSet, Iterable, List, Optional, Sequence
 
+from ._declared import RANGES, TEXTS
+
 if TYPE_CHECKING:
     from ._kind import Kind
 
@@ -30,31 +32,12 @@ class Status(IntEnum):
     FORM_NOT_ALLOWED = 14
     LONG_BLOCK = 15
     LONG_ID = 16
+    RTCP = 17
 
     @property
     def text(self) -> str:
         """What the status says, in words."""
-        return _TEXTS[self]
-
-
-_TEXTS = {
-    Status.OK: "done",
-    Status.CUT_FIXED_PART: "fewer than twelve bytes",
-    Status.OTHER_VERSION: "another version than 2",
-    Status.CUT_SOURCES: "the CSRC list is cut short",
-    Status.CUT_BLOCK_HEADER: "the header of the extension block is cut short",
-    Status.UNKNOWN_FORM: "a header extension of an unknown form",
-    Status.CUT_BLOCK: "the extension block is cut short",
-    Status.SHORT_BUFFER: "a buffer is too short",
-    Status.BAD_FIELD: "an argument is out of its range",
-    Status.REFUSED: "a replay, or too old to tell",
-    Status.NONE: "no such element",
-    Status.RESTARTED: "taken, and the sender has started again",
-    Status.BAD_ID: "the id 0, which no element has",
-    Status.FORM_NOT_ALLOWED: "a form of the extension block that isn't allowed",
-    Status.LONG_BLOCK: "an extension block of more than 65,535 words",
-    Status.LONG_ID: "an id above 14, which the one-byte form can't carry",
-}
+        return TEXTS[self]
 
 
 class Cause(IntEnum):
@@ -191,6 +174,11 @@ def within(name: str, value: int, low: int, high: int) -> int:
     if not low <= value <= high:
         raise BadField(Status.BAD_FIELD, f"{name} is {value}, and not {low} to {high}")
     return value
+
+
+def ranged(field: str, value: int) -> int:
+    """The value of a field of a struct, as RawFrameMarking.temporal_id, where it is in the range that the field has."""
+    return within(field.partition(".")[2], value, *RANGES[field])
 
 
 def unsigned(name: str, value: int, bits: int) -> int:

@@ -17,13 +17,12 @@ if TYPE_CHECKING:
     Places = Union[Buffer, Iterable[int]]
 
 _PACKET_AT = _library.RawDatagram.packet.offset
-_VALUES_AT = _library.RawDatagramHeader.header.offset + _library.RawHeader.values.offset
-_HAS_AT = _VALUES_AT + _library.RawValues.has.offset
+_VALUES_AT = _library.RawWholeDatagram.packet.offset + _library.RawWholePacket.values.offset
+_HAS_AT: int = _VALUES_AT + _library.RawValues.has.offset
 
 # The columns of fields: what `array` calls the type of each, and where it stands in the struct.
 FIELDS: Dict[str, Tuple[str, int]] = {
-    "status": ("i", _library.RawDatagram.status.offset),
-    "is_rtcp": ("B", _library.RawDatagram.is_rtcp.offset),
+    **{name: (code, getattr(_library.RawDatagram, name).offset) for name, code in (("status", "i"), ("is_rtcp", "B"))},
     **{
         name: (code, _PACKET_AT + getattr(_library.RawPacket, name).offset)
         for name, code in {

@@ -11,7 +11,6 @@ from . import _library
 from ._buffers import address_of, copy_of, place_of, view_of, writable_view_of
 from ._errors import LONG_PADDING, Status, check, checked, error_of, unsigned, within
 from ._header import read_layers
-from ._library import whole_packet_parse
 from ._map import Map, NewIds, raw_map, raw_new_ids
 from ._standard import token_of
 from ._values import Values, values_of
@@ -80,6 +79,27 @@ def put_fields(fields: _library.RawFields, *given: Optional[int]) -> None:
             setattr(fields, has, 1)
 
 
+_NO_KINDS = _library.RawMap()
+_HAS_AT: int = _library.RawWholePacket.values.offset + _library.RawValues.has.offset
+_HAS_LAYERS_AT = _HAS_AT + _library.VALUES.index("layers")
+
+
+def _read_as_rtp(at: Address, length: int, kinds: _library.RawMap, raw: _library.RawWholePacket) -> int:
+    """Reads as RTP what would be RTCP on a port that both share: it has M and a payload type of 64 to 95."""
+    packet = _library.RawPacket()
+    status: int = _library.packet_parse(at, length, packet)
+    if status == 0:
+        _library.parse(at, length, kinds, raw)  # which leaves all as it is where the block has another form
+        raw.header_len, raw.has_extension = packet.payload_at, packet.block_form != Form.NONE
+        for name in _OF_BOTH:
+            setattr(raw, name, getattr(packet, name))
+    return status
+
+
+# The fields that both structs have.
+_OF_BOTH = {name for name, *_ in _library.RawPacket._fields_ if hasattr(_library.RawWholePacket, name)}
+
+
 class Packet:
     """A packet where it lies. `parse` looks at it once; no byte of it is copied.
 
@@ -97,7 +117,7 @@ class Packet:
     _data: Union[bytes, memoryview]
     _len: int
     _map: Optional[Map]
-    _raw: _library.WholePacket
+    _raw: _library.RawWholePacket
     _values: Optional[Values]
 
     def __init__(self) -> None:
@@ -116,13 +136,16 @@ class Packet:
 
     def _read(self, at: Address) -> None:
         """Reads the packet as it is now."""
-        map = self._map
-        raw = _library.WholePacket()
-        status = whole_packet_parse(at, self._len, None if map is None else raw_map(map), raw)
+        map, raw = self._map, _library.RawWholePacket()
+        kinds = _NO_KINDS if map is None else raw_map(map)
+        status = _library.read(at, self._len, kinds, raw)
         if status:
-            raise error_of(status)
+            if status == Status.RTCP:
+                status = _read_as_rtp(at, self._len, kinds, raw)
+            if status:
+                raise error_of(status)
         self._raw, self._values = raw, None
-        if raw.has_layers and map is not None:
+        if map is not None and bytes(raw)[_HAS_LAYERS_AT]:
             self._values = values_of(raw.values)
             self._values.layers = read_layers(at, self._len, map)
 
@@ -143,7 +166,7 @@ class Packet:
             f"Packet(payload_type={self.payload_type}, sequence_number={self.sequence_number},"
             f" timestamp={self.timestamp}, ssrc={self.ssrc}, csrc={self.csrc}, marker={self.marker},"
             f" has_padding={self.has_padding}, form={self.form!r}, header_len={self.header_len},"
-            f" payload=<{self._raw.payload_len} bytes>, values={self.values})"
+            f" payload=<{self._len - self._raw.header_len} bytes>, values={self.values})"
         )
 
     # ---- The header, and where it can be written the way to change it ----
@@ -245,26 +268,26 @@ class Packet:
     @property
     def header_len(self) -> int:
         """How many bytes the header has: the payload begins there."""
-        return self._raw.payload_at
+        return self._raw.header_len
 
     @property
     def header_bytes(self) -> memoryview:
         """The header where it lies: a packet without a payload. P of it is the packet's: `payload` belongs behind it,
         with the padding."""
-        return self._view()[: self._raw.payload_at]
+        return self._view()[: self._raw.header_len]
 
     @property
     def payload(self) -> memoryview:
         """The payload where it lies, with any padding: what is passed on. `unpadded_payload` is what is heard and
         seen."""
-        return self._view()[self._raw.payload_at :]
+        return self._view()[self._raw.header_len :]
 
     @property
     def unpadded_payload(self) -> Optional[memoryview]:
         """The payload without its padding; None where the padding is longer than the payload. With SRTP the padding is
         known only once the payload is decrypted."""
         raw = self._raw
-        return self._view()[raw.payload_at : raw.payload_at + raw.unpadded_len] if raw.padding_fits else None
+        return self._view()[raw.header_len : raw.header_len + raw.unpadded_len] if raw.padding_fits else None
 
     def remove_padding(self) -> int:
         """Clears P, and returns how many bytes the packet then has, which are its first ones. BadField where the
@@ -289,7 +312,7 @@ class Packet:
     @property
     def body(self) -> memoryview:
         """The body of the block where it lies; no bytes where there is no block."""
-        return self._view()[self._raw.body_at : self._raw.payload_at]
+        return self._view()[self._raw.body_at : self._raw.header_len]
 
     @property
     def values(self) -> Values:

@@ -235,7 +235,7 @@ class RestartingReceiver(_State):
         self._words = (c_uint64 * within("words", words, 1, MOST_WORDS))()
         if max_misorder is None:
             max_misorder = max(MAX_DROPOUT, 64 * len(self._words))
-        self._raw = _library.RawRestartingReceiver(
+        self._raw = _library.RawWideRestartingReceiver(
             max_dropout=within("max_dropout", max_dropout, 1, 0xFFFF),
             max_misorder=within("max_misorder", max_misorder, 1, 0xFFFF),
             min_sequential=unsigned("min_sequential", min_sequential, 8),
@@ -308,7 +308,7 @@ class RestartingReceiver(_State):
         """BadField where what was stored is no state."""
         highest, words, *others = state
         numbers = stored([highest, *others], 64, 16, 16, 16, 8, 8, 1)
-        self._raw, self._words = _library.RawRestartingReceiver(*numbers), _window(words)
+        self._raw, self._words = _library.RawWideRestartingReceiver(*numbers), _window(words)
 
 
 def extend_u8(previous: int, number: int) -> int:

@@ -16,7 +16,7 @@ from typing import TYPE_CHECKING, Optional, TypeVar
 
 from . import _library
 from ._buffers import address_of, place_of
-from ._errors import BadField, Status, check, unsigned, within
+from ._errors import BadField, Status, check, ranged, unsigned
 
 if TYPE_CHECKING:
     from ._buffers import Buffer
@@ -104,7 +104,7 @@ class FrameMarking:
         if self.layers is not None:
             raw.has_layers = 1
             raw.base_layer_sync = unsigned("base_layer_sync", self.layers.base_layer_sync, 1)
-            raw.temporal_id = unsigned("temporal_id", self.layers.temporal_id, 3)
+            raw.temporal_id = ranged("RawFrameMarking.temporal_id", self.layers.temporal_id)
             raw.layer_id = unsigned("layer_id", self.layers.layer_id, 8)
             if self.layers.tl0_pic_idx is not None:
                 raw.has_tl0_pic_idx = 1
@@ -152,7 +152,7 @@ class Orientation:
         raw.turn = turn = index(self.turn)
         if turn not in (0, 90, 180, 270):
             raise BadField(Status.BAD_FIELD, f"turn is {turn}, and none of 0, 90, 180 and 270")
-        raw.camera = unsigned("camera", self.camera, 1)
+        raw.camera = ranged("RawOrientation.camera", self.camera)
         raw.flip = unsigned("flip", self.flip, 1)
         return written(_library.write_orientation, raw)
 
@@ -278,7 +278,7 @@ class TransportNumber:
         raw.number = unsigned("number", self.number, 16)
         if self.request is not None:
             raw.has_request = 1
-            raw.packets = unsigned("packets", self.request.packets, 15)
+            raw.packets = ranged("RawTransportNumber.packets", self.request.packets)
             raw.timestamps = unsigned("timestamps", self.request.timestamps, 1)
         return written(_library.write_transport_number, raw)
 
@@ -313,7 +313,7 @@ class DependencyDescriptor:
         raw = _library.RawDependencyDescriptor()
         raw.start_of_frame = unsigned("start_of_frame", self.start_of_frame, 1)
         raw.end_of_frame = unsigned("end_of_frame", self.end_of_frame, 1)
-        raw.template_id = unsigned("template_id", self.template_id, 6)
+        raw.template_id = ranged("RawDependencyDescriptor.template_id", self.template_id)
         raw.frame_number = unsigned("frame_number", self.frame_number, 16)
         return written(_library.write_dependency_descriptor, raw)
 

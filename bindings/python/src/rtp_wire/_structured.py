@@ -90,12 +90,12 @@ class _Rows:
         return [self.column(name, offset), self.column(name, has_at(has), masks=True)]
 
     def mask(self, values: List[str]) -> None:
-        """Masks the fields and these values where the row is no packet of RTP, and the values where the packet hasn't
-        them: so far their masks are set where it has."""
+        """Masks the fields where the row is no packet of RTP, and these values where it hasn't them, as no such row has:
+        so far their masks are set where it has."""
         missing = ~self.rows["is_rtp"]
         for name in (*OF_A_PACKET, *values):
             self.rows[name][missing] = self.numpy.zeros((), self.rows.dtype[name])
-            self.masks[name] = missing | ~self.masks[name] if name in values else missing
+            self.masks[name] = ~self.masks[name] if name in values else missing
 
     def judge(self, receivers: MutableMapping[int, Receiver], rollover_count: int) -> None:
         """Has the packets judged by the receivers of their sources."""

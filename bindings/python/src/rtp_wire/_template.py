@@ -2,11 +2,12 @@
 
 from __future__ import annotations
 
-from typing import TYPE_CHECKING, Iterable, List, NamedTuple, Optional, Tuple, Union
+from typing import TYPE_CHECKING, Iterable, Iterator, List, NamedTuple, Optional, Tuple, Union
 
 from . import _library
 from ._buffers import address_of, copy_of, place_of, view_of, writable_view_of
-from ._errors import BadField, RtpError, Status, check, checked, element_id, error_of, unsigned, within
+from ._errors import BadField, RtpError, Status, check, checked, error_of, unsigned
+from ._group import Group, places_of
 from ._growing import allowed_forms
 from ._map import NewIds, raw_new_ids
 from ._packet import Form, put_fields
@@ -14,7 +15,6 @@ from ._packet import Form, put_fields
 if TYPE_CHECKING:
     from ._buffers import Buffer, WritableBuffer
 
-MOST_ELEMENTS = 16
 # A place that no data have.
 _NOWHERE = (1 << 64) - 1
 
@@ -82,8 +82,7 @@ class HeaderTemplate:
         data, places = _gather(elements)
         forms, new_ids = allowed_forms(allowed), raw_new_ids(ids)
         packet, at = place_of(datagram)
-        room = memoryview(bytearray(2 * len(packet) + 264 * len(places)))
-        self._raw = _library.RawTemplate()
+        room, self._raw = _room_for(packet, len(places)), _library.RawTemplate()
         status = _library.make_template(
             at,
             len(packet),
@@ -97,6 +96,32 @@ class HeaderTemplate:
             len(room),
             self._raw,
         )
+        self._take(status, room)
+
+    @classmethod
+    def from_group(cls, datagram: Buffer, group: Group) -> HeaderTemplate:
+        """The same of what was prepared once: a server makes the `Group` when a session's ids are agreed on, and for each
+        packet a template of it. In place of the elements' data its header has zeros.
+
+        NotAPacket; OtherForm; LongId, FormNotAllowed and LongBlock as where it is made of ids and elements.
+
+        >>> group = Group(NewIds({1: 3}), [(4, 2)])
+        >>> packet = bytes.fromhex("90600005 00000064 0000002C BEDE0001 10AA0000 6869")
+        >>> template = HeaderTemplate.from_group(packet, group)
+        >>> [header.hex(" ", -4) for header in template.write([Route(bytes([0, 7])), Route(bytes([0, 8]), ssrc=46)])]
+        ['90600005 00000064 0000002c bede0002 30aa4100 07000000', '90600005 00000064 0000002e bede0002 30aa4100 08000000']
+        """
+        if not isinstance(group, Group):
+            raise TypeError(f"a group is {type(group).__name__}, and not Group")
+        made, raw = cls.__new__(cls), group._raw
+        packet, at = place_of(datagram)
+        room, made._raw = _room_for(packet, raw.count), _library.RawTemplate()
+        status = _library.make_from_group(raw, at, len(packet), address_of(room), len(room), made._raw)
+        made._take(status, room)
+        return made
+
+    def _take(self, status: int, room: memoryview) -> None:
+        """Keeps the header that was made, or raises why there is none."""
         check(status)
         self._header = bytes(room[: self._raw.header_len])
 
@@ -219,16 +244,20 @@ def _listed(routes: Iterable[Route]) -> List[Route]:
     return listed
 
 
+def _room_for(packet: Union[bytes, memoryview], count: int) -> memoryview:
+    """Room for the packet's header with so many elements more."""
+    return memoryview(bytearray(2 * len(packet) + 264 * count))
+
+
 def _gather(elements: Iterable[Tuple[int, Buffer]]) -> Tuple[bytes, _library.Places]:
     """The data of the elements, one after the other, and where those of each lie."""
-    data, places, ids = bytearray(), [], set()
-    for id, part in elements:
-        view, number = view_of(part), element_id(id)
-        if number in ids:
-            raise BadField(Status.BAD_FIELD, f"two elements have the id {number}")
-        ids.add(number)
-        within("the length of data", len(view), 0, 255)
-        places.append(_library.RawElement(len(data), len(view), 0, number))
-        data += view
-    within("the number of elements", len(places), 0, MOST_ELEMENTS)
-    return bytes(data), (_library.RawElement * len(places))(*places)
+    data = bytearray()
+
+    def lengths() -> Iterator[Tuple[int, int]]:
+        for id, part in elements:
+            view = view_of(part)
+            yield id, len(view)
+            data.extend(view)
+
+    places = places_of(lengths())
+    return bytes(data), places

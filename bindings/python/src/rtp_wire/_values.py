@@ -186,21 +186,16 @@ def _degrees(value: int) -> int:
     return value
 
 
-_BITS = {
-    "send_time": 64,
-    "capture_time": 64,
-    "transmission_offset": 32,
-    "frame_marking": 32,
-    "transport_number": 16,
-    "video_content_type": 8,
-    "voice_activity": 1,
-}
+# How many bits a value has that is any number of its field.
+_NUMBERS = "send_time capture_time transmission_offset frame_marking transport_number video_content_type".split()
+_BITS = {**{name: 8 * getattr(Raw, name).size for name in _NUMBERS}, "voice_activity": 1}
+_LEVELS = _library.RANGES["RawValues.audio_level"]
 # What each value is in the struct.
 _WRITERS: Dict[str, Callable[[Any], Any]] = {
     "mid": lambda value: _text("mid", value, 16),
     "rid": lambda value: _text("rid", value, 8),
     "repaired_rid": lambda value: _text("repaired_rid", value, 8),
-    "audio_level": lambda value: within("audio_level", value, -127, 0),
+    "audio_level": lambda value: within("audio_level", value, *_LEVELS),
     "capture_offset": lambda value: within("capture_offset", value, -(1 << 63), (1 << 63) - 1),
     "video_orientation": _degrees,
     "playout_delay_min": lambda value: _raw_time("playout_delay_min", value),

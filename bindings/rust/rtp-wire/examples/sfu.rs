@@ -14,11 +14,11 @@ use std::process::ExitCode;
 
 use rtp_wire::{
     change_form, is_rtcp, Fields, Form, Group, HeaderTemplate, Kind, Map, NewIds, OwnUris, Packet,
-    Place, Receiver, RoutedSlot,
+    Place, RoutedSlot, Standing, WideRestartingReceiver,
 };
 
-/// So many numbers up to the highest one a receiver keeps.
-const WINDOW: u64 = 128;
+/// Of the window of a stream: so many times 64 numbers up to the highest one.
+const WORDS: usize = 2;
 /// So many SSRCs of the sender at most.
 const STREAMS: usize = 16;
 /// A header that is sent on has at most so many bytes.
@@ -61,7 +61,7 @@ struct Party {
 
 struct Stream {
     ssrc: u32,
-    receiver: Receiver,
+    receiver: WideRestartingReceiver<WORDS>, // not for SRTP: there `WideReceiver` takes what is authentic
 }
 
 /// What became of the datagrams: each one is counted in one of the first six.
@@ -168,11 +168,11 @@ impl Party {
         Packet::parse(&room[..len]).ok()
     }
 
-    /// Sends the packet, which is of this stream, to the receivers, and returns to how many; `None` where its header has
-    /// no room.
+    /// Sends the packet, which is of this stream, without its padding to the receivers, and returns to how many; `None`
+    /// where its header has no room.
     fn send(
         &mut self,
-        packet: Packet,
+        (packet, payload): (Packet, &[u8]),
         stream: usize,
         microseconds: u64,
         send: &mut impl FnMut(usize, &[u8], &[u8]),
@@ -194,7 +194,7 @@ impl Party {
         let widened = self.widened(packet, &mut room)?;
         let template = HeaderTemplate::new(&widened, &group, &mut made).ok()?;
         let slot = |(n, it): (usize, &Route)| {
-            RoutedSlot::new(&it.fields(&packet, stream), n * template.data_len())
+            RoutedSlot::new(&it.fields(&packet, stream), n * template.data_len()).without_padding()
         };
         let mut slots: Vec<_> = self.routes.iter().enumerate().map(slot).collect();
         let mut buf = vec![0; slots.len() * template.header_len()];
@@ -202,7 +202,7 @@ impl Party {
         let headers = template.write_headers(&data, &mut slots, &mut buf);
         for (route, header) in self.routes.iter().zip(headers) {
             if let Ok(header) = header {
-                send(route.at, header, packet.payload());
+                send(route.at, header, payload);
                 sent += 1;
             }
         }
@@ -217,8 +217,7 @@ impl Sfu {
         if at.is_some() || self.streams.len() == STREAMS {
             return at;
         }
-        // A packet from before the first one that came has a number too.
-        let receiver = Receiver::starting_at(1).ok()?;
+        let receiver = WideRestartingReceiver::new();
         self.streams.push(Stream { ssrc, receiver });
         Some(self.streams.len() - 1)
     }
@@ -234,8 +233,10 @@ impl Sfu {
             self.counts.rtcp += 1;
             return;
         }
-        let Ok(packet) = Packet::parse(datagram) else {
-            self.counts.unreadable += 1;
+        let packet = Packet::parse(datagram).ok();
+        let Some((packet, payload)) = packet.and_then(|it| Some((it, it.unpadded_payload()?)))
+        else {
+            self.counts.unreadable += 1; // also where the padding is malformed
             return;
         };
         let Some(stream) = self.stream_of(packet.ssrc()) else {
@@ -243,19 +244,18 @@ impl Sfu {
             return;
         };
         let receiver = &mut self.streams[stream].receiver;
-        let number = receiver.number_of(packet.sequence_number());
-        if !receiver.accepts(number) {
-            match receiver.highest() {
-                Some(highest) if highest - number < WINDOW => self.counts.replays += 1,
-                _ => self.counts.late += 1,
+        let number = packet.sequence_number();
+        if receiver.receive(number).number().is_none() {
+            match receiver.standing_of(receiver.number_of(number)) {
+                Standing::Taken => self.counts.replays += 1,
+                _ => self.counts.late += 1, // too old to tell, or far from the stream
             }
             return;
         }
-        receiver.record(number); // with SRTP once it is authentic
-        self.counts.taken += 1;
+        self.counts.taken += 1; // also the second packet of a sender that has started again
         for party in &mut self.parties {
             let all = party.routes.len() as u64;
-            let sent = party.send(packet, stream, microseconds, &mut send);
+            let sent = party.send((packet, payload), stream, microseconds, &mut send);
             self.counts.sent += sent.unwrap_or(0);
             self.counts.unsent += all - sent.unwrap_or(0);
         }

@@ -3,18 +3,22 @@
 
 use core::arch::global_asm;
 
-#[cfg(not(all(
-    target_os = "linux",
-    target_pointer_width = "64",
-    target_endian = "little",
-    any(target_arch = "x86_64", target_arch = "aarch64"),
+#[cfg(not(any(
+    all(
+        target_os = "linux",
+        target_pointer_width = "64",
+        target_endian = "little",
+        any(target_arch = "x86_64", target_arch = "aarch64"),
+    ),
+    all(target_os = "macos", target_arch = "aarch64"),
+    all(target_os = "windows", target_arch = "x86_64"),
 )))]
 compile_error!(
-    "rtp-wire is for the targets x86_64-unknown-linux-gnu, x86_64-unknown-linux-musl, \
-     aarch64-unknown-linux-gnu and aarch64-unknown-linux-musl"
+    "rtp-wire is for Linux on x86_64 and aarch64 (x86_64-unknown-linux-gnu, aarch64-unknown-linux-musl and the like), \
+     macOS on arm64 (aarch64-apple-darwin) and Windows on x86_64 (x86_64-pc-windows-msvc, x86_64-pc-windows-gnu)"
 );
 
-/// Takes the text of a processor, and defines the name that a function has there: it begins with what no other text's
+/// Takes the text of a system, and defines the name that a function has there: it begins with what no other text's
 /// names do, so that a program may have several versions of this crate.
 macro_rules! text_of {
     ($text:literal, $prefix:literal $(, $option:ident)?) => {
@@ -28,14 +32,25 @@ macro_rules! text_of {
     };
 }
 
-#[cfg(target_arch = "x86_64")]
+#[cfg(all(target_os = "linux", target_arch = "x86_64"))]
 text_of!(
-    "../assembly/rtp_wire-x86_64.s",
-    "../assembly/rtp_wire-x86_64.prefix",
+    "../assembly/rtp_wire-Linux-x86_64.s",
+    "../assembly/rtp_wire-Linux-x86_64.prefix",
     att_syntax
 );
-#[cfg(target_arch = "aarch64")]
+#[cfg(all(target_os = "linux", target_arch = "aarch64"))]
 text_of!(
-    "../assembly/rtp_wire-aarch64.s",
-    "../assembly/rtp_wire-aarch64.prefix"
+    "../assembly/rtp_wire-Linux-aarch64.s",
+    "../assembly/rtp_wire-Linux-aarch64.prefix"
+);
+#[cfg(all(target_os = "macos", target_arch = "aarch64"))]
+text_of!(
+    "../assembly/rtp_wire-Darwin-arm64.s",
+    "../assembly/rtp_wire-Darwin-arm64.prefix"
+);
+#[cfg(all(target_os = "windows", target_arch = "x86_64"))]
+text_of!(
+    "../assembly/rtp_wire-Windows-x86_64.s",
+    "../assembly/rtp_wire-Windows-x86_64.prefix",
+    att_syntax
 );

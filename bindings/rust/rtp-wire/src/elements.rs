@@ -4,6 +4,9 @@ use core::ops::Range;
 use crate::error::NotWritten;
 use crate::packet::Form;
 use crate::sys;
+
+/// Where the data of an element lie. [`Elements::places`](crate::Elements::places) tells it of a block, and
+/// [`write_elements`](crate::write_elements) and [`Header::write_with`](crate::Header::write_with) take it.
 pub use crate::views::Place;
 
 /// An element of an extension block (RFC 8285).

@@ -3,7 +3,7 @@ use core::fmt;
 use core::ops::RangeInclusive;
 
 use crate::kind_set::KindSet;
-use crate::sys;
+use crate::sys::{self, text};
 
 /// Why bytes are no RTP packet: the first of these causes that applies, in this order.
 #[derive(Clone, Copy, Debug, PartialEq, Eq, Hash)]
@@ -39,19 +39,59 @@ impl NotAPacket {
 impl fmt::Display for NotAPacket {
     fn fmt(&self, f: &mut fmt::Formatter<'_>) -> fmt::Result {
         f.write_str(match self {
-            NotAPacket::CutFixedPart => "fewer than twelve bytes",
-            NotAPacket::OtherVersion => "another version than 2",
-            NotAPacket::CutSources => "the CSRC list is cut short",
-            NotAPacket::CutBlockHeader => "the header of the extension block is cut short",
-            NotAPacket::CutBlock => "the extension block is cut short",
+            NotAPacket::CutFixedPart => text::CUT_FIXED_PART,
+            NotAPacket::OtherVersion => text::OTHER_VERSION,
+            NotAPacket::CutSources => text::CUT_SOURCES,
+            NotAPacket::CutBlockHeader => text::CUT_BLOCK_HEADER,
+            NotAPacket::CutBlock => text::CUT_BLOCK,
         })
     }
 }
 
 impl Error for NotAPacket {}
 
-/// What is said where the form of a block has to be known.
-const UNKNOWN_FORM: &str = "a header extension of an unknown form";
+/// Why a datagram is no packet of RTP.
+#[derive(Clone, Copy, Debug, PartialEq, Eq, Hash)]
+#[non_exhaustive]
+pub enum NotRtp {
+    /// It is RTCP ([`is_rtcp`](crate::is_rtcp)), however short it is: no fault, but for who answers it.
+    Rtcp,
+    /// The bytes are no packet: [`source`](Error::source) says why.
+    NotAPacket(NotAPacket),
+}
+
+impl NotRtp {
+    pub(crate) fn of_status(status: i32) -> Result<(), NotRtp> {
+        match status {
+            sys::RTCP => Err(NotRtp::Rtcp),
+            other => NotAPacket::of_status(other).map_err(NotRtp::NotAPacket),
+        }
+    }
+}
+
+impl fmt::Display for NotRtp {
+    fn fmt(&self, f: &mut fmt::Formatter<'_>) -> fmt::Result {
+        f.write_str(match self {
+            NotRtp::Rtcp => text::RTCP,
+            NotRtp::NotAPacket(_) => "no RTP packet",
+        })
+    }
+}
+
+impl Error for NotRtp {
+    fn source(&self) -> Option<&(dyn Error + 'static)> {
+        match self {
+            NotRtp::Rtcp => None,
+            NotRtp::NotAPacket(cause) => Some(cause),
+        }
+    }
+}
+
+impl From<NotAPacket> for NotRtp {
+    fn from(cause: NotAPacket) -> NotRtp {
+        NotRtp::NotAPacket(cause)
+    }
+}
 
 /// Why a header wasn't read.
 #[derive(Clone, Copy, Debug, PartialEq, Eq, Hash)]
@@ -77,7 +117,7 @@ impl fmt::Display for NotAHeader {
     fn fmt(&self, f: &mut fmt::Formatter<'_>) -> fmt::Result {
         match self {
             NotAHeader::NotAPacket(_) => f.write_str("no RTP packet"),
-            NotAHeader::UnknownForm => f.write_str(UNKNOWN_FORM),
+            NotAHeader::UnknownForm => f.write_str(text::UNKNOWN_FORM),
         }
     }
 }
@@ -106,6 +146,8 @@ pub enum NotRead {
     /// No header was read: the block's form is neither 0xBEDE nor 0x1000 to 0x100F, as with
     /// [`NotAHeader::UnknownForm`].
     UnknownForm,
+    /// It is RTCP, as with [`NotRtp::Rtcp`]: of [`read_packets`](crate::read_packets) alone.
+    Rtcp,
     /// The datagram doesn't lie within the buffer.
     OutsideOfTheBuffer,
 }
@@ -116,6 +158,7 @@ impl NotRead {
         match status {
             sys::OK => Ok(()),
             sys::UNKNOWN_FORM => Err(NotRead::UnknownForm),
+            sys::RTCP => Err(NotRead::Rtcp),
             sys::BAD_FIELD => Err(NotRead::OutsideOfTheBuffer),
             other => NotAPacket::of_status(other).map_err(NotRead::NotAPacket),
         }
@@ -126,7 +169,8 @@ impl fmt::Display for NotRead {
     fn fmt(&self, f: &mut fmt::Formatter<'_>) -> fmt::Result {
         f.write_str(match self {
             NotRead::NotAPacket(_) => "no RTP packet",
-            NotRead::UnknownForm => UNKNOWN_FORM,
+            NotRead::UnknownForm => text::UNKNOWN_FORM,
+            NotRead::Rtcp => text::RTCP,
             NotRead::OutsideOfTheBuffer => "the datagram doesn't lie within the buffer",
         })
     }
@@ -154,7 +198,7 @@ pub enum NotTaken {
 impl fmt::Display for NotTaken {
     fn fmt(&self, f: &mut fmt::Formatter<'_>) -> fmt::Result {
         f.write_str(match self {
-            NotTaken::Refused => "a replay, or too old to tell",
+            NotTaken::Refused => text::REFUSED,
             NotTaken::NoReceiver => "no such receiver",
         })
     }
@@ -189,9 +233,9 @@ impl NotWritten {
 impl fmt::Display for NotWritten {
     fn fmt(&self, f: &mut fmt::Formatter<'_>) -> fmt::Result {
         match self {
-            NotWritten::BadField => f.write_str("an argument is out of its range"),
+            NotWritten::BadField => f.write_str(text::BAD_FIELD),
             NotWritten::OutOfRange(field) => field.fmt(f),
-            NotWritten::ShortBuffer => f.write_str("a buffer is too short"),
+            NotWritten::ShortBuffer => f.write_str(text::SHORT_BUFFER),
             NotWritten::LeftOut(kinds) => write!(f, "values that no element carries: {kinds:?}"),
         }
     }
@@ -322,14 +366,14 @@ impl NotPut {
 impl fmt::Display for NotPut {
     fn fmt(&self, f: &mut fmt::Formatter<'_>) -> fmt::Result {
         f.write_str(match self {
-            NotPut::BadField => "an argument is out of its range",
-            NotPut::BadId => "the id 0, which no element has",
-            NotPut::LongId => "an id above 14, which the one-byte form can't carry",
-            NotPut::FormNotAllowed => "a form of the extension block that isn't allowed",
-            NotPut::LongBlock => "an extension block of more than 65,535 words",
+            NotPut::BadField => text::BAD_FIELD,
+            NotPut::BadId => text::BAD_ID,
+            NotPut::LongId => text::LONG_ID,
+            NotPut::FormNotAllowed => text::FORM_NOT_ALLOWED,
+            NotPut::LongBlock => text::LONG_BLOCK,
             NotPut::NotAPacket(_) => "no RTP packet",
-            NotPut::OtherForm => UNKNOWN_FORM,
-            NotPut::ShortBuffer => "a buffer is too short",
+            NotPut::OtherForm => text::UNKNOWN_FORM,
+            NotPut::ShortBuffer => text::SHORT_BUFFER,
         })
     }
 }
@@ -349,7 +393,8 @@ impl From<NotAPacket> for NotPut {
     }
 }
 
-/// Why no header was made for the receivers of a packet ([`HeaderTemplate::new`](crate::HeaderTemplate::new)).
+/// Why no header was made for the receivers of a packet ([`HeaderTemplate::new`](crate::HeaderTemplate::new)), or what
+/// they have in common was not prepared ([`PreparedGroup::new`](crate::PreparedGroup::new)).
 #[derive(Clone, Copy, Debug, PartialEq, Eq, Hash)]
 #[non_exhaustive]
 pub enum NotRouted {
@@ -371,7 +416,7 @@ impl fmt::Display for NotRouted {
         f.write_str(match self {
             NotRouted::ManyElements => "more than 16 elements",
             NotRouted::RepeatedId => "two elements of one id",
-            NotRouted::LongId => "an id above 14, which the one-byte form can't carry",
+            NotRouted::LongId => text::LONG_ID,
             NotRouted::NotPut(_) => "an element can't be put, or there is no room",
         })
     }
@@ -458,7 +503,7 @@ impl fmt::Display for NotRetransmitted {
             NotRetransmitted::BadPadding => "the padding is longer than the payload",
             NotRetransmitted::NoNumber => "the payload has no original sequence number",
             NotRetransmitted::BadNewId => "the block's form can't carry a new id",
-            NotRetransmitted::ShortBuffer => "a buffer is too short",
+            NotRetransmitted::ShortBuffer => text::SHORT_BUFFER,
         })
     }
 }

@@ -1,5 +1,11 @@
 use crate::error::TooManyLayers;
-pub use crate::views::{Layer, Layers, Stream};
+
+/// A spatial layer of a [`Stream`].
+pub use crate::views::Layer;
+/// Which simulcast streams and layers a sender of video keeps active (`video-layers-allocation00`).
+pub use crate::views::Layers;
+/// A simulcast stream of a [`Layers`].
+pub use crate::views::Stream;
 
 /// The resolution and the frame rate of a [`Layer`].
 #[derive(Clone, Copy, Debug, PartialEq, Eq, Hash)]

@@ -8,7 +8,17 @@ use crate::map::Map;
 use crate::packet::Packet;
 use crate::receiver::Receiver;
 use crate::sys;
-pub use crate::views::{ArrivalSlot, HeaderSlot, PacketSlot};
+
+/// A sequence number for one of several receivers, for [`receive_many`](crate::receive_many), and then what became
+/// of it. 24 bytes.
+pub use crate::views::ArrivalSlot;
+/// As [`PacketSlot`], for [`parse_headers`](crate::parse_headers). 248 bytes.
+pub use crate::views::HeaderSlot;
+/// Room for one of several datagrams that lie in a buffer, for [`parse_packets`](crate::parse_packets): where it lies,
+/// and what is read of it. Keep some in an array or a `Vec`, and use them again. 88 bytes.
+pub use crate::views::PacketSlot;
+/// As [`PacketSlot`], for [`read_packets`](crate::read_packets). 280 bytes.
+pub use crate::views::WholeSlot;
 
 /// Reads many datagrams that lie in one buffer, as after `recvmmsg`, each as [`Packet::parse`] reads it: one that is no
 /// packet spoils no other. The slots say where each lies; they may overlap.
@@ -35,6 +45,33 @@ pub fn parse_packets<'s, 'a>(
     slots: &'s mut [PacketSlot],
 ) -> Datagrams<'s, 'a, PacketSlot> {
     sys::packet_parse_many(buf, slots);
+    let slots = slots.iter();
+    Datagrams { buf, slots }
+}
+
+/// Reads many datagrams as [`parse_packets`] does, each as [`Packet::read`] reads it under the map: the packet, and its
+/// header with the values of its block.
+///
+/// ```
+/// use rtp_wire::{read_packets, Map, NotRead, WholeSlot};
+///
+/// let buf = *b"\xB0\x60\0\x05\0\0\0\xA0\0\0\0\x07\xBE\xDE\0\x01\x10\x8A\0\0hi\0\x02\x80\xC9\0\x01\0\0\0\x07";
+/// let mut slots = [WholeSlot::default(); 32]; // used again for each buffer
+/// slots[0].set_place(0, 24); // with two bytes of padding
+/// slots[1].set_place(24, 8); // a receiver report
+/// let map = Map::standard(); // 1 is the audio level
+/// let mut datagrams = read_packets(&buf, &map, &mut slots[..2]);
+/// let (packet, header) = datagrams.next().expect("the first of two").packet()?;
+/// assert_eq!((header.values.audio_level, packet.unpadded_payload()), (Some(-10), Some(&b"hi"[..])));
+/// assert_eq!(datagrams.next().expect("the second").packet(), Err(NotRead::Rtcp));
+/// # Ok::<(), NotRead>(())
+/// ```
+pub fn read_packets<'s, 'a>(
+    buf: &'a [u8],
+    map: &Map,
+    slots: &'s mut [WholeSlot],
+) -> Datagrams<'s, 'a, WholeSlot> {
+    sys::read_many(buf, &map.kinds, slots);
     let slots = slots.iter();
     Datagrams { buf, slots }
 }
@@ -82,7 +119,7 @@ pub fn receive_many(receivers: &mut [Receiver], arrivals: &mut [ArrivalSlot]) {
     sys::receive_many(receivers, arrivals);
 }
 
-/// The datagrams that [`parse_packets`] or [`parse_headers`] read, in the order of their slots.
+/// The datagrams that [`read_packets`], [`parse_packets`] or [`parse_headers`] read, in the order of their slots.
 #[derive(Clone)]
 pub struct Datagrams<'s, 'a, Slot> {
     buf: &'a [u8],
@@ -169,6 +206,28 @@ impl<'a> Datagram<'_, 'a, PacketSlot> {
     }
 }
 
+impl<'a> Datagram<'_, 'a, WholeSlot> {
+    /// All of its bytes; `None` where it doesn't lie within the buffer.
+    #[must_use]
+    #[inline]
+    pub fn bytes(&self) -> Option<&'a [u8]> {
+        bytes_at(self.buf, self.slot.at, self.slot.len)
+    }
+
+    /// The packet that it is, and its header with the values of its block.
+    ///
+    /// # Errors
+    ///
+    /// [`NotRead::Rtcp`], the first cause for which it is no packet, or [`NotRead::OutsideOfTheBuffer`].
+    #[inline]
+    pub fn packet(&self) -> Result<(Packet<'a>, Header), NotRead> {
+        NotRead::of_status(self.slot.status)?;
+        let bytes = self.bytes().ok_or(NotRead::OutsideOfTheBuffer)?;
+        let whole = &self.slot.packet;
+        Ok((Packet::of_whole(bytes, whole), Header::of(&whole.header)))
+    }
+}
+
 impl<'a> Datagram<'_, 'a, HeaderSlot> {
     /// All of its bytes; `None` where it doesn't lie within the buffer.
     #[must_use]
@@ -224,6 +283,22 @@ impl PacketSlot {
     #[must_use]
     pub fn new(at: usize, len: usize) -> PacketSlot {
         let mut slot = PacketSlot::default();
+        slot.set_place(at, len);
+        slot
+    }
+
+    /// Uses the slot for the datagram of so many bytes that begins there in the buffer.
+    #[inline]
+    pub fn set_place(&mut self, at: usize, len: usize) {
+        (self.at, self.len) = (at, len);
+    }
+}
+
+impl WholeSlot {
+    /// A slot for the datagram of so many bytes that begins there in the buffer.
+    #[must_use]
+    pub fn new(at: usize, len: usize) -> WholeSlot {
+        let mut slot = WholeSlot::default();
         slot.set_place(at, len);
         slot
     }

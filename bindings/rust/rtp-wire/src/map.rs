@@ -192,7 +192,8 @@ impl Kind {
 }
 
 /// Which extension each id means, as the two peers agreed (RFC 8285, 5): made of the lines of an SDP by
-/// [`OwnUris::map`](crate::OwnUris::map), or by hand. It may be a `const` or a `static`.
+/// [`OwnUris::map`](crate::OwnUris::map), or by hand. It may be a `const` or a `static`. Two that mean the same are equal,
+/// unless two [`OwnUris`](crate::OwnUris) gave the numbers of their URIs, or one did and the other's were chosen by hand.
 ///
 /// ```
 /// use rtp_wire::{Kind, Map, OwnUris};
@@ -205,6 +206,8 @@ impl Kind {
 #[derive(Clone, Copy, PartialEq, Eq, Hash)]
 pub struct Map {
     pub(crate) kinds: StoredMap,
+    /// That of the `OwnUris` that gave kinds of the caller's own, and else 0.
+    pub(crate) table: u64,
 }
 
 impl Map {
@@ -213,6 +216,7 @@ impl Map {
     pub const fn new() -> Map {
         Map {
             kinds: StoredMap { kind: [0; 256] },
+            table: 0,
         }
     }
 
@@ -287,6 +291,16 @@ impl Map {
     #[must_use]
     pub fn id_of(&self, kind: Kind) -> Option<u8> {
         Some(sys::id_of(&self.kinds, kind.number())).filter(|id| *id != 0)
+    }
+
+    /// The map in which no id means a kind of the caller's own.
+    pub(crate) fn without_own(&self) -> Map {
+        let mut known = Map::new();
+        known.kinds.kind = self.kinds.kind.map(|number| match Kind::own(number) {
+            Some(_) => 0,
+            None => number,
+        });
+        known
     }
 
     /// The ids that mean something, by rising id, and what each of them means.

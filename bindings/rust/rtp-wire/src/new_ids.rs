@@ -30,11 +30,16 @@ impl NewIds {
     }
 
     /// For each id that means a kind in `from`, one of the caller's own too, the lowest id that means it in
-    /// `to`.
+    /// `to`. Kinds of the caller's own that two [`OwnUris`](crate::OwnUris) gave are no common ones: of such maps their ids
+    /// have no new one.
     #[must_use]
     pub fn between(from: &Map, to: &Map) -> NewIds {
         let mut new = NewIds::new();
-        sys::new_ids_between(&from.kinds, &to.kinds, &mut new.ids);
+        if from.table != 0 && to.table != 0 && from.table != to.table {
+            sys::new_ids_between(&from.without_own().kinds, &to.kinds, &mut new.ids);
+        } else {
+            sys::new_ids_between(&from.kinds, &to.kinds, &mut new.ids);
+        }
         new
     }
 

@@ -1,5 +1,6 @@
 use core::error::Error;
 use core::fmt;
+use core::sync::atomic::{AtomicU64, Ordering};
 
 use crate::error::BadId;
 use crate::map::{Kind, Map};
@@ -8,11 +9,14 @@ use crate::sys;
 /// How many numbers of the caller's own there are.
 const NUMBERS: usize = 256 - sys::KIND_OWN as usize;
 
+/// How many tables have made maps.
+static TABLES: AtomicU64 = AtomicU64::new(0);
+
 /// The maps of the peers of one call, made of the lines `a=extmap:ID URI` of their SDPs (RFC 8285, 5). A URI that names
 /// no [`Kind`] of this library gets a number of its own, from [`Kind::own`]`(128)` on, and in the map of each peer the
 /// same: so [`NewIds::between`](crate::NewIds::between) two of these maps carries all that both peers agreed on, and a
-/// forwarder passes on what it doesn't know itself. Maps of two `OwnUris` don't go together: one number may be that of two
-/// URIs.
+/// forwarder passes on what it doesn't know itself. So the maps of a call are made by one `OwnUris`: between those of two,
+/// where one number may be that of two URIs, the elements of known kinds alone go on. A clone is another one.
 ///
 /// ```
 /// use rtp_wire::{Kind, NewIds, OwnUris};
@@ -41,10 +45,12 @@ const NUMBERS: usize = 256 - sys::KIND_OWN as usize;
 /// assert_eq!((map.id_of(kind), uri), (Some(7), "urn:example:weather"));
 /// # Ok::<(), Box<dyn std::error::Error>>(())
 /// ```
-#[derive(Clone, Debug, PartialEq, Eq)]
+#[derive(Debug)]
 pub struct OwnUris<S> {
     /// By number, without gaps.
     uris: [Option<S>; NUMBERS],
+    /// What its maps are told from those of others by; 0 before the first one.
+    table: u64,
 }
 
 impl<'a> OwnUris<&'a str> {
@@ -53,6 +59,7 @@ impl<'a> OwnUris<&'a str> {
     pub const fn new() -> OwnUris<&'a str> {
         OwnUris {
             uris: [None; NUMBERS],
+            table: 0,
         }
     }
 }
@@ -61,9 +68,28 @@ impl<S> Default for OwnUris<S> {
     fn default() -> OwnUris<S> {
         OwnUris {
             uris: [const { None }; NUMBERS],
+            table: 0,
         }
     }
 }
+
+impl<S: Clone> Clone for OwnUris<S> {
+    fn clone(&self) -> OwnUris<S> {
+        OwnUris {
+            uris: self.uris.clone(),
+            table: 0, // the URIs that come may be others
+        }
+    }
+}
+
+/// They are equal where the same URIs have the same numbers.
+impl<S: PartialEq> PartialEq for OwnUris<S> {
+    fn eq(&self, other: &OwnUris<S>) -> bool {
+        self.uris == other.uris
+    }
+}
+
+impl<S: Eq> Eq for OwnUris<S> {}
 
 impl<S: AsRef<str>> OwnUris<S> {
     /// The kind of this URI: the library's own or, as in the maps that were made here, one by a number of the caller's;
@@ -120,7 +146,18 @@ impl<S: AsRef<str>> OwnUris<S> {
             let kind = self.kind_of(uri).ok_or(NotMapped::TooManyUris { id })?;
             map.set(id, Some(kind))?;
         }
+        if map.iter().any(|(_, kind)| matches!(kind, Kind::Own(_))) {
+            map.table = self.table();
+        }
         Ok(map)
+    }
+
+    /// What its maps are told from those of others by.
+    fn table(&mut self) -> u64 {
+        if self.table == 0 {
+            self.table = 1 + TABLES.fetch_add(1, Ordering::Relaxed);
+        }
+        self.table
     }
 
     /// The URIs that this library doesn't know, in the order in which they came, and the kind that each has got. Of those

@@ -2,10 +2,12 @@ use core::fmt;
 use core::iter::FusedIterator;
 
 use crate::elements::Elements;
-use crate::error::NotAPacket;
+use crate::error::{NotAPacket, NotRtp};
+use crate::header::Header;
+use crate::map::Map;
 use crate::standard::parse_token;
 use crate::sys;
-use crate::views::PacketParts;
+use crate::views::{PacketParts, WholePacket};
 
 /// The form of an extension block (RFC 8285, 4.2 and 4.3).
 #[derive(Clone, Copy, Debug, PartialEq, Eq, Hash)]
@@ -33,6 +35,35 @@ pub struct Packet<'a> {
 }
 
 impl<'a> Packet<'a> {
+    /// Reads a packet of RTP, and its header with the values of its block under the map: in one call what
+    /// [`is_rtcp`], [`parse`](Packet::parse) and [`Header::parse`] tell. A block of another form gives no values.
+    ///
+    /// ```
+    /// use rtp_wire::{Map, NotRtp, Packet};
+    ///
+    /// let map = Map::standard(); // 1 is the audio level
+    /// let datagram = b"\xB0\x60\0\x05\0\0\0\xA0\0\0\0\x07\xBE\xDE\0\x01\x10\x8A\0\0hi\0\x02";
+    /// let (packet, header) = Packet::read(datagram, &map)?;
+    /// assert_eq!((header.ssrc, header.values.audio_level), (7, Some(-10)));
+    /// assert_eq!(packet.unpadded_payload(), Some(&b"hi"[..])); // two bytes of padding are behind it
+    /// let report = [0x80, 201, 0, 1, 0, 0, 0, 7];
+    /// assert_eq!(Packet::read(&report, &map), Err(NotRtp::Rtcp));
+    /// # Ok::<(), NotRtp>(())
+    /// ```
+    ///
+    /// # Errors
+    ///
+    /// [`NotRtp::Rtcp`], before all else, of RTCP, however short it is; else the first cause for which the datagram is
+    /// no packet.
+    pub fn read(datagram: &'a [u8], map: &Map) -> Result<(Packet<'a>, Header), NotRtp> {
+        let mut whole = WholePacket::default();
+        NotRtp::of_status(sys::read(datagram, &map.kinds, &mut whole))?;
+        Ok((
+            Packet::of_whole(datagram, &whole),
+            Header::of(&whole.header),
+        ))
+    }
+
     /// Reads the header of the packet that the datagram is. On a port that RTP and RTCP share
     /// [`is_rtcp`] comes first.
     ///
@@ -48,6 +79,30 @@ impl<'a> Packet<'a> {
     /// The packet that was read of the datagram.
     #[inline]
     pub(crate) fn of(datagram: &'a [u8], parts: PacketParts) -> Packet<'a> {
+        Packet { datagram, parts }
+    }
+
+    /// The same of one that was read with its values.
+    #[inline]
+    pub(crate) fn of_whole(datagram: &'a [u8], whole: &WholePacket) -> Packet<'a> {
+        let header = &whole.header;
+        let parts = PacketParts {
+            payload_at: header.header_len,
+            payload_len: datagram.len() - header.header_len,
+            unpadded_len: whole.unpadded_len,
+            body_at: whole.body_at,
+            body_len: whole.body_len,
+            timestamp: header.timestamp,
+            ssrc: header.ssrc,
+            sequence_number: header.sequence_number,
+            payload_type: header.payload_type,
+            csrc_count: header.csrc_count,
+            marker: header.marker,
+            has_padding: header.has_padding,
+            padding_fits: whole.padding_fits,
+            block_form: whole.block_form,
+            block_profile: whole.block_profile,
+        };
         Packet { datagram, parts }
     }
 

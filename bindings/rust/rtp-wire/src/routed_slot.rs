@@ -3,6 +3,9 @@ use core::ops::Range;
 use crate::error::NotWritten;
 use crate::packet_mut::Fields;
 use crate::sys;
+
+/// One of the receivers of a group, for [`HeaderTemplate::write_headers`](crate::HeaderTemplate::write_headers): what
+/// it gets of its own, and then what became of it. Keep some in an array or a `Vec`, and use them again. 48 bytes.
 pub use crate::views::RoutedSlot;
 
 impl RoutedSlot {

@@ -37,8 +37,7 @@ mod timing;
 mod token;
 mod transport_number;
 
-pub use crate::views::{Chromaticity, HdrMetadata};
-pub use color_space::{ChromaSiting, ColorRange, ColorSpace};
+pub use color_space::{ChromaSiting, Chromaticity, ColorRange, ColorSpace, HdrMetadata};
 pub use dependency_descriptor::{has_dependency_structure, DependencyDescriptor};
 pub use frame_marking::{FrameLayers, FrameMarking};
 pub use numbers::{

@@ -2,42 +2,13 @@ use core::fmt;
 use core::iter::FusedIterator;
 use core::slice;
 
-use crate::elements::Place;
-use crate::error::{NotPut, NotRouted, NotWritten};
+use crate::error::{NotRouted, NotWritten};
+use crate::group::{Group, PreparedGroup};
 use crate::growing::number_of;
-use crate::new_ids::NewIds;
-use crate::packet::{Form, Packet};
+use crate::packet::Packet;
 use crate::packet_mut::Fields;
 use crate::sys;
 use crate::views::{RoutedSlot, TemplateParts};
-
-/// What some receivers of a packet have in common.
-///
-/// ```
-/// use rtp_wire::{Form, Group, Kind, Map, NewIds, Place};
-///
-/// const SENDER: Map = Map::new().with(1, Kind::AudioLevel);
-/// const RECEIVER: Map = Map::new().with(3, Kind::AudioLevel).with(4, Kind::Mid).with(5, Kind::TransportNumber);
-/// let group = Group {
-///     ids: &NewIds::between(&SENDER, &RECEIVER),
-///     data: b"a\0\x07", // of one of the receivers: its mid, and then its transport number
-///     elements: &[Place::new(4, 0..1), Place::new(5, 1..3)],
-///     allowed: Some(Form::OneByte), // they haven't agreed to both forms
-/// };
-/// # let _ = group;
-/// ```
-#[derive(Clone, Copy, Debug)]
-pub struct Group<'a> {
-    /// The ids that the packet's elements get; one that gets none goes.
-    pub ids: &'a NewIds,
-    /// What the data of the elements are bytes of.
-    pub data: &'a [u8],
-    /// The elements that are then put into the header, in this order, each by its place in `data`: at most 16, of ids
-    /// of their own, as [`put_element`](crate::put_element) takes them.
-    pub elements: &'a [Place],
-    /// The form that alone the block may get, or both. One that gets no element, and no id above 14, keeps its form.
-    pub allowed: Option<Form>,
-}
 
 /// A packet's header for a group of receivers, each of which gets a copy with fields and data of its own before the one
 /// payload, which stays where it lies (`writev`; RFC 7667, 3.7). It is what
@@ -129,12 +100,50 @@ impl<'a> HeaderTemplate<'a> {
             buf,
             &mut parts,
         );
-        group.check(status)?;
-        let header = &buf[..parts.header_len as usize];
-        Ok(HeaderTemplate { header, parts })
+        NotRouted::check(status, group.elements)?;
+        Ok(HeaderTemplate::of(parts, buf))
     }
 
-    /// The header that was made, with the packet's fields and the group's data.
+    /// Makes the header that the packet gets for a group that was prepared, in the same way, with zeros for the data of
+    /// the group's elements: each receiver brings its own.
+    ///
+    /// # Errors
+    ///
+    /// Those of [`new`](HeaderTemplate::new) that the packet and the buffer are the cause of.
+    ///
+    /// ```
+    /// use rtp_wire::{Fields, HeaderTemplate, NewIds, Packet, Place, PreparedGroup};
+    ///
+    /// let group = PreparedGroup::new(&NewIds::new().with(1, 3), &[Place::new(4, 0..2)], None)?; // once
+    ///
+    /// let packet = [0x90, 96, 0, 5, 0, 0, 0, 100, 0, 0, 0, 44, 0xBE, 0xDE, 0, 1, 0x10, 0xAA, 0, 0];
+    /// let mut room = [0; 304];
+    /// let template = HeaderTemplate::from_group(&Packet::parse(&packet)?, &group, &mut room)?; // for each packet
+    /// let mut header = [0; 24];
+    /// let fields = Fields { ssrc: Some(46), ..Fields::default() };
+    /// assert_eq!(template.write_header(&fields, &[0, 8], &mut header), Ok(24));
+    /// assert_eq!(header[..12], [0x90, 96, 0, 5, 0, 0, 0, 100, 0, 0, 0, 46]);
+    /// assert_eq!(header[12..], [0xBE, 0xDE, 0, 2, 0x30, 0xAA, 0x41, 0, 8, 0, 0, 0]);
+    /// # Ok::<(), Box<dyn std::error::Error>>(())
+    /// ```
+    pub fn from_group(
+        packet: &Packet<'_>,
+        group: &PreparedGroup,
+        buf: &'a mut [u8],
+    ) -> Result<HeaderTemplate<'a>, NotRouted> {
+        let mut parts = TemplateParts::default();
+        let status = sys::make_from_group(&group.stored, packet.datagram(), buf, &mut parts);
+        NotRouted::check(status, &[])?;
+        Ok(HeaderTemplate::of(parts, buf))
+    }
+
+    /// What was made, at the front of the buffer.
+    fn of(parts: TemplateParts, buf: &'a [u8]) -> HeaderTemplate<'a> {
+        let header = &buf[..parts.header_len as usize];
+        HeaderTemplate { header, parts }
+    }
+
+    /// The header that was made, with the packet's fields and the group's data, or zeros where it was prepared.
     #[must_use]
     pub fn header(&self) -> &'a [u8] {
         self.header
@@ -269,30 +278,6 @@ impl fmt::Debug for HeaderTemplate<'_> {
             .field("header", &self.header)
             .field("data_len", &self.data_len())
             .finish_non_exhaustive()
-    }
-}
-
-impl Group<'_> {
-    /// What the status says where a header is made for the group.
-    fn check(&self, status: i32) -> Result<(), NotRouted> {
-        match NotPut::of_status(status) {
-            Err(NotPut::BadField) => Err(self.bad_field()),
-            Err(NotPut::LongId) => Err(NotRouted::LongId),
-            other => other.map_err(NotRouted::NotPut),
-        }
-    }
-
-    /// Which of the causes it is that the library doesn't tell apart.
-    fn bad_field(&self) -> NotRouted {
-        let elements = self.elements;
-        let is_repeated = |at: usize| elements[..at].iter().any(|it| it.id == elements[at].id);
-        if elements.len() > HeaderTemplate::MAX_ELEMENTS {
-            NotRouted::ManyElements
-        } else if (0..elements.len()).any(is_repeated) {
-            NotRouted::RepeatedId
-        } else {
-            NotRouted::NotPut(NotPut::BadField)
-        }
     }
 }
 

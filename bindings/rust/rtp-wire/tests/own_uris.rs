@@ -14,6 +14,11 @@ fn own(number: u8) -> Kind {
     Kind::own(number).unwrap()
 }
 
+/// What the ids of a map mean.
+fn entries(map: &Map) -> Vec<(u8, Kind)> {
+    map.iter().collect()
+}
+
 /// So many URIs that aren't known.
 fn many(count: usize) -> Vec<String> {
     (0..count).map(|n| format!("urn:example:{n}")).collect()
@@ -59,15 +64,17 @@ fn each_uri_has_one_kind() {
         .with(3, own(129))
         .with(4, own(128))
         .with(255, Kind::Mid);
-    for _ in 0..2 {
-        assert_eq!(uris.map(lines), Ok(due));
-    }
-    let later = uris.map([(9, "urn:z"), (8, "urn:y"), (8, "urn:x"), (7, "")]);
+    let first = uris.map(lines).unwrap();
+    assert_eq!(entries(&first), entries(&due));
+    assert_eq!(uris.map(lines), Ok(first));
+    let later = uris
+        .map([(9, "urn:z"), (8, "urn:y"), (8, "urn:x"), (7, "")])
+        .unwrap();
     let due = Map::new()
         .with(7, own(131))
         .with(8, own(128)) // the later line counts
         .with(9, own(130));
-    assert_eq!(later, Ok(due));
+    assert_eq!(entries(&later), entries(&due));
     assert_eq!(uris.kind_of("urn:y"), Some(own(129)));
     assert_eq!(uris.kind_of(MID), Some(Kind::Mid));
     let unknown = [
@@ -79,8 +86,8 @@ fn each_uri_has_one_kind() {
     assert!(uris.unknown().eq(unknown));
     assert_eq!(uris.clone(), uris);
     // letter for letter
-    let cases = OwnUris::new().map([(1, "urn:x"), (2, "urn:X")]);
-    assert_eq!(cases, Ok(Map::new().with(1, own(128)).with(2, own(129))));
+    let cases = OwnUris::new().map([(1, "urn:x"), (2, "urn:X")]).unwrap();
+    assert_eq!(entries(&cases), [(1, own(128)), (2, own(129))]);
     // a typo, and another case, are told
     let mut uris = OwnUris::new();
     let typos = [
@@ -114,8 +121,39 @@ fn at_most_128_are_not_known() {
         .with(2, own(128))
         .with(3, Kind::AudioLevel);
     let lines = [(1, &names[127][..]), (2, &names[0]), (3, LEVEL)];
-    assert_eq!(uris.map(lines), Ok(due));
+    assert_eq!(entries(&uris.map(lines).unwrap()), entries(&due));
     assert_eq!(uris.unknown().count(), 128);
+}
+
+#[test]
+fn numbers_of_two_tables_are_no_common_ones() {
+    let (mut one, mut other) = (OwnUris::new(), OwnUris::new());
+    let from = one.map([(1, "urn:a"), (2, MID), (3, "urn:b")]).unwrap();
+    let to = other.map([(4, "urn:b"), (5, MID)]).unwrap();
+    // urn:a of the one has the number of urn:b of the other
+    assert_eq!((from.get(1), to.get(4)), (Some(own(128)), Some(own(128))));
+    let new = |from: &Map, to: &Map| [1, 2, 3, 4].map(|id| NewIds::between(from, to).get(id));
+    assert_eq!(new(&from, &to), [None, Some(5), None, None]);
+    assert_eq!(new(&to, &from), [None; 4]);
+    assert_eq!(new(&from, &from), [Some(1), Some(2), Some(3), None]);
+    let mut moved = other;
+    let again = moved.map([(7, "urn:b")]).unwrap();
+    assert_eq!(new(&to, &again), [None, None, None, Some(7)]);
+    // a clone is another table, and what is known is every table's
+    let copied = one.clone().map([(6, "urn:a"), (9, MID)]).unwrap();
+    assert_eq!(new(&from, &copied), [None, Some(9), None, None]);
+    assert_eq!(one.map([(1, MID)]), Ok(Map::new().with(1, Kind::Mid)));
+    let known = OwnUris::new().map([(6, MID), (7, LEVEL)]).unwrap();
+    assert_eq!(new(&from, &known), [None, Some(6), None, None]);
+    // numbers that were chosen by hand are those of any
+    let by_hand = Map::new().with(8, own(128));
+    assert_eq!(new(&from, &by_hand), [Some(8), None, None, None]);
+    assert_eq!(new(&to, &by_hand), [None, None, None, Some(8)]);
+    // so two maps of one number are equal where it is that of one table
+    let lines = [(4, "urn:a")];
+    assert_eq!(one.map(lines), one.map(lines));
+    assert_ne!(one.map(lines), OwnUris::new().map(lines));
+    assert_ne!(one.map(lines), Ok(Map::new().with(4, own(128))));
 }
 
 #[test]

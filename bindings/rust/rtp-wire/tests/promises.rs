@@ -443,11 +443,12 @@ fn each_function_has_its_type() {
 
 #[test]
 fn states_and_tables_are_plain_memory() {
-    // as the documentation says; a map has a byte for each id, and a wide receiver 64 numbers a word
+    // as the documentation says; a map has a byte for each id and the number of a table, and a wide receiver 64 numbers
+    // a word
     assert_eq!((size_of::<Receiver>(), size_of::<NewIds>()), (32, 256));
     assert_eq!(
         (size_of::<Map>(), size_of::<RestartingReceiver>()),
-        (256, 24 + 8 * 16)
+        (256 + 8, 24 + 8 * 16)
     );
     assert_eq!(size_of::<WideReceiver<16>>(), 16 + 8 * 16);
     assert_eq!(

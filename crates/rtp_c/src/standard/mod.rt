@@ -5,7 +5,6 @@ mod color_space;
 mod dependency_descriptor;
 mod frame_marking;
 mod mixer_levels;
-mod nearest;
 mod ntp;
 mod orientation;
 mod putting;

@@ -3,14 +3,13 @@
 ghost use Rattle.std.specs.Prelude.{◌≡◌, ◌≢◌, ◌↔◌, ◌⊎◌, ◌<◌, ◌^◌, length};
 ghost use Rattle.rtp_values.specs.Values.{big_endian};
 ghost use Rattle.rtp_values.specs.Spelling.{bytes_of_number};
+ghost use Rattle.rtp_values.specs.StandardTimes.{IsNearestTime};
 ghost use Rattle.rtp_c.specs.Status.{ok, bad_field, short_buffer};
 ghost use Rattle.rtp_c.specs.StandardData.{StandAtFront};
-ghost use Rattle.rtp_c.specs.StandardTimes.{IsNearestTime};
 
-use super::nearest::nearest;
 use super::putting::put_data;
 use crate::status::{BAD_FIELD, OK};
-use rtp_values::standard::{ntp_56_bytes, ntp_64_bytes, parse_ntp_56, parse_ntp_64};
+use rtp_values::standard::{extend_ntp_56, ntp_56_bytes, ntp_64_bytes, parse_ntp_56, parse_ntp_64};
 
 /// Reads an NTP timestamp of 64 bits (RFC 6051, 3.3). `OK`, or `BAD_FIELD` where there aren't eight
 /// bytes, and then nothing is written.
@@ -78,5 +77,5 @@ pub extern "C" fn rtpw_write_ntp_56(time: u64, buf: &mut [u8], len: &mut usize) 
 pub extern "C" fn rtpw_extend_ntp_56(near: u64, low: u64) -> u64
     ensures { IsNearestTime (2 ^ 56) near low result }
 {
-    nearest(near, low, 1 << 56)
+    extend_ntp_56(near, low)
 }

@@ -1,17 +1,15 @@
 //! The absolute send time, as it lies: 24 bits, in units of 2^-18 seconds.
 
 ghost use Rattle.std.specs.Prelude.{◌≡◌, ◌≢◌, ◌↔◌, ◌⊎◌, ◌*◌, ◌^◌, length};
+ghost use Rattle.rtp_values.specs.StandardTimes.{IsNearestTime};
 ghost use Rattle.rtp_values.specs.Values.{big_endian};
 ghost use Rattle.rtp_c.specs.Status.{ok, bad_field, short_buffer};
 ghost use Rattle.rtp_c.specs.StandardData.{AreWritten, AreTooLong, AreNone};
-ghost use Rattle.rtp_c.specs.StandardTimes.{AreSendTimeData, IsNearestTime};
+ghost use Rattle.rtp_c.specs.StandardTimes.{AreSendTimeData};
 
-use super::nearest::nearest;
 use super::putting::put_data;
 use crate::status::{BAD_FIELD, OK};
-
-// How many times 24 bits tell apart: 64 seconds of units.
-const ROLLOVER: u32 = 1 << 24;
+use rtp_values::standard::{extend_send_time, parse_send_time, send_time_bytes};
 
 /// Reads an absolute send time, in units of 2^-18 seconds modulo 64 seconds;
 /// [`rtpw_extend_send_time`] finds the whole time. `OK`, or `BAD_FIELD` where there aren't three
@@ -23,10 +21,10 @@ pub extern "C" fn rtpw_read_send_time(bytes: &[u8], units: &mut u32) -> i32
     ensures statuses { (result ≡ ok) ⊎ (result ≡ bad_field) }
     ensures unchanged { result ≢ ok → units.new ≡ units.old }
 {
-    let [a, b, c] = *bytes else {
+    let Some(read) = parse_send_time(bytes) else {
         return BAD_FIELD;
     };
-    *units = u32::from_be_bytes([0, a, b, c]);
+    *units = read;
     OK
 }
 
@@ -42,11 +40,10 @@ pub extern "C" fn rtpw_write_send_time(units: u32, buf: &mut [u8], len: &mut usi
     ensures statuses { (result ≡ ok) ⊎ ((result ≡ short_buffer) ⊎ (result ≡ bad_field)) }
     ensures unchanged { result ≢ ok → (buf.new ≡ buf.old) × (len.new ≡ len.old) }
 {
-    if units >= ROLLOVER {
+    let Some(data) = send_time_bytes(units) else {
         return BAD_FIELD;
-    }
-    let [_, a, b, c] = units.to_be_bytes();
-    put_data(&[a, b, c], buf, len)
+    };
+    put_data(&data, buf, len)
 }
 
 /// The time in units of 2^-32 seconds that ends in the low 24 bits of `units` and 14 zeros, and is
@@ -57,5 +54,5 @@ pub extern "C" fn rtpw_write_send_time(units: u32, buf: &mut [u8], len: &mut usi
 pub extern "C" fn rtpw_extend_send_time(near: u64, units: u32) -> u64
     ensures { IsNearestTime (2 ^ 38) near (units * 2 ^ 14) result }
 {
-    nearest(near, u64::from(units) << 14, 1 << 38)
+    extend_send_time(near, units)
 }

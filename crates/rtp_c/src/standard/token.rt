@@ -1,10 +1,9 @@
 //! The text of a mid or of a stream id, as its bytes are.
 
 ghost use Rattle.std.specs.Prelude.{◌↔◌, IsTrue};
-ghost use Rattle.rtp_values.specs.StandardToken.{IsToken};
-ghost use Rattle.rtp_c.specs.StandardStreamId.{IsStreamId};
+ghost use Rattle.rtp_values.specs.StandardToken.{IsToken, IsStreamId};
 
-use rtp_values::standard::is_token;
+use rtp_values::standard::{is_stream_id, is_token};
 
 /// Whether the data are a token of SDP (RFC 8866, 9) of 1 to 255 characters, as a mid is (RFC 5888,
 /// 4).
@@ -21,5 +20,5 @@ pub extern "C" fn rtpw_is_token(bytes: &[u8]) -> bool
 pub extern "C" fn rtpw_is_stream_id(bytes: &[u8]) -> bool
     ensures { IsTrue result ↔ IsStreamId bytes.now }
 {
-    !bytes.is_empty() && bytes.len() <= 255 && bytes.iter().all(|byte| byte.is_ascii_alphanumeric())
+    is_stream_id(bytes)
 }

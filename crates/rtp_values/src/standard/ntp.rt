@@ -1,11 +1,12 @@
 //! NTP timestamps in header extensions (RFC 6051, 3.3): of 64 bits, and of the low 56.
 
-ghost use Rattle.std.specs.Prelude.{◌≡◌, ℕ, ◌+◌, ◌^◌, ◌%◌, ◌<◌, ◌≤◌, length};
+ghost use Rattle.std.specs.Prelude.{◌≡◌, ◌^◌, ◌%◌, length};
 ghost use Rattle.std.specs.Option.{SomeIff};
 ghost use Rattle.rtp_values.specs.Values.{big_endian};
 ghost use Rattle.rtp_values.specs.Spelling.{bytes_of_number};
-ghost use Rattle.rtp_values.specs.StandardNtp.{apart};
+ghost use Rattle.rtp_values.specs.StandardTimes.{IsNearestTime};
 
+use super::nearest::nearest;
 use crate::value::first_u64;
 
 // How far apart two times with the same low 56 bits are, which is 2^24 seconds or 194 days.
@@ -60,21 +61,7 @@ pub fn ntp_56_bytes(time: u64) -> [u8; 7]
 /// assert_eq!(extend_ntp_56(near, 0x8000_0000), 0x0100_0000_8000_0000);
 /// ```
 pub fn extend_ntp_56(near: u64, low: u64) -> u64
-    ensures ends { result % 2 ^ 56 ≡ low % 2 ^ 56 }
-    ensures near { apart near result ≤ 2 ^ 55 }
-
-    // Where two times are equally near, it is the later one.
-    ensures later { apart near result ≡ 2 ^ 55 → result ≡ (near + 2 ^ 55) % 2 ^ 64 }
-
-    // Any other time with these low bits is as far away, or farther.
-    ensures only { (time : ℕ) → time < 2 ^ 64 → time % 2 ^ 56 ≡ low % 2 ^ 56 → apart near time < 2 ^ 55 →
-        result ≡ time }
+    ensures { IsNearestTime (2 ^ 56) near low result }
 {
-    let ahead = low.wrapping_sub(near) % ROLLOVER;
-    let later = near.wrapping_add(ahead);
-    if ahead <= ROLLOVER / 2 {
-        later
-    } else {
-        later.wrapping_sub(ROLLOVER)
-    }
+    nearest(near, low, ROLLOVER)
 }

@@ -1,9 +1,9 @@
 //! Transport-wide sequence number with a request for feedback (`transport-wide-cc-02`).
 
-ghost use Rattle.std.specs.Prelude.{◌≡◌, ◌⊎◌, ◌≤◌, ◌<◌, length, IfSome, IfNone};
+ghost use Rattle.std.specs.Prelude.{◌≡◌, ◌⊎◌, ◌≤◌, ◌<◌, Some, length, IfSome, IfNone};
 ghost use Rattle.std.specs.Option.{SomeIff, option_map};
 ghost use Rattle.rtp_base.specs.Overwriting.{overwritten};
-ghost use Rattle.rtp_values.specs.StandardTransport.{transport_in, transport_data, request_in};
+ghost use Rattle.rtp_values.specs.StandardTransport.{transport_in, transport_data, request_in, request_bits};
 
 use rtp_base::put;
 
@@ -22,25 +22,43 @@ pub struct TransportNumber {
 pub struct FeedbackRequest {
     /// Whether the feedback is to have the times at which the packets arrived.
     pub timestamps: bool,
-    /// For how many packets the feedback is to be, 1 to 32,767, of which this one is the last.
+    /// For how many packets the feedback is to be, 0 to 32,767, of which this one is the last.
     pub packets: u16,
 }
 
-// The request in a number of 16 bits, which is none where it counts no packets.
-fn request_in(bits: u16) -> Option<FeedbackRequest>
+// The bit of a request that asks for times, above those that count its packets.
+const TIMESTAMPS: u16 = 0x8000;
+
+// The request in a number of 16 bits.
+fn request_in(bits: u16) -> FeedbackRequest
     ensures { result ≡ request_in bits }
 {
-    let packets = bits & 0x7FFF;
-    let timestamps = bits & 0x8000 != 0;
-    (packets != 0).then_some(FeedbackRequest {
-        timestamps,
-        packets,
-    })
+    FeedbackRequest {
+        timestamps: bits >= TIMESTAMPS,
+        packets: bits % TIMESTAMPS,
+    }
+}
+
+impl FeedbackRequest {
+    /// The 16 bits of the request, which stand behind the packet's number, and `None` exactly where
+    /// it is for more than 32,767 packets.
+    pub fn bits(self) -> Option<u16>
+        ensures { SomeIff result (self.packets < 32768) (request_bits self) }
+    {
+        if self.packets >= TIMESTAMPS {
+            return None;
+        }
+        Some(if self.timestamps {
+            TIMESTAMPS + self.packets
+        } else {
+            self.packets
+        })
+    }
 }
 
 impl TransportNumber {
     /// Reads a transport-wide number. `Some` exactly when there are two bytes, or four with a
-    /// request; a request for 0 packets is none.
+    /// request, which may be for 0 packets.
     ///
     /// ```
     /// let read = TransportNumber::parse(b"\x12\x34\x80\x05")?;
@@ -50,13 +68,14 @@ impl TransportNumber {
     /// assert_eq!(request.packets, 5);
     /// ```
     pub fn parse(bytes: &[u8]) -> Option<Self>
-        ensures { SomeIff result ((length bytes.now ≡ 2) ⊎ (length bytes.now ≡ 4)) (transport_in bytes.now) }
+        ensures read { SomeIff result ((length bytes.now ≡ 2) ⊎ (length bytes.now ≡ 4)) (transport_in bytes.now) }
+        ensures back { IfSome result (λ number. transport_data number ≡ Some bytes.now) }
     {
         let (number, request) = match *bytes {
             [a, b] => (u16::from_be_bytes([a, b]), None),
             [a, b, c, d] => (
                 u16::from_be_bytes([a, b]),
-                request_in(u16::from_be_bytes([c, d])),
+                Some(request_in(u16::from_be_bytes([c, d]))),
             ),
             _ => return None,
         };
@@ -64,9 +83,9 @@ impl TransportNumber {
     }
 
     /// Writes the number to the front of the buffer and returns how many bytes it has: two, or four
-    /// with a request. `None` exactly where the request is for 0 packets or for more than 32,767,
-    /// and then nothing is written. The bytes after the data stay as they were. It requires room for
-    /// four bytes.
+    /// with a request. `None` exactly where the request is for more than 32,767 packets, and then
+    /// nothing is written. The bytes after the data stay as they were. It requires room for four
+    /// bytes.
     pub fn write_to(&self, buf: &mut [u8]) -> Option<usize>
         requires room { 4 ≤ length buf.old }
         ensures length { result ≡ option_map length (transport_data self.now) }
@@ -78,11 +97,7 @@ impl TransportNumber {
         let Some(request) = self.request else {
             return Some(put(buf, 0, &[a, b]));
         };
-        if request.packets == 0 || request.packets > 0x7FFF {
-            return None;
-        }
-        let timestamps = if request.timestamps { 0x8000 } else { 0 };
-        let [c, d] = (timestamps + request.packets).to_be_bytes();
+        let [c, d] = request.bits()?.to_be_bytes();
         Some(put(buf, 0, &[a, b, c, d]))
     }
 }

@@ -1,7 +1,39 @@
 use super::{read_of_data, written};
 use crate::error::{NotAValue, NotWritten};
 use crate::sys;
-use crate::views::{ColorSpaceView, HdrMetadata};
+use crate::views::ColorSpaceView;
+
+/// A point of the CIE 1931 chromaticity diagram, in 0.00002.
+#[repr(C)]
+#[derive(Clone, Copy, Debug, Default, PartialEq, Eq, Hash)]
+pub struct Chromaticity {
+    /// From left to right.
+    pub x: u16,
+    /// Upwards.
+    pub y: u16,
+}
+
+/// The screen on which a video of high dynamic range was made, and its light (SMPTE ST 2086, CTA-861.3).
+#[repr(C)]
+#[derive(Clone, Copy, Debug, Default, PartialEq, Eq, Hash)]
+pub struct HdrMetadata {
+    /// The greatest luminance of the screen, in cd/m^2.
+    pub luminance_max: u16,
+    /// Its least luminance, in 0.0001 cd/m^2.
+    pub luminance_min: u16,
+    /// Its red.
+    pub red: Chromaticity,
+    /// Its green.
+    pub green: Chromaticity,
+    /// Its blue.
+    pub blue: Chromaticity,
+    /// Its white.
+    pub white: Chromaticity,
+    /// The greatest light level of a pixel, in cd/m^2.
+    pub max_content_light_level: u16,
+    /// The greatest mean light level of a frame, in cd/m^2.
+    pub max_frame_average_light_level: u16,
+}
 
 /// Which numbers stand for the colors of a video.
 #[derive(Clone, Copy, Debug, Default, PartialEq, Eq, Hash)]

@@ -1,6 +1,6 @@
 use super::{read_of_data, written};
 use crate::error::{NotAValue, NotWritten, OutOfRange};
-use crate::sys;
+use crate::sys::{self, range};
 use crate::views::DependencyDescriptorView;
 
 /// The fields of a dependency descriptor that each packet has (AV1's RTP payload format, A.8;
@@ -55,7 +55,8 @@ impl DependencyDescriptor {
     /// [`NotWritten::OutOfRange`] where the template is above 63, and else [`NotWritten::ShortBuffer`]; nothing is
     /// written then.
     pub fn write_to(&self, buf: &mut [u8]) -> Result<usize, NotWritten> {
-        OutOfRange::check("template_id", self.template_id.into(), 0..=63)?;
+        let range = range::DEPENDENCY_DESCRIPTOR_TEMPLATE_ID;
+        OutOfRange::check("template_id", self.template_id.into(), range)?;
         let view = DependencyDescriptorView {
             frame_number: self.frame_number,
             start_of_frame: u8::from(self.start_of_frame),

@@ -1,6 +1,6 @@
 use super::{read_of_data, written};
 use crate::error::{NotAValue, NotWritten, OutOfRange};
-use crate::sys;
+use crate::sys::{self, range};
 use crate::views::FrameMarkingView;
 
 /// What a packet is to its frame, and the frame to its stream (RFC 9626, 3): one byte for a stream without layers,
@@ -86,7 +86,8 @@ impl FrameMarking {
             ..FrameMarkingView::default()
         };
         if let Some(layers) = self.layers {
-            OutOfRange::check("temporal_id", layers.temporal_id.into(), 0..=7)?;
+            let range = range::FRAME_MARKING_TEMPORAL_ID;
+            OutOfRange::check("temporal_id", layers.temporal_id.into(), range)?;
             view.has_layers = 1;
             view.base_layer_sync = u8::from(layers.base_layer_sync);
             view.temporal_id = layers.temporal_id;

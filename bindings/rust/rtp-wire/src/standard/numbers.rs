@@ -1,6 +1,6 @@
 use super::written;
 use crate::error::{NotAValue, NotWritten, OutOfRange};
-use crate::sys;
+use crate::sys::{self, range};
 
 /// Reads a transmission time offset, in three bytes with a sign: how long after the time of its timestamp the packet
 /// was sent, in ticks of the stream's clock, -8,388,608 to 8,388,607 (RFC 5450, 3). [`Values`](crate::Values) have
@@ -73,9 +73,9 @@ pub fn parse_mixer_level(data: &[u8], csrc_count: usize, index: usize) -> Result
 /// ```
 pub fn write_mixer_levels(levels: &[i8], buf: &mut [u8]) -> Result<usize, NotWritten> {
     let count = i32::try_from(levels.len()).unwrap_or(i32::MAX);
-    OutOfRange::check("the number of levels", count, 0..=15)?;
+    OutOfRange::check("the number of levels", count, range::HEADER_CSRC_COUNT)?;
     for level in levels {
-        OutOfRange::check("a level", (*level).into(), -127..=0)?;
+        OutOfRange::check("a level", (*level).into(), range::VALUES_AUDIO_LEVEL)?;
     }
     written(|len| sys::write_mixer_levels(levels, buf, len))
 }

@@ -1,6 +1,6 @@
 use super::{read_of_data, written};
 use crate::error::{NotAValue, NotWritten, OutOfRange};
-use crate::sys;
+use crate::sys::{self, range};
 use crate::views::TransportNumberView;
 
 /// The packet's number on its transport, and what feedback it asks for
@@ -64,7 +64,8 @@ impl TransportNumber {
             ..TransportNumberView::default()
         };
         if let Some(request) = self.request {
-            OutOfRange::check("packets", request.packets.into(), 0..=0x7FFF)?;
+            let range = range::TRANSPORT_NUMBER_PACKETS;
+            OutOfRange::check("packets", request.packets.into(), range)?;
             view.has_request = 1;
             view.packets = request.packets;
             view.timestamps = u8::from(request.timestamps);

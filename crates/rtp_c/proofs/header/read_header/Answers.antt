@@ -1,4 +1,6 @@
-use Rattle.std.proofs.Common.{refl, inl}
+use Rattle.std.proofs.Common.{refl, inl, subst, ℕ, List, Option}
+use Rattle.rtp_ext.specs.declared.form.ExtensionsForm.{ExtensionsForm}
+use Rattle.rtp_wire.specs.PacketElements.{HasValues}
 use Rattle.rtp_wire.specs.Header.{header_of}
 use Rattle.rtp_wire.specs.PartsOf.{parts_of}
 use Rattle.rtp_c.specs.StoredMap.{numbered_slots}
@@ -13,6 +15,7 @@ pub returns-in-Ok : goal.returns-in-Ok
 returns-in-Ok c =
     let told = c.put_values_of.ensures in
     let parts = parts_of c.in-Ok.packet in
+    let values = subst (λ (block : Option (ExtensionsForm × List ℕ)). HasValues (numbered_slots c.args.map.now.kind) block told.0) c.block.ensures.parts told.1 in
     inl (
       refl,
       record {
@@ -24,7 +27,7 @@ returns-in-Ok c =
             parts = parts;
             is_packet = c.in-Ok.ensures.found;
             no_other = c.in-Ok.ensures.known;
-            is_header = record { fields_are = refl; values_are = told.1 };
+            is_header = record { fields_are = refl; values_are = values };
           };
         };
         is_view = c.put_fields.ensures told.0 _ told.2;

@@ -9,7 +9,7 @@ use Rattle.rtp_c.proofs.RoutedLemmas.{receivers-again}
 use Rattle.rtp_c.proofs.routed_headers.write_again.Goals as goal
 
 pub overflow_add-len : goal.overflow_add-len
-overflow_add-len c = omega (arith, c.header_len-len.ensures, short-header c.args.header)
+overflow_add-len c = omega (arith, c.header_len-len.ensures, short-header c.args.header.now)
 
 pub returns-clause-written : goal.returns-clause-written
 returns-clause-written c =
@@ -20,10 +20,10 @@ returns-clause-written c =
     let len = c.header_len-len.result + 2 in
     let own_len : len ≡ length own = omega (arith, c.write_retransmission.auto.buf, c.if-buf-at.false, c.requires.place, length-take (at + len - at) (drop at buf), length-drop at buf) in
     record {
-      len_is = omega (arith, c.header_len-len.ensures, header_in-length c.args.header);
+      len_is = omega (arith, c.header_len-len.ensures, header_in-length c.args.header.now);
       within = omega (arith, c.if-buf-at.false, c.requires.place);
       own = own;
-      again = receivers-again (calls.header_in c.args.header) (slots_of c.args.slots.made.now) (fields_given receiver.fields) c.given_fields-fields.result receiver.original_number c.args.own.now own c.given_fields-fields.ensures c.requires.lengths
+      again = receivers-again (calls.header_in c.args.header.now) (slots_of c.args.slots.made.now) (fields_given receiver.fields) c.given_fields-fields.result receiver.original_number c.args.own.now own c.given_fields-fields.ensures c.requires.lengths
           c.write_retransmission.ensures.filled;
       after_is = ap (λ (n : ℕ). take at buf ++ (own ++ drop (at + n - at) (drop at buf))) own_len ∙ overwritten-copied buf own at;
     }

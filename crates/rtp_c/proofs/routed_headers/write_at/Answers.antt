@@ -1,5 +1,4 @@
 use Rattle.rtp_c.proofs.Common.{◌≡◌, ℕ, ◌+◌, ◌-◌, ◌<◌, List, ◌++◌, length, take, drop, refl, sym, ap, subst, ◌∙◌, arith, length-take, length-drop}
-use Rattle.std.proofs.lemmas.Result.{IfOk-weaker, IfErr-weaker}
 use Rattle.rtp_base.proofs.OverwritingLemmas.{overwritten-copied}
 use Rattle.rtp_wire.specs.ChangedPacket.{ChangesOnly}
 use Rattle.rtp_wire.specs.Packet.{IsPacket}
@@ -28,8 +27,8 @@ returns-then-receiver-ne0-2-clause-written c =
     ] in
     let some : 0 < receiver.is_retransmission = omega (arith, c.if-receiver-ne0-2.true) in
     let data_is : c.in-Some.own.now ≡ slice_at bytes receiver.data_at (total_of slots) = c.in-Some.ensures.found.1 ∙ ap (slice_at bytes receiver.data_at) c.requires.total in
-    IfOk-weaker c.write_again.result _ _
-    (λ len is. record {
+    let is = c.in-Some-write_again.ensures.written in
+    record {
       served = record { fields = can; within = omega (arith, c.in-Some.ensures.found.0, c.requires.total) };
       len_is = is.len_is ∙ sym (len-again header receiver some);
       within = is.within;
@@ -40,11 +39,10 @@ returns-then-receiver-ne0-2-clause-written c =
         retransmission = λ _. subst (λ (b : List ℕ). IsReceiversAgain header slots (fields_given receiver.fields) receiver.original_number (pieces (slot_lengths slots) b) is.own) data_is is.again;
       };
       after_is = is.after_is;
-    })
-    c.write_again.ensures.written
+    }
 
-pub returns-then-receiver-ne0-2-clause-refused : goal.returns-then-receiver-ne0-2-clause-refused
-returns-then-receiver-ne0-2-clause-refused c =
+pub returns-in_default-write_again-clause-refused : goal.returns-in_default-write_again-clause-refused
+returns-in_default-write_again-clause-refused c =
     let receiver = c.args.receiver.now in
     let header = calls.header_in c.args.header.now in
     let can : CanBeSet receiver.fields =
@@ -55,12 +53,10 @@ returns-then-receiver-ne0-2-clause-refused c =
     let some : 0 < receiver.is_retransmission = omega (arith, c.if-receiver-ne0-2.true) in
     let len = len-again header receiver some in
     let long = header_in-length c.args.header.now in
-    IfErr-weaker c.write_again.result _ _
-    (λ status is. record {
-      served = λ _. (is.0, omega (arith, is.1, len, long));
+    record {
+      served = λ _. (refl, omega (arith, c.in_default-write_again.ensures.short, len, long));
       bad = λ not. absurd (not (record { fields = can; within = omega (arith, c.in-Some.ensures.found.0, c.requires.total) }));
-    })
-    c.write_again.ensures.short
+    }
 
 pub returns-then-len-buf-clause-refused : goal.returns-then-len-buf-clause-refused
 returns-then-len-buf-clause-refused c =

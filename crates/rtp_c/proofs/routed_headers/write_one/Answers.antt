@@ -1,4 +1,4 @@
-use Rattle.rtp_c.proofs.Common.{◌≡◌, ℤ, w32, to_z, of_z, refl, ap, arith}
+use Rattle.rtp_c.proofs.Common.{◌≡◌, ◌∙◌, ℤ, w32, to_z, of_z, refl, ap, arith}
 use Rattle.rtp_route.specs.Calls as calls
 use Rattle.rtp_route.proofs.ByCallsLemmas.{header_in-length}
 use Rattle.rtp_route.proofs.LengthLemmas.{short-header}
@@ -24,11 +24,12 @@ returns-in-Ok-clause-written c =
 pub returns-in-Err-clause-written : goal.returns-in-Err-clause-written
 returns-in-Err-clause-written c =
     let is = c.in-Err.ensures.refused in
+    let told = c.refuse.ensures in
     let stored : (wanted : ℤ) → c.in-Err.status ≡ wanted → to_z w32 (of_z w32 c.in-Err.status) ≡ to_z w32 (of_z w32 wanted) = λ wanted same. ap (λ (z : ℤ). to_z w32 (of_z w32 z)) same in
     record {
-      given_is = refl;
+      given_is = told.others;
       written = λ served room. absurd (omega (arith, room, (is.served served).1));
-      short = λ served _. stored _ (is.served served).0;
-      refused = λ not. stored _ (is.bad not);
-      unchanged = λ _. (refl, c.in-Err.ensures.unchanged);
+      short = λ served _. told.status ∙ stored _ (is.served served).0;
+      refused = λ not. told.status ∙ stored _ (is.bad not);
+      unchanged = λ _. (told.none, c.in-Err.ensures.unchanged);
     }

@@ -26,10 +26,10 @@ returns-clause-only g c =
     (are_taken len c.make_header.new.buf (λ k. omega (arith, c.type_inv.buf k))) routed (routed-of c.args.packet.now c.make_header.new.buf len c.args.fields.now ids news allowed none made))
     c.make_header.ensures.made c.make_header.ensures.ids
 
-pub returns-in-Some-clause-only : goal.returns-in-Some-clause-only
-returns-in-Some-clause-only g c header bytes routed =
+pub returns-in-Some-write_by_walk-clause-only : goal.returns-in-Some-write_by_walk-clause-only
+returns-in-Some-write_by_walk-clause-only g c header bytes routed =
     one-header (datagram_of c.args.packet.now) c.args.fields.now (new_id c.args.group.now.ids.now) (g.L.ElementList.elements c.args.group.now.elements) c.args.group.now.allowed header
-    (take c.in-Some.len c.write_by_walk.new.buf) bytes (are_taken c.in-Some.len c.write_by_walk.new.buf (λ k. omega (arith, c.type_inv.buf k))) routed c.in-Some.ensures.made.routed
+    (take c.in-Some-write_by_walk.len c.write_by_walk.new.buf) bytes (are_taken c.in-Some-write_by_walk.len c.write_by_walk.new.buf (λ k. omega (arith, c.type_inv.buf k))) routed c.in-Some-write_by_walk.ensures.made.routed
 
 pub returns-clause-cause : goal.returns-clause-cause
 returns-clause-cause g c =

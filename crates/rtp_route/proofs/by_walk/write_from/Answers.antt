@@ -42,19 +42,21 @@ put_front-requires-clause-some g c =
     omega (arith, long-front_of c.args.packet.now c.in_ok-was.was' c.header_bytes-header.result.now c.in_ok-was.body.now c.header_bytes-header.ensures.alone c.in_ok-was.ensures.parts)
 
 pub write_body-requires-clause-elements : goal.write_body-requires-clause-elements
-write_body-requires-clause-elements g c = record {
-  few = c.requires.few;
-  own = c.requires.own;
-  writable = carries-news c.args.group.now.allowed c.args.start c.in_ok-form.form (g.L.ElementList.elements c.args.group.now.elements) c.in_ok-form.ensures.form c.in_ok-form.ensures.carried;
-}
+write_body-requires-clause-elements g c =
+    let can = g.met.G.GroupTable.can_be_put c.args.group c.requires.table in
+    record {
+      few = can.few;
+      own = can.own;
+      writable = carries-news (g.G.GroupTable.allows c.args.group) c.args.start c.in_ok-form.form (g.G.ElementList.elements c.args.group) c.in_ok-form.ensures can.writable;
+    }
 
 pub write_body-requires-clause-carries : goal.write_body-requires-clause-carries
 write_body-requires-clause-carries g c =
     let was = c.in_ok-was.was' in
     let body = c.in_ok-was.body.now in
     let elements : List Element = elements_left was body in
-    carries-from c.args.group.now.allowed (new_id c.args.group.now.ids.now) was c.args.start c.in_ok-form.form body elements (g.L.ElementList.elements c.args.group.now.elements)
-    (c.requires.start was body elements c.in_ok-was.ensures.parts (AreElements-found was body c.in_ok-was.ensures.bytes)) c.in_ok-form.ensures.form
+    carries-from (g.G.GroupTable.allows c.args.group) (new_id (g.G.GroupTable.ids c.args.group)) was c.args.start c.in_ok-form.form body elements (g.G.ElementList.elements c.args.group)
+    (c.requires.start was body elements c.in_ok-was.ensures.parts (AreElements-found was body c.in_ok-was.ensures.bytes)) c.in_ok-form.ensures
 
 pub overflow_sub-len : goal.overflow_sub-len
 overflow_sub-len g c =
@@ -67,13 +69,13 @@ set_fields-requires-clause-held g c =
     let packet = c.args.packet.now in
     let was = c.in_ok-was.was' in
     let body = c.in_ok-was.body.now in
-    let ids = new_id c.args.group.now.ids.now in
-    let news = g.L.ElementList.elements c.args.group.now.elements in
+    let ids = new_id (g.G.GroupTable.ids c.args.group) in
+    let news = g.G.ElementList.elements c.args.group in
     let header = c.header_bytes-header.result.now in
     let form = c.in_ok-form.form in
     let end = c.in_ok-len.len in
     let written = c.write_body.new.buf in
-    let slots = take (length (g.L.ElementList.elements c.args.group.now.elements)) c.write_body.new.slots in
+    let slots = take (length (g.G.ElementList.elements c.args.group)) c.write_body.new.slots in
     let laid = laid-of packet ids news was form header body written (drop c.min-most.result c.args.buf.now) c.put_front.new.buf end slots c.header_bytes-header.ensures.front
     c.header_bytes-header.ensures.alone c.in_ok-was.ensures.parts c.in_ok-was.ensures.bytes c.in_ok-len.ensures.written (omega (arith, c.in_ok-len.ensures.within, c.write_body.auto.buf))
     (omega (arith, c.write_body.auto.buf, length-take c.min-most.result c.args.buf.now, c.min-most.ensures)) c.put_front.ensures in
@@ -84,27 +86,27 @@ returns g c =
     let packet = c.args.packet.now in
     let was = c.in_ok-was.was' in
     let body = c.in_ok-was.body.now in
-    let ids = new_id c.args.group.now.ids.now in
-    let news = g.L.ElementList.elements c.args.group.now.elements in
+    let ids = new_id (g.G.GroupTable.ids c.args.group) in
+    let news = g.G.ElementList.elements c.args.group in
     let header = c.header_bytes-header.result.now in
     let form = c.in_ok-form.form in
     let end = c.in_ok-len.len in
     let written = c.write_body.new.buf in
-    let slots = take (length (g.L.ElementList.elements c.args.group.now.elements)) c.write_body.new.slots in
+    let slots = take (length (g.G.ElementList.elements c.args.group)) c.write_body.new.slots in
     let laid = laid-of packet ids news was form header body written (drop c.min-most.result c.args.buf.now) c.put_front.new.buf end slots c.header_bytes-header.ensures.front
     c.header_bytes-header.ensures.alone c.in_ok-was.ensures.parts c.in_ok-was.ensures.bytes c.in_ok-len.ensures.written (omega (arith, c.in_ok-len.ensures.within, c.write_body.auto.buf))
     (omega (arith, c.write_body.auto.buf, length-take c.min-most.result c.args.buf.now, c.min-most.ensures)) c.put_front.ensures in
     let fields = c.args.fields.now in
-    let allowed = c.args.group.now.allowed in
+    let allowed = (g.G.GroupTable.allows c.args.group) in
     let set = c.set_fields.new.header in
     let elements : List Element = elements_left was body in
     let are : AreElements was body elements = AreElements-found was body c.in_ok-was.ensures.bytes in
     let start = c.requires.start was body elements c.in_ok-was.ensures.parts are in
-    let fits = fits-from allowed ids was c.args.start form body elements news are start c.in_ok-form.ensures.form (c.in_ok-len.ensures.written elements are).carried in
-    let carried = c.in_ok-form.ensures.carried in
+    let fits = fits-from allowed ids was c.args.start form body elements news are start c.in_ok-form.ensures (c.in_ok-len.ensures.written elements are).carried in
+    let carried = (g.met.G.GroupTable.can_be_put c.args.group c.requires.table).writable in
     let whole : end ≤ length c.put_front.new.buf = omega (arith, laid.within, c.put_front.auto.buf) in
     let long : length set ≡ end = omega (arith, c.set_fields.auto.header, length-take-le end c.put_front.new.buf whole) in
-    let room : 2 * length (header_in packet) + 3 + wide news ≤ c.min-most.result = omega (arith, ap length (header-is packet header laid.whole_is laid.is_packet), c.in_ok-form.ensures.room, c.in_ok-room.ensures) in
+    let room : 2 * length (header_in packet) + 3 + wide news ≤ c.min-most.result = omega (arith, ap length (header-is packet header laid.whole_is laid.is_packet), c.two_byte_len.ensures, c.if-two_byte_len-room.false, c.in_ok-room.ensures) in
     record {
       made = subst (λ (b : List ℕ). IsMadeFor (datagram_of packet) fields ids news allowed b slots) (sym (take_at set _ end long))
           (made-by_walk packet ids news was form header body _ c.put_front.new.buf end elements slots laid fields allowed set fits are c.set_fields.ensures.set c.set_fields.ensures.fixed long);

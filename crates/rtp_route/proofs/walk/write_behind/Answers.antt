@@ -14,5 +14,5 @@ returns-clause-written c =
     c.put_few.ensures
     ∙ ap (λ (b : List ℕ). overwritten b c.put_header-data_at.result bytes) c.put_header-data_at.ensures.written
     ∙ overwritten-overwritten buf header bytes c.args.at c.put_header-data_at.result c.put_header-data_at.ensures.end
-    (omega (arith, c.put_header-data_at.ensures.end, header-length c.args.form c.args.id bytes, header-short c.args.form c.args.id bytes, c.if-buf-at.false, c.requires.room))
+    (omega (arith, c.put_header-data_at.ensures.end, header-length c.args.form c.args.id bytes, header-short c.args.form c.args.id bytes, c.if-at-bytes.false, c.requires.room))
     ∙ ap (overwritten buf c.args.at) (sym (element_bytes-split c.args.form c.args.id bytes))

@@ -13,16 +13,16 @@ use Rattle.rtp_route.proofs.walk.write_body.Goals as goal
 
 pub write_kept-requires-clause-fresh : goal.write_kept-requires-clause-fresh
 write_kept-requires-clause-fresh g c =
-    let news = g.L.ElementList.elements c.args.group.now.elements in
+    let news = g.G.ElementList.elements c.args.group in
     subst (ArePlaced c.args.form c.args.at [] news) (sym c.requires.fresh) (placed-none c.args.form c.args.at news (record { start = 0; len = 0 }) 16 refl c.requires.elements.few)
 
 pub returns-clause-written : goal.returns-clause-written
 returns-clause-written g c elements are =
     let form = c.args.form in
     let at = c.args.at in
-    let ids = new_id c.args.group.now.ids.now in
-    let news = g.L.ElementList.elements c.args.group.now.elements in
-    let slots = take (length (g.L.ElementList.elements c.args.group.now.elements)) c.write_lacking.new.slots in
+    let ids = new_id (g.G.GroupTable.ids c.args.group) in
+    let news = g.G.ElementList.elements c.args.group in
+    let slots = take (length (g.G.ElementList.elements c.args.group)) c.write_lacking.new.slots in
     let kept = c.in_ok-kept.ensures.kept elements are in
     let written = c.in_ok-len.ensures.written at c.args.buf.now kept.written c.requires.some kept.are_written in
     let row : List Element = put_all news kept.written in

@@ -22,7 +22,7 @@ loop-index-init g c = (c.requires.room, refl, λ start old written some is. reco
 pub loop-index-preserved : goal.loop-index-preserved
 loop-index-preserved g c =
     let at = c.loop-index in
-    let news = g.L.ElementList.elements c.args.elements in
+    let news = g.G.ElementList.elements c.args.group in
     let split = one-more news at.index (omega (arith, c.loop-index-test.true)) in
     let element : Element = split.0 in
     let there : drop at.index news ≡ element ∷ drop (at.index + 1) news = split.1 in
@@ -48,7 +48,7 @@ loop-index-preserved g c =
 pub returns-clause-written : goal.returns-clause-written
 returns-clause-written g c start old written some is =
     let form = c.args.form in
-    let news = g.L.ElementList.elements c.args.elements in
+    let news = g.G.ElementList.elements c.args.group in
     let done = c.loop-index.invariant.2 start old written some is in
     let none_left : drop c.loop-index.index news ≡ [] = drop_all c.loop-index.index news (omega (arith, c.loop-index-test.false)) in
     let row_is : done.written ≡ put_all news written = ap (λ (es : List Element). put_all es done.written) (sym none_left) ∙ done.with_rest in

@@ -9,5 +9,5 @@ abbrev pub invariant-loop-index : goal.invariant-loop-index
 invariant-loop-index g l =
     (l.end ≤ length l.buf)
     × (length l.buf ≡ length l.initial.buf)
-    × ((start : ℕ) (old : List ℕ) (written : List Element) → 1 ≤ start → AreWritten l.form start (g.L.ElementList.elements l.elements) old written l.initial.slots l.initial.buf l.fn.at
-    → IsUnderWay l.form start (g.L.ElementList.elements l.elements) l.index old written l.slots l.buf l.end)
+    × ((start : ℕ) (old : List ℕ) (written : List Element) → 1 ≤ start → AreWritten l.form start (g.G.ElementList.elements l.group) old written l.initial.slots l.initial.buf l.fn.at
+    → IsUnderWay l.form start (g.G.ElementList.elements l.group) l.index old written l.slots l.buf l.end)

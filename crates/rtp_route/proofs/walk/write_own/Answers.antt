@@ -10,20 +10,20 @@ use Rattle.rtp_route.proofs.walk.write_own.Goals as goal
 
 pub write_behind-requires-clause-writable : goal.write_behind-requires-clause-writable
 write_behind-requires-clause-writable g c =
-    at-index (IsWritable c.args.form) (g.L.ElementList.elements c.args.elements) c.args.index (c.at-id.result.0, c.at-id.result.1.now) _ c.requires.elements.writable
-    (left-more (g.L.ElementList.elements c.args.elements) c.args.index _ c.at-id.ensures)
+    at-index (IsWritable c.args.form) (g.G.ElementList.elements c.args.group) c.args.index (c.at-id.result.0, c.at-id.result.1.now) _ c.requires.elements.writable
+    (left-more (g.G.ElementList.elements c.args.group) c.args.index _ c.at-id.ensures)
 
 pub overflow_cast-slots-2 : goal.overflow_cast-slots-2
 overflow_cast-slots-2 g c =
     let here : Element = (c.at-id.result.0, c.at-id.result.1.now) in
     let can : IsWritable c.args.form here =
-    at-index (IsWritable c.args.form) (g.L.ElementList.elements c.args.elements) c.args.index here _ c.requires.elements.writable
-    (left-more (g.L.ElementList.elements c.args.elements) c.args.index here c.at-id.ensures) in
+    at-index (IsWritable c.args.form) (g.G.ElementList.elements c.args.group) c.args.index here _ c.requires.elements.writable
+    (left-more (g.G.ElementList.elements c.args.group) c.args.index here c.at-id.ensures) in
     omega (arith, IsWritable-short c.args.form _ can)
 
 pub returns-clause-written : goal.returns-clause-written
 returns-clause-written g c start old written element there is none =
-    let news = g.L.ElementList.elements c.args.elements in
+    let news = g.G.ElementList.elements c.args.group in
     let here : Element = (c.at-id.result.0, c.at-id.result.1.now) in
     let split = left-more news c.args.index here c.at-id.ensures in
     let can : IsWritable c.args.form here = at-index (IsWritable c.args.form) news c.args.index here _ c.requires.elements.writable split in

@@ -1,0 +1,130 @@
+package rtpwire
+
+import "unsafe"
+
+// read reads the packet; its status is that of RTCP where it is none of RTP on a port that both share.
+func (p *Packet) read(datagram []byte, m *Map) int32 {
+	return rtpw_read(first(datagram), size(datagram), m.c(), p.c())
+}
+
+func (p *Packet) parse(datagram []byte, m *Map) int32 {
+	status := p.read(datagram, m)
+	if status == statusRTCP {
+		return p.parseAlike(datagram, m)
+	}
+	return status
+}
+
+// parseAlike reads a packet that looks like RTCP, with a payload type of 64 to 95 on a port of its own.
+func (p *Packet) parseAlike(datagram []byte, m *Map) int32 {
+	var parts PacketFields
+	if status := rtpw_packet_parse(first(datagram), size(datagram), parts.c()); status != statusOK {
+		return status
+	}
+	if rtpw_parse(first(datagram), size(datagram), m.c(), p.header.c()) != statusOK {
+		// The block has another form. The header is read from a copy that doesn't look so.
+		header := append([]byte(nil), datagram[:parts.payloadAt]...)
+		_ = rtpw_set_payload_type(first(header), size(header), 0)
+		_ = rtpw_read(first(header), size(header), m.c(), p.c())
+		p.header.PayloadType = parts.PayloadType
+	}
+	p.unpaddedLen, p.paddingFits = parts.unpaddedLen, parts.paddingFits
+	p.bodyAt, p.bodyLen, p.profile, p.form = parts.bodyAt, parts.bodyLen, parts.profile, parts.form
+	return statusOK
+}
+
+func isRTCP(datagram []byte) bool {
+	return rtpw_is_rtcp(first(datagram), size(datagram))
+}
+
+func (l *Layers) parse(datagram []byte, m *Map) error {
+	var header Header
+	status := rtpw_parse_layers(first(datagram), size(datagram), m.c(), header.c(), l.c())
+	if status == statusUnknownForm {
+		var parts PacketFields
+		status = rtpw_packet_parse(first(datagram), size(datagram), parts.c())
+		if status == statusOK {
+			*l.c() = rtpw_layers{}
+		}
+	}
+	return errorOf(status)
+}
+
+func parsePackets(buf []byte, datagrams []datagram) {
+	rtpw_packet_parse_many(first(buf), size(buf), firstDatagram(datagrams), uintptr(len(datagrams)))
+}
+
+// parseHeaders reads each as Packet.parse does: also one whose block has another form.
+func parseHeaders(buf []byte, m *Map, datagrams []datagramHeader) {
+	rtpw_parse_many(first(buf), size(buf), m.c(), firstHeader(datagrams), uintptr(len(datagrams)))
+	for i := range datagrams {
+		it := &datagrams[i]
+		if it.status == statusUnknownForm {
+			var packet Packet
+			it.status = packet.parse(buf[it.at:it.at+it.len], m)
+			if it.status == statusOK {
+				it.header = packet.header
+			}
+		}
+	}
+}
+
+// lastElement is the place of the last element of the id.
+func lastElement(body []byte, form Form, id uint8) (Place, error) {
+	var place Place
+	status := rtpw_last_element(first(body), size(body), uint8(form), id, place.c())
+	return place, errorOf(status)
+}
+
+// next makes it the place of the element behind it.
+func (p *Place) next(body []byte, form Form) bool {
+	return rtpw_next_element(first(body), size(body), uint8(form), uintptr(p.end), p.c()) == statusOK
+}
+
+// nextPlaces writes the places of the elements from an offset on, as many as there is room for, and says how many.
+func nextPlaces(body []byte, form Form, at int, room []Place) int {
+	for i := range room {
+		if rtpw_next_element(first(body), size(body), uint8(form), uintptr(at), room[i].c()) != statusOK {
+			return i
+		}
+		at = room[i].end
+	}
+	return len(room)
+}
+
+func kindOfURI(uri []byte) Kind {
+	return Kind(rtpw_kind_of_uri(first(uri), size(uri)))
+}
+
+func (k Kind) uri(buf []byte) (int, error) {
+	var n uintptr
+	status := rtpw_uri_of_kind(uint8(k), first(buf), size(buf), &n)
+	return lengthOr(n, status)
+}
+
+func (m *Map) set(id uint8, kind Kind) error {
+	return errorOf(rtpw_map_set((*rtpw_map)(unsafe.Pointer(&m.kinds)), id, uint8(kind)))
+}
+
+func (m *Map) idOf(kind Kind) uint8 {
+	return rtpw_id_of(m.c(), uint8(kind))
+}
+
+func (m *Map) standard() {
+	rtpw_map_standard((*rtpw_map)(unsafe.Pointer(&m.kinds)))
+}
+
+// parseValue lets the data be those of the one element of a body.
+func parseValue(kind Kind, data []byte) (values Values, err error) {
+	var body [257]byte
+	var m Map
+	n, err := writeElements(body[:], TwoByteForm, data, []Place{{ID: 1, Len: len(data)}})
+	if err != nil || m.set(1, kind) != nil {
+		return Values{}, ErrBadField
+	}
+	status := rtpw_values_read(&body[0], uintptr(n), uint8(TwoByteForm), m.c(), values.c())
+	if status != statusOK || values == (Values{}) {
+		return Values{}, ErrBadField
+	}
+	return values, nil
+}

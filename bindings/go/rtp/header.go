@@ -1,0 +1,209 @@
+// Package rtp has the headers and packets of pion's package rtp (github.com/pion/rtp 1.7), by the same names, read and
+// written by rtpwire: for a server that has code for those, or puts them under pion's interceptors, SRTP and WebRTC.
+//
+// What is read and written is as RFC 3550 and RFC 8285 have it. So it differs from pion's package where that doesn't: a
+// packet of another version than 2 is none, a block is in the two-byte form also where its appbits aren't 0, elements end
+// where one is cut short, and what no header can carry isn't written.
+package rtp
+
+import (
+	"errors"
+	"fmt"
+	"io"
+
+	"rtp-wire.example/rtpwire"
+)
+
+// The profiles of the two forms of an extension block (RFC 8285, 4.2 and 4.3).
+const (
+	extensionProfileOneByte = 0xBEDE
+	extensionProfileTwoByte = 0x1000
+)
+
+// An Extension is an element of the extension block; of a block of another form it is the whole body, under the id 0.
+type Extension struct {
+	id      uint8
+	payload []byte
+}
+
+// A Header is the header of a packet (RFC 3550, 5.1).
+type Header struct {
+	Version          uint8 // 2, also where it is written
+	Padding          bool
+	Extension        bool
+	Marker           bool
+	PayloadType      uint8
+	SequenceNumber   uint16
+	Timestamp        uint32
+	SSRC             uint32
+	CSRC             []uint32
+	ExtensionProfile uint16
+	Extensions       []Extension
+}
+
+// Unmarshal reads the header in front of the buffer, and returns how many bytes it takes. The data of its extensions are
+// parts of the buffer.
+func (h *Header) Unmarshal(buf []byte) (n int, err error) {
+	var parts rtpwire.PacketFields
+	if err := parts.Parse(buf); err != nil {
+		return 0, errorOf(err)
+	}
+	h.take(&parts, buf)
+	return parts.HeaderLen(), nil
+}
+
+// take is the header of the packet with these parts.
+func (h *Header) take(parts *rtpwire.PacketFields, buf []byte) {
+	h.Version, h.Padding, h.Marker = 2, parts.HasPadding, parts.Marker
+	h.PayloadType, h.SequenceNumber = parts.PayloadType, parts.SequenceNumber
+	h.Timestamp, h.SSRC = parts.Timestamp, parts.SSRC
+	if h.CSRC == nil {
+		h.CSRC = []uint32{}
+	}
+	h.CSRC = h.CSRC[:0]
+	if parts.CSRCCount() != 0 {
+		var packet rtpwire.Packet
+		if packet.Parse(buf, nil) == nil {
+			h.CSRC = append(h.CSRC, packet.CSRC()...)
+		}
+	}
+	h.Extensions = h.Extensions[:0]
+	h.ExtensionProfile = parts.BlockProfile()
+	form, body := parts.Block(buf)
+	h.Extension = form != rtpwire.NoBlock
+	switch form {
+	case rtpwire.OneByteForm, rtpwire.TwoByteForm:
+		var it rtpwire.Place
+		for parts.NextPlace(&it, buf) {
+			end := it.At + it.Len
+			h.Extensions = append(h.Extensions, Extension{it.ID, body[it.At:end:end]})
+		}
+	case rtpwire.OtherForm:
+		h.Extensions = append(h.Extensions, Extension{0, body})
+	}
+}
+
+// errorOf is pion's error for which bytes are no packet.
+func errorOf(err error) error {
+	switch {
+	case errors.Is(err, rtpwire.CutFixedPart), errors.Is(err, rtpwire.CutSources):
+		return fmt.Errorf("%w: %v", errHeaderSizeInsufficient, err)
+	case errors.Is(err, rtpwire.CutBlockHeader), errors.Is(err, rtpwire.CutBlock):
+		return fmt.Errorf("%w: %v", errHeaderSizeInsufficientForExtension, err)
+	default:
+		return err
+	}
+}
+
+// Marshal is the header's bytes.
+func (h Header) Marshal() (buf []byte, err error) {
+	buf = make([]byte, h.MarshalSize())
+	n, err := h.MarshalTo(buf)
+	if err != nil {
+		return nil, err
+	}
+	return buf[:n], nil
+}
+
+// MarshalTo writes the header to the front of the buffer, and returns how many bytes it took.
+//
+// It returns io.ErrShortBuffer where the buffer has too few bytes, or the body of a block of another form is no whole
+// number of words; and rtpwire.ErrBadField where no header can carry what there is: a payload type above 127, more than 15
+// contributing sources, or an element whose id or length its form can't carry.
+func (h Header) MarshalTo(buf []byte) (n int, err error) {
+	var w rtpwire.Header
+	w.Timestamp, w.SSRC, w.SequenceNumber = h.Timestamp, h.SSRC, h.SequenceNumber
+	w.PayloadType, w.Marker, w.HasPadding = h.PayloadType, h.Marker, h.Padding
+	if len(h.CSRC) != 0 {
+		if err := w.SetCSRC(h.CSRC); err != nil {
+			return 0, err
+		}
+	}
+	switch {
+	case !h.Extension:
+		n, err = w.WriteInto(buf, nil)
+	case h.ExtensionProfile == extensionProfileOneByte:
+		n, err = h.writeElements(&w, buf, rtpwire.OneByteForm)
+	case h.ExtensionProfile == extensionProfileTwoByte:
+		n, err = h.writeElements(&w, buf, rtpwire.TwoByteForm)
+	default:
+		n, err = h.writeBlock(&w, buf)
+	}
+	if err == rtpwire.ErrShortBuffer {
+		err = io.ErrShortBuffer
+	}
+	return n, err
+}
+
+// places has the elements' data one after another, and where each lies.
+func (h *Header) places(data []byte, places []rtpwire.Place) ([]byte, []rtpwire.Place) {
+	for _, it := range h.Extensions {
+		places = append(places, rtpwire.Place{ID: it.id, At: len(data), Len: len(it.payload)})
+		data = append(data, it.payload...)
+	}
+	return data, places
+}
+
+func (h *Header) writeElements(w *rtpwire.Header, buf []byte, form rtpwire.Form) (int, error) {
+	var dataRoom [64]byte
+	var placeRoom [8]rtpwire.Place
+	data, places := h.places(dataRoom[:0], placeRoom[:0])
+	return w.WriteWithForm(buf, form, data, places)
+}
+
+// writeBlock writes a header with a block of another profile, or one in the two-byte form with appbits.
+func (h *Header) writeBlock(w *rtpwire.Header, buf []byte) (int, error) {
+	body, err := h.body()
+	if err != nil {
+		return 0, err
+	}
+	n, err := w.WriteInto(buf, nil)
+	if err != nil {
+		return 0, err
+	}
+	whole, err := rtpwire.PutBlockIn(buf, n, h.ExtensionProfile, body)
+	return len(whole), err
+}
+
+// body is that of the block.
+func (h *Header) body() ([]byte, error) {
+	if h.ExtensionProfile&0xFFF0 != extensionProfileTwoByte {
+		if len(h.Extensions) == 0 {
+			return nil, nil
+		}
+		if len(h.Extensions[0].payload)%4 != 0 {
+			return nil, io.ErrShortBuffer
+		}
+		return h.Extensions[0].payload, nil
+	}
+	data, places := h.places(nil, nil)
+	body := make([]byte, h.bodySize())
+	_, err := rtpwire.WriteElements(body, rtpwire.TwoByteForm, data, places)
+	return body, err
+}
+
+// bodySize is how many bytes the block's body takes.
+func (h *Header) bodySize() int {
+	size, each := 0, 2
+	if h.ExtensionProfile == extensionProfileOneByte {
+		each = 1
+	} else if h.ExtensionProfile&0xFFF0 != extensionProfileTwoByte {
+		each = 0
+	}
+	for _, it := range h.Extensions {
+		size += each + len(it.payload)
+		if each == 0 {
+			break
+		}
+	}
+	return (size + 3) / 4 * 4
+}
+
+// MarshalSize is how many bytes MarshalTo writes.
+func (h Header) MarshalSize() int {
+	size := 12 + 4*len(h.CSRC)
+	if h.Extension {
+		size += 4 + h.bodySize()
+	}
+	return size
+}

@@ -1,0 +1,100 @@
+package rtp
+
+import (
+	"fmt"
+	"io"
+
+	"rtp-wire.example/rtpwire"
+)
+
+// A Packet is an RTP packet.
+type Packet struct {
+	Header
+	Payload     []byte // without the padding
+	PaddingSize byte
+}
+
+// Unmarshal reads the packet that the buffer is. Its payload and the data of its extensions are parts of the buffer.
+func (p *Packet) Unmarshal(buf []byte) error {
+	var parts rtpwire.PacketFields
+	if err := parts.Parse(buf); err != nil {
+		return errorOf(err)
+	}
+	payload, ok := parts.UnpaddedPayload(buf)
+	if !ok {
+		return errTooSmall
+	}
+	p.Header.take(&parts, buf)
+	p.Payload, p.PaddingSize = payload, byte(len(buf)-parts.HeaderLen()-len(payload))
+	return nil
+}
+
+// Marshal is the packet's bytes.
+func (p Packet) Marshal() (buf []byte, err error) {
+	buf = make([]byte, p.MarshalSize())
+	n, err := p.MarshalTo(buf)
+	if err != nil {
+		return nil, err
+	}
+	return buf[:n], nil
+}
+
+// MarshalTo writes the packet to the front of the buffer, and returns how many bytes it took. P is set exactly where there
+// is padding, which is zeros before the byte that counts it.
+func (p Packet) MarshalTo(buf []byte) (n int, err error) {
+	p.Header.Padding = p.PaddingSize != 0
+	n, err = p.Header.MarshalTo(buf)
+	if err != nil {
+		return 0, err
+	}
+	end := n + len(p.Payload) + int(p.PaddingSize)
+	if end > len(buf) {
+		return 0, io.ErrShortBuffer
+	}
+	n += copy(buf[n:], p.Payload)
+	if p.PaddingSize != 0 {
+		for i := range buf[n:end] {
+			buf[n+i] = 0
+		}
+		buf[end-1] = p.PaddingSize
+	}
+	return end, nil
+}
+
+// MarshalSize is how many bytes MarshalTo writes.
+func (p Packet) MarshalSize() int {
+	return p.Header.MarshalSize() + len(p.Payload) + int(p.PaddingSize)
+}
+
+// Clone is a copy that shares no memory with the packet.
+func (p Packet) Clone() *Packet {
+	return &Packet{Header: p.Header.Clone(), Payload: clone(p.Payload), PaddingSize: p.PaddingSize}
+}
+
+// Clone is a copy that shares no memory with the header.
+func (h Header) Clone() Header {
+	if h.CSRC != nil {
+		h.CSRC = append([]uint32{}, h.CSRC...)
+	}
+	if h.Extensions != nil {
+		extensions := make([]Extension, len(h.Extensions))
+		for i, it := range h.Extensions {
+			extensions[i] = Extension{it.id, clone(it.payload)}
+		}
+		h.Extensions = extensions
+	}
+	return h
+}
+
+func clone(bytes []byte) []byte {
+	if bytes == nil {
+		return nil
+	}
+	return append([]byte{}, bytes...)
+}
+
+// String says the packet's fields, in lines.
+func (p Packet) String() string {
+	return fmt.Sprintf("RTP PACKET:\n\tVersion: %v\n\tMarker: %v\n\tPayload Type: %d\n\tSequence Number: %d\n\tTimestamp: %d\n"+
+		"\tSSRC: %d (%x)\n\tPayload Length: %d\n", p.Version, p.Marker, p.PayloadType, p.SequenceNumber, p.Timestamp, p.SSRC, p.SSRC, len(p.Payload))
+}

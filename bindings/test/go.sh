@@ -1,0 +1,91 @@
+#!/usr/bin/env bash
+# Tests the package for Go: its text, by Go's own tools, and its tests in each way in which Go builds a program. Prints a
+# line for each thing that was checked, ends at the first that fails, and leaves out with a line what isn't there. Go finds
+# no C compiler but for its race detector. It needs no network.
+set -euo pipefail
+here=$(cd -- "$(dirname -- "$(readlink -f -- "${BASH_SOURCE[0]}")")/../.." && pwd)
+cd -- "$here/bindings/go"
+scratch=$(mktemp -d)
+trap 'rm -rf -- "$scratch"' EXIT
+export GOCACHE=$here/bindings/out/gocache GOPROXY=off GOTOOLCHAIN=local GOFLAGS= CGO_ENABLED=0 CC=no-C-compiler CXX=no-C-compiler
+said() { printf '%4d s  %s\n' "$SECONDS" "$*"; }
+has() { command -v "$1" >/dev/null; }
+quietly() { # says what a command says only where it fails
+    "$@" >"$scratch/log" 2>&1 || {
+        cat "$scratch/log" >&2
+        echo "go.sh: $*" >&2
+        exit 1
+    }
+}
+
+# The text is what is made of the proved one, and what Go links has its bytes.
+text() {
+    quietly ../../generated/go/make --check
+    said "Go: the text is made of the proved one, and what Go links has its bytes: $(grep -c 'are those that Go linked' "$scratch/log") symbols"
+    if has cc; then
+        quietly ../test/go_memory.sh "$scratch/memory"
+        said "Go: memmove, memcpy and memset beside those of C"
+    fi
+}
+
+tools() {
+    local laid_out it systems=()
+    laid_out=$(gofmt -l .)
+    [ -z "$laid_out" ] || {
+        echo "go.sh: gofmt -w $laid_out" >&2
+        exit 1
+    }
+    quietly go vet ./...
+    for it in darwin/amd64 windows/amd64 freebsd/amd64; do
+        systems+=("$it")
+        GOOS=${it%/*} GOARCH=${it#*/} quietly go vet .
+        GOOS=${it%/*} GOARCH=${it#*/} quietly go build .
+    done
+    said "Go: gofmt; go vet and go build, also for ${systems[*]}"
+}
+
+# The tests, as a program is built and run: with the C compiler for the race detector alone.
+tests() {
+    quietly go test -count=1 ./...
+    quietly go test -count=1 -gcflags='all=-N -l' .
+    quietly go test -count=1 -gcflags=all=-d=checkptr .
+    quietly go test -count=1 -buildmode=pie .
+    quietly go test -count=1 -cover .
+    said 'Go: go test, without optimizations, with checkptr, as PIE, and with -cover'
+    if "${TSAN_CC:-gcc}" --version >/dev/null 2>&1; then
+        CGO_ENABLED=1 CC=gcc quietly go test -count=1 -race .
+        said 'Go: go test -race'
+    else
+        said "Go: the race detector was left out: it takes gcc"
+    fi
+}
+
+versions() {
+    quietly ../test/go_versions.sh "$scratch/versions" .
+    said 'Go: a program with two versions of the package, each with its own text'
+    quietly ../test/go_get.sh "$scratch/get"
+    chmod -R u+w "$scratch/get"
+    said 'Go: from an empty folder go get of the packed module, and the program of its README, under two paths'
+}
+
+beside_pion() {
+    if [ ! -e /usr/share/gocode/src/github.com/pion/rtp/go.mod ]; then
+        said "Go: pion's package was left out: there is no golang-github-pion-rtp-dev"
+        return
+    fi
+    quietly ../test/go_pion.sh "$scratch/pion"
+    said "Go: $(tail -n 1 "$scratch/log")"
+    cd bench
+    quietly go vet ./...
+    quietly go test -bench . -benchtime 100x
+    go build -o "$scratch/sfu" "$(../../go_path)/examples/sfu"
+    go build -o "$scratch/pionsfu" ./pionsfu
+    quietly go run ./load -packets 300 "$scratch/sfu" "$scratch/pionsfu"
+    said "Go: the benchmark beside pion's package, and the SFUs over UDP, of which none loses a packet"
+}
+
+text
+tools
+tests
+versions
+(beside_pion)

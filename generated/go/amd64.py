@@ -1,0 +1,155 @@
+"""What the text for Go is on amd64.
+
+Each instruction that moves the stack pointer is written as one of Go's assembler, which so knows at each place how far
+the caller's frame is: a profile or a panic finds its way, and a fault can be recovered. Of two instructions that take
+128 bytes it is the one that Go's assembler makes, with a number of 8 bits. Where the frame information tells
+of another offset at a label than the instruction before it leaves, an instruction that never runs is put between."""
+
+import re
+import struct
+
+from linked import insist
+
+NAME, TOOLS, FILL, AFTER = "amd64", "", "", 4
+SETS_STACK = "\tMOVQ AX, SP"
+RETURN_ADDRESS, RED_ZONE, IS_TRACKED = 8, 128, True  # what a function may use below its stack pointer is the red zone
+ABSOLUTE = (1, 10, 11)
+NEVER = re.compile(r"%[fg]s:|\b(syscall|int|ldmxcsr|fldcw|std|[xyz]*mm(1[6-9]|[23]\d)|[yz]mm\d+)\b|\b(call|callq)\s+\*")
+REGISTER = ["AX", "CX", "DX", "BX", "SP", "BP", "SI", "DI"] + [f"R{i}" for i in range(8, 16)]
+ARGUMENTS = ["DI", "SI", "DX", "CX", "R8", "R9"]
+RESULT = "AX"
+LOAD = {8: "MOVQ", 4: "MOVL", 2: "MOVWLZX", 1: "MOVBLZX"}
+STORE = {8: "MOVQ", 4: "MOVL", 2: "MOVW", 1: "MOVB"}
+WORDS = ((8, "QUAD"), (4, "LONG"), (2, "WORD"), (1, "BYTE"))
+
+
+def bytes_of(words):
+    return bytes.fromhex(words)
+
+
+def is_call(it):
+    return it.words.startswith("call")
+
+
+def target_of(it):
+    """Where a call or a jump leads, but for a jump by a table, which stays in its function."""
+    word, _, to = it.words.partition(" ")
+    if not word.startswith(("call", "j")) or to.strip().startswith("*"):
+        return None
+    return int(re.search(r"([0-9a-f]+) <", to)[1], 16)
+
+
+def prepared(lines):
+    """The text in which each change of a frame's offset is one of an instruction."""
+    changes = re.compile(r"\t(push|pop)q?\t|\t(sub|add)q\t\$-?\d+, %rsp$")
+    leaves = re.compile(r"\t(retq?|jmpq?|ud2)\b")
+    out, offset, leave, changed = [], 8, None, False
+    for line in lines:
+        new = None
+        line = {"\tsubq\t$128, %rsp": "\taddq\t$-128, %rsp", "\taddq\t$128, %rsp": "\tsubq\t$-128, %rsp"}.get(line, line)
+        if line.startswith("\t.cfi_startproc"):
+            offset, leave = 8, None
+        elif line.startswith("\t.cfi_endproc"):
+            new, changed = 8, False
+        elif line.startswith("\t.cfi_def_cfa_offset "):
+            new = int(line.split()[1])
+        elif re.match(r"\t[a-z]", line):
+            changed, leave = bool(changes.match(line)), None
+        if new is not None:
+            if new != offset and not changed:
+                insist(leave is not None, "another offset where the code goes on:", line)
+                out[leave:leave] = step(new - offset, new)
+            offset, changed = new, False
+        out.append(line)
+        if leaves.match(line):
+            leave = len(out)
+    return out
+
+
+def step(by, offset):
+    word, number = ("sub", by) if by > 0 else ("add", -by)
+    if number == 128:
+        word, number = {"sub": "add", "add": "sub"}[word], -128
+    return [f"\t{word}q\t${number}, %rsp", f"\t.cfi_def_cfa_offset {offset}"]
+
+
+def taken(linked, frames):
+    found = {}
+    for (begin, end), rows in frames.items():
+        rows = sorted(rows) or [(begin, "rsp+8")]
+        insist(rows[0] == (begin, "rsp+8"), "frame information of", linked.functions[begin])
+        for (where, offset), (to, _) in zip(rows, rows[1:] + [(end, "")]):
+            insist(offset.startswith("rsp+"), "frame information of", linked.functions[begin], offset)
+            found.update((p, int(offset[4:]) - 8) for p in range(where, to))
+    return found
+
+
+def moving(it, by):
+    """The instruction of Go's assembler that has these bytes, and moves the stack pointer so."""
+    b = it.bytes
+    if len(b) == 1 or len(b) == 2 and b[0] == 0x41:
+        insist((b[-1] & 0xF8, by) in ((0x50, 8), (0x58, -8)), "the stack moves otherwise than is said:", it.words)
+        return ("PUSHQ " if by > 0 else "POPQ ") + REGISTER[(b[-1] & 7) + 8 * (len(b) - 1)]
+    insist(b[0] == 0x48 and b[1] in (0x81, 0x83) and b[2] in (0xEC, 0xC4), "the stack moves otherwise than is said:", it.words)
+    number, = struct.unpack("<b" if b[1] == 0x83 else "<i", b[3:])
+    insist(b[1] == 0x83 or not -129 < number < 129, "an instruction that Go's assembler makes in fewer bytes:", it.words)
+    insist((number if b[2] == 0xEC else -number) == by, "the stack moves otherwise than is said:", it.words)
+    return f"ADJSP ${by}"
+
+
+def write_code(out, linked):
+    tracked, end, tells = 0, 0, linked.is_told()
+    for it in linked.instructions:
+        if it.at in linked.functions:
+            out.emit(f"\t// {it.at}: {linked.functions[it.at]}")
+        end = it.at + len(it.bytes)
+        after = linked.taken.get(end, 0) if tells else 0
+        insist(not tells or linked.taken.get(it.at, 0) == tracked, "the stack isn't where it is said at", it)
+        place = next((linked.to_table[w] for w in range(it.at, end) if w in linked.to_table), None)
+        if place is not None:
+            is_lea = it.bytes[:2] == b"\x48\x8d" and it.bytes[2] & 0xC7 == 5 and len(it.bytes) == 7 and after == tracked
+            insist(is_lea, "an address of the table that isn't loaded:", it.words)
+            out.emit(f"\tLEAQ {linked.name}_table<>+{place}(SB), {REGISTER[it.bytes[2] >> 3 & 7]}")
+        elif after != tracked:
+            out.emit("\t" + moving(it, after - tracked))
+            tracked = after
+        else:
+            out.pending += it.bytes
+    insist(tracked == 0, "the stack at the end")
+    out.pending += linked.code[end:]
+
+
+def after_code(out, linked):
+    """Constants lie behind the code, and what fills a table are their places in it."""
+    return linked.name, 0
+
+
+def sites(linked):
+    """The bytes that Go's linker fills in: the addresses of data."""
+    return {i for where in linked.to_table for i in range(where, where + 4)}
+
+
+def bytes_to_compare(linked):
+    return bytes(linked.code)
+
+
+def write_call(out, entry, need, loads, rest, store):
+    """Calls the function with the stack pointer at a multiple of 16, whichever one it is here."""
+    for load in loads:
+        out.emit(load)
+    out.emit("\tMOVQ SP, AX")
+    out.emit("\tTESTB $8, AX")
+    out.emit("\tJNE odd")
+    rise = -(-(need + 8) // 16) * 16
+    for label, by in (("", rise), ("odd:", rise - 8)):
+        if label:
+            out.emit(label)
+        out.emit(f"\tADJSP $-{by}")
+        for i, load in enumerate(rest):
+            out.emit(load("AX"))
+            out.emit(f"\tMOVQ AX, {8 * i}(SP)")
+        out.emit(f"\tCALL {entry}")
+        out.emit(f"\tADJSP ${by}")
+        out.emit(store)
+        out.emit("\tRET")
+    return rise

@@ -1,0 +1,126 @@
+"""What the text for Go is on arm64.
+
+The constants are data of Go: of a word that is 0 the assembler of Go 1.19 makes the word before it, so that they can't
+lie in the code. An ADRP tells the page of a constant, and what follows adds the rest: here two instructions of Go's
+assembler, for which `prepared` makes room, tell the address at once, and what follows adds nothing."""
+
+import re
+import struct
+from collections import Counter
+
+from linked import TABLE_AT, insist
+
+NAME, TOOLS, FILL, AFTER = "arm64", "aarch64-linux-gnu-", " =0x1f2003d5", 0
+SETS_STACK = "\tMOVD R0, RSP"
+RETURN_ADDRESS, RED_ZONE, IS_TRACKED = 0, 0, False
+ABSOLUTE = (257,)
+# Go has its goroutine in x28, which a signal handler takes there, and Darwin and Windows have x18 for themselves.
+NEVER = re.compile(r"\b(svc|mrs|msr|blr|[xw]18|[xw]28)\b")
+ARGUMENTS = [f"R{i}" for i in range(8)]
+RESULT = "R0"
+LOAD = {8: "MOVD", 4: "MOVWU", 2: "MOVHU", 1: "MOVBU"}
+STORE = {8: "MOVD", 4: "MOVW", 2: "MOVH", 1: "MOVB"}
+WORDS = ((4, "WORD"),)
+NOP = 0xD503201F
+ADRP, PLAIN, LOW_12 = 275, (0, 282, 283), (277, 278, 284, 285, 286, 299)
+
+
+def bytes_of(words):
+    return bytes.fromhex(words)[::-1]
+
+
+def is_call(it):
+    return it.words.split()[0] == "bl"
+
+
+def target_of(it):
+    word = it.words.split()[0]
+    if word not in ("bl", "b", "cbz", "cbnz", "tbz", "tbnz") and not word.startswith("b."):
+        return None
+    return int(re.search(r"([0-9a-f]+) <", it.words)[1], 16)
+
+
+def prepared(lines):
+    out = []
+    for line in lines:
+        out.append(line)
+        if line.startswith("\tadrp\t"):
+            out.append("\tnop")
+    return out
+
+
+def taken(linked, frames):
+    """The most that a function takes, at each of its instructions."""
+    most = Counter()
+    for it in linked.instructions:
+        if it.at in linked.function_of:
+            change = re.match(r"sub\tsp, sp, #(0x[0-9a-f]+)(, lsl #12)?$", it.words)
+            pushed = re.search(r"\[sp, #-(\d+)\]!", it.words)
+            if change:
+                most[linked.function_of[it.at]] += int(change[1], 0) << (12 if change[2] else 0)
+            elif pushed:
+                most[linked.function_of[it.at]] += int(pushed[1])
+            else:
+                insist(not re.match(r"\w+\tsp,", it.words) or re.match(r"add\tsp, sp, #|cmp\t", it.words), "the stack moves:", it.words)
+    return {p: most[begin] for p, begin in linked.function_of.items()}
+
+
+def write_code(out, linked):
+    skipped, told = None, {}
+    for it in linked.instructions:
+        if it.at in linked.functions:
+            out.emit(f"\t// {it.at}: {linked.functions[it.at]}")
+            told = {}
+        word = int.from_bytes(it.bytes, "little")
+        if it.at == skipped:
+            insist(word == NOP, "no room behind an ADRP:", it)
+            continue
+        kind, to = linked.places.get(it.at, (0, 0))
+        if kind == ADRP:
+            register, skipped = word & 31, it.at + 4
+            told[register] = to
+            name, base = ("table", TABLE_AT) if to >= TABLE_AT else ("constants", linked.text_end)
+            out.emit(f"\tMOVD ${linked.name}_{name}<>+{to - base}(SB), R{register}")
+            continue
+        if kind in LOW_12:
+            insist(told.get(word >> 5 & 31) == to, "the rest of an address that isn't told:", it)
+            word &= ~(0xFFF << 10)
+            struct.pack_into("<I", linked.code, it.at, word)
+        insist(word != 0 and kind in PLAIN + LOW_12, "an instruction that isn't understood:", it, kind)
+        out.pending += struct.pack("<I", word)
+
+
+def after_code(out, linked):
+    """Writes the constants; what fills a table are their places there."""
+    out.emit("")
+    data = linked.code[linked.text_end :]
+    data += bytes(-len(data) % 8)
+    for i, (word,) in enumerate(struct.iter_unpack("<Q", data)):
+        out.emit(f"DATA {linked.name}_constants<>+{8 * i}(SB)/8, $0x{word:016x}")
+    out.emit(f"GLOBL {linked.name}_constants<>(SB), RODATA, ${len(data)}")
+    return linked.name + "_constants", linked.text_end
+
+
+def sites(linked):
+    """The two instructions that tell an address, which Go's assembler and linker make."""
+    return {i for where, (kind, _) in linked.places.items() if kind == ADRP for i in range(where, where + 8)}
+
+
+def bytes_to_compare(linked):
+    return bytes(linked.code[: linked.text_end])
+
+
+def write_call(out, entry, need, loads, rest, store):
+    for load in loads:
+        out.emit(load)
+    rise = -(-(need + 8) // 16) * 16
+    for i, load in enumerate(rest):
+        out.emit(load(f"R{9 + i}"))
+    out.emit(f"\tADD ${rise}, RSP")
+    for i in range(len(rest)):
+        out.emit(f"\tMOVD R{9 + i}, {8 * i}(RSP)")
+    out.emit(f"\tCALL {entry}")
+    out.emit(f"\tSUB ${rise}, RSP")
+    out.emit(store)
+    out.emit("\tRET")
+    return rise

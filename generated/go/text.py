@@ -1,0 +1,125 @@
+#!/usr/bin/env python3
+"""Writes the library as text for Go's assembler, from its assembly text.
+
+usage: text.py amd64|arm64 TEXT MEMORY FOLDER
+
+FOLDER/rtp_wire_ARCH.s gets the bytes that binutils make of TEXT and MEMORY, linked at address 0, as one symbol, and in
+front of it a function of Go for each of bindings/c/rtp_wire.h (bindings/described/go.py), with a frame that has room for all of the stack that it and what it calls
+take, by the frame information and the call graph. FOLDER/*_ARCH.bytes and FOLDER/*_ARCH.sites have what is compared with
+what Go linked: these bytes, and the places that Go's linker fills in.
+
+Go's linker is told of at most 780 bytes that a function takes by itself. Functions that need one with more are linked
+once more as a symbol of their own, in which tracebacks end.
+
+What Go's assembler text can't carry is refused: recursion, calls by pointer, data that change, thread-local data, names
+from outside, addresses in the code, wrong frame information, and on arm64 the registers x18 and x28."""
+
+import re
+import struct
+import sys
+from pathlib import Path
+
+sys.dont_write_bytecode = True
+sys.path.insert(0, str(Path(__file__).resolve().parent.parent.parent / "bindings"))
+import amd64
+import arm64
+from described import go
+from described.header import SIZES, read
+from linked import MOST_TOLD, Linked, Refused, run
+
+
+class Text:
+    """Lines of text for Go's assembler."""
+
+    def __init__(self, processor):
+        self.processor, self.lines, self.pending = processor, [], bytearray()
+
+    def emit(self, line):
+        self.flush()
+        self.lines.append(line)
+
+    def flush(self):
+        i = 0
+        while i < len(self.pending):
+            size, word = next(it for it in self.processor.WORDS if len(self.pending) - i >= it[0])
+            self.lines.append(f"\t{word} $0x{int.from_bytes(self.pending[i:i + size], 'little'):0{2 * size}x}")
+            i += size
+        self.pending.clear()
+
+    def function(self, linked, it):
+        """The function of Go that calls one of the library."""
+        given, end = go.places_of(it)
+        size = SIZES.get(it.result, 0)
+        end = -(-end // 8) * 8 if size else end
+        p, entry = self.processor, linked.address[it.name]
+        need = linked.depths[entry] + p.RETURN_ADDRESS
+        loads = [f"\t{p.LOAD[width]} {place}(FP), {register}" for (place, width), register in zip(given, p.ARGUMENTS)]
+        rest = [lambda to, place=place, width=width: f"\t{p.LOAD[width]} {place}(FP), {to}" for place, width in given[len(p.ARGUMENTS) :]]
+        store = f"\t{p.STORE[size]} {p.RESULT}, ret+{end}(FP)" if size else None
+        body = Text(p)
+        rise = p.write_call(body, f"{linked.name}<>+{entry}(SB)", need, loads, rest, store)
+        self.emit(f"// {it.name} and what it calls take at most {need} bytes of the stack.")
+        self.emit(f"TEXT ·{go.text_of(it)}(SB), 0, ${rise + 8 * len(rest)}-{end + size}")
+        self.emit("\tNO_LOCAL_POINTERS")
+        self.lines += [line for line in body.lines if line is not None] + [""]
+
+    def library(self, linked):
+        self.emit("// The library, and its constants." if len(linked.roots) > 4 else f"// What {', '.join(linked.roots)} takes, again.")
+        self.emit(f"TEXT {linked.name}<>(SB), NOSPLIT|NOFRAME, $0-0")
+        self.emit("\tNO_LOCAL_POINTERS")
+        self.processor.write_code(self, linked)
+        if not linked.is_told():
+            self.emit("\t// Never reached: by it Go knows that it can't tell where the stack pointer is, and no traceback goes on.")
+            self.emit(self.processor.SETS_STACK)
+        name, base = self.processor.after_code(self, linked)
+        self.emit("")
+        for i, (to,) in enumerate(struct.iter_unpack("<Q", linked.table)):
+            self.emit(f"DATA {linked.name}_table<>+{8 * i}(SB)/8, ${name}<>+{to - base}(SB)")
+        if linked.table:
+            self.emit(f"GLOBL {linked.name}_table<>(SB), RODATA, ${len(linked.table)}")
+            self.emit("")
+
+
+def objects_of(processor, texts, folder):
+    for text in texts:
+        lines = re.sub(r"\n+$", "\n", Path(text).read_text()).split("\n")
+        prepared, to = folder / (Path(text).stem + ".s"), folder / (Path(text).stem + ".o")
+        prepared.write_text("\n".join(processor.prepared(lines)))
+        run(processor.TOOLS + "as", prepared, "-o", to)
+        yield to
+
+
+def main():
+    arch, text, memory, folder = sys.argv[1:]
+    processor, functions = {"amd64": amd64, "arm64": arm64}[arch], read().functions
+    work = Path(folder) / arch
+    work.mkdir(parents=True, exist_ok=True)
+    names = [it.name for it in functions]
+    objects = list(objects_of(processor, (text, memory), work))
+    link = lambda name, roots: Linked(name, processor, objects, roots, work)
+    parts = [link("rtp_wire", names)]
+    if processor.IS_TRACKED and not parts[0].is_told():
+        deep = [it for it in names if parts[0].frames[parts[0].address[it]] > MOST_TOLD]
+        parts = [link("rtp_wire", [it for it in names if it not in deep]), link("rtp_wire_deep", deep)]
+    part_of = {it: part for part in parts for it in part.roots}
+    out = Text(processor)
+    out.emit(f"// Made by generated/go/make of generated/{Path(text).name} and generated/go/{Path(memory).name}: do not edit.")
+    out.lines += ["", "//go:build gc", "", '#include "textflag.h"', '#include "funcdata.h"', ""]
+    for it in functions:
+        out.function(part_of[it.name], it)
+    for part in parts:
+        out.library(part)
+        (Path(folder) / f"{part.name}_{arch}.bytes").write_bytes(processor.bytes_to_compare(part))
+        (Path(folder) / f"{part.name}_{arch}.sites").write_text("".join(f"{it}\n" for it in sorted(processor.sites(part))))
+    out.flush()
+    (Path(folder) / f"rtp_wire_{arch}.s").write_text("\n".join(out.lines).rstrip() + "\n")
+    needs = [part_of[it].depths[part_of[it].address[it]] + processor.RETURN_ADDRESS for it in names]
+    sizes = " and ".join(f"{len(part.code)}" for part in parts)
+    print(f"{arch}: {len(needs)} functions, {sizes} bytes; they take {min(needs)} to {max(needs)} bytes of the stack")
+
+
+if __name__ == "__main__":
+    try:
+        main()
+    except Refused as why:
+        sys.exit(f"text.py: Go's assembler can't carry it: {why}")

@@ -1,0 +1,142 @@
+#!/usr/bin/env python3
+"""The library for C on other systems than that for which it was proved: what is changed in the LLVM module that the kit's
+clang was given, and in the text that this clang makes of it. The script generated/make calls it (generated/anew.sh).
+
+usage: systems.py module TRIPLE LAYOUT HEADER IN_FRONT.. < module.ll > other.ll
+       systems.py text TRIPLE EXPORTS LABELS < made.s > plain.s
+
+HEADER is bindings/c/rtp_wire.h, and IN_FRONT the functions in front of which generated/apart.c stands. EXPORTS is a regular expression for the names that can be seen from outside, and what
+labels begin with is LABELS, so that they meet no others where the text is part of a larger one.
+SPDX-License-Identifier: MIT OR Apache-2.0
+Copyright (c) 2026 The rtp-wire developers (NOTICE)
+"""
+
+import re
+import sys
+
+PROVED_FOR = "x86_64-unknown-linux-gnu"
+
+# How a result that is narrower than a register is made as wide as a caller takes it for granted: Apple's callers take 32
+# bits, and those on RISC-V all 64, 32 bits with their sign also where they have none. The module has no such word.
+NARROW = {"bool": "zeroext", "uint8_t": "zeroext", "uint16_t": "zeroext", "int8_t": "signext", "int16_t": "signext"}
+WORDS = {"int32_t": "signext", "uint32_t": "signext"}
+WIDE = ("void", "uint64_t", "int64_t", "size_t")
+
+
+def give_up(why):
+    sys.exit(f"systems.py: {why}")
+
+
+def results(header):
+    """What each function gives back, by its name."""
+    with open(header, encoding="utf-8") as file:
+        found = re.findall(r"^(?!static)(?:RTPW_CHECKED )?(\w+) (rtpw_\w+)\(", file.read(), re.M)
+    return {name: kind for kind, name in found}
+
+
+def extended(module, header, on_riscv):
+    """The module whose functions for C give back whole registers."""
+    kinds = results(header)
+    words = {**NARROW, **(WORDS if on_riscv else {})}
+    found = set()
+
+    def head(match):
+        returns, name = match[1], match[2]
+        kind = kinds.get(name) or give_up(f"{name} isn't in {header}")
+        found.add(name)
+        if kind not in NARROW and kind not in WORDS and kind not in WIDE:
+            give_up(f"{name} gives back {kind}, of which it isn't known how wide it has to be")
+        word = words.get(kind, "")
+        if word and word not in returns:
+            before, _, last = returns.rstrip().rpartition(" ")
+            returns = f"{before} {word} {last} "
+        return f"define {returns}@{name}("
+
+    module = re.sub(r"(?m)^define ((?!internal)[^\n@]*)@(rtpw_\w+)\(", head, module)
+    if found != set(kinds):
+        give_up(f"the module has no {', '.join(sorted(set(kinds) - found))}")
+    return module
+
+
+def apple_passes_words(header, names):
+    """Apple packs what is narrow on the stack, where generated/apart.c, which passes words on, would read what lies beside it:
+    so each argument behind the eighth, which lies there, has to be as wide as a word."""
+    with open(header, encoding="utf-8") as file:
+        text = re.sub(r"RTPW_[A-Z_]+(\([^()]*\))?", "", file.read())
+    for name in names:
+        arguments = re.search(rf"\brtpw_{name}\(([^()]*)\);", text)[1].split(",")
+        for it in arguments[8:]:
+            if "*" not in it and not re.search(r"\b(size_t|u?int64_t)\b", it):
+                give_up(f"rtpw_{name}: {it.strip()} lies on the stack and is narrower than a word, as generated/apart.c has it")
+
+
+def plainly_named(module):
+    """The module with names of letters, digits, dots and lines alone: clang writes texts for Windows and RISC-V that no
+    assembler reads where a name is of the form a::b. All begin with rtp_."""
+    plain = {}
+
+    def name(match):
+        if match[1] not in plain:
+            it = re.sub(r"\W+", ".", match[1]).strip(".")
+            it = it if it.startswith("rtp_") else f"rtp_{it}"
+            plain[match[1]] = it if it not in plain.values() else f"{it}.{len(plain)}"
+        return "@" + plain[match[1]]
+
+    return re.sub(r'@"([^"\n]+)"', name, module)
+
+
+def module_for(module, triple, layout, header, *in_front):
+    """The module for another system. It loses the processor that is named in it, and on Windows what would be taken for the
+    name of a function that probes the stack; there each function has an unwind table, for one without is taken to call none
+    and to keep no register."""
+    module = re.sub(r"(?m)^target datalayout = .*", f'target datalayout = "{layout}"', module)
+    module = re.sub(r"(?m)^target triple = .*", f'target triple = "{triple}"', module)
+    module = re.sub(r'"target-(cpu|features)"="[^"]*" ?', "", module)
+    module = extended(module, header, triple.startswith("riscv64"))
+    if "apple" in triple:
+        apple_passes_words(header, in_front)
+    if not re.match("(x86_64|aarch64)-unknown-linux", triple):
+        module = plainly_named(module)
+    if "windows" in triple:
+        module = re.sub(r'"(probe-stack|stack-probe-size)"="[^"]*" ?', "", module)
+        module = re.sub(r"(?m)^(define [^\n]*\S) \{$", r"\1 uwtable {", module)
+    return module
+
+
+# What other assemblers don't know of a text, and isn't needed.
+UNKNOWN = {
+    "linux": r"\t\.(file|ident|cfi_sections|hidden|attribute)[\t ].*\n",
+    "apple": r"\t?\.(file|ident|cfi_sections|private_extern|subsections_via_symbols|build_version)\b.*\n",
+    "windows": r"\t\.(file|ident|cfi_sections)[\t ].*\n|\t\.seh_(start|end)epilogue\n"
+    r"|\t\.def\t@feat\.00;\n(.*\n)*?\t\.endef\n\t\.globl\t@feat\.00\n@feat\.00 = .*\n",
+}
+LABEL = {
+    "linux": r"(\.L)(?=[A-Za-z_])",
+    "apple": r"(?<![\w.\"$])([Ll])(?=[A-Z][A-Za-z_]*\d|_|tmp\d|loh\d)",
+    "windows": r"(\.L)(?=[A-Za-z_])",
+}
+
+
+def text_for(text, triple, exports, labels):
+    """The code of a text: without the names of the compiler's files, with labels that meet no others, and on Linux with call
+    frame information where debuggers and profilers look for it."""
+    system = next(it for it in UNKNOWN if it in triple)
+    mark = "_" if system == "apple" else ""
+    text = re.sub(f"(?m)^(?:{UNKNOWN[system]})", "", text)
+    text = re.sub(rf"(?m)^\t\.globl\t(?!{mark}(?:{exports})$).*\n", "", text)
+    text = re.sub(r'(?m)^(\t\.section\t\.(?:text|rdata)(?:\$[^,\n]*)?,"[a-z]+"),(?:one_only|associative|discard),.*', r"\1", text)
+    if system == "windows":
+        # There private data have no label, but a name.
+        text = re.sub(r"(?<![\w.$])(static|switch\.table)\.(?=\w)", r"rtp_\1.", text)
+    text = re.sub(r"(?m)^(\t\.def\trtp_proved_\w+;\n\t\.scl\t)2;", r"\g<1>3;", text)
+    if re.search("chkstk|inline-asm", text):
+        give_up(f"{triple}: a stack of several pages, which is to be probed")
+    return re.sub(
+        rf"(?m)^(?!\t\.asci).*$", lambda line: re.sub(LABEL[system], rf"\g<1>{labels}", line[0]), text
+    )
+
+
+if sys.argv[1] == "module":
+    sys.stdout.write(module_for(sys.stdin.read(), *sys.argv[2:]))
+else:
+    sys.stdout.write(text_for(sys.stdin.read(), *sys.argv[2:]))
