@@ -6,7 +6,8 @@
 # usage: bindings/test.sh [--prove]
 #
 # It needs cc and c++. What needs cargo, go, valgrind, or aarch64-linux-gnu-gcc and qemu-aarch64 is left out where
-# they are missing, and a line says so. With --prove it tests what `rt` proves and builds instead of the texts.
+# they are missing, and a line says so. With --prove it tests what `rt` proves and builds instead of the texts, but
+# without what other tools see of them.
 set -euo pipefail
 here=$(cd -- "$(dirname -- "$(readlink -f -- "${BASH_SOURCE[0]}")")" && pwd)
 cd -- "$here/.."
@@ -260,6 +261,10 @@ hostile cc "$library" "$scratch/hostile"
 "$scratch/hostile" 2000003 500000
 wait $! || { cat "$scratch/first" >&2; fail hostile; }
 said 'each function with random bytes and structs between pages that may not be touched, a million times'
+if [ -n "$proves" ]; then
+    said 'what else is tried of the texts, which generated/make --check compares with these bytes, is not tried again'
+    exit
+fi
 
 # What a fuzzer runs, with the packets of the captures as its inputs; and beside one function in place of another.
 fuzz() { # program, options
