@@ -29,6 +29,7 @@ static size_t filled_body(uint8_t *body, size_t most, int form) {
     size_t at = 0, count = random_below(y % 4 == 0 ? 40 : 8);
     bool is_narrow = form == 1 || y / 4 % 2 == 0;
     unsigned ids = form == 1 || y / 8 % 4 != 0 ? 14 : 255;
+    most -= most % 4;
     for (size_t i = 0; i < count; i++) {
         uint64_t x = random_u64();
         size_t len = filled_len(is_narrow), zeros = x % 8 != 0 ? 0 : x / 8 % 8 == 0 ? x / 64 % 70 : x / 64 % 5;
@@ -45,7 +46,7 @@ static size_t filled_body(uint8_t *body, size_t most, int form) {
         at += len + zeros;
     }
     size_t end = (at + 3) / 4 * 4 + (y / 32 % 4 == 0 ? 4 * (y / 128 % 4) : 0);
-    end = end < most ? end : most / 4 * 4;
+    end = end < most ? end : most;
     memset(body + at, 0, end - at);
     if (y / 1024 % 16 == 0) {
         fill(body + at, end - at);
