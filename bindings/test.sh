@@ -71,6 +71,12 @@ done
 for standard in c++11 c++17; do
     c++ -std=$standard "${strict[@]}" "${include[@]}" -fsyntax-only -x c++ "$scratch/header.c"
 done
+# For 32 bits it says that it isn't for them, and why.
+for it in 'cc -m32' 'clang --target=i386-linux-gnu' 'clang --target=armv7-linux-gnueabihf'; do
+    if ! has "${it%% *}" || [ "$it-$(uname -m)" = 'cc -m32-aarch64' ]; then continue; fi
+    ! $it -ffreestanding "${include[@]}" -fsyntax-only "$scratch/header.c" 2>"$scratch/told" || fail "$it takes the header file"
+    grep -q 'in the proofs a size has 64 bits' "$scratch/told" || fail "$it: $(cat "$scratch/told")"
+done
 cc -std=c11 "${strict[@]}" -fsyntax-only bindings/test/layout.c
 c++ -std=c++11 "${strict[@]}" -fsyntax-only -x c++ bindings/test/layout.c
 with_types=(-std=c11 -g -fno-eliminate-unused-debug-types -c bindings/test/layout.c -o "$scratch/layout.o")
@@ -181,12 +187,15 @@ cc -std=c99 "${strict[@]}" "${include[@]}" bindings/examples/sfu{,_lines}.c "$li
 cc -std=c99 "${strict[@]}" "${include[@]}" bindings/examples/sfu{,_sockets}.c "$library" -o "$scratch/sockets"
 cc -std=c99 "${strict[@]}" "${include[@]}" -c bindings/examples/sfu.c -o "$scratch/sfu.o"
 cc -std=c99 "${strict[@]}" bindings/test/sfu_udp.c -o "$scratch/udp"
+mkdir "$scratch/plain" && cp -- "$scratch/udp" "$scratch/plain"
+cc -std=c99 "${strict[@]}" "${include[@]}" -D PLAIN_SOCKETS bindings/examples/sfu{,_sockets}.c "$library" -o "$scratch/plain/sockets"
 if has cargo; then
     "${cargo[@]}" build "${crate[@]}" --example sfu --example receive
     cp -- "$CARGO_TARGET_DIR/debug/examples/sfu" "$scratch/sfu_rust"
     cp -- "$CARGO_TARGET_DIR/debug/examples/receive" "$scratch/receive_rust"
 fi
 bindings/test/examples.sh "$scratch"
+bindings/test/examples.sh "$scratch/plain"
 said "the examples in $languages (in C static, shared and all static) against captures/*.expected and by hand"
 
 # In C and C++ the same, where what is undefined and what is outside of a buffer ends the program.

@@ -57,6 +57,11 @@
 #include <stddef.h>
 #include <stdint.h>
 
+/* The module for WebAssembly takes memories of 32 bits by a call of its own for each of these. */
+#if defined(SIZE_MAX) && SIZE_MAX < 0xFFFFFFFFFFFFFFFF && !defined(__wasm__)
+#error "rtp_wire.h is for systems of 64 bits: in the proofs a size has 64 bits, and the library has no text for others"
+#endif
+
 #ifdef __cplusplus
 extern "C" {
 #endif

@@ -8,7 +8,7 @@
  *        OFFSET is added to each sequence number; the first packet goes at SECONDS, each other one 20
  *        milliseconds after the one before it
  */
-#define _POSIX_C_SOURCE 200809L
+#include "getline.h"
 #include <rtp_wire.h>
 
 #include <stdio.h>

@@ -6,7 +6,7 @@
  * `cam-1`, and the first 16 characters of a mid and 8 of a stream id. To compare one with that of an SDP take the
  * element's data (rtpw_last_element, rtpw_is_token).
  */
-#define _POSIX_C_SOURCE 200809L
+#include "getline.h"
 #include "utf8.h"
 
 #include <rtp_wire.h>

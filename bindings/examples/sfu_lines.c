@@ -9,7 +9,7 @@
  *        numbers that are higher by 1,000. No packet is printed, and of the time only that of the processor which
  *        this takes.
  */
-#define _POSIX_C_SOURCE 200809L
+#include "getline.h"
 #include "sfu_peers.h"
 
 #include <stdlib.h>
@@ -95,7 +95,7 @@ static void repeat(sfu *sfu, kept *all, unsigned long repeats, sfu_output *out) 
         }
     }
     double seconds = (double)(clock() - start) / CLOCKS_PER_SEC;
-    printf("%lu datagrams, %llu bytes to receivers, %.2f seconds of the processor for a million datagrams\n",
+    printf("%zu datagrams, %llu bytes to receivers, %.2f seconds of the processor for a million datagrams\n",
            repeats * all->count, bytes, seconds * 1e6 / (double)(repeats * all->count));
 }
 

@@ -6,8 +6,10 @@
  *        From standard input come lines `map ID URI`, the sender's ids of extensions, and an empty line: then
  *        `port N` is printed. Where standard input ends, what has come by then is still sent, and what became of
  *        the datagrams is printed.
+ *
+ * It takes sockets of POSIX: Linux, where one call sends many datagrams, or macOS.
  */
-#define _GNU_SOURCE
+#include "sendmmsg.h"
 #include "sfu_peers.h"
 
 #include <arpa/inet.h>

@@ -18,6 +18,8 @@ size_t random_len(void);
 void random_packet(uint8_t *bytes, size_t len);
 /* Random bytes, most of which are a block's elements. */
 void random_body(uint8_t *body, size_t len, int form);
+/* A packet of at most so many bytes, most of which has a block that is full of elements: how long it is. */
+size_t filled_packet(uint8_t *bytes, size_t most);
 /* An id, mostly one of those that the bodies have. */
 uint8_t random_id(void);
 
@@ -67,6 +69,9 @@ void written_elements_round(void);
 void payload_round(void);
 void standard_round(void);
 void routed_round(void);
+void filled_round(void);
+void filled_routed_round(void);
+void texts_round(void);
 
 static inline void every_round(void) {
     packets_round();
@@ -90,6 +95,9 @@ static inline void every_round(void) {
     payload_round();
     standard_round();
     routed_round();
+    filled_round();
+    filled_routed_round();
+    texts_round();
 }
 
 #endif
