@@ -67,6 +67,7 @@ void written_elements_round(void);
 void payload_round(void);
 void standard_round(void);
 void routed_round(void);
+void places_round(void);
 
 static inline void every_round(void) {
     packets_round();
@@ -90,6 +91,7 @@ static inline void every_round(void) {
     payload_round();
     standard_round();
     routed_round();
+    places_round();
 }
 
 #endif
