@@ -150,6 +150,14 @@ export class Packet {
 }
 export function isRtcp(datagram: Bytes): boolean;
 export function elementsOf(body: Bytes, form: number): IterableIterator<Element>;
+/** What the elements of a body say under the map, but for a layer allocation. */
+export function readValues(body: Bytes, form: number, map?: ExtensionMap): Values;
+/** The data that an element of the kind has for these values. */
+export function dataOf(kind: number, values: Values): Uint8Array;
+/** The original number that the payload of a retransmission begins with (RFC 4588, 4). */
+export function readOriginal(payload: Bytes): number;
+/** Writes the low 16 bits of it there. */
+export function writeOriginal(payload: Bytes, number: Extended): void;
 export function writeElements(elements: Iterable<[number, Bytes]>, form: number): Uint8Array;
 
 // Of a packet that is the first `len` bytes of a buffer: each returns the packet's new length.

@@ -3,6 +3,7 @@
 
 // rtp-wire for JavaScript: RTP packets read, written and changed where they lie, and the receive state of streams.
 export { Columns } from './src/columns.mjs';
+export { dataOf, readOriginal, readValues, writeOriginal } from './src/elements.mjs';
 export { NotAPacket, RtpError } from './src/errors.mjs';
 export {
     addElement, changeForm, compact, fromRetransmission, pad, putBlock, putElement, removeBlock, toRetransmission,

@@ -5,13 +5,15 @@ and those of the package.
 
 usage: mutants.py RTP_WIRE.wasm FOLDER_OF_BESIDE [COUNT [ROUNDS [SEED]]]
 
-Each changed constant is one greater. One with which the module is no module any more isn't counted. What isn't seen is
-told with the function that it stands in. It takes wasm-objdump (wabt) and wasm-opt (binaryen).
+Each changed constant is one greater. Not counted is one with which the module is no module any more, or of which a compiler
+makes the same as without it (same.py), so that no answer changes; others are drawn in their place. What isn't seen is told
+with the function that it stands in. It takes wasm-objdump and wasm2c (wabt), wasm-opt (binaryen) and clang-22.
 
-Constants are taken of the module without its traps, which is left in the folder as `without_traps`. The compiler asks before each access whether addresses wrap around or
-overlap, and where they do branches to `unreachable`; that this is never taken is part of what is proved, so what decides over
-it and over nothing else changes no answer, whatever it is. So each such branch is left out, and binaryen then leaves out what
-is computed for it alone. That the module gives back the same without them is compared first.
+Constants are taken of the module without its traps, which is left in the folder as `without_traps`. The compiler asks before
+each access whether addresses wrap around or overlap, and where they do branches to `unreachable`; that this is never taken is
+part of what is proved, so what decides over it and over nothing else changes no answer, whatever it is. So each such branch is
+left out, and binaryen then leaves out what is computed for it alone. That the module gives back the same without them is
+compared first.
 """
 
 import random
@@ -22,6 +24,9 @@ import sys
 import tempfile
 from concurrent.futures import ThreadPoolExecutor
 from pathlib import Path
+
+sys.dont_write_bytecode = True
+from same import are_same
 
 HERE = Path(__file__).resolve().parent
 PACKAGE = HERE.parent
@@ -103,44 +108,58 @@ def package_passes(wasm, room):
     return subprocess.run(tests, capture_output=True, timeout=SECONDS).returncode == 0
 
 
+class Tried:
+    """Changed constants of a module without traps, and what the tests say of it as it is."""
+
+    def __init__(self, wasm, tests, rounds, room):
+        self.tests, self.room, self.bare = tests, room, Path(tests) / "without_traps"
+        all_constants, branches = len(list(constants(wasm))), without_traps(wasm, self.bare)
+        self.data, self.places = self.bare.read_bytes(), list(constants(self.bare))
+        # What few rounds see needs no more of them.
+        self.right = {it: said(self.bare, tests, it) for it in sorted({min(60, rounds), min(1000, rounds), rounds})}
+        given, wrong = self.right[rounds]
+        if given is None or given != said(wasm, tests, rounds)[0]:
+            sys.exit(f"the module without its {branches} branches to traps gives back something else: {wrong}")
+        left_out = all_constants - len(self.places)
+        print(f"{branches} branches to traps left out, and {left_out} of {all_constants} constants", flush=True)
+
+    def became(self, place):
+        """What became of the constant at a place, one greater."""
+        changed = bytearray(self.data)
+        changed[place[0]] += 1
+        with tempfile.TemporaryDirectory(prefix="mutant-", dir=self.room) as folder:
+            mutant = Path(folder) / "rtp_wire.wasm"
+            mutant.write_bytes(changed)
+            try:
+                for rounds, (right, _) in self.right.items():
+                    given, error = said(mutant, self.tests, rounds)
+                    if "CompileError" in error:
+                        return "no module"
+                    if given != right:
+                        return "seen"
+                if are_same(self.bare, mutant):
+                    return "the same"
+                return "not seen" if package_passes(mutant, folder) else "seen"
+            except subprocess.TimeoutExpired:
+                return "seen"
+
+
 def main():
     wasm, tests = sys.argv[1:3]
     count, rounds, seed = (int(it) for it in [*sys.argv[3:], *"40 4000 3".split()[len(sys.argv) - 3 :]])
+    counted = {"seen": 0, "not seen": 0, "the same": 0, "no module": 0}
     with tempfile.TemporaryDirectory(prefix="mutants-") as room:
-        bare = Path(tests) / "without_traps"
-        all_constants, branches = len(list(constants(wasm))), without_traps(wasm, bare)
-        data, places = bare.read_bytes(), list(constants(bare))
-        right, wrong = said(bare, tests, rounds)
-        if right is None or right != said(wasm, tests, rounds)[0]:
-            sys.exit(f"the module without its {branches} branches to traps gives back something else: {wrong}")
-        print(f"{branches} branches to traps left out, and {all_constants - len(places)} of {all_constants} constants", flush=True)
-
-        def tried(place):
-            at, _ = place
-            changed = bytearray(data)
-            changed[at] += 1
-            with tempfile.TemporaryDirectory(prefix="mutant-", dir=room) as folder:
-                mutant = Path(folder) / "rtp_wire.wasm"
-                mutant.write_bytes(changed)
-                try:
-                    given, error = said(mutant, tests, rounds)
-                    if "CompileError" in error:
-                        return "no module"
-                    return "seen" if given != right or not package_passes(mutant, folder) else "not seen"
-                except subprocess.TimeoutExpired:
-                    return "seen"
-
-        seen, unseen = 0, []
-        chosen = random.Random(seed).sample(places, count + 20)
+        tried = Tried(wasm, tests, rounds, room)
+        drawn = iter(random.Random(seed).sample(tried.places, len(tried.places)))
         with ThreadPoolExecutor(2) as pool:
-            for (at, function), became in zip(chosen, pool.map(tried, chosen)):
-                if became == "no module" or seen + len(unseen) == count:
-                    continue
-                seen += became == "seen"
-                if became == "not seen":
-                    unseen.append(f"{at:#x} in {function}, {data[at]} made {data[at] + 1}")
-                    print(f"not seen: {unseen[-1]}", flush=True)
-    print(f"{seen} of {count} changed constants seen, of {len(places)} that there are")
+            while (lacks := count - counted["seen"] - counted["not seen"]) > 0:
+                chosen = [next(drawn) for _ in range(lacks)]
+                for (at, function), became in zip(chosen, pool.map(tried.became, chosen)):
+                    counted[became] += 1
+                    if became in ("not seen", "the same"):
+                        print(f"{became}: {at:#x} in {function}, {tried.data[at]} made {tried.data[at] + 1}", flush=True)
+    print(f"{counted['seen']} of {count} changed constants seen, of {len(tried.places)} that there are; not counted were "
+          f"{counted['the same']} that change nothing, and {counted['no module']} that are no module")
 
 
 main()
