@@ -98,9 +98,14 @@ func (c Cause) Is(target error) bool {
 
 // errorOf is the error that a status of the library means; nil where the call did what it is for.
 func errorOf(status int32) error {
-	switch status {
-	case statusOK:
+	if status == statusOK {
 		return nil
+	}
+	return errorOfOther(status)
+}
+
+func errorOfOther(status int32) error {
+	switch status {
 	case statusUnknownForm:
 		return ErrOtherForm
 	case statusShortBuffer:

@@ -4,13 +4,20 @@ import "unsafe"
 
 // read reads the packet; its status is that of RTCP where it is none of RTP on a port that both share.
 func (p *Packet) read(datagram []byte, m *Map) int32 {
-	return rtpw_read(first(datagram), size(datagram), m.c(), p.c())
+	status := rtpw_read(first(datagram), size(datagram), m.c(), p.c())
+	if status == statusOK {
+		p.datagram = datagram
+	}
+	return status
 }
 
 func (p *Packet) parse(datagram []byte, m *Map) int32 {
-	status := p.read(datagram, m)
+	status := rtpw_read(first(datagram), size(datagram), m.c(), p.c())
 	if status == statusRTCP {
-		return p.parseAlike(datagram, m)
+		status = p.parseAlike(datagram, m)
+	}
+	if status == statusOK {
+		p.datagram = datagram
 	}
 	return status
 }

@@ -104,21 +104,13 @@ func (p *PacketFields) Payload(datagram []byte) []byte {
 //
 // It returns the first Cause for which the datagram is no packet; nothing changes then.
 func (p *Packet) Parse(datagram []byte, m *Map) error {
-	status := p.parse(datagram, m)
-	if status == statusOK {
-		p.datagram = datagram
-	}
-	return errorOf(status)
+	return errorOf(p.parse(datagram, m))
 }
 
 // ParseMuxed reads as [Packet.Parse] does from a port that RTP and RTCP share (RFC 5761), and returns [ErrRTCP] of RTCP
 // ([IsRTCP]), before any Cause: such a datagram isn't lost, nor taken for RTP. Nothing changes then.
 func (p *Packet) ParseMuxed(datagram []byte, m *Map) error {
-	status := p.read(datagram, m)
-	if status == statusOK {
-		p.datagram = datagram
-	}
-	return errorOf(status)
+	return errorOf(p.read(datagram, m))
 }
 
 // Datagram is the whole datagram.
