@@ -2,24 +2,35 @@ package rtpwire
 
 import "unsafe"
 
-// read reads the packet; its status is that of RTCP where it is none of RTP on a port that both share.
-func (p *Packet) read(datagram []byte, m *Map) int32 {
+// read reads the packet, and says of none of RTP on a port that both share that it is of RTCP.
+func (p *Packet) read(datagram []byte, m *Map) error {
 	status := rtpw_read(first(datagram), size(datagram), m.c(), p.c())
-	if status == statusOK {
-		p.datagram = datagram
+	if status != statusOK {
+		return errorOf(status)
 	}
-	return status
+	p.datagram = datagram
+	return nil
 }
 
-func (p *Packet) parse(datagram []byte, m *Map) int32 {
+// parse reads the packet, whatever it looks like.
+func (p *Packet) parse(datagram []byte, m *Map) error {
 	status := rtpw_read(first(datagram), size(datagram), m.c(), p.c())
+	if status != statusOK {
+		return p.parseOther(datagram, m, status)
+	}
+	p.datagram = datagram
+	return nil
+}
+
+// parseOther goes on where read refused the packet with this status: it may look like RTCP.
+func (p *Packet) parseOther(datagram []byte, m *Map, status int32) error {
 	if status == statusRTCP {
 		status = p.parseAlike(datagram, m)
 	}
 	if status == statusOK {
 		p.datagram = datagram
 	}
-	return status
+	return errorOf(status)
 }
 
 // parseAlike reads a packet that looks like RTCP, with a payload type of 64 to 95 on a port of its own.
@@ -68,7 +79,11 @@ func parseHeaders(buf []byte, m *Map, datagrams []datagramHeader) {
 		it := &datagrams[i]
 		if it.status == statusUnknownForm {
 			var packet Packet
-			it.status = packet.parse(buf[it.at:it.at+it.len], m)
+			own := buf[it.at : it.at+it.len]
+			it.status = rtpw_read(first(own), size(own), m.c(), packet.c())
+			if it.status == statusRTCP {
+				it.status = packet.parseAlike(own, m)
+			}
 			if it.status == statusOK {
 				it.header = packet.header
 			}

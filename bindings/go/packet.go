@@ -104,13 +104,13 @@ func (p *PacketFields) Payload(datagram []byte) []byte {
 //
 // It returns the first Cause for which the datagram is no packet; nothing changes then.
 func (p *Packet) Parse(datagram []byte, m *Map) error {
-	return errorOf(p.parse(datagram, m))
+	return p.parse(datagram, m)
 }
 
 // ParseMuxed reads as [Packet.Parse] does from a port that RTP and RTCP share (RFC 5761), and returns [ErrRTCP] of RTCP
 // ([IsRTCP]), before any Cause: such a datagram isn't lost, nor taken for RTP. Nothing changes then.
 func (p *Packet) ParseMuxed(datagram []byte, m *Map) error {
-	return errorOf(p.read(datagram, m))
+	return p.read(datagram, m)
 }
 
 // Datagram is the whole datagram.

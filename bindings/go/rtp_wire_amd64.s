@@ -282,17 +282,16 @@ TEXT ·text_put_element(SB), NOSPLIT, $0-60
 	MOVQ SP, AX
 	TESTB $8, AX
 	JNE odd
-	ADJSP $16
+	ADJSP $8
 	MOVBLZX allowed+48(FP), AX
-	MOVQ AX, 0(SP)
+	PUSHQ AX
 	CALL rtp_wire<>+110928(SB)
 	ADJSP $-16
 	MOVL AX, ret+56(FP)
 	RET
 odd:
-	ADJSP $8
 	MOVBLZX allowed+48(FP), AX
-	MOVQ AX, 0(SP)
+	PUSHQ AX
 	CALL rtp_wire<>+110928(SB)
 	ADJSP $-8
 	MOVL AX, ret+56(FP)
@@ -310,17 +309,16 @@ TEXT ·text_add_element(SB), NOSPLIT, $0-60
 	MOVQ SP, AX
 	TESTB $8, AX
 	JNE odd
-	ADJSP $16
+	ADJSP $8
 	MOVBLZX allowed+48(FP), AX
-	MOVQ AX, 0(SP)
+	PUSHQ AX
 	CALL rtp_wire<>+110992(SB)
 	ADJSP $-16
 	MOVL AX, ret+56(FP)
 	RET
 odd:
-	ADJSP $8
 	MOVBLZX allowed+48(FP), AX
-	MOVQ AX, 0(SP)
+	PUSHQ AX
 	CALL rtp_wire<>+110992(SB)
 	ADJSP $-8
 	MOVL AX, ret+56(FP)
@@ -808,21 +806,20 @@ TEXT ·text_write_with(SB), NOSPLIT, $0-68
 	MOVQ SP, AX
 	TESTB $8, AX
 	JNE odd
-	ADJSP $16
-	MOVQ size+48(FP), AX
-	MOVQ AX, 0(SP)
 	MOVQ n+56(FP), AX
-	MOVQ AX, 8(SP)
+	PUSHQ AX
+	MOVQ size+48(FP), AX
+	PUSHQ AX
 	CALL rtp_wire<>+111120(SB)
 	ADJSP $-16
 	MOVL AX, ret+64(FP)
 	RET
 odd:
-	ADJSP $24
-	MOVQ size+48(FP), AX
-	MOVQ AX, 0(SP)
+	ADJSP $8
 	MOVQ n+56(FP), AX
-	MOVQ AX, 8(SP)
+	PUSHQ AX
+	MOVQ size+48(FP), AX
+	PUSHQ AX
 	CALL rtp_wire<>+111120(SB)
 	ADJSP $-24
 	MOVL AX, ret+64(FP)
@@ -840,25 +837,24 @@ TEXT ·text_write_with_form(SB), NOSPLIT, $0-76
 	MOVQ SP, AX
 	TESTB $8, AX
 	JNE odd
-	ADJSP $32
-	MOVQ buf+48(FP), AX
-	MOVQ AX, 0(SP)
-	MOVQ size+56(FP), AX
-	MOVQ AX, 8(SP)
+	ADJSP $8
 	MOVQ n+64(FP), AX
-	MOVQ AX, 16(SP)
+	PUSHQ AX
+	MOVQ size+56(FP), AX
+	PUSHQ AX
+	MOVQ buf+48(FP), AX
+	PUSHQ AX
 	CALL rtp_wire<>+111184(SB)
 	ADJSP $-32
 	MOVL AX, ret+72(FP)
 	RET
 odd:
-	ADJSP $24
-	MOVQ buf+48(FP), AX
-	MOVQ AX, 0(SP)
-	MOVQ size+56(FP), AX
-	MOVQ AX, 8(SP)
 	MOVQ n+64(FP), AX
-	MOVQ AX, 16(SP)
+	PUSHQ AX
+	MOVQ size+56(FP), AX
+	PUSHQ AX
+	MOVQ buf+48(FP), AX
+	PUSHQ AX
 	CALL rtp_wire<>+111184(SB)
 	ADJSP $-24
 	MOVL AX, ret+72(FP)
@@ -876,21 +872,20 @@ TEXT ·text_write_elements(SB), NOSPLIT, $0-68
 	MOVQ SP, AX
 	TESTB $8, AX
 	JNE odd
-	ADJSP $16
-	MOVQ size+48(FP), AX
-	MOVQ AX, 0(SP)
 	MOVQ n+56(FP), AX
-	MOVQ AX, 8(SP)
+	PUSHQ AX
+	MOVQ size+48(FP), AX
+	PUSHQ AX
 	CALL rtp_wire<>+111248(SB)
 	ADJSP $-16
 	MOVL AX, ret+64(FP)
 	RET
 odd:
-	ADJSP $24
-	MOVQ size+48(FP), AX
-	MOVQ AX, 0(SP)
+	ADJSP $8
 	MOVQ n+56(FP), AX
-	MOVQ AX, 8(SP)
+	PUSHQ AX
+	MOVQ size+48(FP), AX
+	PUSHQ AX
 	CALL rtp_wire<>+111248(SB)
 	ADJSP $-24
 	MOVL AX, ret+64(FP)
@@ -1558,17 +1553,16 @@ TEXT ·text_to_retransmission(SB), NOSPLIT, $0-44
 	MOVQ SP, AX
 	TESTB $8, AX
 	JNE odd
-	ADJSP $16
+	ADJSP $8
 	MOVQ ids+32(FP), AX
-	MOVQ AX, 0(SP)
+	PUSHQ AX
 	CALL rtp_wire<>+85072(SB)
 	ADJSP $-16
 	MOVL AX, ret+40(FP)
 	RET
 odd:
-	ADJSP $8
 	MOVQ ids+32(FP), AX
-	MOVQ AX, 0(SP)
+	PUSHQ AX
 	CALL rtp_wire<>+85072(SB)
 	ADJSP $-8
 	MOVL AX, ret+40(FP)
@@ -1887,17 +1881,16 @@ TEXT ·text_write_report(SB), NOSPLIT, $0-52
 	MOVQ SP, AX
 	TESTB $8, AX
 	JNE odd
-	ADJSP $16
+	ADJSP $8
 	MOVQ n+40(FP), AX
-	MOVQ AX, 0(SP)
+	PUSHQ AX
 	CALL rtp_wire<>+70928(SB)
 	ADJSP $-16
 	MOVL AX, ret+48(FP)
 	RET
 odd:
-	ADJSP $8
 	MOVQ n+40(FP), AX
-	MOVQ AX, 0(SP)
+	PUSHQ AX
 	CALL rtp_wire<>+70928(SB)
 	ADJSP $-8
 	MOVL AX, ret+48(FP)
@@ -2641,33 +2634,33 @@ TEXT ·text_make_template(SB), 0, $2720-92
 	MOVQ SP, AX
 	TESTB $8, AX
 	JNE odd
-	ADJSP $-2672
-	MOVQ count+48(FP), AX
-	MOVQ AX, 0(SP)
-	MOVBLZX allowed+56(FP), AX
-	MOVQ AX, 8(SP)
-	MOVQ buf+64(FP), AX
-	MOVQ AX, 16(SP)
-	MOVQ size+72(FP), AX
-	MOVQ AX, 24(SP)
+	ADJSP $-2712
 	MOVQ made+80(FP), AX
-	MOVQ AX, 32(SP)
+	PUSHQ AX
+	MOVQ size+72(FP), AX
+	PUSHQ AX
+	MOVQ buf+64(FP), AX
+	PUSHQ AX
+	MOVBLZX allowed+56(FP), AX
+	PUSHQ AX
+	MOVQ count+48(FP), AX
+	PUSHQ AX
 	CALL R11
 	ADJSP $2672
 	MOVL AX, ret+88(FP)
 	RET
 odd:
-	ADJSP $-2680
-	MOVQ count+48(FP), AX
-	MOVQ AX, 0(SP)
-	MOVBLZX allowed+56(FP), AX
-	MOVQ AX, 8(SP)
-	MOVQ buf+64(FP), AX
-	MOVQ AX, 16(SP)
-	MOVQ size+72(FP), AX
-	MOVQ AX, 24(SP)
+	ADJSP $-2720
 	MOVQ made+80(FP), AX
-	MOVQ AX, 32(SP)
+	PUSHQ AX
+	MOVQ size+72(FP), AX
+	PUSHQ AX
+	MOVQ buf+64(FP), AX
+	PUSHQ AX
+	MOVBLZX allowed+56(FP), AX
+	PUSHQ AX
+	MOVQ count+48(FP), AX
+	PUSHQ AX
 	CALL R11
 	ADJSP $2680
 	MOVL AX, ret+88(FP)
@@ -2899,25 +2892,24 @@ TEXT ·text_write_headers(SB), NOSPLIT, $0-76
 	MOVQ SP, AX
 	TESTB $8, AX
 	JNE odd
-	ADJSP $32
-	MOVQ count+48(FP), AX
-	MOVQ AX, 0(SP)
-	MOVQ buf+56(FP), AX
-	MOVQ AX, 8(SP)
+	ADJSP $8
 	MOVQ size+64(FP), AX
-	MOVQ AX, 16(SP)
+	PUSHQ AX
+	MOVQ buf+56(FP), AX
+	PUSHQ AX
+	MOVQ count+48(FP), AX
+	PUSHQ AX
 	CALL rtp_wire<>+109008(SB)
 	ADJSP $-32
 	MOVL AX, ret+72(FP)
 	RET
 odd:
-	ADJSP $24
-	MOVQ count+48(FP), AX
-	MOVQ AX, 0(SP)
-	MOVQ buf+56(FP), AX
-	MOVQ AX, 8(SP)
 	MOVQ size+64(FP), AX
-	MOVQ AX, 16(SP)
+	PUSHQ AX
+	MOVQ buf+56(FP), AX
+	PUSHQ AX
+	MOVQ count+48(FP), AX
+	PUSHQ AX
 	CALL rtp_wire<>+109008(SB)
 	ADJSP $-24
 	MOVL AX, ret+72(FP)

@@ -197,11 +197,12 @@ def write_call(out, linked, entry, frame, loads, rest, store):
     out.emit("\tJNE odd")
     for label, unaligned in ((None, 0), ("odd:", 1)):
         out.emit(label)
-        by = 8 * (len(rest) + (len(rest) + unaligned) % 2) - frame
+        by = 8 * ((len(rest) + unaligned) % 2) - frame
         out.emit(f"\tADJSP ${by}" if by else None)
-        for i, load in enumerate(rest):
+        for load in reversed(rest):
             out.emit(load("AX"))
-            out.emit(f"\tMOVQ AX, {8 * i}(SP)")
+            out.emit("\tPUSHQ AX")
+            by += 8
         out.emit("\tCALL R11" if entry is None else f"\tCALL {linked.name}<>+{entry}(SB)")
         out.emit(f"\tADJSP ${-by}" if by else None)
         out.emit(store)
