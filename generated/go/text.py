@@ -4,7 +4,7 @@
 usage: text.py amd64|arm64 TEXT MEMORY FOLDER
 
 FOLDER/rtp_wire_ARCH.s gets the bytes that binutils make of TEXT and MEMORY, linked at address 0, as one symbol, and in
-front of it a function of Go for each of bindings/c/rtp_wire.h (bindings/described/go.py). What it and what it calls take of
+front of it a function of Go for each of bindings/c/rtp_wire.h that Go's package calls (bindings/described/go.py). What it and what it calls take of
 the stack is known by the frame information and the call graph: on amd64 it doesn't ask for the stack where that is less
 than Go keeps for those that don't, and else it has a frame with room for all. FOLDER/*_ARCH.bytes and FOLDER/*_ARCH.sites
 have what is compared with what Go linked: these bytes, and the places that Go's linker fills in, with what it has to fill
@@ -98,7 +98,7 @@ def objects_of(processor, texts, folder):
 
 def main():
     arch, text, memory, folder = sys.argv[1:]
-    processor, functions = {"amd64": amd64, "arm64": arm64}[arch], read().functions
+    processor, functions = {"amd64": amd64, "arm64": arm64}[arch], go.functions_of(read())
     work = Path(folder) / arch
     work.mkdir(parents=True, exist_ok=True)
     names = [it.name for it in functions]
