@@ -51,6 +51,21 @@ func (p *Packet) parseAlike(datagram []byte, m *Map) int32 {
 	return statusOK
 }
 
+// hasChanged is whether the datagram is no packet any more, or one with other fields or places.
+func (p *Packet) hasChanged() bool {
+	var now PacketFields
+	if rtpw_packet_parse(first(p.datagram), size(p.datagram), now.c()) != statusOK {
+		return true
+	}
+	h := &p.header
+	return now != PacketFields{
+		payloadAt: h.headerLen, payloadLen: len(p.datagram) - h.headerLen, unpaddedLen: p.unpaddedLen,
+		bodyAt: p.bodyAt, bodyLen: p.bodyLen, profile: p.profile, form: p.form, paddingFits: p.paddingFits,
+		Timestamp: h.Timestamp, SSRC: h.SSRC, SequenceNumber: h.SequenceNumber, PayloadType: h.PayloadType,
+		csrcCount: h.csrcCount, Marker: h.Marker, HasPadding: h.HasPadding,
+	}
+}
+
 func isRTCP(datagram []byte) bool {
 	return rtpw_is_rtcp(first(datagram), size(datagram))
 }
