@@ -121,7 +121,7 @@ func (p *Place) next(body []byte, form Form) bool {
 // nextPlaces writes the places of the elements from an offset on, as many as there is room for, and says how many.
 func nextPlaces(body []byte, form Form, at int, room []Place) int {
 	for i := range room {
-		if rtpw_next_element(first(body), size(body), uint8(form), uintptr(at), room[i].c()) != statusOK {
+		if at == len(body) || rtpw_next_element(first(body), size(body), uint8(form), uintptr(at), room[i].c()) != statusOK {
 			return i
 		}
 		at = room[i].end
