@@ -29,6 +29,24 @@ AFTER = {
     "pad": "writes(unsafe.Add(unsafe.Pointer(datagram), header_len), *count)",
     "write_original": "writes(unsafe.Pointer(payload), 2)",
 }
+# What Go's package doesn't call: it sets fields together, reads many headers by parse_many, and has others in another way.
+LEFT_OUT = {
+    "map_get", "map_remove", "read_many", "restarting_receive", "set_marker", "set_sequence_number", "set_ssrc", "set_timestamp", "write_with",
+}
+
+
+def functions_of(api: Api) -> List[Function]:
+    """Those that Go's package calls."""
+    return [it for it in api.functions if it.short not in LEFT_OUT]
+
+
+def structs_of(api: Api) -> List[Struct]:
+    """The structs that these take, and those within them."""
+    wanted = {p.type for it in functions_of(api) for p in it.parameters}
+    for it in reversed(api.structs):
+        if it.name in wanted:
+            wanted |= {field.type for field in it.fields}
+    return [it for it in api.structs if it.name in wanted]
 
 
 def type_of(name: str) -> str:
@@ -112,5 +130,5 @@ def statuses(api: Api) -> str:
 
 def files(api: Api):
     text = [MADE, "package rtpwire\n", 'import "unsafe"\n', "// The statuses, the structs and the functions of rtp_wire.h.\n",
-            statuses(api), *map(struct_of, api.structs), *map(function_of, api.functions)]
+            statuses(api), *map(struct_of, structs_of(api)), *map(function_of, functions_of(api))]
     return {"bindings/go/calls.go": "\n".join(text)}

@@ -244,16 +244,6 @@ type rtpw_wide_receiver struct {
 	started byte
 }
 
-type rtpw_restarting_receiver struct {
-	highest        uint64
-	words          [2]uint64
-	max_dropout    uint16
-	next           uint16
-	min_sequential byte
-	in_row         byte
-	started        byte
-}
-
 type rtpw_reception struct {
 	first           uint64
 	highest         uint64
@@ -279,13 +269,6 @@ type rtpw_wide_restarting_receiver struct {
 	min_sequential byte
 	in_row         byte
 	started        byte
-}
-
-type rtpw_whole_datagram struct {
-	at     uintptr
-	len    uintptr
-	packet rtpw_whole_packet
-	status int32
 }
 
 type rtpw_datagram struct {
@@ -370,21 +353,6 @@ func rtpw_packet_parse(datagram *byte, n uintptr, packet *rtpw_packet) int32 {
 }
 
 //go:noescape
-func text_set_marker(datagram *byte, n uintptr, marker bool) int32
-
-func rtpw_set_marker(datagram *byte, n uintptr, marker bool) int32 {
-	if racing {
-		readsPacket(datagram, n)
-		status := text_set_marker(datagram, n, marker)
-		if status == statusOK {
-			writesHeader(datagram, n)
-		}
-		return status
-	}
-	return text_set_marker(datagram, n, marker)
-}
-
-//go:noescape
 func text_set_payload_type(datagram *byte, n uintptr, payload_type byte) int32
 
 func rtpw_set_payload_type(datagram *byte, n uintptr, payload_type byte) int32 {
@@ -397,51 +365,6 @@ func rtpw_set_payload_type(datagram *byte, n uintptr, payload_type byte) int32 {
 		return status
 	}
 	return text_set_payload_type(datagram, n, payload_type)
-}
-
-//go:noescape
-func text_set_sequence_number(datagram *byte, n uintptr, number uint16) int32
-
-func rtpw_set_sequence_number(datagram *byte, n uintptr, number uint16) int32 {
-	if racing {
-		readsPacket(datagram, n)
-		status := text_set_sequence_number(datagram, n, number)
-		if status == statusOK {
-			writesHeader(datagram, n)
-		}
-		return status
-	}
-	return text_set_sequence_number(datagram, n, number)
-}
-
-//go:noescape
-func text_set_timestamp(datagram *byte, n uintptr, timestamp uint32) int32
-
-func rtpw_set_timestamp(datagram *byte, n uintptr, timestamp uint32) int32 {
-	if racing {
-		readsPacket(datagram, n)
-		status := text_set_timestamp(datagram, n, timestamp)
-		if status == statusOK {
-			writesHeader(datagram, n)
-		}
-		return status
-	}
-	return text_set_timestamp(datagram, n, timestamp)
-}
-
-//go:noescape
-func text_set_ssrc(datagram *byte, n uintptr, ssrc uint32) int32
-
-func rtpw_set_ssrc(datagram *byte, n uintptr, ssrc uint32) int32 {
-	if racing {
-		readsPacket(datagram, n)
-		status := text_set_ssrc(datagram, n, ssrc)
-		if status == statusOK {
-			writesHeader(datagram, n)
-		}
-		return status
-	}
-	return text_set_ssrc(datagram, n, ssrc)
 }
 
 //go:noescape
@@ -686,26 +609,6 @@ func rtpw_map_set(m *rtpw_map, id byte, kind byte) int32 {
 }
 
 //go:noescape
-func text_map_remove(m *rtpw_map, id byte)
-
-func rtpw_map_remove(m *rtpw_map, id byte) {
-	if racing {
-		writes(unsafe.Pointer(m), unsafe.Sizeof(*m))
-	}
-	text_map_remove(m, id)
-}
-
-//go:noescape
-func text_map_get(m *rtpw_map, id byte) byte
-
-func rtpw_map_get(m *rtpw_map, id byte) byte {
-	if racing {
-		reads(unsafe.Pointer(m), unsafe.Sizeof(*m))
-	}
-	return text_map_get(m, id)
-}
-
-//go:noescape
 func text_id_of(m *rtpw_map, kind byte) byte
 
 func rtpw_id_of(m *rtpw_map, kind byte) byte {
@@ -868,23 +771,6 @@ func rtpw_left_out_layers(m *rtpw_map, header *rtpw_header, layers *rtpw_layers,
 		writes(unsafe.Pointer(kinds), unsafe.Sizeof(*kinds))
 	}
 	return text_left_out_layers(m, header, layers, kinds)
-}
-
-//go:noescape
-func text_write_with(header *rtpw_header, data *byte, data_len uintptr, elements *rtpw_element, count uintptr, buf *byte, size uintptr, n *uintptr) int32
-
-func rtpw_write_with(header *rtpw_header, data *byte, data_len uintptr, elements *rtpw_element, count uintptr, buf *byte, size uintptr, n *uintptr) int32 {
-	if racing {
-		reads(unsafe.Pointer(header), unsafe.Sizeof(*header))
-		reads(unsafe.Pointer(data), data_len*unsafe.Sizeof(*data))
-		reads(unsafe.Pointer(elements), count*unsafe.Sizeof(*elements))
-		status := text_write_with(header, data, data_len, elements, count, buf, size, n)
-		if status == statusOK {
-			writes(unsafe.Pointer(buf), *n)
-		}
-		return status
-	}
-	return text_write_with(header, data, data_len, elements, count, buf, size, n)
 }
 
 //go:noescape
@@ -1496,17 +1382,6 @@ func rtpw_wide_receiver_standing_of(receiver *rtpw_wide_receiver, words *uint64,
 }
 
 //go:noescape
-func text_restarting_receive(receiver *rtpw_restarting_receiver, sequence_number uint16, number *uint64) int32
-
-func rtpw_restarting_receive(receiver *rtpw_restarting_receiver, sequence_number uint16, number *uint64) int32 {
-	if racing {
-		writes(unsafe.Pointer(receiver), unsafe.Sizeof(*receiver))
-		writes(unsafe.Pointer(number), unsafe.Sizeof(*number))
-	}
-	return text_restarting_receive(receiver, sequence_number, number)
-}
-
-//go:noescape
 func text_reception_record(reception *rtpw_reception, number uint64, timestamp uint32, arrival uint32)
 
 func rtpw_reception_record(reception *rtpw_reception, number uint64, timestamp uint32, arrival uint32) {
@@ -1580,17 +1455,6 @@ func text_extend_u32(previous uint64, number uint32) uint64
 
 func rtpw_extend_u32(previous uint64, number uint32) uint64 {
 	return text_extend_u32(previous, number)
-}
-
-//go:noescape
-func text_read_many(buf *byte, size uintptr, m *rtpw_map, datagrams *rtpw_whole_datagram, count uintptr)
-
-func rtpw_read_many(buf *byte, size uintptr, m *rtpw_map, datagrams *rtpw_whole_datagram, count uintptr) {
-	if racing {
-		reads(unsafe.Pointer(m), unsafe.Sizeof(*m))
-		writes(unsafe.Pointer(datagrams), count*unsafe.Sizeof(*datagrams))
-	}
-	text_read_many(buf, size, m, datagrams, count)
 }
 
 //go:noescape

@@ -96,32 +96,28 @@ func (c Cause) Is(target error) bool {
 	return target == ErrNotAPacket
 }
 
-// errorOf is the error that a status of the library means; nil where the call did what it is for.
-func errorOf(status int32) error {
-	switch status {
-	case statusOK:
-		return nil
-	case statusUnknownForm:
-		return ErrOtherForm
-	case statusShortBuffer:
-		return ErrShortBuffer
-	case statusBadField:
-		return ErrBadField
-	case statusRefused:
-		return ErrRefused
-	case statusNone:
-		return ErrNotFound
-	case statusBadID:
-		return ErrBadID
-	case statusFormNotAllowed:
-		return ErrFormNotAllowed
-	case statusLongBlock:
-		return ErrLongBlock
-	case statusLongID:
-		return ErrLongID
-	case statusRTCP:
-		return ErrRTCP
-	default:
-		return Cause(status)
+// errorsOf has the error that each status of the library means, and nil for that of a call that did what it is for.
+var errorsOf = func() (errors [32]error) {
+	for status := 1; status < len(errors); status++ {
+		errors[status] = Cause(status)
 	}
+	for status, err := range map[int]error{
+		statusUnknownForm:    ErrOtherForm,
+		statusShortBuffer:    ErrShortBuffer,
+		statusBadField:       ErrBadField,
+		statusRefused:        ErrRefused,
+		statusNone:           ErrNotFound,
+		statusBadID:          ErrBadID,
+		statusFormNotAllowed: ErrFormNotAllowed,
+		statusLongBlock:      ErrLongBlock,
+		statusLongID:         ErrLongID,
+		statusRTCP:           ErrRTCP,
+	} {
+		errors[status] = err
+	}
+	return errors
+}()
+
+func errorOf(status int32) error {
+	return errorsOf[uint(status)%uint(len(errorsOf))]
 }

@@ -80,11 +80,7 @@ func SetPadding(datagram []byte, hasPadding bool) error {
 // the datagram; where P is clear, all of them. It returns ErrBadField where the padding's last byte counts more bytes
 // than the payload has. Of SRTP the padding is encrypted: decrypt first.
 func RemovePadding(datagram []byte) ([]byte, error) {
-	length, err := removePadding(datagram)
-	if err != nil {
-		return nil, err
-	}
-	return datagram[:length], nil
+	return removePadding(datagram)
 }
 
 // PutElementIn puts an element, of an id from 1 on with at most 255 bytes of data, into the packet in the first length
@@ -108,14 +104,7 @@ func RemovePadding(datagram []byte) ([]byte, error) {
 // data or more than 16 bytes of them); [ErrLongBlock] where it would have more than 65,535 words; and ErrShortBuffer
 // where the buffer has no room. Where it returns an error nothing changes.
 func PutElementIn(buf []byte, length int, id uint8, data []byte, allowed Forms) ([]byte, error) {
-	if length < 0 {
-		return nil, ErrBadField
-	}
-	end, err := putElement(buf, length, id, data, allowed)
-	if err != nil {
-		return nil, err
-	}
-	return buf[:end], nil
+	return putElement(buf, length, id, data, allowed)
 }
 
 // AddElementIn puts an element behind all others, and those of its id stay: an id may have several, of which the last one
@@ -123,14 +112,7 @@ func PutElementIn(buf []byte, length int, id uint8, data []byte, allowed Forms) 
 // the packet and the errors are as those of [PutElementIn]. The block is always made anew: elements of the id 0, which is
 // padding's, go, and so does what stands where reading ends.
 func AddElementIn(buf []byte, length int, id uint8, data []byte, allowed Forms) ([]byte, error) {
-	if length < 0 {
-		return nil, ErrBadField
-	}
-	end, err := addElement(buf, length, id, data, allowed)
-	if err != nil {
-		return nil, err
-	}
-	return buf[:end], nil
+	return addElement(buf, length, id, data, allowed)
 }
 
 // ChangeFormIn makes a block of the other form one of this form, OneByteForm or TwoByteForm, in the packet in the first
@@ -146,14 +128,7 @@ func AddElementIn(buf []byte, length int, id uint8, data []byte, allowed Forms) 
 // would have more than 65,535 words; and ErrShortBuffer where the buffer has no room. Where it returns an error nothing
 // changes.
 func ChangeFormIn(buf []byte, length int, form Form) ([]byte, error) {
-	if length < 0 {
-		return nil, ErrBadField
-	}
-	end, err := changeForm(buf, length, form)
-	if err != nil {
-		return nil, err
-	}
-	return buf[:end], nil
+	return changeForm(buf, length, form)
 }
 
 // PutBlockIn gives the packet in the first length bytes of the buffer a block that begins with these 16 bits, which a
@@ -165,25 +140,14 @@ func ChangeFormIn(buf []byte, length int, form Form) ([]byte, error) {
 // bytes; [ErrLongBlock] where it has more than 65,535 words; and ErrShortBuffer where the buffer has no room. Where it
 // returns an error nothing changes.
 func PutBlockIn(buf []byte, length int, profile uint16, body []byte) ([]byte, error) {
-	if length < 0 {
-		return nil, ErrBadField
-	}
-	end, err := putBlock(buf, length, profile, body)
-	if err != nil {
-		return nil, err
-	}
-	return buf[:end], nil
+	return putBlock(buf, length, profile, body)
 }
 
 // RemoveBlock takes the block off, of whatever form, and clears X, and returns the bytes that the packet then has, the
 // first ones of the datagram: the payload moves to the end of the CSRC list. Without a block nothing changes. So the
 // block of no words goes that [RemoveElement] and Compact leave. A header alone is enough.
 func RemoveBlock(datagram []byte) ([]byte, error) {
-	length, err := removeBlock(datagram)
-	if err != nil {
-		return nil, err
-	}
-	return datagram[:length], nil
+	return removeBlock(datagram)
 }
 
 // Compact makes the packet as short as its elements allow, and returns the bytes that it then has, the first ones of
@@ -191,11 +155,7 @@ func RemoveBlock(datagram []byte) ([]byte, error) {
 // Elements of the id 0 go, and so does what stands where reading ends; a block of another form stays. So
 // [RemoveElement] and then this gives bytes back. A header alone is enough.
 func Compact(datagram []byte) ([]byte, error) {
-	length, err := compact(datagram)
-	if err != nil {
-		return nil, err
-	}
-	return datagram[:length], nil
+	return compact(datagram)
 }
 
 // Pad makes a packet of padding alone after its header: it sets P, and writes the padding from headerLen on, zeros and
@@ -238,14 +198,7 @@ func WriteOriginal(payload []byte, number uint64) error {
 func ToRetransmissionIn(
 	buf []byte, length int, ssrc uint32, payloadType uint8, number uint16, ids *NewIDs,
 ) ([]byte, error) {
-	if length < 0 {
-		return nil, ErrBadField
-	}
-	end, err := toRetransmission(buf, length, ssrc, payloadType, number, ids)
-	if err != nil {
-		return nil, err
-	}
-	return buf[:end], nil
+	return toRetransmission(buf, length, ssrc, payloadType, number, ids)
 }
 
 // FromRetransmissionIn makes the retransmission in the first length bytes of the buffer the packet that it repeats, in
@@ -256,14 +209,7 @@ func ToRetransmissionIn(
 // It returns errors as ToRetransmissionIn does, but for the last one; and before ErrLongID ErrNotFound, where the payload
 // without its padding has fewer than the two bytes of a number. Nothing changes then.
 func FromRetransmissionIn(buf []byte, length int, ssrc uint32, payloadType uint8, ids *NewIDs) ([]byte, error) {
-	if length < 0 {
-		return nil, ErrBadField
-	}
-	end, err := fromRetransmission(buf, length, ssrc, payloadType, ids)
-	if err != nil {
-		return nil, err
-	}
-	return buf[:end], nil
+	return fromRetransmission(buf, length, ssrc, payloadType, ids)
 }
 
 // LibraryVersion is the version of the library that is linked: 65,536 times its major number, 256 times the minor

@@ -29,7 +29,7 @@ type Resolution struct {
 	Framerate     uint8  // the highest, in frames per second
 }
 
-// Parse reads the layer allocation of the packet that the datagram is, where it has one ([Values.HasLayers]); else
+// Parse reads the layer allocation of the packet that the datagram is, where it has one ([ReadValues.HasLayers]); else
 // there is no stream. It returns an error as [Packet.Parse], and nothing changes then.
 func (l *Layers) Parse(datagram []byte, m *Map) error {
 	return l.parse(datagram, m)

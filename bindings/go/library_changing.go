@@ -1,5 +1,13 @@
 package rtpwire
 
+// upTo is so many bytes of a buffer, where the status is that of a call that did what it is for.
+func upTo(buf []byte, n uintptr, status int32) ([]byte, error) {
+	if status != statusOK {
+		return nil, errorOf(status)
+	}
+	return buf[:n], nil
+}
+
 func setFields(datagram []byte, fields *Fields) error {
 	return errorOf(rtpw_set_fields(first(datagram), size(datagram), fields.c()))
 }
@@ -21,49 +29,49 @@ func setPadding(datagram []byte, hasPadding bool) error {
 	return errorOf(rtpw_set_padding(first(datagram), size(datagram), hasPadding))
 }
 
-func removePadding(datagram []byte) (int, error) {
+func removePadding(datagram []byte) ([]byte, error) {
 	var n uintptr
 	status := rtpw_remove_padding(first(datagram), size(datagram), &n)
-	return lengthOr(n, status)
+	return upTo(datagram, n, status)
 }
 
-func putElement(buf []byte, length int, id uint8, data []byte, allowed Forms) (int, error) {
+func putElement(buf []byte, length int, id uint8, data []byte, allowed Forms) ([]byte, error) {
 	data = apart(data, buf)
 	n := uintptr(length)
 	status := rtpw_put_element(first(buf), size(buf), &n, id, first(data), size(data), uint8(allowed))
-	return lengthOr(n, status)
+	return upTo(buf, n, status)
 }
 
-func addElement(buf []byte, length int, id uint8, data []byte, allowed Forms) (int, error) {
+func addElement(buf []byte, length int, id uint8, data []byte, allowed Forms) ([]byte, error) {
 	data = apart(data, buf)
 	n := uintptr(length)
 	status := rtpw_add_element(first(buf), size(buf), &n, id, first(data), size(data), uint8(allowed))
-	return lengthOr(n, status)
+	return upTo(buf, n, status)
 }
 
-func changeForm(buf []byte, length int, form Form) (int, error) {
+func changeForm(buf []byte, length int, form Form) ([]byte, error) {
 	n := uintptr(length)
 	status := rtpw_change_form(first(buf), size(buf), &n, uint8(form))
-	return lengthOr(n, status)
+	return upTo(buf, n, status)
 }
 
-func putBlock(buf []byte, length int, profile uint16, body []byte) (int, error) {
+func putBlock(buf []byte, length int, profile uint16, body []byte) ([]byte, error) {
 	body = apart(body, buf)
 	n := uintptr(length)
 	status := rtpw_put_block(first(buf), size(buf), &n, profile, first(body), size(body))
-	return lengthOr(n, status)
+	return upTo(buf, n, status)
 }
 
-func removeBlock(datagram []byte) (int, error) {
+func removeBlock(datagram []byte) ([]byte, error) {
 	n := size(datagram)
 	status := rtpw_remove_block(first(datagram), size(datagram), &n)
-	return lengthOr(n, status)
+	return upTo(datagram, n, status)
 }
 
-func compact(datagram []byte) (int, error) {
+func compact(datagram []byte) ([]byte, error) {
 	n := size(datagram)
 	status := rtpw_compact(first(datagram), size(datagram), &n)
-	return lengthOr(n, status)
+	return upTo(datagram, n, status)
 }
 
 func (n *NewIDs) between(from, to *Map) {
@@ -98,14 +106,14 @@ func (n *NewIDs) fromRetransmission(m *Map) {
 	rtpw_new_ids_from_retransmission(m.c(), n.c())
 }
 
-func toRetransmission(buf []byte, length int, ssrc uint32, payloadType uint8, number uint16, ids *NewIDs) (int, error) {
+func toRetransmission(buf []byte, length int, ssrc uint32, payloadType uint8, number uint16, ids *NewIDs) ([]byte, error) {
 	n := uintptr(length)
 	status := rtpw_to_retransmission(first(buf), size(buf), &n, ssrc, payloadType, number, ids.c())
-	return lengthOr(n, status)
+	return upTo(buf, n, status)
 }
 
-func fromRetransmission(buf []byte, length int, ssrc uint32, payloadType uint8, ids *NewIDs) (int, error) {
+func fromRetransmission(buf []byte, length int, ssrc uint32, payloadType uint8, ids *NewIDs) ([]byte, error) {
 	n := uintptr(length)
 	status := rtpw_from_retransmission(first(buf), size(buf), &n, ssrc, payloadType, ids.c())
-	return lengthOr(n, status)
+	return upTo(buf, n, status)
 }

@@ -2,17 +2,35 @@ package rtpwire
 
 import "unsafe"
 
-// read reads the packet; its status is that of RTCP where it is none of RTP on a port that both share.
-func (p *Packet) read(datagram []byte, m *Map) int32 {
-	return rtpw_read(first(datagram), size(datagram), m.c(), p.c())
+// read reads the packet, and says of none of RTP on a port that both share that it is of RTCP.
+func (p *Packet) read(datagram []byte, m *Map) error {
+	status := rtpw_read(first(datagram), size(datagram), m.c(), p.c())
+	if status != statusOK {
+		return errorOf(status)
+	}
+	p.datagram = datagram
+	return nil
 }
 
-func (p *Packet) parse(datagram []byte, m *Map) int32 {
-	status := p.read(datagram, m)
-	if status == statusRTCP {
-		return p.parseAlike(datagram, m)
+// parse reads the packet, whatever it looks like.
+func (p *Packet) parse(datagram []byte, m *Map) error {
+	status := rtpw_read(first(datagram), size(datagram), m.c(), p.c())
+	if status != statusOK {
+		return p.parseOther(datagram, m, status)
 	}
-	return status
+	p.datagram = datagram
+	return nil
+}
+
+// parseOther goes on where read refused the packet with this status: it may look like RTCP.
+func (p *Packet) parseOther(datagram []byte, m *Map, status int32) error {
+	if status == statusRTCP {
+		status = p.parseAlike(datagram, m)
+	}
+	if status == statusOK {
+		p.datagram = datagram
+	}
+	return errorOf(status)
 }
 
 // parseAlike reads a packet that looks like RTCP, with a payload type of 64 to 95 on a port of its own.
@@ -31,6 +49,21 @@ func (p *Packet) parseAlike(datagram []byte, m *Map) int32 {
 	p.unpaddedLen, p.paddingFits = parts.unpaddedLen, parts.paddingFits
 	p.bodyAt, p.bodyLen, p.profile, p.form = parts.bodyAt, parts.bodyLen, parts.profile, parts.form
 	return statusOK
+}
+
+// hasChanged is whether the datagram is no packet any more, or one with other fields or places.
+func (p *Packet) hasChanged() bool {
+	var now PacketFields
+	if rtpw_packet_parse(first(p.datagram), size(p.datagram), now.c()) != statusOK {
+		return true
+	}
+	h := &p.header
+	return now != PacketFields{
+		payloadAt: h.headerLen, payloadLen: len(p.datagram) - h.headerLen, unpaddedLen: p.unpaddedLen,
+		bodyAt: p.bodyAt, bodyLen: p.bodyLen, profile: p.profile, form: p.form, paddingFits: p.paddingFits,
+		Timestamp: h.Timestamp, SSRC: h.SSRC, SequenceNumber: h.SequenceNumber, PayloadType: h.PayloadType,
+		csrcCount: h.csrcCount, Marker: h.Marker, HasPadding: h.HasPadding,
+	}
 }
 
 func isRTCP(datagram []byte) bool {
@@ -61,7 +94,11 @@ func parseHeaders(buf []byte, m *Map, datagrams []datagramHeader) {
 		it := &datagrams[i]
 		if it.status == statusUnknownForm {
 			var packet Packet
-			it.status = packet.parse(buf[it.at:it.at+it.len], m)
+			own := buf[it.at : it.at+it.len]
+			it.status = rtpw_read(first(own), size(own), m.c(), packet.c())
+			if it.status == statusRTCP {
+				it.status = packet.parseAlike(own, m)
+			}
 			if it.status == statusOK {
 				it.header = packet.header
 			}
@@ -84,7 +121,7 @@ func (p *Place) next(body []byte, form Form) bool {
 // nextPlaces writes the places of the elements from an offset on, as many as there is room for, and says how many.
 func nextPlaces(body []byte, form Form, at int, room []Place) int {
 	for i := range room {
-		if rtpw_next_element(first(body), size(body), uint8(form), uintptr(at), room[i].c()) != statusOK {
+		if at == len(body) || rtpw_next_element(first(body), size(body), uint8(form), uintptr(at), room[i].c()) != statusOK {
 			return i
 		}
 		at = room[i].end

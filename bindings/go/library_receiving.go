@@ -16,15 +16,15 @@ func (r *Receiver) receive(sequenceNumber uint16) (uint64, error) {
 }
 
 func (r *Receiver) receivePacket(datagram []byte, m *Map, p *Packet) (uint64, error) {
-	if status := p.parse(datagram, m); status != statusOK {
-		return 0, errorOf(status)
+	if err := p.parse(datagram, m); err != nil {
+		return 0, err
 	}
 	return r.receive(p.header.SequenceNumber)
 }
 
 func (r *Receiver) checkPacket(datagram []byte, m *Map, p *Packet) (uint64, error) {
-	if status := p.parse(datagram, m); status != statusOK {
-		return 0, errorOf(status)
+	if err := p.parse(datagram, m); err != nil {
+		return 0, err
 	}
 	number := r.numberOf(p.header.SequenceNumber)
 	if !r.accepts(number) {
@@ -64,15 +64,15 @@ func (r *WideReceiver) receive(sequenceNumber uint16) (uint64, error) {
 }
 
 func (r *WideReceiver) receivePacket(datagram []byte, m *Map, p *Packet) (uint64, error) {
-	if status := p.parse(datagram, m); status != statusOK {
-		return 0, errorOf(status)
+	if err := p.parse(datagram, m); err != nil {
+		return 0, err
 	}
 	return r.receive(p.header.SequenceNumber)
 }
 
 func (r *WideReceiver) checkPacket(datagram []byte, m *Map, p *Packet) (uint64, error) {
-	if status := p.parse(datagram, m); status != statusOK {
-		return 0, errorOf(status)
+	if err := p.parse(datagram, m); err != nil {
+		return 0, err
 	}
 	number := r.numberOf(p.header.SequenceNumber)
 	if !r.accepts(number) {
@@ -118,8 +118,8 @@ func receiveRestarting(r *rtpw_wide_restarting_receiver, words []uint64, sequenc
 }
 
 func receiveRestartingPacket(r *rtpw_wide_restarting_receiver, words []uint64, datagram []byte, m *Map, p *Packet) (uint64, Verdict, error) {
-	if status := p.parse(datagram, m); status != statusOK {
-		return 0, Refused, errorOf(status)
+	if err := p.parse(datagram, m); err != nil {
+		return 0, Refused, err
 	}
 	return judge(r, words, p.header.SequenceNumber)
 }

@@ -87,7 +87,6 @@ func writeHeaders(t *HeaderTemplate, data []byte, receivers []routedHeader, buf 
 
 // route writes the header for a group, and then those of its receivers.
 func route(t *HeaderTemplate, datagram []byte, group *Group, data []byte, receivers []routedHeader, buf []byte) int32 {
-	data = apart(data, buf)
 	if status := t.make(datagram, group, data); status != statusOK {
 		return status
 	}

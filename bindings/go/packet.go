@@ -2,8 +2,8 @@ package rtpwire
 
 // A Packet is a packet in the bytes of its datagram, as they were when it was read: its methods tell the fields and the
 // values, and lend parts of the datagram: an append to one copies, so that nothing of the packet or behind it changes. To
-// change it, change the bytes ([Fields], [PutElement]), and read what they become, or write a [Packet.Header]. Use one again
-// for the next packet: what it lent stays as it is.
+// change it, change the bytes ([Fields], [PutElement]), and read what they become ([Packet.HasChanged]), or write a
+// [Packet.Header]. Use one again for the next packet: what it lent stays as it is.
 type Packet struct {
 	wholePacket
 	datagram []byte
@@ -104,21 +104,21 @@ func (p *PacketFields) Payload(datagram []byte) []byte {
 //
 // It returns the first Cause for which the datagram is no packet; nothing changes then.
 func (p *Packet) Parse(datagram []byte, m *Map) error {
-	status := p.parse(datagram, m)
-	if status == statusOK {
-		p.datagram = datagram
-	}
-	return errorOf(status)
+	return p.parse(datagram, m)
 }
 
 // ParseMuxed reads as [Packet.Parse] does from a port that RTP and RTCP share (RFC 5761), and returns [ErrRTCP] of RTCP
 // ([IsRTCP]), before any Cause: such a datagram isn't lost, nor taken for RTP. Nothing changes then.
 func (p *Packet) ParseMuxed(datagram []byte, m *Map) error {
-	status := p.read(datagram, m)
-	if status == statusOK {
-		p.datagram = datagram
-	}
-	return errorOf(status)
+	return p.read(datagram, m)
+}
+
+// HasChanged is whether the bytes of the datagram say other fields now than when the packet was read, or that its parts lie
+// elsewhere: so it is after each call that moves the payload, where the slice that the call returned is to be read anew. It
+// takes the time of [PacketFields.Parse]. What it can't tell: elements that changed where they lie, and a retransmission
+// ([ToRetransmission]) of the same SSRC, payload type and number.
+func (p *Packet) HasChanged() bool {
+	return p.hasChanged()
 }
 
 // Datagram is the whole datagram.

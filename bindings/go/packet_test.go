@@ -329,6 +329,15 @@ func TestRoomForOnePlace(t *testing.T) {
 	same(t, "no memory", []any{taken, len(room), cap(room)}, []any{0.0, 0, 1})
 }
 
+func TestEachCountOfSources(t *testing.T) {
+	var fields rtpwire.PacketFields
+	for count := 0; count <= 15; count++ {
+		datagram := append([]byte{0x80 | byte(count), 0, 0, 1, 0, 0, 0, 2, 0, 0, 0, 3}, make([]byte, 4*count)...)
+		same(t, "parsed", fields.Parse(datagram), nil)
+		same(t, "sources", []int{fields.CSRCCount(), fields.HeaderLen()}, []int{count, len(datagram)})
+	}
+}
+
 // The fields alone are those of a whole packet, and where it is none nothing changes.
 func TestFieldsAlone(t *testing.T) {
 	var fields rtpwire.PacketFields
@@ -359,6 +368,7 @@ func TestFieldsAlone(t *testing.T) {
 		form, body := fields.Block(datagram)
 		wantedForm, wantedBody := packet.Block()
 		same(t, "block", []any{form, string(body), fields.BlockProfile()}, []any{wantedForm, string(wantedBody), packet.BlockProfile()})
+		same(t, "room behind the block", cap(body), len(body))
 		same(t, "header", []int{fields.HeaderLen(), fields.CSRCCount()}, []int{packet.HeaderLen(), len(packet.CSRC())})
 		unpadded, ok := fields.UnpaddedPayload(datagram)
 		wantedUnpadded, wantedOK := packet.UnpaddedPayload()

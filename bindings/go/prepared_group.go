@@ -48,7 +48,6 @@ func (t *HeaderTemplate) MakePrepared(datagram []byte, group *PreparedGroup) err
 // It returns the errors of [HeaderTemplate.MakePrepared]. Nothing is written then, and Len is 0.
 func (b *RouteBatch) RoutePrepared(datagram []byte, group *PreparedGroup, data, buf []byte) error {
 	b.buf, b.written = nil, nil
-	data = apart(data, buf)
 	status := b.own.makePrepared(datagram, group)
 	if status == statusOK {
 		status = writeHeaders(&b.own, data, b.given, buf)

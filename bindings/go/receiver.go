@@ -29,32 +29,23 @@ func NewReceiver(rolloverCount uint64) (*Receiver, error) {
 	return r, nil
 }
 
-// ReceivePacket reads the packet that the datagram is ([Packet.Parse]), and takes it, which needn't be authenticated,
-// in one call of the library: it returns the extended sequence number. Of one transport with many sources [PeekSSRC]
-// finds the receiver.
+// ReceivePacket reads the packet that the datagram is ([Packet.Parse]), and takes it, which needn't be authenticated:
+// it returns the extended sequence number. Of one transport with many sources [PeekSSRC] finds the receiver.
 //
 // It returns an error of Parse, and nothing changes; or ErrRefused where the packet is a replay or too old to tell:
 // then only p is changed, to what was read.
 func (r *Receiver) ReceivePacket(datagram []byte, m *Map, p *Packet) (uint64, error) {
-	number, err := r.receivePacket(datagram, m, p)
-	if err == nil || err == ErrRefused {
-		p.datagram = datagram
-	}
-	return number, err
+	return r.receivePacket(datagram, m, p)
 }
 
-// CheckPacket reads the packet that the datagram is ([Packet.Parse]), and tests whether it may be taken, in one call
-// of the library: it returns the extended sequence number, whose low 48 bits are SRTP's packet index. Authenticate
+// CheckPacket reads the packet that the datagram is ([Packet.Parse]), and tests whether it may be taken: it
+// returns the extended sequence number, whose low 48 bits are SRTP's packet index. Authenticate
 // the packet, and then Record the number. The receiver doesn't change.
 //
 // It returns an error of Parse, and nothing changes; or ErrRefused where the packet is a replay or too old to tell:
 // then p is changed to what was read, and the number is told too.
 func (r *Receiver) CheckPacket(datagram []byte, m *Map, p *Packet) (uint64, error) {
-	number, err := r.checkPacket(datagram, m, p)
-	if err == nil || err == ErrRefused {
-		p.datagram = datagram
-	}
-	return number, err
+	return r.checkPacket(datagram, m, p)
 }
 
 // Receive takes a packet that was read already and needn't be authenticated, and returns its extended number. It is

@@ -74,15 +74,11 @@ func (r *RestartingReceiver) Receive(sequenceNumber uint16) (number uint64, verd
 	return receiveRestarting(r.c(), r.words[:], sequenceNumber)
 }
 
-// ReceivePacket reads the packet that the datagram is ([Packet.Parse]), and judges it, in one call of the library. Of
+// ReceivePacket reads the packet that the datagram is ([Packet.Parse]), and judges it. Of
 // one transport with many sources [PeekSSRC] finds the receiver. It returns an error of Parse, and nothing changes;
 // a packet that is refused is read too.
 func (r *RestartingReceiver) ReceivePacket(datagram []byte, m *Map, p *Packet) (number uint64, verdict Verdict, err error) {
-	number, verdict, err = receiveRestartingPacket(r.c(), r.words[:], datagram, m, p)
-	if err == nil {
-		p.datagram = datagram
-	}
-	return number, verdict, err
+	return receiveRestartingPacket(r.c(), r.words[:], datagram, m, p)
 }
 
 // Highest is the highest number taken. It is not ok where nothing is taken yet.

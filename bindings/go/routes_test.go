@@ -437,11 +437,12 @@ func TestRoutesOfManyGoroutines(t *testing.T) {
 				header, _ := batch.At(0)
 				header = append([]byte(nil), header...)
 				made := template.Make(packet, group, data)
-				written := plain.Write(&template, data, buf)
+				byOwn := plain.Write(&template, data, buf)
 				other, _ := plain.At(0)
 				wanted := []byte{0x90, 96, 0, 5, 0, 0, 0, 100, 0, 0, 0, own, 0xBE, 0xDE, 0, 2, 0x30, byte(round), 0x41, own, byte(round), 0, 0, 0}
-				is := bytes.Equal(other, wanted)
-				written, wanted[11], wanted[17] = plain.Write(&shared, data, buf), 44, 0xAA
+				is := byOwn == nil && bytes.Equal(other, wanted)
+				written := plain.Write(&shared, data, buf)
+				wanted[11], wanted[17] = 44, 0xAA
 				is = is && bytes.Equal(other, wanted)
 				wanted[2], wanted[3], wanted[11], wanted[17] = byte(round>>8), byte(round), own, byte(round)
 				if failed != nil || made != nil || written != nil || !is || !bytes.Equal(header, wanted) {

@@ -3,7 +3,7 @@ package rtpwire
 import "time"
 
 // A SendTime is when a packet left its sender (http://www.webrtc.org/experiments/rtp-hdrext/abs-send-time), in the 24
-// bits of its element: units of 2^-18 seconds, modulo 64 seconds, of the sender's clock. [Values.SendTime] has whole
+// bits of its element: units of 2^-18 seconds, modulo 64 seconds, of the sender's clock. [ReadValues.SendTime] has whole
 // microseconds, of which nearly all of the 2^24 times lose one unit where they are read and written: who sends a time on
 // as it came, or reckons with it, takes this.
 type SendTime uint32

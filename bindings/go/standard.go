@@ -33,7 +33,7 @@ func inRange(field string, value, least, most int) error {
 
 // ParseTransmissionOffset reads a transmission time offset, in three bytes with a sign: how long after the time of its
 // timestamp the packet was sent, in ticks of the stream's clock, -8,388,608 to 8,388,607 (RFC 5450, 3). FF FF FE is -2.
-// It returns ErrBadField where there are not three bytes. [Values.TransmissionOffset] has str0m's, which are four.
+// It returns ErrBadField where there are not three bytes. [ReadValues.TransmissionOffset] has str0m's, which are four.
 func ParseTransmissionOffset(data []byte) (ticks int32, err error) {
 	return parseTransmissionOffset(data)
 }
@@ -48,7 +48,7 @@ func AppendTransmissionOffset(data []byte, ticks int32) ([]byte, error) {
 }
 
 // A FrameMarking is what a packet is to its frame, and the frame to its stream (RFC 9626, 3): one byte for a stream
-// without layers, and two or three for one with. [Values.FrameMarking] has str0m's number of four bytes, which is none.
+// without layers, and two or three for one with. [ReadValues.FrameMarking] has str0m's number of four bytes, which is none.
 // KindFrameMarking is of the draft's URI; that of RFC 9626, urn:ietf:params:rtp-hdrext:framemarking, has none, and so one
 // of your own by [Map.SetURI].
 type FrameMarking struct {
@@ -92,7 +92,7 @@ const (
 )
 
 // An Orientation is how a picture was taken, and is to be shown (3GPP TS 26.114, 7.4.5): one byte. Of it
-// [Values.VideoOrientation] has the turn alone, and writes a front camera and no flip.
+// [ReadValues.VideoOrientation] has the turn alone, and writes a front camera and no flip.
 type Orientation struct {
 	Turn   uint16 // how the receiver has to turn the picture, in degrees counter-clockwise: 0, 90, 180 or 270
 	Camera Camera // which way the camera faces
@@ -161,7 +161,7 @@ func (k Kind) Keeps(text string) bool {
 }
 
 // A Timing is when a frame passed each step on its way, in milliseconds after its capture (WebRTC's video-timing): 13
-// bytes, or 12 in the older form. [Values.VideoTiming] reads 12 bytes askew, and has neither network time.
+// bytes, or 12 in the older form. [ReadValues.VideoTiming] reads 12 bytes askew, and has neither network time.
 type Timing struct {
 	EncodeStart       uint16 // its encoding began,
 	EncodeFinish      uint16 // and ended,
@@ -187,7 +187,7 @@ func (t Timing) Append(data []byte) []byte {
 
 // A TransportNumber is the packet's number on its transport, and what feedback it asks for (KindTransportNumber2,
 // http://www.webrtc.org/experiments/rtp-hdrext/transport-wide-cc-02): two bytes, or four with a request. Each that is
-// read is appended byte for byte. [Values.TransportNumber] has the number alone, of the older URI, where feedback is on
+// read is appended byte for byte. [ReadValues.TransportNumber] has the number alone, of the older URI, where feedback is on
 // all packets.
 type TransportNumber struct {
 	Number     uint16 // the packet's number over all streams of the transport

@@ -33,20 +33,12 @@ func NewWideReceiver(words int, rolloverCount uint64) (*WideReceiver, error) {
 
 // ReceivePacket reads the packet that the datagram is, and takes it, as [Receiver.ReceivePacket] does.
 func (r *WideReceiver) ReceivePacket(datagram []byte, m *Map, p *Packet) (uint64, error) {
-	number, err := r.receivePacket(datagram, m, p)
-	if err == nil || err == ErrRefused {
-		p.datagram = datagram
-	}
-	return number, err
+	return r.receivePacket(datagram, m, p)
 }
 
 // CheckPacket reads the packet that the datagram is, and tests whether it may be taken, as [Receiver.CheckPacket] does.
 func (r *WideReceiver) CheckPacket(datagram []byte, m *Map, p *Packet) (uint64, error) {
-	number, err := r.checkPacket(datagram, m, p)
-	if err == nil || err == ErrRefused {
-		p.datagram = datagram
-	}
-	return number, err
+	return r.checkPacket(datagram, m, p)
 }
 
 // Receive takes a packet that was read already and needn't be authenticated, and returns its extended number. It is

@@ -57,11 +57,7 @@ func (r *WideRestartingReceiver) Receive(sequenceNumber uint16) (number uint64, 
 
 // ReceivePacket reads the packet that the datagram is, and judges it, as [RestartingReceiver.ReceivePacket] does.
 func (r *WideRestartingReceiver) ReceivePacket(datagram []byte, m *Map, p *Packet) (number uint64, verdict Verdict, err error) {
-	number, verdict, err = receiveRestartingPacket(r.c(), r.words, datagram, m, p)
-	if err == nil {
-		p.datagram = datagram
-	}
-	return number, verdict, err
+	return receiveRestartingPacket(r.c(), r.words, datagram, m, p)
 }
 
 // Highest is the highest number taken. It is not ok where nothing is taken yet.

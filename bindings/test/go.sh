@@ -36,12 +36,44 @@ tools() {
         exit 1
     }
     quietly go vet ./...
-    for it in darwin/amd64 windows/amd64 freebsd/amd64; do
+    for it in {darwin,windows,freebsd,linux}/{amd64,arm64}; do
         systems+=("$it")
         GOOS=${it%/*} GOARCH=${it#*/} quietly go vet .
         GOOS=${it%/*} GOARCH=${it#*/} quietly go build .
     done
     said "Go: gofmt; go vet and go build, also for ${systems[*]}"
+    go doc -all . | grep -v $'\t' >"$scratch/doc" # a field's document has no links
+    ! grep -nE '\[[A-Z][A-Za-z0-9]*(\.[A-Z][A-Za-z0-9]*)?\]' "$scratch/doc" >&2 || {
+        echo 'go.sh: the documents name what is not there' >&2
+        exit 1
+    }
+    # Debian has it by the first name.
+    for it in go-staticcheck staticcheck ''; do ! has "$it" || break; done
+    if [ -n "$it" ]; then
+        quietly "$it" ./...
+        said "Go: staticcheck has no findings"
+    else
+        said "Go: staticcheck was left out: there is no go-staticcheck"
+    fi
+    unused
+}
+
+# What a call returns in place of a packet is missed by go vet where it is told of these calls.
+unused() {
+    local module it calls=''
+    module=$(../go_path)
+    for it in {Put,Add}Element ChangeForm PutBlock RemoveBlock Compact RemovePadding {To,From}Retransmission; do calls+=$module.$it,; done
+    mkdir -p "$scratch/unused"
+    printf 'package main\n\nimport "%s"\n\nfunc main() {\n\trtpwire.PutElement(nil, 1, nil, rtpwire.AnyForm)\n}\n' "$module" >"$scratch/unused/main.go"
+    cp -r -- "$scratch/unused" examples/unused
+    ! go vet -unusedresult.funcs="$calls" ./examples/unused >"$scratch/log" 2>&1 || : >"$scratch/log"
+    rm -r -- examples/unused
+    grep -qF 'result of rtp-wire.example/rtpwire.PutElement call not used' "$scratch/log" || {
+        cat "$scratch/log" >&2
+        echo 'go.sh: go vet sees no unused result of PutElement' >&2
+        exit 1
+    }
+    said "Go: go vet sees where the packet that a call returns is dropped"
 }
 
 # The tests, as a program is built and run: with the C compiler for the race detector alone.

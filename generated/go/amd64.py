@@ -8,7 +8,7 @@ of another offset at a label than the instruction before it leaves, an instructi
 import re
 import struct
 
-from linked import insist
+from linked import APART_AT, MOST_UNASKED, insist
 
 NAME, TOOLS, FILL, AFTER = "amd64", "", "", 4
 SETS_STACK = "\tMOVQ AX, SP"
@@ -98,25 +98,53 @@ def moving(it, by):
 
 
 def write_code(out, linked):
-    tracked, end, tells = 0, 0, linked.is_told()
-    for it in linked.instructions:
+    inside = [it for it in linked.instructions if it.at < APART_AT]
+    write_instructions(out, linked, inside)
+    out.pending += linked.code[linked.text_end :]
+
+
+def write_instructions(out, linked, instructions):
+    tracked, end = 0, instructions[0].at
+    for it in instructions:
         if it.at in linked.functions:
             out.emit(f"\t// {it.at}: {linked.functions[it.at]}")
+        insist(it.at == end and linked.taken.get(it.at, 0) == tracked, "the stack isn't where it is said at", it)
         end = it.at + len(it.bytes)
-        after = linked.taken.get(end, 0) if tells else 0
-        insist(not tells or linked.taken.get(it.at, 0) == tracked, "the stack isn't where it is said at", it)
-        place = next((linked.to_table[w] for w in range(it.at, end) if w in linked.to_table), None)
-        if place is not None:
-            is_lea = it.bytes[:2] == b"\x48\x8d" and it.bytes[2] & 0xC7 == 5 and len(it.bytes) == 7 and after == tracked
-            insist(is_lea, "an address of the table that isn't loaded:", it.words)
-            out.emit(f"\tLEAQ {linked.name}_table<>+{place}(SB), {REGISTER[it.bytes[2] >> 3 & 7]}")
+        after = linked.taken.get(end, 0) if end in linked.function_of else 0
+        line = addressing(linked, it)
+        if line:
+            insist(after == tracked, "the stack moves where an address is told:", it.words)
+            out.emit(line)
         elif after != tracked:
             out.emit("\t" + moving(it, after - tracked))
             tracked = after
         else:
             out.pending += it.bytes
     insist(tracked == 0, "the stack at the end")
-    out.pending += linked.code[end:]
+
+
+def addressing(linked, it):
+    """The instruction of Go's assembler for one that has an address in another symbol."""
+    b = it.bytes
+    table = next((linked.to_table[w] for w in range(it.at, it.at + len(b)) if w in linked.to_table), None)
+    if table is not None:
+        insist(b[:2] == b"\x48\x8d" and b[2] & 0xC7 == 5 and len(b) == 7, "an address of the table that isn't loaded:", it.words)
+        return f"\tLEAQ {linked.name}_table<>+{table}(SB), {REGISTER[b[2] >> 3 & 7]}"
+    to = reached(linked, it)
+    if to is None:
+        return None
+    if b[0] == 0xE8:
+        return f"\tCALL {linked.name}<>+{to}(SB)"
+    insist(b[:3] == b"\x66\x0f\x6e" and b[3] & 0xC7 == 5 and len(b) == 8, "an address that isn't understood:", it.words)
+    return f"\tMOVL {linked.name}<>+{to}(SB), X{b[3] >> 3 & 7}"
+
+
+def reached(linked, it):
+    """The place in the library that an instruction apart from it tells by its last four bytes."""
+    where = it.at + len(it.bytes) - 4
+    if it.at < APART_AT or where not in linked.places:
+        return None
+    return linked.places[where][1] + AFTER
 
 
 def after_code(out, linked):
@@ -125,31 +153,57 @@ def after_code(out, linked):
 
 
 def sites(linked):
-    """The bytes that Go's linker fills in: the addresses of data."""
-    return {i for where in linked.to_table for i in range(where, where + 4)}
+    """The four bytes that Go's linker fills in for an address, and the symbol and the place there that it has to be of."""
+    found = {where: f"{linked.name}_table {to}" for where, to in linked.to_table.items()}
+    for it in linked.instructions:
+        to = reached(linked, it)
+        if to is not None:
+            found[it.at + len(it.bytes) - 4] = f"{linked.name} {to}"
+    return found
 
 
 def bytes_to_compare(linked):
     return bytes(linked.code)
 
 
-def write_call(out, entry, need, loads, rest, store):
-    """Calls the function with the stack pointer at a multiple of 16, whichever one it is here."""
+def frame_for(need, rest):
+    """The frame that has room for the call, or 0 where it needn't be asked for: with the arguments that lie on the stack, and
+    what aligns the stack pointer."""
+    room = need + 8 * (rest + 1)
+    return 0 if room <= MOST_UNASKED else -(-room // 16) * 16
+
+
+def write_apart(out, linked, entry, frame):
+    """Loads R11 with the place of a function that stands here, and jumps over it."""
+    inside = [it for it in linked.instructions if entry <= it.at < linked.end[entry]]
+    by = frame + 8  # what Go has taken here, with room for a frame pointer
+    insist(by > 128, "an instruction that Go's assembler makes in fewer bytes")
+    size = len(linked.bytes_of(entry))
+    out.emit("\t// Here stands the function, behind an instruction that never runs: by it Go knows where its frame begins.")
+    out.pending += b"\x4c\x8d\x1d" + struct.pack("<i", 5 + 7)  # lea 12(%rip), %r11
+    out.pending += b"\xe9" + struct.pack("<i", 7 + size + 7)  # jmp
+    out.emit(f"\tADJSP $-{by}")
+    write_instructions(out, linked, inside)
+    out.emit("\t// Nor does this one.")
+    out.emit(f"\tADJSP ${by}")
+
+
+def write_call(out, linked, entry, frame, loads, rest, store):
+    """Calls the function, or what R11 has, with the stack pointer at a multiple of 16, whichever one it is here."""
     for load in loads:
         out.emit(load)
     out.emit("\tMOVQ SP, AX")
     out.emit("\tTESTB $8, AX")
     out.emit("\tJNE odd")
-    rise = -(-(need + 8) // 16) * 16
-    for label, by in (("", rise), ("odd:", rise - 8)):
-        if label:
-            out.emit(label)
-        out.emit(f"\tADJSP $-{by}")
-        for i, load in enumerate(rest):
+    for label, unaligned in ((None, 0), ("odd:", 1)):
+        out.emit(label)
+        by = 8 * ((len(rest) + unaligned) % 2) - frame
+        out.emit(f"\tADJSP ${by}" if by else None)
+        for load in reversed(rest):
             out.emit(load("AX"))
-            out.emit(f"\tMOVQ AX, {8 * i}(SP)")
-        out.emit(f"\tCALL {entry}")
-        out.emit(f"\tADJSP ${by}")
+            out.emit("\tPUSHQ AX")
+            by += 8
+        out.emit("\tCALL R11" if entry is None else f"\tCALL {linked.name}<>+{entry}(SB)")
+        out.emit(f"\tADJSP ${-by}" if by else None)
         out.emit(store)
         out.emit("\tRET")
-    return rise

@@ -103,24 +103,28 @@ def after_code(out, linked):
 
 def sites(linked):
     """The two instructions that tell an address, which Go's assembler and linker make."""
-    return {i for where, (kind, _) in linked.places.items() if kind == ADRP for i in range(where, where + 8)}
+    return {i: "-" for where, (kind, _) in linked.places.items() if kind == ADRP for i in range(where, where + 8)}
 
 
 def bytes_to_compare(linked):
     return bytes(linked.code[: linked.text_end])
 
 
-def write_call(out, entry, need, loads, rest, store):
+def frame_for(need, rest):
+    """The frame that has room for the call, with what aligns the stack pointer."""
+    return -(-(need + 8) // 16) * 16 + 8 * rest
+
+
+def write_call(out, linked, entry, frame, loads, rest, store):
     for load in loads:
         out.emit(load)
-    rise = -(-(need + 8) // 16) * 16
+    rise = frame - 8 * len(rest)
     for i, load in enumerate(rest):
         out.emit(load(f"R{9 + i}"))
     out.emit(f"\tADD ${rise}, RSP")
     for i in range(len(rest)):
         out.emit(f"\tMOVD R{9 + i}, {8 * i}(RSP)")
-    out.emit(f"\tCALL {entry}")
+    out.emit(f"\tCALL {linked.name}<>+{entry}(SB)")
     out.emit(f"\tSUB ${rise}, RSP")
     out.emit(store)
     out.emit("\tRET")
-    return rise

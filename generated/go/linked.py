@@ -8,9 +8,9 @@ from collections import defaultdict, namedtuple
 
 Section = namedtuple("Section", "name type flags addr offset size link info align entsize")
 Instruction = namedtuple("Instruction", "at bytes words")
-TABLE_AT, FRAMES_AT = 0x1000000, 0x2000000
-# Go's linker takes at most 792 bytes of a function that doesn't ask for its stack, as far as it is told of them.
-MOST_TOLD = 780
+APART_AT, TABLE_AT, FRAMES_AT = 0x800000, 0x1000000, 0x2000000
+# So many bytes of the stack Go lets functions take that don't ask for it, with those that they call.
+MOST_UNASKED = 792
 
 
 class Refused(Exception):
@@ -27,13 +27,14 @@ def insist(it, *why):
 
 
 class Linked:
-    """What is linked of the objects for these functions."""
+    """What is linked of the objects for these functions, of which some, that no other calls, may lie apart."""
 
-    def __init__(self, name, processor, objects, roots, folder):
-        self.name, self.processor, self.roots, self.file = name, processor, roots, folder / name
+    def __init__(self, name, processor, objects, roots, folder, apart=()):
+        self.name, self.processor, self.roots, self.apart, self.file = name, processor, roots, apart, folder / name
         script = folder / "script"
         script.write_text(
-            "SECTIONS { .code 0 : { *(.text .text.*) . = ALIGN(64); constants = .; *(.rodata .rodata.*) }" + processor.FILL + "\n"
+            f"SECTIONS {{ .apart {APART_AT} : {{ {' '.join(f'*(.text.{it})' for it in apart)} }}"
+            ".code 0 : { *(.text .text.*) . = ALIGN(64); constants = .; *(.rodata .rodata.*) }" + processor.FILL + "\n"
             f".table {TABLE_AT} : {{ *(.data.rel.ro .data.rel.ro.*) }} .eh_frame {FRAMES_AT} : {{ KEEP(*(.eh_frame)) }} }}\n")
         run(processor.TOOLS + "ld", "-static", "-nostdlib", "--no-relax", "--emit-relocs", "--gc-sections", "-T", script, "-e", roots[0],
             *(f"--undefined={root}" for root in roots), *objects, "-o", self.file)
@@ -51,9 +52,10 @@ class Linked:
         named = {string(sections[names], it.name): it for it in sections}
         data = lambda it: elf[it.offset : it.offset + it.size] if it else b""
         rows = lambda it, form: list(struct.iter_unpack(form, data(it)))
-        others = {name for name, it in named.items() if it.flags & 2 and it.size} - {".code", ".table", ".eh_frame"}
+        others = {name for name, it in named.items() if it.flags & 2 and it.size} - {".apart", ".code", ".table", ".eh_frame"}
         insist(not others, "sections beside the code and the constants:", *others)
         self.code, self.table = bytearray(data(named[".code"])), data(named.get(".table"))
+        self.apart_code = data(named.get(".apart"))
         symtab = named[".symtab"]
         symbols = [(string(sections[symtab.link], name), info & 15, value) for name, info, _, _, value, _ in rows(symtab, "<IBBHQQ")]
         insist(all(kind != 6 for _, kind, _ in symbols), "thread-local data")
@@ -61,7 +63,7 @@ class Linked:
         self.functions = {value: name for name, kind, value in symbols if kind == 2}
         self.text_end = self.address["constants"]
         self.to_table, self.places = {}, {}
-        for where, info, addend in rows(named[".rela.code"], "<QQq"):
+        for where, info, addend in rows(named[".rela.code"], "<QQq") + rows(named.get(".rela.apart"), "<QQq"):
             kind, value = info & 0xFFFFFFFF, symbols[info >> 32][2] + addend
             insist(kind not in self.processor.ABSOLUTE, "an address in the code at", where)
             if value >= TABLE_AT - 4:
@@ -69,8 +71,13 @@ class Linked:
             self.places[where] = kind, value
 
     def read_instructions(self):
-        self.instructions, place = [], 0
-        for line in run(self.processor.TOOLS + "objdump", "-d", "-w", "-z", f"--stop-address={self.text_end}", self.file).split("\n"):
+        self.instructions = []
+        self.read_section(".code", 0, f"--stop-address={self.text_end}")
+        if self.apart:
+            self.read_section(".apart", APART_AT)
+
+    def read_section(self, name, place, *until):
+        for line in run(self.processor.TOOLS + "objdump", "-d", "-w", "-z", "-j", name, *until, self.file).split("\n"):
             it = re.match(r"\s*([0-9a-f]+):\t([0-9a-f ]+?)\s*\t(.*)", line)
             if it:
                 found = Instruction(int(it[1], 16), self.processor.bytes_of(it[2]), it[3].split("//")[0].strip())
@@ -86,7 +93,7 @@ class Linked:
             it = re.search(r"FDE .*pc=([0-9a-f]+)\.\.([0-9a-f]+)", line)
             if it:
                 entry = int(it[1], 16), int(it[2], 16)
-                if entry[1] <= self.text_end and entry[0] in self.functions:
+                if entry[0] in self.functions and (entry[1] <= self.text_end or entry[0] >= APART_AT):
                     frames[entry] = []
                 else:
                     entry = None
@@ -110,21 +117,29 @@ class Linked:
                 if is_call or self.function_of[to] != begin:
                     insist(self.function_of[to] == to, "a jump into another function:", it.words)
                     self.calls[begin].append((to, self.taken[it.at] + (self.processor.RETURN_ADDRESS if is_call else 0)))
-        self.depths, self.frames = {}, {}
+        self.depths = {}
         for root in self.roots:
             self.depth(self.address[root], ())
 
     def depth(self, begin, above):
-        """The most that a function takes with what it calls; `frames` has the largest that one of these takes by itself."""
+        """The most that a function takes with what it calls."""
         if begin not in self.depths:
             insist(begin not in above, "a function that calls itself:", self.functions[begin])
-            most = frame = max(self.taken[p] for p in range(begin, self.end[begin]))
-            most += self.processor.RED_ZONE
-            for to, by in self.calls[begin]:
-                most, frame = max(most, by + self.depth(to, above + (begin,))), max(frame, self.frames[to])
-            self.depths[begin], self.frames[begin] = most, frame
+            calls = ((to, by) for to, by in self.calls[begin])
+            self.depths[begin] = max([self.frame(begin) + self.processor.RED_ZONE, *(by + self.depth(to, above + (begin,)) for to, by in calls)])
         return self.depths[begin]
 
-    def is_told(self):
-        """Whether Go can be told how far the caller's frame is at each instruction."""
-        return self.processor.IS_TRACKED and all(frame <= MOST_TOLD for frame in self.frames.values())
+    def frame(self, begin):
+        """The most that a function takes by itself."""
+        return max(self.taken[p] for p in range(begin, self.end[begin]))
+
+    def bytes_of(self, begin):
+        """The bytes of a function that lies apart."""
+        return self.apart_code[begin - APART_AT : self.end[begin] - APART_AT]
+
+    def too_large(self):
+        """The functions whose frame Go's linker doesn't take of one that doesn't ask for its stack."""
+        found = [begin for begin in self.end if self.frame(begin) > MOST_UNASKED]
+        called = {to for calls in self.calls.values() for to, _ in calls}
+        insist(not called & set(found), "a large frame of a function that others call")
+        return [self.functions[begin] for begin in found]

@@ -4,12 +4,15 @@
 usage: text.py amd64|arm64 TEXT MEMORY FOLDER
 
 FOLDER/rtp_wire_ARCH.s gets the bytes that binutils make of TEXT and MEMORY, linked at address 0, as one symbol, and in
-front of it a function of Go for each of bindings/c/rtp_wire.h (bindings/described/go.py), with a frame that has room for all of the stack that it and what it calls
-take, by the frame information and the call graph. FOLDER/*_ARCH.bytes and FOLDER/*_ARCH.sites have what is compared with
-what Go linked: these bytes, and the places that Go's linker fills in.
+front of it a function of Go for each of bindings/c/rtp_wire.h that Go's package calls (bindings/described/go.py). What it and what it calls take of
+the stack is known by the frame information and the call graph: on amd64 it doesn't ask for the stack where that is less
+than Go keeps for those that don't, and else it has a frame with room for all. FOLDER/*_ARCH.bytes and FOLDER/*_ARCH.sites
+have what is compared with what Go linked: these bytes, and the places that Go's linker fills in, with what it has to fill
+in where that is known.
 
-Go's linker is told of at most 780 bytes that a function takes by itself. Functions that need one with more are linked
-once more as a symbol of their own, in which tracebacks end.
+On amd64 Go is told at each instruction how far the caller's frame is. Of a function that doesn't ask for its stack its
+linker takes no frame as large as those of two of the library have. Each of these, which no other calls, stands behind the
+beginning of its function of Go, which asks.
 
 What Go's assembler text can't carry is refused: recursion, calls by pointer, data that change, thread-local data, names
 from outside, addresses in the code, wrong frame information, and on arm64 the registers x18 and x28."""
@@ -25,7 +28,7 @@ import amd64
 import arm64
 from described import go
 from described.header import SIZES, read
-from linked import MOST_TOLD, Linked, Refused, run
+from linked import Linked, Refused, run
 
 
 class Text:
@@ -36,7 +39,8 @@ class Text:
 
     def emit(self, line):
         self.flush()
-        self.lines.append(line)
+        if line is not None:
+            self.lines.append(line)
 
     def flush(self):
         i = 0
@@ -56,19 +60,22 @@ class Text:
         loads = [f"\t{p.LOAD[width]} {place}(FP), {register}" for (place, width), register in zip(given, p.ARGUMENTS)]
         rest = [lambda to, place=place, width=width: f"\t{p.LOAD[width]} {place}(FP), {to}" for place, width in given[len(p.ARGUMENTS) :]]
         store = f"\t{p.STORE[size]} {p.RESULT}, ret+{end}(FP)" if size else None
-        body = Text(p)
-        rise = p.write_call(body, f"{linked.name}<>+{entry}(SB)", need, loads, rest, store)
+        frame = p.frame_for(need, len(rest))
         self.emit(f"// {it.name} and what it calls take at most {need} bytes of the stack.")
-        self.emit(f"TEXT ·{go.text_of(it)}(SB), 0, ${rise + 8 * len(rest)}-{end + size}")
+        self.emit(f"TEXT ·{go.text_of(it)}(SB), {0 if frame else 'NOSPLIT'}, ${frame}-{end + size}")
         self.emit("\tNO_LOCAL_POINTERS")
-        self.lines += [line for line in body.lines if line is not None] + [""]
+        if it.name in linked.apart:
+            p.write_apart(self, linked, entry, frame)
+            entry = None
+        p.write_call(self, linked, entry, frame, loads, rest, store)
+        self.emit("")
 
     def library(self, linked):
-        self.emit("// The library, and its constants." if len(linked.roots) > 4 else f"// What {', '.join(linked.roots)} takes, again.")
+        self.emit("// The library, and its constants.")
         self.emit(f"TEXT {linked.name}<>(SB), NOSPLIT|NOFRAME, $0-0")
         self.emit("\tNO_LOCAL_POINTERS")
         self.processor.write_code(self, linked)
-        if not linked.is_told():
+        if not self.processor.IS_TRACKED:
             self.emit("\t// Never reached: by it Go knows that it can't tell where the stack pointer is, and no traceback goes on.")
             self.emit(self.processor.SETS_STACK)
         name, base = self.processor.after_code(self, linked)
@@ -91,31 +98,40 @@ def objects_of(processor, texts, folder):
 
 def main():
     arch, text, memory, folder = sys.argv[1:]
-    processor, functions = {"amd64": amd64, "arm64": arm64}[arch], read().functions
+    processor, functions = {"amd64": amd64, "arm64": arm64}[arch], go.functions_of(read())
     work = Path(folder) / arch
     work.mkdir(parents=True, exist_ok=True)
     names = [it.name for it in functions]
     objects = list(objects_of(processor, (text, memory), work))
-    link = lambda name, roots: Linked(name, processor, objects, roots, work)
-    parts = [link("rtp_wire", names)]
-    if processor.IS_TRACKED and not parts[0].is_told():
-        deep = [it for it in names if parts[0].frames[parts[0].address[it]] > MOST_TOLD]
-        parts = [link("rtp_wire", [it for it in names if it not in deep]), link("rtp_wire_deep", deep)]
-    part_of = {it: part for part in parts for it in part.roots}
+    linked = Linked("rtp_wire", processor, objects, names, work)
+    if processor.IS_TRACKED:
+        linked = Linked("rtp_wire", processor, objects, names, work, linked.too_large())
     out = Text(processor)
     out.emit(f"// Made by generated/go/make of generated/{Path(text).name} and generated/go/{Path(memory).name}: do not edit.")
     out.lines += ["", "//go:build gc", "", '#include "textflag.h"', '#include "funcdata.h"', ""]
     for it in functions:
-        out.function(part_of[it.name], it)
-    for part in parts:
-        out.library(part)
-        (Path(folder) / f"{part.name}_{arch}.bytes").write_bytes(processor.bytes_to_compare(part))
-        (Path(folder) / f"{part.name}_{arch}.sites").write_text("".join(f"{it}\n" for it in sorted(processor.sites(part))))
+        out.function(linked, it)
+    out.library(linked)
     out.flush()
     (Path(folder) / f"rtp_wire_{arch}.s").write_text("\n".join(out.lines).rstrip() + "\n")
-    needs = [part_of[it].depths[part_of[it].address[it]] + processor.RETURN_ADDRESS for it in names]
-    sizes = " and ".join(f"{len(part.code)}" for part in parts)
-    print(f"{arch}: {len(needs)} functions, {sizes} bytes; they take {min(needs)} to {max(needs)} bytes of the stack")
+    write_what_is_compared(processor, linked, Path(folder), arch)
+    needs = [linked.depths[linked.address[it]] + processor.RETURN_ADDRESS for it in names]
+    print(f"{arch}: {len(needs)} functions, {len(linked.code)} bytes; they take {min(needs)} to {max(needs)} bytes of the stack")
+
+
+def write_what_is_compared(processor, linked, folder, arch):
+    """Each symbol's bytes, and at which of them Go's linker fills in what."""
+    for old in folder.glob(f"*_{arch}.bytes"):
+        old.unlink()
+    parts = [(linked.name, 0, processor.bytes_to_compare(linked))]
+    for it in linked.apart:
+        begin = linked.address[it]
+        parts.append((it.replace("rtpw_", "text_", 1), begin, linked.bytes_of(begin)))
+    sites = processor.sites(linked)
+    for name, begin, words in parts:
+        (folder / f"{name}_{arch}.bytes").write_bytes(words)
+        inside = (at for at in sorted(sites) if begin <= at < begin + len(words))
+        (folder / f"{name}_{arch}.sites").write_text("".join(f"{at - begin} {sites[at]}\n" for at in inside))
 
 
 if __name__ == "__main__":

@@ -22,13 +22,15 @@ func eachGroup(b *testing.B, route func(b *testing.B, receivers int)) {
 	}
 }
 
-func BenchmarkRouteRtpwire(b *testing.B) {
+// eachRoute has a packet sent to each of so many receivers by what route makes of their group.
+func eachRoute(b *testing.B, made func(group *rtpwire.Group) route) {
 	eachGroup(b, func(b *testing.B, receivers int) {
 		ids := new(rtpwire.NewIDs)
 		for id := uint8(1); id <= 4; id++ {
 			ids.Set(id, id%4+1)
 		}
 		group := rtpwire.Group{IDs: ids, Elements: []rtpwire.Place{{ID: 1, At: 0, Len: 1}, {ID: 4, At: 1, Len: 2}}}
+		write := made(&group)
 		buf, data := make([]byte, 64*receivers), make([]byte, 3*receivers)
 		var batch rtpwire.RouteBatch
 		for r := 0; r < receivers; r++ {
@@ -43,7 +45,7 @@ func BenchmarkRouteRtpwire(b *testing.B) {
 				own := data[3*r : 3*r+3]
 				own[0], own[1], own[2] = byte('x'+r), byte(i>>8), byte(i)
 			}
-			if err := batch.Route(four, &group, data, buf); err != nil {
+			if err := write(&batch, data, buf); err != nil {
 				b.Fatal(err)
 			}
 			for r := 0; r < batch.Len(); r++ {
@@ -53,6 +55,27 @@ func BenchmarkRouteRtpwire(b *testing.B) {
 				}
 				sink += len(header) + int(header[3]) + int(header[17])
 			}
+		}
+	})
+}
+
+// A route writes the headers of a packet for the receivers of a group.
+type route func(batch *rtpwire.RouteBatch, data, buf []byte) error
+
+func BenchmarkRouteRtpwire(b *testing.B) {
+	eachRoute(b, func(group *rtpwire.Group) route {
+		return func(batch *rtpwire.RouteBatch, data, buf []byte) error { return batch.Route(four, group, data, buf) }
+	})
+}
+
+func BenchmarkRoutePreparedRtpwire(b *testing.B) {
+	eachRoute(b, func(group *rtpwire.Group) route {
+		prepared, err := group.Prepare()
+		if err != nil {
+			b.Fatal(err)
+		}
+		return func(batch *rtpwire.RouteBatch, data, buf []byte) error {
+			return batch.RoutePrepared(four, prepared, data, buf)
 		}
 	})
 }

@@ -68,19 +68,24 @@ func (h *Header) take(parts *rtpwire.PacketFields, buf []byte) {
 		}
 	}
 	h.Extensions = h.Extensions[:0]
-	h.ExtensionProfile = parts.BlockProfile()
 	form, body := parts.Block(buf)
-	h.Extension = form != rtpwire.NoBlock
+	h.Extension, h.ExtensionProfile = form != rtpwire.NoBlock, parts.BlockProfile()
 	switch form {
 	case rtpwire.OneByteForm, rtpwire.TwoByteForm:
-		var it rtpwire.Place
-		for parts.NextPlace(&it, buf) {
-			end := it.At + it.Len
-			h.Extensions = append(h.Extensions, Extension{it.ID, body[it.At:end:end]})
-		}
+		h.Extensions = appendElements(h.Extensions, parts, buf, body)
 	case rtpwire.OtherForm:
 		h.Extensions = append(h.Extensions, Extension{0, body})
 	}
+}
+
+// appendElements appends the elements of the block's body.
+func appendElements(all []Extension, parts *rtpwire.PacketFields, buf, body []byte) []Extension {
+	var room [8]rtpwire.Place
+	for _, it := range parts.AppendPlaces(room[:0], buf) {
+		end := it.At + it.Len
+		all = append(all, Extension{it.ID, body[it.At:end:end]})
+	}
+	return all
 }
 
 // errorOf is pion's error for which bytes are no packet.
