@@ -7,7 +7,7 @@ import tempfile
 from pathlib import Path
 
 HERE = Path(__file__).resolve().parent
-AN_HOUR, A_MINUTE = 3600, 60
+TOP = HERE.parent
 
 
 class Scratch:
