@@ -4,6 +4,7 @@ import os
 import subprocess
 import sys
 import tempfile
+import time
 from pathlib import Path
 
 HERE = Path(__file__).resolve().parent
@@ -26,10 +27,10 @@ class Scratch:
         file.write_text(text)
         file.chmod(mode)
 
-    def edit(self, place, old, new, count=1):
+    def edit(self, place, old, new):
         text = self.read(place)
         self.expect(f"the text to change in {place}", True, old in text)
-        self.write(place, text.replace(old, new, count), (self.top / place).stat().st_mode)
+        self.write(place, text.replace(old, new, 1), (self.top / place).stat().st_mode)
 
     def read(self, place):
         return (self.top / place).read_text()
@@ -40,8 +41,7 @@ class Scratch:
     def changed_before(self, seconds, *places):
         """Sets when these files were changed, since two changes can fall into one tick of the clock."""
         for place in places:
-            now = (self.folder / "bin").stat().st_ctime
-            os.utime(self.top / place, (now - seconds,) * 2)
+            os.utime(self.top / place, (time.time() - seconds,) * 2)
 
     def told(self, *words, **variables):
         """What a command prints that is run at the top, and its status as the last line."""
