@@ -1,0 +1,55 @@
+"""What the tests of scripts share: a folder that stands for the repository, stand-ins for commands, and what is said there."""
+
+import os
+import subprocess
+import sys
+import tempfile
+import time
+from pathlib import Path
+
+HERE = Path(__file__).resolve().parent
+TOP = HERE.parent
+
+
+class Scratch:
+    """A folder `top`, with copies of some scripts, and a folder of commands that comes first on the path."""
+
+    def __init__(self, name, *scripts):
+        self.name, self.kept = name, tempfile.TemporaryDirectory()
+        self.folder = Path(self.kept.name)
+        self.top = self.folder / "a folder"
+        for script in scripts:
+            self.write(f".ci/{script}", (HERE / script).read_text(), (HERE / script).stat().st_mode)
+
+    def write(self, place, text="", mode=0o644):
+        file = self.top / place
+        file.parent.mkdir(parents=True, exist_ok=True)
+        file.write_text(text)
+        file.chmod(mode)
+
+    def edit(self, place, old, new):
+        text = self.read(place)
+        self.expect(f"the text to change in {place}", True, old in text)
+        self.write(place, text.replace(old, new, 1), (self.top / place).stat().st_mode)
+
+    def read(self, place):
+        return (self.top / place).read_text()
+
+    def command(self, name, text):
+        self.write(f"../bin/{name}", text, 0o755)
+
+    def changed_before(self, seconds, *places):
+        """Sets when these files were changed, since two changes can fall into one tick of the clock."""
+        for place in places:
+            os.utime(self.top / place, (time.time() - seconds,) * 2)
+
+    def told(self, *words, **variables):
+        """What a command prints that is run at the top, and its status as the last line."""
+        environment = {**os.environ, "PATH": f"{self.folder}/bin:{os.environ['PATH']}", **variables}
+        how = {"stdin": subprocess.DEVNULL, "stdout": subprocess.PIPE, "stderr": subprocess.STDOUT}
+        ran = subprocess.run(words, cwd=self.top, env=environment, encoding="utf-8", **how)
+        return f"{ran.stdout}status {ran.returncode}"
+
+    def expect(self, what, wanted, got):
+        if wanted != got:
+            sys.exit(f"{self.name}, {what}: wanted\n{wanted}\ngot\n{got}")
