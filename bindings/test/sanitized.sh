@@ -27,14 +27,14 @@ build() { # program, standard, files
     *) "${CC:-cc}" "-std=$2" "${built[@]}" "${sources[@]}" "$library" -o "$folder/$1" ;;
     esac
 }
-build lines_c c99 lines.c utf8.h getline.h
+build lines_c c99 lines.c utf8.h
 # MemorySanitizer wants a library for C++ that is built with it.
 [[ ,$sanitizers, == *,memory,* ]] || build lines_cpp c++11 lines.cpp utf8.h
 build receive c99 receive.c
-build forward c99 forward.c getline.h
-build sfu_c c99 sfu.c sfu_lines.c sfu.h sfu_peers.h utf8.h getline.h
+build forward c99 forward.c
+build sfu_c c99 sfu.c sfu_lines.c sfu.h sfu_peers.h utf8.h
 build ends c99 ../test/sfu_ends.c sfu.c sfu.h
 build many c99 ../test/sfu_many.c sfu.c sfu.h
 build sfu.o c99 sfu.c sfu.h
-build sockets c99 sfu.c sfu_sockets.c sfu.h sfu_peers.h utf8.h sendmmsg.h
+build sockets c99 sfu.c sfu_sockets.c sfu.h sfu_peers.h utf8.h
 [ ! -e "$folder/sockets" ] || file='' program='' build udp c99 ../test/sfu_udp.c
