@@ -18,9 +18,6 @@ compile_error!(
      macOS on arm64 (aarch64-apple-darwin) and Windows on x86_64 (x86_64-pc-windows-msvc, x86_64-pc-windows-gnu)"
 );
 
-#[cfg(not(target_pointer_width = "64"))]
-compile_error!("rtp-wire is for systems of 64 bits: in the proofs a size has 64 bits");
-
 /// Takes the text of a system, and defines the name that a function has there: it begins with what no other text's
 /// names do, so that a program may have several versions of this crate.
 macro_rules! text_of {
