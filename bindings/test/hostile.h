@@ -72,6 +72,7 @@ void routed_round(void);
 void filled_round(void);
 void filled_routed_round(void);
 void texts_round(void);
+void one_value_round(void);
 
 static inline void every_round(void) {
     packets_round();
@@ -98,6 +99,7 @@ static inline void every_round(void) {
     filled_round();
     filled_routed_round();
     texts_round();
+    one_value_round();
 }
 
 #endif
