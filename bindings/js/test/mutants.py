@@ -14,17 +14,19 @@ it and over nothing else changes no answer, whatever it is. So each such branch 
 is computed for it alone. That the module gives back the same without them is compared first.
 """
 
-import random
 import re
 import shutil
 import subprocess
 import sys
 import tempfile
-from concurrent.futures import ThreadPoolExecutor
 from pathlib import Path
 
 HERE = Path(__file__).resolve().parent
 PACKAGE = HERE.parent
+sys.path.insert(0, str(PACKAGE.parent / "test"))
+sys.dont_write_bytecode = True
+from mutation import INVALID, SEEN, UNSEEN, count_seen  # noqa: E402
+
 LINE = re.compile(r"^ ([0-9a-f]+): ((?:[0-9a-f]{2} )+) *\| +(\S+) ?(.*)$")
 FUNCTION = re.compile(r"^[0-9a-f]+ func\[(\d+)\](.*):$")
 FEATURES = "bulk-memory sign-ext mutable-globals nontrapping-float-to-int multivalue".split()
@@ -125,22 +127,16 @@ def main():
                 try:
                     given, error = said(mutant, tests, rounds)
                     if "CompileError" in error:
-                        return "no module"
-                    return "seen" if given != right or not package_passes(mutant, folder) else "not seen"
+                        return INVALID
+                    return SEEN if given != right or not package_passes(mutant, folder) else UNSEEN
                 except subprocess.TimeoutExpired:
-                    return "seen"
+                    return SEEN
 
-        seen, unseen = 0, []
-        chosen = random.Random(seed).sample(places, count + 20)
-        with ThreadPoolExecutor(2) as pool:
-            for (at, function), became in zip(chosen, pool.map(tried, chosen)):
-                if became == "no module" or seen + len(unseen) == count:
-                    continue
-                seen += became == "seen"
-                if became == "not seen":
-                    unseen.append(f"{at:#x} in {function}, {data[at]} made {data[at] + 1}")
-                    print(f"not seen: {unseen[-1]}", flush=True)
-    print(f"{seen} of {count} changed constants seen, of {len(places)} that there are")
+        def told(place):
+            at, function = place
+            return f"{at:#x} in {function}, {data[at]} made {data[at] + 1}"
+
+        count_seen(places, tried, told, count, seed)
 
 
 main()
