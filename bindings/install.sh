@@ -13,6 +13,9 @@
 # `cc` (or $CC), for the other aarch64-linux-gnu-gcc and the like. With --prove it takes `rt` too, proves and builds
 # the library from the sources, which takes minutes the first time, installs that, and says whether it is the text.
 # Only the names rtpw_* are visible in both libraries, which want nothing but the C library.
+#
+# On macOS it is bindings/install_macos.sh, which takes --uninstall and PREFIX alone.
+[ "$(uname -s)" != Darwin ] || exec sh "$(dirname -- "$0")/install_macos.sh" "$@"
 set -euo pipefail
 
 say() { echo "install.sh: $*" >&2; }
@@ -39,7 +42,7 @@ while [ $# -gt 0 ]; do
         shift
         ;;
     -h | --help)
-        sed -n '2,/^set /s/^# \{0,1\}//p' "$here/install.sh"
+        sed -n '2,/^\[ /s/^# \{0,1\}//p' "$here/install.sh"
         exit
         ;;
     -*) give_up "no such option: $1" ;;

@@ -35,7 +35,7 @@ pack_sources() {
     local name=rtp-wire-c-$version
     mkdir "$scratch/$name"
     cp -r --parents -t "$scratch/$name" CHANGELOG.md LICENSE-APACHE LICENSE-MIT NOTICE SECURITY.md captures \
-        bindings/{CMakeLists.txt,README.md,fill_in,install.sh,rtp_wire.pc.in,c/rtp_wire{.h,.hpp,_sanitized.h}} bindings/cmake \
+        bindings/{CMakeLists.txt,README.md,fill_in,install.sh,install_macos.sh,rtp_wire.pc.in,c/rtp_wire{.h,.hpp,_sanitized.h}} bindings/cmake \
         bindings/examples/{*.c,*.cpp,*.h,call*} bindings/test/{fuzz.c,hostile_*.c,*.h,inputs.sh} \
         generated/{heads.sh,rtp_wire-*.s}
     ln -s bindings/README.md "$scratch/$name/README.md"

@@ -85,6 +85,8 @@ compared=$(bindings/test/layouts.py "$scratch/layout.o") || fail 'the layouts in
 said "layouts in C beside DWARF: $compared"
 said 'the header file, as C99 to C17 and C++11 to C++17, and where each field lies'
 
+said "$(bindings/test/install_macos.sh)"
+
 # Beside the header files of other libraries for RTP, where they are, before them and after them, in C and C++.
 beside=
 for it in janus/rtp.h ortp/rtp.h re.h srtp2/srtp.h; do

@@ -73,6 +73,7 @@ void filled_round(void);
 void filled_routed_round(void);
 void texts_round(void);
 void places_round(void);
+void one_value_round(void);
 
 static inline void every_round(void) {
     packets_round();
@@ -100,6 +101,7 @@ static inline void every_round(void) {
     filled_routed_round();
     texts_round();
     places_round();
+    one_value_round();
 }
 
 #endif

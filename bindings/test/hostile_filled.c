@@ -13,10 +13,10 @@ static size_t filled_len(bool is_narrow) {
     if (is_narrow) {
         return x % 4 == 0 ? 16 : 1 + x / 4 % 16;
     }
-    switch (x % 16) {
-    case 0: return x / 16 % 256;
-    case 1: return 255 - x / 16 % 4;
-    case 2:
+    switch (x % 8) {
+    case 0:
+    case 1: return x / 16 % 256;
+    case 2: return 255 - x / 16 % 4;
     case 3: return (16u << x / 16 % 4) - 2 + x / 64 % 4;
     default: return x / 16 % 20;
     }

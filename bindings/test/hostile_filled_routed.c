@@ -32,7 +32,7 @@ static size_t random_elements(void) {
     uint64_t x = random_u64();
     bool is_used[256] = {true};
     size_t at = 0;
-    count = x % 16 == 0 ? x / 16 % (ELEMENTS + 1) : x / 16 % 4;
+    count = x % 8 == 0 ? ELEMENTS - x / 16 % 4 : x % 8 == 1 ? x / 16 % (ELEMENTS + 1) : x / 16 % 4;
     memset(elements, 0, sizeof elements);
     for (size_t i = 0; i < count; i++) {
         uint8_t id = 0;

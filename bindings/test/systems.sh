@@ -2,9 +2,12 @@
 # Tests the texts of the library for C for systems other than this one, as far as a Linux on x86-64 can: Windows' under Wine,
 # macOS's from the bytes of their Mach-O objects, and those for RISC-V and ARM emulated. Each text has to pass the C tests,
 # the hostile calls between pages that may not be touched and the captures, to give back whole registers, and to give one
-# digest with all others of what every function answers and writes in a million calls of random arguments.
+# digest with all others of what every function answers and writes in 1.2 million calls of random arguments.
+# systems/mutants.py counts how many changes of constants these tests see.
 #
 # usage: bindings/test/systems.sh [SYSTEM..]        SYSTEM as in generated/heads.sh; by default all
+#
+# ROUNDS says how many rounds of such calls there are: 2000, with which all takes about six minutes of a processor.
 #
 # It takes cc and clang; mingw and Wine for Windows, qemu-user and the cross compilers of Debian for the others, python3 with
 # pycparser for the digest. What isn't there is named, and what needs it is left out.
@@ -23,8 +26,8 @@ fail() {
     exit 1
 }
 has() { command -v "$1" >/dev/null; }
-# So many rounds of hostile are a million and a half calls, which take five seconds of a processor here, and emulated a minute.
-rounds=${ROUNDS:-3000}
+# So many rounds of hostile are 1.2 million calls, which take five seconds of a processor here, and emulated a minute.
+rounds=${ROUNDS:-2000}
 tests='packets blocks padding faults headers statuses receivers reception corners peers standard datagrams routed alone apart'
 
 # What each system takes: the compiler that links, clang's name of the system, what runs the program, and what else is needed.

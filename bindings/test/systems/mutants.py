@@ -3,7 +3,7 @@
 systems.sh runs with each text: the C tests, the captures, and the calls with random arguments, with the digest of all that they
 give back and write.
 
-usage: mutants.py [COUNT [ROUNDS [SEED]]]      40 constants, 3000 rounds, as systems.sh has, and seed 5
+usage: mutants.py [COUNT [ROUNDS [SEED]]]      40 constants, 2000 rounds, as systems.sh has, and seed 5
 
 Each changed constant, a number in an instruction or what it adds to an address, is one greater. One with which the text can't
 be assembled isn't counted. What isn't seen is told with the function that it stands in. It takes cc, and python3 with pycparser.
@@ -235,5 +235,5 @@ def main():
         count_seen([place for it in found for place in constants(lines, it)], tried, told, COUNT, SEED)
 
 
-COUNT, ROUNDS, SEED = (int(it) for it in [*sys.argv[1:], *"40 3000 5".split()[len(sys.argv) - 1 :]])
+COUNT, ROUNDS, SEED = (int(it) for it in [*sys.argv[1:], *"40 2000 5".split()[len(sys.argv) - 1 :]])
 main()
