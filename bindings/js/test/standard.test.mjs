@@ -60,6 +60,14 @@ test('frame marking (RFC 9626, 3)', () => {
     assert.throws(() => rtp.writeFrameMarking({start: true}), TypeError);
 });
 
+test('what one call writes says nothing of the next', () => {
+    const bare = {start: true, end: false, independent: true, discardable: false};
+    rtp.writeFrameMarking({...bare, layers: {baseLayerSync: true, temporalId: 5, layerId: 1, tl0PicIdx: 9}});
+    assert.equal(hex(rtp.writeFrameMarking(bare)), 'a0');
+    rtp.writeTransportNumber({number: 7, request: {packets: 10, timestamps: true}});
+    assert.equal(hex(rtp.writeTransportNumber({number: 8})), '0008');
+});
+
 test('video orientation (3GPP TS 26.114, 7.4.5)', () => {
     // 01 is a turn by 90 degrees clockwise at the receiver, which is 270 counter-clockwise
     both('Orientation', '0d', {turn: 270, camera: 'back', flip: true});
