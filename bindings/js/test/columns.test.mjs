@@ -138,6 +138,12 @@ test('more than are read at once, and texts that are alike', () => {
     assert.equal(columns.values.mid.length, 1337);
 });
 
+test('texts of one hash, of which one begins the other', () => {
+    const map = new rtp.ExtensionMap([[1, Kind.MID]]), texts = ['bmgkAHx', 'b', 'bmgkAHx', 'b', 'c', 'cNgkAHy'];
+    const { buffer, at, lengths } = together(texts.map(mid => new rtp.Header({values: {mid}}).write(map)));
+    assert.deepEqual([...Columns.parse(buffer, at, lengths, map, ['mid']).values.mid], texts);
+});
+
 test('places that are far apart, out of order, twice, and not within the buffer', () => {
     const buffer = new Uint8Array(9_000_000), one = bytes('8021B798 00002710 0000002C 01');
     const at = [8_999_987, 0, 5_000_000, 0, 4_000_000, 8_999_988, 9_000_000, 9_000_001, -1, NaN, 2 ** 40];

@@ -63,6 +63,14 @@ test('original numbers', () => {
     assert.equal(hex(payload), 'ff0005');
 });
 
+test('room for data that grows lies apart from what a call writes', () => {
+    const parts = count => Array.from({length: count}, () => [1, new Uint8Array(255).fill(0xEE)]);
+    for (const count of [270, 530]) {
+        const body = rtp.writeElements(parts(count), rtp.Form.TWO_BYTE_FORM);
+        assert.equal(body.filter(it => it === 0xEE).length, 255 * count);
+    }
+});
+
 // The functions of the module that no file of src calls, and why.
 const FIELDS_ALONE = 'Packet.parse and Columns.parse tell the same and the values, in one call';
 const WINDOW = 'a Receiver or a RestartingReceiver of one word has the same window of 64 numbers';

@@ -46,6 +46,7 @@ test('retransmissions, and payloads without their padding', () => {
         clearsPadding: [false, none, true]});
     assert.deepEqual(rows(made), ['a0600005000000640000002c', '80610009000000640000002c0005', '80600005000000640000002c']);
     assert.deepEqual([[...made.at], [...made.lengths]], [[0, 12, 26], [12, 14, 12]]);
+    assert.equal(hex(template.write(2, {originalNumber: [none, 0]}).bytes), 'a0600005000000640000002c80600005000000640000002c0000');
     assert.equal(hex(template.write(1, {originalNumber: [0]}).bytes), '80600005000000640000002c0000');
     assert.equal(hex(template.write(1, {clearsPadding: [0]}).bytes), 'a0600005000000640000002c');
 });
@@ -70,6 +71,17 @@ test('many receivers, and none', () => {
     assert.deepEqual([nobody.bytes.length, nobody.at.length, nobody.lengths.length], [0, 0, 0]);
 });
 
+test('as many elements as there can be, and a header that is nobody else\'s', () => {
+    const sixteen = Array.from({length: 16}, (_, i) => [i + 1, 1]), template = new Group(ids, sixteen).template(PACKET);
+    assert.equal(template.dataLen, 16);
+    const elements = sixteen.map(([id]) => [id, bytes('5A')]), made = HeaderTemplate.make(PACKET, ids, elements);
+    assert.equal(rtp.Packet.parse(made.header).elements().length, 16);
+    const before = hex(template.header);
+    template.header.fill(0);
+    assert.equal(hex(template.header), before);
+    assert.equal(rtp.Packet.parse(template.write(1, {data: new Uint8Array(16)}).bytes).ssrc, 44);
+});
+
 test('what is refused', () => {
     refuses('BAD_ID', () => new Group(ids, [[0, 1]]));
     refuses('BAD_FIELD', () => new Group(ids, [[1, 256]]));
@@ -84,6 +96,7 @@ test('what is refused', () => {
     refuses('BAD_FIELD', () => template.write(1));
     refuses('BAD_FIELD', () => template.write(1, {data: bytes('000700')}));
     refuses('BAD_FIELD', () => template.write(2, {ssrc: [1], data: bytes('00070008')}));
+    refuses('BAD_FIELD', () => template.write(1, {ssrc: [1, 2], data: bytes('0007')}));
     refuses('BAD_FIELD', () => template.write(1, {payloadType: [128], data: bytes('0007')}));
     refuses('BAD_FIELD', () => template.write(1, {sequenceNumber: [65536], data: bytes('0007')}));
     refuses('BAD_FIELD', () => template.write(-1));

@@ -232,3 +232,23 @@ test('a long datagram, after which views still hold', () => {
     grown.set(small.bytes);
     assert.equal(rtp.putElement(grown, 20, 5, new Uint8Array(16)), 36);
 });
+
+test('elements between which another packet is read', () => {
+    const body = bytes('10AA 21BBCC 00'), found = [];
+    for (const { id, data } of rtp.elementsOf(body, rtp.Form.ONE_BYTE_FORM)) {
+        rtp.Packet.parse(bytes('90600005 00000064 0000002C BEDE0001 50FF0000'));
+        found.push([id, hex(data)]);
+    }
+    assert.deepEqual(found, [[1, 'aa'], [2, 'bbcc']]);
+});
+
+test('a length that is none', () => {
+    const buffer = new Uint8Array(40);
+    buffer.set(bytes('80600005 00000064 0000002C'));
+    for (const len of ['12', 12.5, undefined, NaN]) {
+        assert.throws(() => rtp.pad(buffer, len, 4), TypeError);
+    }
+    refuses('BAD_FIELD', () => rtp.pad(buffer, 41, 4));
+    refuses('BAD_FIELD', () => rtp.pad(buffer, -1, 4));
+    assert.equal(rtp.pad(buffer, 12, 4), 16);
+});

@@ -150,3 +150,10 @@ test('arrivals', () => {
     assert.equal(none.source(7).statistics.jitter, 0);
     assert.equal(receivers.source(7).receiver.receive(8 - 64 + 65536), undefined);
 });
+
+test('a source that starts again twice', () => {
+    const source = new rtp.Receivers().source(7);
+    const told = [1, 2, 4, 40000, 40001, 20000, 20001].map(it => source.receive(it, 0, 0) !== undefined);
+    assert.deepEqual(told, [true, true, true, false, true, false, true]);
+    assert.deepEqual([source.restarts, source.outside, source.received, source.expected], [2, 2, 5, 6]);
+});

@@ -20,7 +20,8 @@ ACCESS = r"_(load|store)\w*\(&instance->w2c_memory, \(u64\)\({}\)"
 MOST_LINES = 60  # between a value and its use
 LOADS = {
     "i32": "load u32 u32, load8_s s8 s32, load8_u u8 u32, load16_s s16 s32, load16_u u16 u32",
-    "i64": "load u64 u64, load8_s s8 s64, load8_u u8 u64, load16_s s16 s64, load16_u u16 u64, load32_s s32 s64, load32_u u32 u64",
+    "i64": "load u64 u64, load8_s s8 s64, load8_u u8 u64, load16_s s16 s64, load16_u u16 u64, load32_s s32 s64, "
+    "load32_u u32 u64",
 }
 STORES = {"i32": "store u32, store8 u8, store16 u16", "i64": "store u64, store8 u8, store16 u16, store32 u32"}
 HEAD = """\
@@ -59,9 +60,11 @@ def head():
     for kind in ("i32", "i64"):
         whole = kind.replace("i", "u")
         for name, read, wide in map(str.split, LOADS[kind].split(",")):
-            yield f"static inline {whole} {kind}_{name}(u64 at) {{ {read} it; memcpy(&it, memory + at, sizeof it); return ({whole})({wide})it; }}"
+            yield f"static inline {whole} {kind}_{name}(u64 at) {{ {read} it; memcpy(&it, memory + at, sizeof it);"
+            yield f"return ({whole})({wide})it; }}"
         for name, kept in map(str.split, STORES[kind].split(",")):
-            yield f"static inline void {kind}_{name}(u64 at, {whole} given) {{ {kept} it = ({kept})given; memcpy(memory + at, &it, sizeof it); }}"
+            yield f"static inline void {kind}_{name}(u64 at, {whole} given) {{ {kept} it = ({kept})given;"
+            yield "memcpy(memory + at, &it, sizeof it); }"
 
 
 def functions(wasm):

@@ -24,6 +24,7 @@ test('send time, in units of 2^-18 s', () => {
     // 2^-18 s are 2^14 units of 2^-32 s, and 64 s are 2^24 of 2^-18 s
     assert.deepEqual(rtp.extendSendTime({seconds: 0xE0000000, fraction: 0xC0000000}, 0xFFFFFF), {seconds: 0xDFFFFFFF, fraction: 0xFFFFC000});
     assert.deepEqual(rtp.extendSendTime({seconds: 64, fraction: 0}, 0x040000), {seconds: 65, fraction: 0});
+    assert.deepEqual(rtp.extendSendTime({seconds: 64, fraction: 0}, 0xFF040000), {seconds: 65, fraction: 0});
     assert.deepEqual(rtp.extendSendTime({seconds: 127, fraction: 0}, 0x040000), {seconds: 129, fraction: 0});
 });
 
@@ -53,9 +54,18 @@ test('frame marking (RFC 9626, 3)', () => {
     both('FrameMarking', '50', {start: false, end: true, independent: false, discardable: true});
     both('FrameMarking', 'ad40', {...bare, layers: {baseLayerSync: true, temporalId: 5, layerId: 0x40}});
     both('FrameMarking', 'a70109', {...bare, layers: {baseLayerSync: false, temporalId: 7, layerId: 1, tl0PicIdx: 9}});
+    both('FrameMarking', 'a70100', {...bare, layers: {baseLayerSync: false, temporalId: 7, layerId: 1, tl0PicIdx: 0}});
     refusesData('FrameMarking', '', '00000000');
     refuses('BAD_FIELD', () => rtp.writeFrameMarking({...bare, layers: {baseLayerSync: false, temporalId: 8, layerId: 0}}));
     assert.throws(() => rtp.writeFrameMarking({start: true}), TypeError);
+});
+
+test('what one call writes says nothing of the next', () => {
+    const bare = {start: true, end: false, independent: true, discardable: false};
+    rtp.writeFrameMarking({...bare, layers: {baseLayerSync: true, temporalId: 5, layerId: 1, tl0PicIdx: 9}});
+    assert.equal(hex(rtp.writeFrameMarking(bare)), 'a0');
+    rtp.writeTransportNumber({number: 7, request: {packets: 10, timestamps: true}});
+    assert.equal(hex(rtp.writeTransportNumber({number: 8})), '0008');
 });
 
 test('video orientation (3GPP TS 26.114, 7.4.5)', () => {
@@ -71,6 +81,7 @@ test('video orientation (3GPP TS 26.114, 7.4.5)', () => {
 test('video timing', () => {
     const times = {encodeStart: 1, encodeFinish: 0x0203, packetizeComplete: 4, lastLeftPacer: 5, network: 6, network2: 0xFFFE};
     both('Timing', '02000102030004000500' + '06fffe', {...times, flags: 2});
+    both('Timing', '00000102030004000500' + '06fffe', {...times, flags: 0});
     both('Timing', '000102030004000500' + '06fffe', times);
     refusesData('Timing', '00'.repeat(11), '00'.repeat(14));
     refuses('BAD_FIELD', () => rtp.writeTiming({...times, network: 65536}));
@@ -79,6 +90,7 @@ test('video timing', () => {
 test('transport-wide number with a request', () => {
     both('TransportNumber', 'fffe', {number: 0xFFFE});
     both('TransportNumber', '0007800a', {number: 7, request: {packets: 10, timestamps: true}});
+    both('TransportNumber', '00078000', {number: 7, request: {packets: 0, timestamps: true}});
     both('TransportNumber', '00077fff', {number: 7, request: {packets: 32767, timestamps: false}});
     refusesData('TransportNumber', '00', '000000', '0000000000');
     refuses('BAD_FIELD', () => rtp.writeTransportNumber({number: 7, request: {packets: 32768, timestamps: false}}));
@@ -115,6 +127,9 @@ test('dependency descriptor (AV1, A.8)', () => {
 
 test('ids that the peer chose', () => {
     assert.deepEqual(['a-b', '', 'a b', 'x'.repeat(255), 'x'.repeat(256), 'ä'].map(rtp.isToken), [true, false, false, true, false, false]);
+    // a character whose low byte is a letter
+    assert.deepEqual([rtp.isToken('\u0161'), rtp.isStreamId('\u0161')], [false, false]);
+    assert.throws(() => rtp.hasStructure('41000280'), TypeError);
     assert.deepEqual(['hi9', 'a-b', ''].map(rtp.isStreamId), [true, false, false]);
     assert.equal(rtp.isStreamId(bytes('6869')), true);
 });
