@@ -162,3 +162,13 @@ func TestURIsOfManyGoroutines(t *testing.T) {
 	}
 	same(t, "all of them", maps[0].Get(uris).IsOwn(), true)
 }
+
+// A map of the program's own table takes no kind of another one.
+func TestMapOfTheProgramsTable(t *testing.T) {
+	var m rtpwire.Map
+	var other rtpwire.OwnURIs
+	_, err := m.SetURI(1, "urn:of-the-program")
+	same(t, "of the program", err, nil)
+	kind, err := other.SetURI(&m, 2, "urn:of-another-table")
+	same(t, "of another", []any{kind, err, m.Get(2)}, []any{rtpwire.KindNone, rtpwire.ErrBadField, rtpwire.KindNone})
+}

@@ -78,3 +78,12 @@ func TestLayersThatWereReadAreLeftOut(t *testing.T) {
 	left, ok := err.(*rtpwire.LeftOutError)
 	same(t, "left out", ok && left.Kinds == 1<<rtpwire.KindLayers, true)
 }
+
+// The data of an element are at most 255 bytes.
+func TestLongestDataOfAValue(t *testing.T) {
+	for length, wanted := range map[int]error{254: nil, 255: nil, 256: rtpwire.ErrBadField} {
+		values, err := rtpwire.ParseValue(rtpwire.KindAudioLevel, make([]byte, length))
+		_, _, ok := values.AudioLevel()
+		same(t, "value", []any{err, ok}, []any{wanted, wanted == nil})
+	}
+}

@@ -68,7 +68,7 @@ unused() {
     cp -r -- "$scratch/unused" examples/unused
     ! go vet -unusedresult.funcs="$calls" ./examples/unused >"$scratch/log" 2>&1 || : >"$scratch/log"
     rm -r -- examples/unused
-    grep -qF 'result of rtp-wire.example/rtpwire.PutElement call not used' "$scratch/log" || {
+    grep -qF "result of $module.PutElement call not used" "$scratch/log" || {
         cat "$scratch/log" >&2
         echo 'go.sh: go vet sees no unused result of PutElement' >&2
         exit 1
