@@ -200,7 +200,7 @@ static int32_t change_form(size_t size, size_t *len, unsigned form) {
 }
 
 /* What it becomes without its block. */
-static int32_t remove_block(size_t size, size_t *len) {
+static inline int32_t remove_block(size_t size, size_t *len) {
     if (*len > size) {
         return RTPW_BAD_FIELD;
     }
