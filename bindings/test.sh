@@ -268,10 +268,10 @@ hostile() { # compiler, library, program, options
     "$1" -std=c99 -g "${strict[@]}" -D_GNU_SOURCE "${@:4}" bindings/test/hostile*.c "$2" -o "$3"
 }
 hostile cc "$library" "$scratch/hostile"
-"$scratch/hostile" 1 500000 >"$scratch/first" &
-"$scratch/hostile" 2000003 500000
+"$scratch/hostile" 1 100000 >"$scratch/first" &
+"$scratch/hostile" 2000003 100000
 wait $! || { cat "$scratch/first" >&2; fail hostile; }
-said 'each function with random bytes and structs between pages that may not be touched, a million times'
+said 'each function with random bytes and structs between pages that may not be touched, 200,000 times'
 if [ -n "$proves" ]; then
     said 'what else is tried of the texts, which generated/make --check compares with these bytes, is not tried again'
     exit
@@ -292,8 +292,8 @@ status=0
 said "the entry for fuzzers, with $(find "$scratch/inputs" -type f | wc -l) packets of the captures"
 
 if has valgrind; then
-    valgrind --quiet --error-exitcode=9 --leak-check=full "$scratch/hostile" 3 20000 malloc
-    said 'the same under valgrind, 20,000 times'
+    valgrind --quiet --error-exitcode=9 --leak-check=full "$scratch/hostile" 3 5000 malloc
+    said 'the same under valgrind, 5,000 times'
 else
     said 'valgrind was left out: it is not there'
 fi
@@ -323,7 +323,7 @@ told_by_sanitizers() { # those of -fsanitize=, and the programs of bindings/test
     CC=clang CXX=clang++ SANITIZERS=$1 bindings/test/sanitized.sh "$scratch/$1" "$prefix/include" "$library"
     bindings/test/examples.sh "$scratch/$1"
     hostile clang "$library" "$scratch/hostile_$1" "${built[@]}" -fno-sanitize=nonnull-attribute,pointer-overflow
-    "$scratch/hostile_$1" 4 20000 malloc >"$scratch/said" 2>&1 || { cat "$scratch/said" >&2; fail "-fsanitize=$1, hostile"; }
+    "$scratch/hostile_$1" 4 5000 malloc >"$scratch/said" 2>&1 || { cat "$scratch/said" >&2; fail "-fsanitize=$1, hostile"; }
     said "clang's -fsanitize=$1: the examples, the header file of C++17, random bytes, and $(cat "$scratch/told") of all calls that it tells of"
 }
 if has clang; then

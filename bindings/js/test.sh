@@ -71,10 +71,10 @@ else
 fi
 if has clang && has clang-22 && has wasm-ld-22 && has wasm-opt; then
     quietly test/beside.sh "$scratch/beside"
-    quietly node test/beside.mjs rtp_wire.wasm "$scratch/beside" 1 20000
+    quietly node test/beside.mjs rtp_wire.wasm "$scratch/beside" 1 4000
     said "the tests of the library for C call the module: $(tail -n 1 "$scratch/log")"
     if [ -e "$scratch/beside/native" ]; then
-        "$scratch/beside/native" 1 20000 >"$scratch/native"
+        "$scratch/beside/native" 1 4000 >"$scratch/native"
         diff <(grep digest "$scratch/native") <(grep digest "$scratch/log") >&2 || fail "the native library gives back something else"
         said "$(grep digest "$scratch/log"): that of the library for this machine"
     fi
