@@ -6,9 +6,8 @@ import { check, within } from './errors.mjs';
 import { placeOfMap } from './header.mjs';
 import { VALUES } from './layout.mjs';
 import { bytesOf, halves, library, output, put, size, u16, u8 } from './memory.mjs';
+import { MOST_DATA } from './standard.mjs';
 import { putValues, valuesAt } from './values.mjs';
-
-const MOST_DATA = 255;
 
 /** What the elements of a block's body say under the map, but for a layer allocation, which a packet or a header tells. */
 export function readValues(body, form, map) {

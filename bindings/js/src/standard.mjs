@@ -8,9 +8,12 @@ import {
 } from './layout.mjs';
 import { bytesOf, i32, i8, library, output, put, putData, size, u16, u32, u8 } from './memory.mjs';
 
+/** The most bytes that the data of an element have (RFC 8285, 4.3). */
+export const MOST_DATA = 255;
+
 // Where a call reads or writes a struct, and where it writes data.
 const place = () => output(8);
-const MOST_DATA = 255, CAMERAS = ['front', 'back'];
+const CAMERAS = ['front', 'back'];
 const textEncoder = new TextEncoder();
 
 /** Has the data read into the struct, or refused. */
