@@ -7,7 +7,7 @@
 #
 # usage: bindings/test/systems.sh [SYSTEM..]        SYSTEM as in generated/heads.sh; by default all
 #
-# ROUNDS says how many rounds of such calls there are: 2000, with which all takes about six minutes of a processor.
+# ROUNDS says how many rounds of such calls there are: 1600, with which all takes about seven minutes of a processor.
 #
 # It takes cc and clang; mingw and Wine for Windows, qemu-user and the cross compilers of Debian for the others, python3 with
 # pycparser for the digest. What isn't there is named, and what needs it is left out.
@@ -26,8 +26,8 @@ fail() {
     exit 1
 }
 has() { command -v "$1" >/dev/null; }
-# So many rounds of hostile are 1.2 million calls, which take five seconds of a processor here, and emulated a minute.
-rounds=${ROUNDS:-2000}
+# So many rounds of hostile are a million calls, which take seconds of a processor here, and emulated a minute or two.
+rounds=${ROUNDS:-1600}
 tests='packets blocks padding faults headers statuses receivers reception corners peers standard datagrams routed alone apart'
 
 # What each system takes: the compiler that links, clang's name of the system, what runs the program, and what else is needed.
