@@ -2,7 +2,7 @@
 # Tests the texts of the library for C for systems other than this one, as far as a Linux on x86-64 can: Windows' under Wine,
 # macOS's from the bytes of their Mach-O objects, and those for RISC-V and ARM emulated. Each text has to pass the C tests,
 # the hostile calls between pages that may not be touched and the captures, to give back whole registers, and to give one
-# digest with all others of what every function answers and writes in 1.2 million calls of random arguments.
+# digest with all others of what every function answers and writes in a million calls of random arguments.
 # systems/mutants.py counts how many changes of constants these tests see.
 #
 # usage: bindings/test/systems.sh [SYSTEM..]        SYSTEM as in generated/heads.sh; by default all
