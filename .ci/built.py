@@ -114,8 +114,8 @@ LANGUAGES = {
         r"^(?:FAIL: |---- )(\S+?)(?: stdout ----)?$|--> tests/all/../(\w+)\.rs:",
     ),
 }
-# A test that goes on for longer has seen the edit.
-SECONDS = 120
+# A test that goes on for longer, by the clock of a machine that may be busy, has seen the edit.
+SECONDS = 360
 
 
 def files_of(language):

@@ -394,8 +394,8 @@ if has aarch64-linux-gnu-gcc && has qemu-aarch64; then
     aarch64-linux-gnu-gcc -std=c99 -D_GNU_SOURCE "${strict[@]}" -static bindings/test/stack.c "$arm" -o "$scratch/arm"
     qemu-aarch64 "$scratch/arm"
     aarch64-linux-gnu-gcc -std=c99 -D_GNU_SOURCE "${strict[@]}" -static bindings/test/hostile*.c "$arm" -o "$scratch/arm"
-    qemu-aarch64 "$scratch/arm" 4 20000
-    said 'on ARM, emulated: symbols, layouts, the example, the values worked out by hand, the stack, and random bytes 20,000 times'
+    qemu-aarch64 "$scratch/arm" 4 5000
+    said 'on ARM, emulated: symbols, layouts, the example, the values worked out by hand, the stack, and random bytes 5,000 times'
 else
     said 'ARM was left out: there is no aarch64-linux-gnu-gcc or no qemu-aarch64'
 fi
