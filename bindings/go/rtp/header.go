@@ -48,44 +48,62 @@ func (h *Header) Unmarshal(buf []byte) (n int, err error) {
 	if err := parts.Parse(buf); err != nil {
 		return 0, errorOf(err)
 	}
-	h.take(&parts, buf)
+	if h.take(&parts) {
+		h.takeLists(&parts, buf)
+	}
 	return parts.HeaderLen(), nil
 }
 
-// take is the header of the packet with these parts.
-func (h *Header) take(parts *rtpwire.PacketFields, buf []byte) {
+// take gives the header the fields of the packet with these parts. It is true where takeLists has more to take. What stands
+// between Timestamp and SSRC keeps the compiler from reading both at once: the library has written them one by one, so that
+// a processor would have to wait until they are in memory.
+func (h *Header) take(parts *rtpwire.PacketFields) bool {
+	h.Timestamp = parts.Timestamp
 	h.Version, h.Padding, h.Marker = 2, parts.HasPadding, parts.Marker
+	h.SSRC = parts.SSRC
 	h.PayloadType, h.SequenceNumber = parts.PayloadType, parts.SequenceNumber
-	h.Timestamp, h.SSRC = parts.Timestamp, parts.SSRC
+	h.Extension, h.ExtensionProfile = false, 0
+	h.CSRC, h.Extensions = h.CSRC[:0], h.Extensions[:0]
+	return parts.HeaderLen() != 12 || h.CSRC == nil
+}
+
+// takeLists gives it the contributing sources, and the block.
+func (h *Header) takeLists(parts *rtpwire.PacketFields, buf []byte) {
 	if h.CSRC == nil {
 		h.CSRC = []uint32{}
 	}
-	h.CSRC = h.CSRC[:0]
 	if parts.CSRCCount() != 0 {
 		var packet rtpwire.Packet
 		if packet.Parse(buf, nil) == nil {
 			h.CSRC = append(h.CSRC, packet.CSRC()...)
 		}
 	}
-	h.Extensions = h.Extensions[:0]
 	form, body := parts.Block(buf)
-	h.Extension, h.ExtensionProfile = form != rtpwire.NoBlock, parts.BlockProfile()
-	switch form {
-	case rtpwire.OneByteForm, rtpwire.TwoByteForm:
-		h.Extensions = appendElements(h.Extensions, parts, buf, body)
-	case rtpwire.OtherForm:
+	if form == rtpwire.NoBlock {
+		return
+	}
+	h.Extension, h.ExtensionProfile = true, parts.BlockProfile()
+	if form == rtpwire.OtherForm {
 		h.Extensions = append(h.Extensions, Extension{0, body})
+	} else {
+		h.takeElements(parts, buf, body)
 	}
 }
 
-// appendElements appends the elements of the block's body.
-func appendElements(all []Extension, parts *rtpwire.PacketFields, buf, body []byte) []Extension {
+// takeElements makes the elements of the block's body the extensions.
+func (h *Header) takeElements(parts *rtpwire.PacketFields, buf, body []byte) {
 	var room [8]rtpwire.Place
-	for _, it := range parts.AppendPlaces(room[:0], buf) {
-		end := it.At + it.Len
-		all = append(all, Extension{it.ID, body[it.At:end:end]})
+	places := parts.AppendPlaces(room[:0], buf)
+	if cap(h.Extensions) < len(places) {
+		h.Extensions = make([]Extension, len(places))
 	}
-	return all
+	all := h.Extensions[:len(places)]
+	for i := range places {
+		it := &places[i]
+		end := it.At + it.Len
+		all[i] = Extension{it.ID, body[it.At:end:end]}
+	}
+	h.Extensions = all
 }
 
 // errorOf is pion's error for which bytes are no packet.
@@ -140,20 +158,47 @@ func (h Header) MarshalTo(buf []byte) (n int, err error) {
 	return n, err
 }
 
-// places has the elements' data one after another, and where each lies.
-func (h *Header) places(data []byte, places []rtpwire.Place) ([]byte, []rtpwire.Place) {
-	for _, it := range h.Extensions {
-		places = append(places, rtpwire.Place{ID: it.id, At: len(data), Len: len(it.payload)})
-		data = append(data, it.payload...)
+// writeElements writes a header with a block of elements, which takes no memory where they are as usual.
+func (h *Header) writeElements(w *rtpwire.Header, buf []byte, form rtpwire.Form) (int, error) {
+	var data [64]byte
+	var places [8]rtpwire.Place
+	if n, fit := h.layOut(data[:], places[:]); fit {
+		return w.WriteWithForm(buf, form, data[:n], places[:len(h.Extensions)])
 	}
-	return data, places
+	all, each := h.laidOut()
+	return w.WriteWithForm(buf, form, all, each)
 }
 
-func (h *Header) writeElements(w *rtpwire.Header, buf []byte, form rtpwire.Form) (int, error) {
-	var dataRoom [64]byte
-	var placeRoom [8]rtpwire.Place
-	data, places := h.places(dataRoom[:0], placeRoom[:0])
-	return w.WriteWithForm(buf, form, data, places)
+// laidOut is the elements' data one after another, and where each lies.
+func (h *Header) laidOut() ([]byte, []rtpwire.Place) {
+	data, places := make([]byte, h.bodySize()), make([]rtpwire.Place, len(h.Extensions))
+	n, _ := h.layOut(data, places)
+	return data[:n], places
+}
+
+// layOut puts the elements' data one after another, with the place of each, and returns how many bytes they are. It is
+// false where there are too few bytes or places.
+func (h *Header) layOut(data []byte, places []rtpwire.Place) (n int, fit bool) {
+	all := h.Extensions
+	if len(all) > len(places) {
+		return 0, false
+	}
+	for i := range all {
+		payload, it := all[i].payload, &places[i]
+		if len(payload) > len(data)-n {
+			return 0, false
+		}
+		it.ID, it.At, it.Len = all[i].id, n, len(payload)
+		if len(payload) > 4 {
+			n += copy(data[n:], payload)
+			continue
+		}
+		for _, b := range payload { // of so few bytes it is faster than copy
+			data[n] = b
+			n++
+		}
+	}
+	return n, true
 }
 
 // writeBlock writes a header with a block of another profile, or one in the two-byte form with appbits.
@@ -181,7 +226,7 @@ func (h *Header) body() ([]byte, error) {
 		}
 		return h.Extensions[0].payload, nil
 	}
-	data, places := h.places(nil, nil)
+	data, places := h.laidOut()
 	body := make([]byte, h.bodySize())
 	_, err := rtpwire.WriteElements(body, rtpwire.TwoByteForm, data, places)
 	return body, err

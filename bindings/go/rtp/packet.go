@@ -24,7 +24,9 @@ func (p *Packet) Unmarshal(buf []byte) error {
 	if !ok {
 		return errTooSmall
 	}
-	p.Header.take(&parts, buf)
+	if p.Header.take(&parts) {
+		p.Header.takeLists(&parts, buf)
+	}
 	p.Payload, p.PaddingSize = payload, byte(len(buf)-parts.HeaderLen()-len(payload))
 	return nil
 }

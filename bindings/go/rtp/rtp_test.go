@@ -72,6 +72,86 @@ func TestWhatIsNotWritten(t *testing.T) {
 	}
 }
 
+// As many elements as fit, of each length, in each form: they are read, and written as they were.
+func TestElementsOfEachLength(t *testing.T) {
+	type form struct {
+		profile     uint16
+		least, most int
+	}
+	for _, it := range []form{{0xBEDE, 1, 16}, {0x1000, 0, 255}, {0x1007, 0, 255}} {
+		for length := it.least; length <= it.most; length++ {
+			for count := 1; count <= 14; count++ {
+				wanted := blockOf(it.profile, length, count)
+				var header rtp.Header
+				if n, err := header.Unmarshal(append(wanted, 1, 2, 3)); n != len(wanted) || err != nil || len(header.Extensions) != count {
+					t.Fatal(it, length, count, n, err)
+				}
+				for id := 1; id <= count; id++ {
+					data := header.GetExtension(uint8(id))
+					if len(data) != length || cap(data) != length || length != 0 && (data[0] != byte(id) || data[length-1] != byte(id+length-1)) {
+						t.Fatal(it, length, count, id, data)
+					}
+				}
+				if written, err := header.Marshal(); !bytes.Equal(written, wanted) || err != nil {
+					t.Fatal(it, length, count, written, err)
+				}
+			}
+		}
+	}
+}
+
+// blockOf is a header whose elements have the ids from 1 on, and so many bytes each: the id, and each one more than the last.
+func blockOf(profile uint16, length, count int) []byte {
+	var body []byte
+	for id := 1; id <= count; id++ {
+		if profile == 0xBEDE {
+			body = append(body, byte(id<<4|(length-1)))
+		} else {
+			body = append(body, byte(id), byte(length))
+		}
+		for i := 0; i < length; i++ {
+			body = append(body, byte(id+i))
+		}
+	}
+	for len(body)%4 != 0 {
+		body = append(body, 0)
+	}
+	words := len(body) / 4
+	return append([]byte{0x90, 96, 0, 5, 0, 0, 0, 160, 0, 0, 0, 7, byte(profile >> 8), byte(profile), byte(words >> 8), byte(words)}, body...)
+}
+
+// One header is read into again: nothing of the packet before stays, and no memory is taken.
+func TestReadAgain(t *testing.T) {
+	var packet rtp.Packet
+	plain := append([]byte{0x80}, datagram[1:12]...)
+	other := append([]byte{0x90}, append(datagram[1:12:12], 0xAB, 0xAC, 0, 1, 1, 2, 3, 4)...)
+	all := [][]byte{datagram, plain, blockOf(0xBEDE, 2, 5), other, plain, datagram}
+	read := func() {
+		for _, it := range all {
+			if err := packet.Unmarshal(it); err != nil {
+				t.Fatal(err)
+			}
+		}
+	}
+	read()
+	if packet.Unmarshal(plain) != nil || packet.Extension || packet.ExtensionProfile != 0 || len(packet.Extensions) != 0 ||
+		packet.CSRC == nil || len(packet.CSRC) != 0 || packet.Padding || packet.PaddingSize != 0 || len(packet.Payload) != 0 {
+		t.Error(packet)
+	}
+	if packet.Unmarshal(other) != nil || packet.ExtensionProfile != 0xABAC || !bytes.Equal(packet.GetExtension(0), []byte{1, 2, 3, 4}) {
+		t.Error(packet)
+	}
+	buf := make([]byte, 100)
+	if taken := testing.AllocsPerRun(10, func() {
+		read()
+		if _, err := packet.MarshalTo(buf); err != nil {
+			t.Fatal(err)
+		}
+	}); taken != 0 {
+		t.Error(taken)
+	}
+}
+
 func TestValues(t *testing.T) {
 	data, err := rtp.AudioLevelExtension{Level: 10, Voice: true}.Marshal()
 	var level rtp.AudioLevelExtension
