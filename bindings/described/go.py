@@ -1,9 +1,10 @@
 """What is made of the description for Go: the structs, the statuses, and the functions, as those of Go's assembler text.
 
-A function `rtpw_NAME` is text_NAME of the assembler text (generated/go/make), and in a program with a race detector
+A function `rtpw_NAME` is text_NAME of the assembler text (generated/go/make), of which one repeats a call, and in a program with a race detector
 it tells that what is read and what is written: a struct, all of an array, of a packet its header where that is read
 or changed, and the whole of it where its payload may move."""
 
+from dataclasses import replace
 from typing import List, Tuple
 
 from .header import SIZES, Api, Function, Parameter, Struct
@@ -38,6 +39,13 @@ LEFT_OUT = {
 def functions_of(api: Api) -> List[Function]:
     """Those that Go's package calls."""
     return [it for it in api.functions if it.short not in LEFT_OUT]
+
+
+def repeated(api: Api) -> Function:
+    """The call of next_element for one element after the other, as many as there is room for: it tells how many there were."""
+    once = next(it for it in api.functions if it.short == "next_element")
+    *given, element = once.parameters
+    return Function(once.name + "s", "size_t", (*given, replace(element, name="elements", count="count"), Parameter("count", "size_t")))
 
 
 def structs_of(api: Api) -> List[Struct]:
@@ -130,5 +138,5 @@ def statuses(api: Api) -> str:
 
 def files(api: Api):
     text = [MADE, "package rtpwire\n", 'import "unsafe"\n', "// The statuses, the structs and the functions of rtp_wire.h.\n",
-            statuses(api), *map(struct_of, structs_of(api)), *map(function_of, functions_of(api))]
+            statuses(api), *map(struct_of, structs_of(api)), *map(function_of, [*functions_of(api), repeated(api)])]
     return {"bindings/go/calls.go": "\n".join(text)}

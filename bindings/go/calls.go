@@ -1556,3 +1556,14 @@ func rtpw_write_headers(made *rtpw_template, header *byte, header_size uintptr, 
 	}
 	return text_write_headers(made, header, header_size, data, data_len, receivers, count, buf, size)
 }
+
+//go:noescape
+func text_next_elements(body *byte, body_len uintptr, form byte, at uintptr, elements *rtpw_element, count uintptr) uintptr
+
+func rtpw_next_elements(body *byte, body_len uintptr, form byte, at uintptr, elements *rtpw_element, count uintptr) uintptr {
+	if racing {
+		reads(unsafe.Pointer(body), body_len*unsafe.Sizeof(*body))
+		writes(unsafe.Pointer(elements), count*unsafe.Sizeof(*elements))
+	}
+	return text_next_elements(body, body_len, form, at, elements, count)
+}

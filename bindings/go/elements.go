@@ -62,23 +62,6 @@ func (p *Packet) AppendPlaces(places []Place) []Place {
 	return appendPlaces(places, form, body)
 }
 
-func appendPlaces(places []Place, form Form, body []byte) []Place {
-	at := 0
-	for form.hasElements() {
-		if len(places) == cap(places) {
-			places = append(places, make([]Place, 8)...)[:len(places)]
-		}
-		room := places[len(places):cap(places)]
-		count := nextPlaces(body, form, at, room)
-		places = places[:len(places)+count]
-		if count < len(room) {
-			break
-		}
-		at = room[count-1].end
-	}
-	return places
-}
-
 // Data is the data at a place that AppendPlaces told of this packet: a part of the datagram, which an append copies.
 func (p *Packet) Data(place Place) []byte {
 	_, body := p.Block()

@@ -118,15 +118,22 @@ func (p *Place) next(body []byte, form Form) bool {
 	return rtpw_next_element(first(body), size(body), uint8(form), uintptr(p.end), p.c()) == statusOK
 }
 
-// nextPlaces writes the places of the elements from an offset on, as many as there is room for, and says how many.
-func nextPlaces(body []byte, form Form, at int, room []Place) int {
-	for i := range room {
-		if at == len(body) || rtpw_next_element(first(body), size(body), uint8(form), uintptr(at), room[i].c()) != statusOK {
-			return i
+// appendPlaces appends the places of the elements: as many as there is room for in each call.
+func appendPlaces(places []Place, form Form, body []byte) []Place {
+	at := 0
+	for form.hasElements() {
+		if len(places) == cap(places) {
+			places = append(places, make([]Place, 8)...)[:len(places)]
 		}
-		at = room[i].end
+		room := places[len(places):cap(places)]
+		count := int(rtpw_next_elements(first(body), size(body), uint8(form), uintptr(at), room[0].c(), uintptr(len(room))))
+		places = places[:len(places)+count]
+		if count < len(room) {
+			break
+		}
+		at = room[count-1].end
 	}
-	return len(room)
+	return places
 }
 
 func kindOfURI(uri []byte) Kind {

@@ -2736,6 +2736,64 @@ odd:
 	MOVL AX, ret+72(FP)
 	RET
 
+// rtpw_next_element, once for each element: it takes at most 168 bytes of the stack.
+TEXT ·text_next_elements(SB), NOSPLIT, $0-56
+	NO_LOCAL_POINTERS
+	MOVQ body+0(FP), BX
+	MOVQ body_len+8(FP), R12
+	MOVBLZX form+16(FP), R13
+	MOVQ at+24(FP), CX
+	MOVQ elements+32(FP), R14
+	MOVQ count+40(FP), R15
+	MOVQ SP, AX
+	TESTB $8, AX
+	JNE odd
+next:
+	CMPQ CX, R12
+	JEQ done
+	TESTQ R15, R15
+	JEQ done
+	MOVQ BX, DI
+	MOVQ R12, SI
+	MOVL R13, DX
+	MOVQ R14, R8
+	CALL rtp_wire<>+66880(SB)
+	TESTL AX, AX
+	JNE done
+	MOVQ 16(R14), CX
+	ADDQ $32, R14
+	DECQ R15
+	JMP next
+done:
+	MOVQ count+40(FP), AX
+	SUBQ R15, AX
+	MOVQ AX, ret+48(FP)
+	RET
+odd:
+	ADJSP $8
+next_odd:
+	CMPQ CX, R12
+	JEQ done_odd
+	TESTQ R15, R15
+	JEQ done_odd
+	MOVQ BX, DI
+	MOVQ R12, SI
+	MOVL R13, DX
+	MOVQ R14, R8
+	CALL rtp_wire<>+66880(SB)
+	TESTL AX, AX
+	JNE done_odd
+	MOVQ 16(R14), CX
+	ADDQ $32, R14
+	DECQ R15
+	JMP next_odd
+done_odd:
+	ADJSP $-8
+	MOVQ count+40(FP), AX
+	SUBQ R15, AX
+	MOVQ AX, ret+48(FP)
+	RET
+
 // The library, and its constants.
 TEXT rtp_wire<>(SB), NOSPLIT|NOFRAME, $0-0
 	NO_LOCAL_POINTERS

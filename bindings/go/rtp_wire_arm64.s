@@ -1267,6 +1267,37 @@ TEXT ·text_write_headers(SB), 0, $328-76
 	MOVW R0, ret+72(FP)
 	RET
 
+// rtpw_next_element, once for each element: it takes at most 32 bytes of the stack.
+TEXT ·text_next_elements(SB), 0, $48-56
+	NO_LOCAL_POINTERS
+	MOVD body+0(FP), R19
+	MOVD body_len+8(FP), R20
+	MOVBU form+16(FP), R21
+	MOVD at+24(FP), R3
+	MOVD elements+32(FP), R22
+	MOVD count+40(FP), R23
+	ADD $48, RSP
+next:
+	CMP R20, R3
+	BEQ done
+	CBZ R23, done
+	MOVD R19, R0
+	MOVD R20, R1
+	MOVD R21, R2
+	MOVD R22, R4
+	CALL rtp_wire<>+60148(SB)
+	CBNZW R0, done
+	MOVD 16(R22), R3
+	ADD $32, R22
+	SUB $1, R23
+	JMP next
+done:
+	SUB $48, RSP
+	MOVD count+40(FP), R0
+	SUB R23, R0
+	MOVD R0, ret+48(FP)
+	RET
+
 // The library, and its constants.
 TEXT rtp_wire<>(SB), NOSPLIT|NOFRAME, $0-0
 	NO_LOCAL_POINTERS

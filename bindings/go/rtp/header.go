@@ -67,16 +67,10 @@ func (h *Header) take(parts *rtpwire.PacketFields) bool {
 	return parts.HeaderLen() != 12 || h.CSRC == nil
 }
 
-// takeLists gives it the contributing sources, and the block.
+// takeLists gives it the contributing sources, and the elements of the block.
 func (h *Header) takeLists(parts *rtpwire.PacketFields, buf []byte) {
-	if h.CSRC == nil {
-		h.CSRC = []uint32{}
-	}
-	if parts.CSRCCount() != 0 {
-		var packet rtpwire.Packet
-		if packet.Parse(buf, nil) == nil {
-			h.CSRC = append(h.CSRC, packet.CSRC()...)
-		}
+	if h.CSRC == nil || parts.CSRCCount() != 0 {
+		h.takeSources(parts, buf)
 	}
 	form, body := parts.Block(buf)
 	if form == rtpwire.NoBlock {
@@ -85,13 +79,8 @@ func (h *Header) takeLists(parts *rtpwire.PacketFields, buf []byte) {
 	h.Extension, h.ExtensionProfile = true, parts.BlockProfile()
 	if form == rtpwire.OtherForm {
 		h.Extensions = append(h.Extensions, Extension{0, body})
-	} else {
-		h.takeElements(parts, buf, body)
+		return
 	}
-}
-
-// takeElements makes the elements of the block's body the extensions.
-func (h *Header) takeElements(parts *rtpwire.PacketFields, buf, body []byte) {
 	var room [8]rtpwire.Place
 	places := parts.AppendPlaces(room[:0], buf)
 	if cap(h.Extensions) < len(places) {
@@ -104,6 +93,16 @@ func (h *Header) takeElements(parts *rtpwire.PacketFields, buf, body []byte) {
 		all[i] = Extension{it.ID, body[it.At:end:end]}
 	}
 	h.Extensions = all
+}
+
+func (h *Header) takeSources(parts *rtpwire.PacketFields, buf []byte) {
+	if h.CSRC == nil {
+		h.CSRC = []uint32{}
+	}
+	var packet rtpwire.Packet
+	if parts.CSRCCount() != 0 && packet.Parse(buf, nil) == nil {
+		h.CSRC = append(h.CSRC, packet.CSRC()...)
+	}
 }
 
 // errorOf is pion's error for which bytes are no packet.
