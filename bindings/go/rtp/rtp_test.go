@@ -2,6 +2,7 @@ package rtp_test
 
 import (
 	"bytes"
+	"io"
 	"reflect"
 	"testing"
 
@@ -118,6 +119,30 @@ func blockOf(profile uint16, length, count int) []byte {
 	}
 	words := len(body) / 4
 	return append([]byte{0x90, 96, 0, 5, 0, 0, 0, 160, 0, 0, 0, 7, byte(profile >> 8), byte(profile), byte(words >> 8), byte(words)}, body...)
+}
+
+// A header of twelve bytes is written as one with a source and without it, whatever lies in the buffer, and no byte behind it.
+func TestFixedPart(t *testing.T) {
+	for flags := 0; flags < 4; flags++ {
+		header := rtp.Header{Padding: flags&1 != 0, Marker: flags&2 != 0, PayloadType: 127, SequenceNumber: 0x1234, Timestamp: 0xDEADBEEF, SSRC: 0x89ABCDEF}
+		buf := bytes.Repeat([]byte{0xFF}, 14)
+		n, err := header.MarshalTo(buf)
+		wanted := []byte{byte(0x80 | flags&1<<5), byte(127 | flags>>1<<7), 0x12, 0x34, 0xDE, 0xAD, 0xBE, 0xEF, 0x89, 0xAB, 0xCD, 0xEF, 0xFF, 0xFF}
+		if n != 12 || err != nil || !bytes.Equal(buf, wanted) {
+			t.Error(flags, n, err, buf)
+		}
+		if n, err := header.MarshalTo(make([]byte, 11)); n != 0 || err != io.ErrShortBuffer {
+			t.Error(flags, n, err)
+		}
+		header.CSRC = []uint32{0xFFFFFFFF}
+		wanted[0]++
+		if n, err := header.MarshalTo(make([]byte, 15)); n != 0 || err != io.ErrShortBuffer {
+			t.Error(flags, n, err)
+		}
+		if written, err := header.Marshal(); err != nil || !bytes.Equal(written, append(wanted, 0xFF, 0xFF)) {
+			t.Error(flags, written, err)
+		}
+	}
 }
 
 // One header is read into again: nothing of the packet before stays, and no memory is taken.
