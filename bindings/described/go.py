@@ -29,6 +29,7 @@ AFTER = {
     "write_headers": "writes(unsafe.Pointer(buf), endOf(receivers, count))",
     "pad": "writes(unsafe.Add(unsafe.Pointer(datagram), header_len), *count)",
     "write_original": "writes(unsafe.Pointer(payload), 2)",
+    "next_elements": "writes(unsafe.Pointer(elements), found*unsafe.Sizeof(*elements))",
 }
 # What Go's package doesn't call: it sets fields together, reads many headers by parse_many, and has others in another way.
 LEFT_OUT = {
@@ -95,7 +96,7 @@ def told_of(it: Function) -> Tuple[List[str], List[str]]:
         elif p.name == "buf" and names.get("len", p).is_pointer and p.mark != "in":
             before += [f"reads({at}, least(*n, {room}))"] if p.mark == "inout" else []
             after += [f"writes({at}, *n)"] if "len" in names else []
-        elif f"({p.name}" in said.replace("unsafe.Pointer", "") and p.type in ("uint8_t", "rtpw_receiver") or p.name == "buf" and p.mark == "in":
+        elif f"({p.name}" in said.replace("unsafe.Pointer", "") and p.type in ("uint8_t", "rtpw_receiver", "rtpw_element") or p.name == "buf" and p.mark == "in":
             continue
         else:
             does = "reads" if p.mark == "in" else "writes"
@@ -122,8 +123,10 @@ def function_of(it: Function) -> str:
     lines = ["//go:noescape", f"func {text_of(it)}({given}){result}", "", f"func {it.name}({given}){result} {{"]
     if before or after:
         lines += ["\tif racing {", *(f"\t\t{line}" for line in before)]
-        if after:
+        if after and it.result == "int32_t":
             lines += [f"\t\tstatus := {call}", "\t\tif status == statusOK {", *(f"\t\t\t{line}" for line in after), "\t\t}", "\t\treturn status"]
+        elif after:
+            lines += [f"\t\tfound := {call}", *(f"\t\t{line}" for line in after), "\t\treturn found"]
         lines.append("\t}")
     return "\n".join([*lines, f"\t{'return ' if result else ''}{call}", "}", ""])
 

@@ -1563,7 +1563,9 @@ func text_next_elements(body *byte, body_len uintptr, form byte, at uintptr, ele
 func rtpw_next_elements(body *byte, body_len uintptr, form byte, at uintptr, elements *rtpw_element, count uintptr) uintptr {
 	if racing {
 		reads(unsafe.Pointer(body), body_len*unsafe.Sizeof(*body))
-		writes(unsafe.Pointer(elements), count*unsafe.Sizeof(*elements))
+		found := text_next_elements(body, body_len, form, at, elements, count)
+		writes(unsafe.Pointer(elements), found*unsafe.Sizeof(*elements))
+		return found
 	}
 	return text_next_elements(body, body_len, form, at, elements, count)
 }
