@@ -63,6 +63,22 @@ static void uri(void) {
     CHECK(memcmp(bytes, copy, len) == 0);
 }
 
+/* A URI of which one byte is another, each in turn, is none. */
+static void changed_uris(void) {
+    const char *known = URIS[1 + round_number % LAST_KIND];
+    size_t len = strlen(known);
+    uint8_t *bytes = block_in(&uris, len);
+    memcpy(bytes, known, len);
+    for (size_t i = 0; i < len; i++) {
+        bytes[i] ^= 1;
+        uint8_t kind = rtpw_kind_of_uri(bytes, len);
+        CHECK(kind == RTPW_KIND_NONE || strlen(URIS[kind]) == len);
+        CHECK(kind == RTPW_KIND_NONE || memcmp(URIS[kind], bytes, len) == 0);
+        bytes[i] ^= 1;
+    }
+    CHECK(rtpw_kind_of_uri(bytes, len) == 1 + round_number % LAST_KIND);
+}
+
 /* The URI of any number, in as many bytes, fewer or more. */
 static void uri_of(void) {
     static uint8_t before[100];
@@ -269,6 +285,10 @@ static void retransmission(const rtpw_new_ids *ids) {
     uint64_t x = random_u64();
     size_t *len = block_in(&lengths, sizeof *len);
     *len = x % 16 == 0 ? (size_t)random_u64() : x % 16 < 8 && size > 4 ? size - x / 16 % 4 : size;
+    walked header = walk(buf, size);
+    if (x / 1048576 % 4 == 0 && header.cause == 0 && header.header_len + 9 < size) {
+        *len = header.header_len + x / 4194304 % 8; /* hardly a payload */
+    }
     size_t wanted = *len;
     uint8_t payload_type = (uint8_t)(x / 64 % (x / 16384 % 8 == 0 ? 256 : 128));
     uint32_t ssrc = (uint32_t)random_u64();
@@ -293,6 +313,7 @@ void maps_round(void) {
         tables = memory_of(sizeof(rtpw_new_ids));
     }
     uri();
+    changed_uris();
     uri_of();
     rtpw_map *from = block_in(&maps, sizeof *from), *to = block_in(&other_maps, sizeof *to);
     random_map(from);

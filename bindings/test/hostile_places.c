@@ -80,7 +80,7 @@ static void one_id_with_layers(uint8_t id, uint8_t kind) {
     CHECK(rtpw_parse_layers(buf, wanted, map, &again, &read) == RTPW_OK && again.header_len == wanted);
 }
 
-/* A packet whose block has one element, of zeros but for its last byte; how many bytes it has. */
+/* A packet whose block has one element, of zeros but for its last byte, and 8 bytes of payload; how many bytes it has. */
 static size_t packet_with(uint8_t *bytes, int form, uint8_t id, size_t data_len) {
     size_t header = form == 1 ? 1 : 2, words = (header + data_len + 3) / 4;
     memset(bytes, 0, 16 + 4 * words + 8);
@@ -206,6 +206,15 @@ void places_round(void) {
     one_id_with_layers(id, random_u64() % 2 == 0 ? RTPW_KIND_LAYERS : kind);
     one_new_id(id, id_at_a_bound());
     one_new_id(id_at_a_bound(), id);
+    for (uint8_t i = 1; i < 16; i++) {
+        one_id(i, (uint8_t)(1 + round_number % 20));
+        one_id_with_layers(i, (uint8_t)(1 + round_number % 20));
+    }
+    for (unsigned i = 0; i < 32; i++) {
+        /* Each in turn gets the last number of the one-byte form, or the first that it hasn't. */
+        unsigned it = (unsigned)(round_number % 16) * 16 + i / 2;
+        one_new_id((uint8_t)(it == 0 ? 1 : it), (uint8_t)(14 + i % 2));
+    }
     one_pair(id, id_at_a_bound(), kind);
     one_element(id, id_at_a_bound());
     one_element(id_at_a_bound(), id);

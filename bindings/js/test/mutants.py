@@ -5,17 +5,21 @@ and those of the package.
 
 usage: mutants.py RTP_WIRE.wasm FOLDER_OF_BESIDE [COUNT [ROUNDS [SEED]]]
 
-Each changed constant is one greater. Not counted is one with which the module is no module any more, or of which a compiler
-makes the same as without it (same.py), so that no answer changes; others are drawn in their place. What isn't seen is told
-with the function that it stands in. It takes wasm-objdump and wasm2c (wabt), wasm-opt (binaryen) and clang-22.
+Each changed constant is one greater. Not counted is one with which the module is no module any more, or that changes no
+answer: a compiler makes the same of it as without it (same.py), or equal.txt says why, by reading. Others are drawn in their
+place. What isn't seen is told with the function that it stands in. It takes wasm-objdump and wasm2c (wabt), wasm-opt
+(binaryen) and clang-22.
 
 Constants are taken of the module without its traps, which is left in the folder as `without_traps`. The compiler asks before
 each access whether addresses wrap around or overlap, and where they do branches to `unreachable`; that this is never taken is
-part of what is proved, so what decides over it and over nothing else changes no answer, whatever it is. So each such branch is
-left out, and binaryen then leaves out what is computed for it alone. That the module gives back the same without them is
-compared first.
+part of what is proved, so what decides over it and over nothing else changes no answer, whatever it is. In front of a copy it
+asks whether the bytes lie a little behind the beginning of where they go, and then copies them one by one; that they don't is
+what rtp_wire.h asks of each caller, and what the borrows of the proved code say where one part of it calls another. So each
+such branch is left out, and binaryen then leaves out what is computed for it alone. That the module gives back the same without
+them is compared first.
 """
 
+import hashlib
 import random
 import re
 import shutil
@@ -33,8 +37,8 @@ PACKAGE = HERE.parent
 LINE = re.compile(r"^ ([0-9a-f]+): ((?:[0-9a-f]{2} )+) *\| +(\S+) ?(.*)$")
 FUNCTION = re.compile(r"^[0-9a-f]+ func\[(\d+)\](.*):$")
 FEATURES = "bulk-memory sign-ext mutable-globals nontrapping-float-to-int multivalue".split()
-DROP, NOP = 0x1A, 0x01
-SECONDS = 600
+DROP, NOP, UNREACHABLE = 0x1A, 0x01, 0x00
+SECONDS = 200
 
 
 def functions(wasm):
@@ -69,12 +73,30 @@ def traps(instructions):
             yield instructions[i]
 
 
+def overlaps(instructions):
+    """The first instructions of copies byte by byte, behind which memory.copy stands, for bytes of which more are copied than
+    lie between."""
+    opened = []
+    for i, (_, _, name, _) in enumerate(instructions):
+        if name in ("block", "loop", "if"):
+            opened.append((i, name))
+        elif name == "end" and opened:
+            begin, kind = opened.pop()
+            before = [it[2] for it in instructions[max(begin - 2, 0) : begin]]
+            after = [it[2] for it in instructions[i + 1 : i + 12]]
+            if kind == "if" and before == ["i64.sub", "i64.gt_u"] and "memory.copy" in after:
+                yield instructions[begin + 1]
+
+
 def without_traps(wasm, made):
     """Writes the module without such branches; how many there were."""
     data, count = bytearray(Path(wasm).read_bytes()), 0
     for _, instructions in functions(wasm):
         for at, encoded, _, _ in traps(instructions):
             data[at : at + len(encoded)] = bytes([DROP, *[NOP] * (len(encoded) - 1)])
+            count += 1
+        for at, encoded, _, _ in overlaps(instructions):
+            data[at : at + len(encoded)] = bytes([UNREACHABLE, *[NOP] * (len(encoded) - 1)])
             count += 1
     Path(made).write_bytes(data)
     features = [f"--enable-{it}" for it in FEATURES]
@@ -97,6 +119,14 @@ def said(wasm, tests, rounds):
     return done.stdout if done.returncode == 0 else None, done.stderr
 
 
+def judged(wasm):
+    """The constants of this module of which equal.txt says that they change nothing."""
+    first, *lines = (HERE / "equal.txt").read_text().splitlines()
+    if first.split()[-1] != hashlib.sha256(Path(wasm).read_bytes()).hexdigest():
+        return set()
+    return {int(at, 16) for it in lines if it.startswith("0x") for at in it.split()}
+
+
 def package_passes(wasm, room):
     """Whether the tests of the package pass over the module."""
     package = Path(room) / "bindings/js"
@@ -114,14 +144,14 @@ class Tried:
     def __init__(self, wasm, tests, rounds, room):
         self.tests, self.room, self.bare = tests, room, Path(tests) / "without_traps"
         all_constants, branches = len(list(constants(wasm))), without_traps(wasm, self.bare)
-        self.data, self.places = self.bare.read_bytes(), list(constants(self.bare))
+        self.data, self.places, self.equal = self.bare.read_bytes(), list(constants(self.bare)), judged(self.bare)
         # What few rounds see needs no more of them.
         self.right = {it: said(self.bare, tests, it) for it in sorted({min(60, rounds), min(1000, rounds), rounds})}
         given, wrong = self.right[rounds]
         if given is None or given != said(wasm, tests, rounds)[0]:
             sys.exit(f"the module without its {branches} branches to traps gives back something else: {wrong}")
         left_out = all_constants - len(self.places)
-        print(f"{branches} branches to traps left out, and {left_out} of {all_constants} constants", flush=True)
+        print(f"{branches} branches left out, and {left_out} of {all_constants} constants", flush=True)
 
     def became(self, place):
         """What became of the constant at a place, one greater."""
@@ -139,7 +169,9 @@ class Tried:
                         return "seen"
                 if are_same(self.bare, mutant):
                     return "the same"
-                return "not seen" if package_passes(mutant, folder) else "seen"
+                if not package_passes(mutant, folder):
+                    return "seen by the package"
+                return "judged equal" if place[0] in self.equal else "not seen"
             except subprocess.TimeoutExpired:
                 return "seen"
 
@@ -147,19 +179,20 @@ class Tried:
 def main():
     wasm, tests = sys.argv[1:3]
     count, rounds, seed = (int(it) for it in [*sys.argv[3:], *"40 4000 3".split()[len(sys.argv) - 3 :]])
-    counted = {"seen": 0, "not seen": 0, "the same": 0, "no module": 0}
+    counted = dict.fromkeys(("seen", "seen by the package", "not seen", "the same", "judged equal", "no module"), 0)
     with tempfile.TemporaryDirectory(prefix="mutants-") as room:
         tried = Tried(wasm, tests, rounds, room)
         drawn = iter(random.Random(seed).sample(tried.places, len(tried.places)))
         with ThreadPoolExecutor(2) as pool:
-            while (lacks := count - counted["seen"] - counted["not seen"]) > 0:
+            while (lacks := count - sum(counted[it] for it in list(counted)[:3])) > 0:
                 chosen = [next(drawn) for _ in range(lacks)]
                 for (at, function), became in zip(chosen, pool.map(tried.became, chosen)):
                     counted[became] += 1
-                    if became in ("not seen", "the same"):
+                    if became not in ("seen", "no module"):
                         print(f"{became}: {at:#x} in {function}, {tried.data[at]} made {tried.data[at] + 1}", flush=True)
-    print(f"{counted['seen']} of {count} changed constants seen, of {len(tried.places)} that there are; not counted were "
-          f"{counted['the same']} that change nothing, and {counted['no module']} that are no module")
+    print(f"{counted['seen']} of {count} changed constants seen by the tests for C, and {counted['seen by the package']} by the "
+          f"package's alone, of {len(tried.places)} that there are; not counted were {counted['the same']} of which a compiler "
+          f"makes the same, {counted['judged equal']} judged equal by reading, and {counted['no module']} that are no module")
 
 
 main()
