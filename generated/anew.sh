@@ -6,7 +6,7 @@
 # written as text. And it adds call frame information, for which it puts some instructions in another order: so
 # what is built by this `rt` has the code of the text.
 
-# The system for which the library for C is proved and built.
+# The system for which what is compiled for others too is proved and built.
 proved_for=x86_64-unknown-linux-gnu
 
 # Takes a folder for the kit that is lent: it is of links, but for clang, and for `rt`, which looks beside itself.
@@ -39,9 +39,8 @@ CLANG
     PATH=$lent/bin:$PATH
 }
 
-# Proves and builds what a text is made of. The library for C is proved for one system, and what was built of it is then
-# compiled for all (make_text). The program for another processor isn't linked: that for x86-64 has to be there, stays, and
-# is run on no input.
+# Proves and builds what texts are made of: that for this system, and those for the others that follow in its list (make_text).
+# The program for another processor isn't linked: that for x86-64 has to be there, stays, and is run on no input.
 build_for() { # text, system
     local crate=${crate_of[$1]} triple=${triple_of[$2]} out status=0
     out=$top/crates/$crate/out
@@ -72,8 +71,9 @@ in_front() {
 
 # The words for the kit's clang by which it compiles for a system what it compiled for another: those by which `rt` called
 # it, but for what is of one processor or one form of file. On ARM two registers are left alone: x18, which Apple and
-# Windows keep for themselves, and x28, in which Go has what it knows of a goroutine.
-words_for() { # triple
+# Windows keep for themselves, and x28, in which Go has what it knows of a goroutine. The program takes no instruction that
+# older assemblers for Macs don't know.
+words_for() { # triple, library or program
     local words at
     mapfile -t words <"$lent/words" || return
     for at in "${!words[@]}"; do
@@ -81,7 +81,7 @@ words_for() { # triple
         --target=*) words[at]=--target=$1 ;;
         -march=*-riscv64-*) words[at]=-march=rv64gc ;;
         -march=*-aarch64-*) words[at]=-march=armv8-a ;;
-        -march=*-arm64-*) unset "words[at]" ;;
+        -march=*-arm64-*) if [ "$2" = program ]; then words[at]=-mcpu=generic; else unset "words[at]"; fi ;;
         -no-x86-call-frame-opt-x86_64-*) ;;
         -no-x86-call-frame-opt-*) unset "words[at - 1]" "words[at]" ;;
         -fforce-dwarf-frame-*-windows-* | -fPIC-*-windows-*) unset "words[at]" ;;
@@ -110,26 +110,26 @@ compile() { # file of words, language, file, where to, -S or -c
     "$lent/toolchain/bin/clang" "${words[@]}" -fno-addrsig -fno-verbose-asm
 }
 
-# What the kit's clang was given, for another system: the module, in $lent/other.ll, and the words.
-retarget() { # triple
+# What the kit's clang was given, for another system: the module, in $lent/other, and the words.
+retarget() { # triple, what systems.py is to make of the module, and what it takes besides
     local clang=$lent/toolchain/bin/clang layout
-    words_for "$1" >"$lent/words_for" || return
-    if [ "$1" = "$proved_for" ]; then
-        ln -sf -- module "$lent/other"
+    rm -f -- "$lent/other"
+    if grep -qx -e "--target=$1" "$lent/words"; then
+        ln -s -- module "$lent/other" && cp -- "$lent/words" "$lent/words_for"
         return
     fi
+    words_for "$1" "$2" >"$lent/words_for" || return
     layout=$("$clang" --target="$1" -S -emit-llvm -x c /dev/null -o - | sed -n 's/^target datalayout = "\(.*\)"/\1/p') || return
     "$clang" --target="$proved_for" -S -emit-llvm -Xclang -disable-llvm-passes -x ir "$lent/module" -o "$lent/module.ll" || return
-    rm -f -- "$lent/other"
-    # shellcheck disable=SC2046
-    "$top/generated/systems.py" module "$1" "$layout" "$top/bindings/c/rtp_wire.h" $(in_front) <"$lent/module.ll" >"$lent/other"
+    "$top/generated/systems.py" "$2" "$1" "$layout" "${@:3}" <"$lent/module.ll" >"$lent/other"
 }
 
 # The code of the library for C for a system, in which generated/apart.c takes the names of the functions in front of
 # which it stands, and is the end.
 library_code() { # triple
     local front
-    retarget "$1" && compile "$lent/words_for" ir "$lent/other" "$lent/module.s" -S &&
+    # shellcheck disable=SC2046
+    retarget "$1" library "$top/bindings/c/rtp_wire.h" $(in_front) && compile "$lent/words_for" ir "$lent/other" "$lent/module.s" -S &&
         compile "$lent/words_for" c "$top/generated/apart.c" "$lent/apart.s" -S || return
     front=$(in_front | paste -s -d '|')
     sed -i -E "s/\b(_?)rtpw_($front)\b/\1rtp_proved_\2/g" "$lent/module.s" || return
@@ -149,9 +149,10 @@ make_text() { # text, system, file
         what='the library for C' proved='but those at its end is proved'
         ;;
     rtp_lines)
-        compile "$lent/words" ir "$lent/module" "$lent/module.s" -S || return
-        "$top/generated/systems.py" text "$triple" main rtp_ <"$lent/module.s" >"$lent/code" || return
-        what='the program' for=$triple
+        retarget "$triple" program && compile "$lent/words_for" ir "$lent/other" "$lent/module.s" -S &&
+            "$top/generated/systems.py" text "$triple" main rtp_ <"$lent/module.s" >"$lent/code" || return
+        what='the program'
+        [[ " ${proved_on[$1]} " != *" $2 "* ]] || for=$triple
         ;;
     esac
     {

@@ -6,8 +6,10 @@ names='rtp_wire rtp_lines'
 declare -A crate_of=([rtp_wire]=rtp_c [rtp_lines]=rtp_lines)
 declare -A systems_of=(
     [rtp_wire]='Linux-x86_64 Linux-aarch64 Linux-riscv64 Darwin-arm64 Darwin-x86_64 Windows-x86_64'
-    [rtp_lines]='Linux-x86_64 Linux-aarch64'
+    [rtp_lines]='Linux-x86_64 Linux-riscv64 Darwin-arm64 Darwin-x86_64 Windows-x86_64 Linux-aarch64'
 )
+# The systems for which each is proved and built. What was built is then compiled for those that follow in the list.
+declare -A proved_on=([rtp_wire]='Linux-x86_64' [rtp_lines]='Linux-x86_64 Linux-aarch64')
 
 # What a compiler calls each system.
 declare -A triple_of=(

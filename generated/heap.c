@@ -7,11 +7,16 @@
 #include <stdlib.h>
 
 /* A block, or that there is no memory for it: `block` isn't NULL then either, but to no memory that is
- * owned. Given back in two registers. */
+ * owned. Given back in two registers, on Windows too. */
 typedef struct {
     uint64_t is_given;
     void *block;
 } growth;
+#ifdef _WIN32
+#define IN_REGISTERS __attribute__((sysv_abi))
+#else
+#define IN_REGISTERS
+#endif
 
 static const char nothing;
 
@@ -25,11 +30,11 @@ static size_t at_least_one(size_t size, size_t align) {
     return size != 0 ? size : align;
 }
 
-growth rattle_alloc(size_t size, size_t align) {
+IN_REGISTERS growth rattle_alloc(size_t size, size_t align) {
     return given(malloc(at_least_one(size, align)));
 }
 
-growth rattle_realloc(void *block, size_t old_size, size_t size, size_t align) {
+IN_REGISTERS growth rattle_realloc(void *block, size_t old_size, size_t size, size_t align) {
     (void)old_size;
     return given(realloc(block, at_least_one(size, align)));
 }

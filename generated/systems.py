@@ -1,8 +1,9 @@
 #!/usr/bin/env python3
-"""The library for C on other systems than that for which it was proved: what is changed in the LLVM module that the kit's
+"""The library for C, and the program, on other systems than that for which they were proved: what is changed in the LLVM module that the kit's
 clang was given, and in the text that this clang makes of it. The script generated/make calls it (generated/anew.sh).
 
-usage: systems.py module TRIPLE LAYOUT HEADER IN_FRONT.. < module.ll > other.ll
+usage: systems.py library TRIPLE LAYOUT HEADER IN_FRONT.. < module.ll > other.ll
+       systems.py program TRIPLE LAYOUT < module.ll > other.ll
        systems.py text TRIPLE EXPORTS LABELS < made.s > plain.s
 
 HEADER is bindings/c/rtp_wire.h, and IN_FRONT the functions in front of which generated/apart.c stands. EXPORTS is a regular expression for the names that can be seen from outside, and what
@@ -85,22 +86,38 @@ def plainly_named(module):
     return re.sub(r'@"([^"\n]+)"', name, module)
 
 
-def module_for(module, triple, layout, header, *in_front):
+def module_for(module, triple, layout):
     """The module for another system. It loses the processor that is named in it, and on Windows what would be taken for the
     name of a function that probes the stack; there each function has an unwind table, for one without is taken to call none
     and to keep no register."""
     module = re.sub(r"(?m)^target datalayout = .*", f'target datalayout = "{layout}"', module)
     module = re.sub(r"(?m)^target triple = .*", f'target triple = "{triple}"', module)
     module = re.sub(r'"target-(cpu|features)"="[^"]*" ?', "", module)
-    module = extended(module, header, triple.startswith("riscv64"))
-    if "apple" in triple:
-        apple_passes_words(header, in_front)
     if not re.match("(x86_64|aarch64)-unknown-linux", triple):
         module = plainly_named(module)
     if "windows" in triple:
         module = re.sub(r'"(probe-stack|stack-probe-size)"="[^"]*" ?', "", module)
         module = re.sub(r"(?m)^(define [^\n]*\S) \{$", r"\1 uwtable {", module)
     return module
+
+
+def library_for(module, triple, layout, header, *in_front):
+    """The module of the library for C, for another system."""
+    if "apple" in triple:
+        apple_passes_words(header, in_front)
+    return module_for(extended(module, header, triple.startswith("riscv64")), triple, layout)
+
+
+def program_for(module, triple, layout):
+    """The module of the program, for another system, on which it calls generated/system.c where it calls Linux' C library. What
+    generated/heap.c gives back in two registers Windows' callers would look for in memory."""
+    own = r"@(?:__)?(read|write|sysv_signal|x86_get_cpuid_feature_leaf)(?=\()"
+    module = re.sub(own, r"@rtp_lines_\1", module)
+    declared = r"(?m)^declare [^\n]*(@rtp_lines_write\()[^\n]*\n(?=(?:.*\n)*declare [^\n]*\1)"
+    module = re.sub(declared, "", module)
+    if "windows" in triple:
+        module = re.sub(r"\b(declare|call) (?=\{ i64, i64 \} @rattle_)", r"\1 x86_64_sysvcc ", module)
+    return module_for(module, triple, layout)
 
 
 # What other assemblers don't know of a text, and isn't needed.
@@ -129,14 +146,13 @@ def text_for(text, triple, exports, labels):
         # There private data have no label, but a name.
         text = re.sub(r"(?<![\w.$])(static|switch\.table)\.(?=\w)", r"rtp_\1.", text)
     text = re.sub(r"(?m)^(\t\.def\trtp_proved_\w+;\n\t\.scl\t)2;", r"\g<1>3;", text)
-    if re.search("chkstk|inline-asm", text):
+    # The program is linked with what Windows' compilers bring for a stack of several pages, and the library with nothing.
+    if re.search("inline-asm" if exports == "main" else "chkstk|inline-asm", text):
         give_up(f"{triple}: a stack of several pages, which is to be probed")
     return re.sub(
         rf"(?m)^(?!\t\.asci).*$", lambda line: re.sub(LABEL[system], rf"\g<1>{labels}", line[0]), text
     )
 
 
-if sys.argv[1] == "module":
-    sys.stdout.write(module_for(sys.stdin.read(), *sys.argv[2:]))
-else:
-    sys.stdout.write(text_for(sys.stdin.read(), *sys.argv[2:]))
+MAKE = {"library": library_for, "program": program_for, "text": text_for}
+sys.stdout.write(MAKE[sys.argv[1]](sys.stdin.read(), *sys.argv[2:]))

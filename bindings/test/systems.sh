@@ -1,9 +1,10 @@
 #!/usr/bin/env bash
-# Tests the texts of the library for C for systems other than this one, as far as a Linux on x86-64 can: Windows' under Wine,
+# Tests the texts of the library for C, and of the program, for systems other than this one, as far as a Linux on x86-64 can: Windows' under Wine,
 # macOS's from the bytes of their Mach-O objects, and those for RISC-V and ARM emulated. Each text has to pass the C tests,
 # the hostile calls between pages that may not be touched and the captures, to give back whole registers, and to give one
-# digest with all others of what every function answers and writes in a million calls of random arguments.
-# systems/mutants.py counts how many changes of constants these tests see.
+# digest with all others of what every function answers and writes in a million calls of random arguments. The program has to
+# give what is due of the captures, and of a line that is none.
+# bindings/js/test/mutants.py counts how many changes of constants such calls and the C tests see.
 #
 # usage: bindings/test/systems.sh [SYSTEM..]        SYSTEM as in generated/heads.sh; by default all
 #
@@ -65,26 +66,29 @@ needs() { # system: what is missing
     echo "${missing[*]}"
 }
 
-# The library of a system, as an object that the linker takes.
-assemble() { # system
+# A text of a system, as an object that the linker takes.
+assemble() { # system, text
     case $1 in
     Darwin-*)
-        clang --target="${triple_of[$1]}" -c "$(text_of rtp_wire "$1")" -o "$scratch/macho.o"
+        clang --target="${triple_of[$1]}" -c "$(text_of "$2" "$1")" -o "$scratch/macho.o"
         "$here/systems/macho.py" "$scratch/macho.o" >"$scratch/image.s"
-        ${linker[$1]} -c "$scratch/image.s" -o "$scratch/library.o"
+        ${linker[$1]} -c "$scratch/image.s" -o "$scratch/$2.o"
         ;;
-    *) ${linker[$1]} -c "$(text_of rtp_wire "$1")" -o "$scratch/library.o" ;;
+    *) ${linker[$1]} -c "$(text_of "$2" "$1")" -o "$scratch/$2.o" ;;
     esac
 }
 
-# Compiles C, and links it with the library.
-build() { # system, program, words
+# Compiles C, and links it with a text that was assembled.
+link() { # system, text, program, words
     local words=(-static)
     case $1 in
     Darwin-*) words+=(-no-pie '-Wl,--section-start=.macho=0x4000000') ;;
     Windows-*) words+=(-D__USE_MINGW_ANSI_STDIO=1) ;;
     esac
-    ${linker[$1]} -O1 -Wall -Wextra -Ibindings/c "${words[@]}" "${@:3}" "$scratch/library.o" -o "$scratch/$2.exe"
+    ${linker[$1]} -O1 -Wall -Wextra -Ibindings/c "${words[@]}" "${@:4}" "$scratch/$2.o" -o "$scratch/$3.exe"
+}
+build() { # system, program, words
+    link "$1" rtp_wire "${@:2}"
 }
 run() { # system, program, words
     ${emulator[$1]} "$scratch/$2.exe" "${@:3}"
@@ -112,7 +116,7 @@ hostile() { # system
 
 try() { # system
     local it digest='' narrow captures=0
-    assemble "$1"
+    assemble "$1" rtp_wire
     for it in $tests; do
         build "$1" "$it" -std=c99 -Wpedantic -Werror "bindings/c/test/$it.c"
         run "$1" "$it" >"$scratch/said" 2>&1 || fail "$1: bindings/c/test/$it.c: $(cat "$scratch/said")"
@@ -123,13 +127,19 @@ try() { # system
         run "$1" narrow >"$scratch/said" || fail "$1: $(cat "$scratch/said")"
     fi
     build "$1" lines -std=c99 -Wpedantic -Werror bindings/examples/lines.c
+    assemble "$1" rtp_lines
+    link "$1" rtp_lines rtp_lines -Wpedantic -Werror generated/heap.c generated/system.c
     for it in captures/*.lines bindings/test/by_hand.lines; do
         run "$1" lines <"$it" | cmp - "${it%.lines}.expected" >&2 || fail "$1: $it"
+        run "$1" rtp_lines <"$it" | cmp - "${it%.lines}.expected" >&2 || fail "$1: rtp_lines: $it"
         captures=$((captures + 1))
     done
+    it=0
+    echo xyz | run "$1" rtp_lines >"$scratch/said" || it=$?
+    [ "$it $(cat "$scratch/said")" = '2 line 1: neither a map line nor hex' ] || fail "$1: rtp_lines: a line that is none: $it"
     if [ "${1%%-*}" = Windows ]; then windows; fi
     if [ -e "$scratch/calls.h" ]; then hostile "$1"; fi
-    said "$1: the C tests, $captures captures, whole registers, hostile calls${digest:+; digest $digest}"
+    said "$1: the C tests, $captures captures, the program, whole registers, hostile calls${digest:+; digest $digest}"
     [ -z "$digest" ] || echo "$digest" >>"$scratch/digests"
 }
 
@@ -145,7 +155,7 @@ windows() {
         "$here_too" "${words[@]}" <$lines >"$scratch/due"
         run Windows-x86_64 $it "${words[@]}" <$lines | tr -d '\r' | cmp - "$scratch/due" >&2 || fail "Windows: $it"
     done
-    ${linker[Windows-x86_64]} -w -O1 -fno-omit-frame-pointer -Ibindings/c bindings/test/systems/windows/unwind.c "$scratch/library.o" -o "$scratch/unwind.exe"
+    ${linker[Windows-x86_64]} -w -O1 -fno-omit-frame-pointer -Ibindings/c bindings/test/systems/windows/unwind.c "$scratch/rtp_wire.o" -o "$scratch/unwind.exe"
     run Windows-x86_64 unwind >"$scratch/said" || fail "Windows: faults that lose their caller: $(cat "$scratch/said")"
 }
 
