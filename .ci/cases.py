@@ -1,6 +1,8 @@
-"""What the tests of scripts share: a folder that stands for the repository, stand-ins for commands, and what is said there."""
+"""What the tests of scripts share: a folder that stands for the repository, stand-ins for commands, and what is said."""
 
 import os
+import re
+import shutil
 import subprocess
 import sys
 import tempfile
@@ -43,12 +45,40 @@ class Scratch:
         for place in places:
             os.utime(self.top / place, (time.time() - seconds,) * 2)
 
+    def remove(self, *places):
+        """Removes files and folders, where they are."""
+        for place in places:
+            if (self.top / place).is_dir():
+                shutil.rmtree(self.top / place)
+            (self.top / place).unlink(missing_ok=True)
+
     def told(self, *words, **variables):
         """What a command prints that is run at the top, and its status as the last line."""
-        environment = {**os.environ, "PATH": f"{self.folder}/bin:{os.environ['PATH']}", **variables}
+        ways = {"PATH": f"{self.folder}/bin:{os.environ['PATH']}", "CALLS": str(self.folder / "calls")}
+        environment = {**os.environ, **ways, **variables}
         how = {"stdin": subprocess.DEVNULL, "stdout": subprocess.PIPE, "stderr": subprocess.STDOUT}
         ran = subprocess.run(words, cwd=self.top, env=environment, encoding="utf-8", **how)
         return f"{ran.stdout}status {ran.returncode}"
+
+    def called(self):
+        """What the stand-ins have written into the file CALLS since it was asked for last, by lines."""
+        file = self.folder / "calls"
+        calls = file.read_text().splitlines() if file.exists() else []
+        file.write_text("")
+        return calls
+
+    def says(self, what, wanted, *words, **variables):
+        self.expect(what, wanted, self.told(*words, **variables))
+
+    def tried(self, what, wanted, said, good, words, **variables):
+        """Of wrong bodies or edits, each a label and a word by which `said` has what is said of it, this is printed: an `!`
+        before a label says that it isn't as it must be. The last line counts them, and those of which `good` is said."""
+        items = [it.rpartition(" ") for it in wanted.split("; ")]
+        lines = [f"{label.replace('!', 'ERROR: ')}: {said[word].format(label.strip('!'))}\n" for label, _, word in items]
+        count = sum(label[0] != "!" and f": {good}: " in line for (label, *_), line in zip(items, lines))
+        end = f"{count} {self.name.replace('_', ' ')} {good}, {wanted.count('!')} not\nstatus {int('!' in wanted)}"
+        got = re.sub(", in .* minutes of a processor\n", "\n", self.told(f".ci/{self.name}", *words.split(), **variables))
+        self.expect(what, "".join(lines) + end, got)
 
     def expect(self, what, wanted, got):
         if wanted != got:

@@ -124,6 +124,11 @@ retarget() { # triple, what systems.py is to make of the module, and what it tak
     "$top/generated/systems.py" "$2" "$1" "$layout" "${@:3}" <"$lent/module.ll" >"$lent/other"
 }
 
+# The line by which a text for macOS says for which version of it the module was compiled.
+platform() { # triple
+    case $1 in *apple*) grep '^\s\.build_version' "$lent/module.s" ;; esac
+}
+
 # The code of the library for C for a system, in which generated/apart.c takes the names of the functions in front of
 # which it stands, and is the end.
 library_code() { # triple
@@ -133,7 +138,7 @@ library_code() { # triple
         compile "$lent/words_for" c "$top/generated/apart.c" "$lent/apart.s" -S || return
     front=$(in_front | paste -s -d '|')
     sed -i -E "s/\b(_?)rtpw_($front)\b/\1rtp_proved_\2/g" "$lent/module.s" || return
-    case $1 in *apple*) grep '^\s\.build_version' "$lent/module.s" ;; esac
+    platform "$1" || return
     "$top/generated/systems.py" text "$1" 'rtpw_[a-z0-9_]*' rtp_ <"$lent/module.s" || return
     echo "$not_proved"
     "$top/generated/systems.py" text "$1" 'rtpw_[a-z0-9_]*' rtp_apart_ <"$lent/apart.s" || return
@@ -150,7 +155,7 @@ make_text() { # text, system, file
         ;;
     rtp_lines)
         retarget "$triple" program && compile "$lent/words_for" ir "$lent/other" "$lent/module.s" -S &&
-            "$top/generated/systems.py" text "$triple" main rtp_ <"$lent/module.s" >"$lent/code" || return
+            { platform "$triple" && "$top/generated/systems.py" text "$triple" main rtp_ <"$lent/module.s"; } >"$lent/code" || return
         what='the program'
         [[ " ${proved_on[$1]} " != *" $2 "* ]] || for=$triple
         ;;
@@ -166,7 +171,7 @@ make_text() { # text, system, file
         echo " * SPDX-License-Identifier: MIT OR Apache-2.0"
         echo " * Copyright (c) 2026 The rtp-wire developers (NOTICE)"
         echo " */"
-        cat -- "$lent/code"
+        "$top/generated/systems.py" refusal "$2" <"$lent/code"
     } >"$3"
     sed -i "s/^ \* sources: .*/&\n * text: $(text_digest "$3")/" "$3"
 }

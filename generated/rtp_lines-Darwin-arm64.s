@@ -5,10 +5,24 @@
  * proved for: x86_64-unknown-linux-gnu
  * compiled for: arm64-apple-macosx11.0.0
  * sources: d19c34b9372290b78d5cce4f694914e5050a5f70b7e5b68380e404512b97d062
- * text: 8943861783cef5a96ea9e808269cd062e6b9a899ce5289857c5b55ae91dba841
+ * text: aad9cd4b84707beb22a1238b1b11e466d290540bc8d0a79ad6d18d33815d9e7b
  * SPDX-License-Identifier: MIT OR Apache-2.0
  * Copyright (c) 2026 The rtp-wire developers (NOTICE)
  */
+	.ifdef	.gasversion.
+	.error	"this text is for Darwin on arm64: the folder generated has those for other systems"
+	.end
+	.endif
+	.ifdef	.text
+	.error	"this text is for Darwin on arm64: the folder generated has those for other systems"
+	.end
+	.endif
+	.set	Lrtp_comment, 1 ; .set Lrtp_comment, 0
+	.if	Lrtp_comment == 0
+	.error	"this text is for Darwin on arm64: the folder generated has those for other systems"
+	.end
+	.endif
+	.build_version macos, 11, 0 // this text is for Darwin on arm64
 	.section	__TEXT,__text,regular,pure_instructions
 	.p2align	2
 _rtp_std_alloc.vec.Vec.grow_amortized.9d744d77114e6601:

@@ -5,10 +5,24 @@
  * proved for: x86_64-unknown-linux-gnu
  * compiled for: x86_64-apple-macosx11.0.0
  * sources: d19c34b9372290b78d5cce4f694914e5050a5f70b7e5b68380e404512b97d062
- * text: 909598c87ef7a2f88deed60d76b822405643c836501086760c19b1ae8a5fb780
+ * text: ba25e7a4e514cf1483af066e6082176df711e964a55c15ef7cc542a04a51bb9d
  * SPDX-License-Identifier: MIT OR Apache-2.0
  * Copyright (c) 2026 The rtp-wire developers (NOTICE)
  */
+	.ifdef	.gasversion.
+	.error	"this text is for Darwin on x86_64: the folder generated has those for other systems"
+	.end
+	.endif
+	.ifdef	.text
+	.error	"this text is for Darwin on x86_64: the folder generated has those for other systems"
+	.end
+	.endif
+	.set	Lrtp_comment, 1 ; .set Lrtp_comment, 0
+	.if	Lrtp_comment == 1
+	.error	"this text is for Darwin on x86_64: the folder generated has those for other systems"
+	.end
+	.endif
+	.build_version macos, 11, 0 // this text is for Darwin on x86_64
 	.section	__TEXT,__text,regular,pure_instructions
 	.p2align	4
 _rtp_std_alloc.vec.Vec.grow_amortized.9d744d77114e6601:

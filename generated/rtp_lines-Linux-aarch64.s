@@ -5,10 +5,33 @@
  * proved for: aarch64-unknown-linux-gnu
  * compiled for: aarch64-unknown-linux-gnu
  * sources: d19c34b9372290b78d5cce4f694914e5050a5f70b7e5b68380e404512b97d062
- * text: ad670e661821669877ef9ba992faeaac79a2cc237be272a4c09d484f1713626d
+ * text: 9667c259a5f8052034f67b768c16a3019ca8112f11a643c3f69df664f17b99db
  * SPDX-License-Identifier: MIT OR Apache-2.0
  * Copyright (c) 2026 The rtp-wire developers (NOTICE)
  */
+	.ifdef	.gasversion.
+	.ifndef	.text
+	.error	"this text is for Linux on aarch64: the folder generated has those for other systems"
+	.end
+	.endif
+	.section	.rtp_system,"e",@progbits
+.Lrtp_nop:
+	nop
+.Lrtp_nop_end:
+	.if	.Lrtp_nop_end - .Lrtp_nop == 1
+	.error	"this text is for Linux on aarch64: the folder generated has those for other systems"
+	.end
+	.endif
+	.endif
+	.macro	rtp_given rest:vararg
+	.ifb	\rest
+	.error	"this text is for Linux on aarch64: the folder generated has those for other systems"
+	.end
+	.endif
+	.endm
+	rtp_given # a comment
+	.purgem	rtp_given
+	.section	.this_text_is_for_Linux_on_aarch64,"e",@progbits
 	.section	".text.unlikely.std_alloc::vec::Vec::grow_amortized::<#9d744d77114e6601>","ax",@progbits
 	.p2align	2
 	.type	"std_alloc::vec::Vec::grow_amortized::<#9d744d77114e6601>",@function

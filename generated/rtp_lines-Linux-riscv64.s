@@ -5,10 +5,35 @@
  * proved for: x86_64-unknown-linux-gnu
  * compiled for: riscv64-unknown-linux-gnu
  * sources: d19c34b9372290b78d5cce4f694914e5050a5f70b7e5b68380e404512b97d062
- * text: 5832ec7a4f38e5a2b12498bd870e0610d0b48f963025a0fee2ce4a5be06f584b
+ * text: 198377e732f22270287fbdec7253c7c8ce84964741b2e871410519ae46c1ec54
  * SPDX-License-Identifier: MIT OR Apache-2.0
  * Copyright (c) 2026 The rtp-wire developers (NOTICE)
  */
+	.ifdef	.gasversion.
+	.ifndef	.text
+	.error	"this text is for Linux on riscv64: the folder generated has those for other systems"
+	.end
+	.endif
+	.section	.rtp_system,"e",@progbits
+.Lrtp_nop:
+	nop
+.Lrtp_nop_end:
+	.if	.Lrtp_nop_end - .Lrtp_nop == 1
+	.error	"this text is for Linux on riscv64: the folder generated has those for other systems"
+	.end
+	.endif
+	.endif
+	.macro	rtp_given rest:vararg
+	.ifnb	\rest
+	.error	"this text is for Linux on riscv64: the folder generated has those for other systems"
+	.end
+	.endif
+	.endm
+	rtp_given # a comment
+	.purgem	rtp_given
+	.option push # this text is for Linux on riscv64
+	.option pop
+	.section	.this_text_is_for_Linux_on_riscv64,"e",@progbits
 	.section	.text.unlikely.rtp_std_alloc.vec.Vec.grow_amortized.9d744d77114e6601,"ax",@progbits
 	.p2align	1
 	.type	rtp_std_alloc.vec.Vec.grow_amortized.9d744d77114e6601,@function

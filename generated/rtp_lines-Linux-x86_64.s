@@ -5,10 +5,34 @@
  * proved for: x86_64-unknown-linux-gnu
  * compiled for: x86_64-unknown-linux-gnu
  * sources: d19c34b9372290b78d5cce4f694914e5050a5f70b7e5b68380e404512b97d062
- * text: 4f17567b24bf79911699931be5e4cdce86dbe6d39cd3e04558f08785a42f5613
+ * text: be680d28c767773a73dc08f79590c2376d54a93a5cb257a9e9c64b1144536a6f
  * SPDX-License-Identifier: MIT OR Apache-2.0
  * Copyright (c) 2026 The rtp-wire developers (NOTICE)
  */
+	.ifdef	.gasversion.
+	.ifndef	.text
+	.error	"this text is for Linux on x86_64: the folder generated has those for other systems"
+	.end
+	.endif
+	.section	.rtp_system,"e",@progbits
+.Lrtp_nop:
+	nop
+.Lrtp_nop_end:
+	.if	.Lrtp_nop_end - .Lrtp_nop != 1
+	.error	"this text is for Linux on x86_64: the folder generated has those for other systems"
+	.end
+	.endif
+	.endif
+	.macro	rtp_given rest:vararg
+	.ifnb	\rest
+	.error	"this text is for Linux on x86_64: the folder generated has those for other systems"
+	.end
+	.endif
+	.endm
+	rtp_given # a comment
+	.purgem	rtp_given
+	.code64 # this text is for Linux on x86_64
+	.section	.this_text_is_for_Linux_on_x86_64,"e",@progbits
 	.section	.rodata.cst16,"aM",@progbits,16
 	.p2align	4, 0x0
 .Lrtp_CPI0_0:

@@ -5,11 +5,17 @@
  * proved for: x86_64-unknown-linux-gnu
  * compiled for: x86_64-pc-windows-gnu
  * sources: d19c34b9372290b78d5cce4f694914e5050a5f70b7e5b68380e404512b97d062
- * text: 094fb66a84d67679e5fbc9a57d20ef87f6d54da3caf003973b6028518ec8ef47
+ * text: 60849329514661ab4e8cc1bb41498c40d17c6d4a27ddcaa94313529e81044941
  * SPDX-License-Identifier: MIT OR Apache-2.0
  * Copyright (c) 2026 The rtp-wire developers (NOTICE)
  */
-	.def	rtp_std_alloc.vec.Vec.grow_amortized.9d744d77114e6601;
+	.ifdef	.gasversion.
+	.ifdef	.text
+	.error	"this text is for Windows on x86_64: the folder generated has those for other systems"
+	.end
+	.endif
+	.endif
+	.def	rtp_std_alloc.vec.Vec.grow_amortized.9d744d77114e6601; # this text is for Windows on x86_64
 	.scl	3;
 	.type	32;
 	.endef

@@ -5,11 +5,24 @@
  * proved for: x86_64-unknown-linux-gnu
  * compiled for: arm64-apple-macosx11.0.0
  * sources: e68cd5a128766d773a0c91ad701674ceb672515d7a9b9c48d1b11e3ae898c843
- * text: 0a1c7e56dfebf322e1ead8eb5e76b2d0b47f5ca8aacd41fcc1e436f05c566c4d
+ * text: b941c1f528222b95a17219b4bc94739c619a0c907c023f6781c6378a5f730052
  * SPDX-License-Identifier: MIT OR Apache-2.0
  * Copyright (c) 2026 The rtp-wire developers (NOTICE)
  */
-	.build_version macos, 11, 0
+	.ifdef	.gasversion.
+	.error	"this text is for Darwin on arm64: the folder generated has those for other systems"
+	.end
+	.endif
+	.ifdef	.text
+	.error	"this text is for Darwin on arm64: the folder generated has those for other systems"
+	.end
+	.endif
+	.set	Lrtp_comment, 1 ; .set Lrtp_comment, 0
+	.if	Lrtp_comment == 0
+	.error	"this text is for Darwin on arm64: the folder generated has those for other systems"
+	.end
+	.endif
+	.build_version macos, 11, 0 // this text is for Darwin on arm64
 	.section	__TEXT,__text,regular,pure_instructions
 	.p2align	2
 _rtp_values.value.lengths.rid_len.7ba4d078ccf006bf:

@@ -5,11 +5,24 @@
  * proved for: x86_64-unknown-linux-gnu
  * compiled for: x86_64-apple-macosx11.0.0
  * sources: e68cd5a128766d773a0c91ad701674ceb672515d7a9b9c48d1b11e3ae898c843
- * text: d166921bf484125e514f0ac2010e98fbca66f21423ad41f81f620b343b4fd79f
+ * text: d41bc9b60f3401c4b95ad78737de9d2b5ba939452a797e77154fbc3cdbdf738f
  * SPDX-License-Identifier: MIT OR Apache-2.0
  * Copyright (c) 2026 The rtp-wire developers (NOTICE)
  */
-	.build_version macos, 11, 0
+	.ifdef	.gasversion.
+	.error	"this text is for Darwin on x86_64: the folder generated has those for other systems"
+	.end
+	.endif
+	.ifdef	.text
+	.error	"this text is for Darwin on x86_64: the folder generated has those for other systems"
+	.end
+	.endif
+	.set	Lrtp_comment, 1 ; .set Lrtp_comment, 0
+	.if	Lrtp_comment == 1
+	.error	"this text is for Darwin on x86_64: the folder generated has those for other systems"
+	.end
+	.endif
+	.build_version macos, 11, 0 // this text is for Darwin on x86_64
 	.section	__TEXT,__text,regular,pure_instructions
 	.p2align	4
 _rtp_values.value.lengths.rid_len.7ba4d078ccf006bf:

@@ -5,10 +5,33 @@
  * proved for: x86_64-unknown-linux-gnu
  * compiled for: aarch64-unknown-linux-gnu
  * sources: e68cd5a128766d773a0c91ad701674ceb672515d7a9b9c48d1b11e3ae898c843
- * text: 00cd6c211e6959cde00b757ac950c7762efc0a56ef1b16af0da3229b6816a08d
+ * text: dc80f422d693b22d3f06cfe82c99eec7b3a631ddbd9d841d761bd56a5a51948e
  * SPDX-License-Identifier: MIT OR Apache-2.0
  * Copyright (c) 2026 The rtp-wire developers (NOTICE)
  */
+	.ifdef	.gasversion.
+	.ifndef	.text
+	.error	"this text is for Linux on aarch64: the folder generated has those for other systems"
+	.end
+	.endif
+	.section	.rtp_system,"e",@progbits
+.Lrtp_nop:
+	nop
+.Lrtp_nop_end:
+	.if	.Lrtp_nop_end - .Lrtp_nop == 1
+	.error	"this text is for Linux on aarch64: the folder generated has those for other systems"
+	.end
+	.endif
+	.endif
+	.macro	rtp_given rest:vararg
+	.ifb	\rest
+	.error	"this text is for Linux on aarch64: the folder generated has those for other systems"
+	.end
+	.endif
+	.endm
+	rtp_given # a comment
+	.purgem	rtp_given
+	.section	.this_text_is_for_Linux_on_aarch64,"e",@progbits
 	.section	".text.rtp_values::value::lengths::rid_len::<#7ba4d078ccf006bf>","ax",@progbits
 	.p2align	2
 	.type	"rtp_values::value::lengths::rid_len::<#7ba4d078ccf006bf>",@function

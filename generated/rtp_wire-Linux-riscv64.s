@@ -5,10 +5,35 @@
  * proved for: x86_64-unknown-linux-gnu
  * compiled for: riscv64-unknown-linux-gnu
  * sources: e68cd5a128766d773a0c91ad701674ceb672515d7a9b9c48d1b11e3ae898c843
- * text: 314ce7244e678a0da851f18d3a78c1a1be489e3fab1afbfd48d444569cb4bcc2
+ * text: 692c7211bdf5bc46652feec9044213a44cee029d2ee84eabd1bb1a9a64395771
  * SPDX-License-Identifier: MIT OR Apache-2.0
  * Copyright (c) 2026 The rtp-wire developers (NOTICE)
  */
+	.ifdef	.gasversion.
+	.ifndef	.text
+	.error	"this text is for Linux on riscv64: the folder generated has those for other systems"
+	.end
+	.endif
+	.section	.rtp_system,"e",@progbits
+.Lrtp_nop:
+	nop
+.Lrtp_nop_end:
+	.if	.Lrtp_nop_end - .Lrtp_nop == 1
+	.error	"this text is for Linux on riscv64: the folder generated has those for other systems"
+	.end
+	.endif
+	.endif
+	.macro	rtp_given rest:vararg
+	.ifnb	\rest
+	.error	"this text is for Linux on riscv64: the folder generated has those for other systems"
+	.end
+	.endif
+	.endm
+	rtp_given # a comment
+	.purgem	rtp_given
+	.option push # this text is for Linux on riscv64
+	.option pop
+	.section	.this_text_is_for_Linux_on_riscv64,"e",@progbits
 	.section	.text.rtp_values.value.lengths.rid_len.7ba4d078ccf006bf,"ax",@progbits
 	.p2align	1
 	.type	rtp_values.value.lengths.rid_len.7ba4d078ccf006bf,@function

@@ -5,10 +5,34 @@
  * proved for: x86_64-unknown-linux-gnu
  * compiled for: x86_64-unknown-linux-gnu
  * sources: e68cd5a128766d773a0c91ad701674ceb672515d7a9b9c48d1b11e3ae898c843
- * text: 460c52af722d32d73b2cd7805e57afad2be9b84342d1daa473bd8dcb0adaf1c8
+ * text: 981252ce6983cd174efa203a8d8d4d70263a4e21773a9f6b1b48a3ca857b3f3e
  * SPDX-License-Identifier: MIT OR Apache-2.0
  * Copyright (c) 2026 The rtp-wire developers (NOTICE)
  */
+	.ifdef	.gasversion.
+	.ifndef	.text
+	.error	"this text is for Linux on x86_64: the folder generated has those for other systems"
+	.end
+	.endif
+	.section	.rtp_system,"e",@progbits
+.Lrtp_nop:
+	nop
+.Lrtp_nop_end:
+	.if	.Lrtp_nop_end - .Lrtp_nop != 1
+	.error	"this text is for Linux on x86_64: the folder generated has those for other systems"
+	.end
+	.endif
+	.endif
+	.macro	rtp_given rest:vararg
+	.ifnb	\rest
+	.error	"this text is for Linux on x86_64: the folder generated has those for other systems"
+	.end
+	.endif
+	.endm
+	rtp_given # a comment
+	.purgem	rtp_given
+	.code64 # this text is for Linux on x86_64
+	.section	.this_text_is_for_Linux_on_x86_64,"e",@progbits
 	.section	".text.rtp_values::value::lengths::rid_len::<#7ba4d078ccf006bf>","ax",@progbits
 	.p2align	4
 	.type	"rtp_values::value::lengths::rid_len::<#7ba4d078ccf006bf>",@function

@@ -5,11 +5,17 @@
  * proved for: x86_64-unknown-linux-gnu
  * compiled for: x86_64-pc-windows-gnu
  * sources: e68cd5a128766d773a0c91ad701674ceb672515d7a9b9c48d1b11e3ae898c843
- * text: 3c14dd5bc0872c22a08da660aefd235d96eb04286fb26e87120a52e005004c78
+ * text: ef0c73b68865c192cf2f675a4894daab392264813fe34adaf4c0c723703fb289
  * SPDX-License-Identifier: MIT OR Apache-2.0
  * Copyright (c) 2026 The rtp-wire developers (NOTICE)
  */
-	.def	rtp_values.value.lengths.rid_len.7ba4d078ccf006bf;
+	.ifdef	.gasversion.
+	.ifdef	.text
+	.error	"this text is for Windows on x86_64: the folder generated has those for other systems"
+	.end
+	.endif
+	.endif
+	.def	rtp_values.value.lengths.rid_len.7ba4d078ccf006bf; # this text is for Windows on x86_64
 	.scl	3;
 	.type	32;
 	.endef

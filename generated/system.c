@@ -26,7 +26,7 @@ int rattle_errno(void) {
     return errno;
 }
 
-/* No system takes or gives more than this by one call. */
+/* As much as each system takes by one call: macOS refuses 2^31 bytes, and Windows counts them in 32 bits. */
 static unsigned at_once(size_t len) {
     return len < 0x40000000 ? (unsigned)len : 0x40000000;
 }

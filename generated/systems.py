@@ -1,13 +1,16 @@
 #!/usr/bin/env python3
-"""The library for C, and the program, on other systems than that for which they were proved: what is changed in the LLVM module that the kit's
-clang was given, and in the text that this clang makes of it. The script generated/make calls it (generated/anew.sh).
+"""The library for C, and the program, on other systems than that for which they were proved: what is changed in the LLVM
+module that the kit's clang was given, and in the text that this clang makes of it; and what stands in front of that text. The
+script generated/make calls it (generated/anew.sh).
 
 usage: systems.py library TRIPLE LAYOUT HEADER IN_FRONT.. < module.ll > other.ll
        systems.py program TRIPLE LAYOUT < module.ll > other.ll
        systems.py text TRIPLE EXPORTS LABELS < made.s > plain.s
+       systems.py refusal SYSTEM < plain.s > refusing.s
 
-HEADER is bindings/c/rtp_wire.h, and IN_FRONT the functions in front of which generated/apart.c stands. EXPORTS is a regular expression for the names that can be seen from outside, and what
-labels begin with is LABELS, so that they meet no others where the text is part of a larger one.
+HEADER is bindings/c/rtp_wire.h, and IN_FRONT the functions in front of which generated/apart.c stands. EXPORTS is a regular
+expression for the names that can be seen from outside, and what labels begin with is LABELS, so that they meet no others
+where the text is part of a larger one. SYSTEM is as in generated/heads.sh.
 SPDX-License-Identifier: MIT OR Apache-2.0
 Copyright (c) 2026 The rtp-wire developers (NOTICE)
 """
@@ -154,5 +157,74 @@ def text_for(text, triple, exports, labels):
     )
 
 
-MAKE = {"library": library_for, "program": program_for, "text": text_for}
+# An assembler has no name for what it assembles for. But GNU's has the symbol .gasversion., and a symbol .text where it writes
+# ELF files, and there a nop has one byte on x86-64 alone: LLVM can't always tell its length. The section with the nop is put
+# into no program. Behind the name of a macro # begins a comment on x86-64 and RISC-V, and on ARM what the macro is given.
+ELF = """\
+	.ifdef	.gasversion.
+	.ifndef	.text
+	{error}
+	.endif
+	.section	.rtp_system,"e",@progbits
+.Lrtp_nop:
+	nop
+.Lrtp_nop_end:
+	.if	.Lrtp_nop_end - .Lrtp_nop {nop}
+	{error}
+	.endif
+	.endif
+	.macro	rtp_given rest:vararg
+	{hash}	\\rest
+	{error}
+	.endif
+	.endm
+	rtp_given # a comment
+	.purgem	rtp_given
+{known}	.section	.{named},"e",@progbits
+"""
+# No GNU assembler writes files for macOS, where for ARM a semicolon begins a comment, and elsewhere a statement.
+MACH_O = """\
+	.ifdef	.gasversion.
+	{error}
+	.endif
+	.ifdef	.text
+	{error}
+	.endif
+	.set	Lrtp_comment, 1 ; .set Lrtp_comment, 0
+	.if	Lrtp_comment == {other}
+	{error}
+	.endif
+"""
+COFF = """\
+	.ifdef	.gasversion.
+	.ifdef	.text
+	{error}
+	.endif
+	.endif
+"""
+# The form for each system, with its words. What is `known` to an assembler for one processor alone does nothing.
+REFUSAL = {
+    "Linux-x86_64": (ELF, {"hash": ".ifnb", "nop": "!= 1", "known": "\t.code64 # {said}\n"}),
+    "Linux-aarch64": (ELF, {"hash": ".ifb", "nop": "== 1", "known": ""}),
+    "Linux-riscv64": (ELF, {"hash": ".ifnb", "nop": "== 1", "known": "\t.option push # {said}\n\t.option pop\n"}),
+    "Darwin-arm64": (MACH_O, {"other": 0}),
+    "Darwin-x86_64": (MACH_O, {"other": 1}),
+    "Windows-x86_64": (COFF, {}),
+}
+
+
+def refusal_of(text, system):
+    """A text in front of which stands what an assembler for another system says. Where LLVM's can't be asked, it shows the first
+    line that it doesn't know, which says it too."""
+    form, words = REFUSAL[system]
+    name, processor = system.split("-")
+    said = f"this text is for {name} on {processor}"
+    error = f'.error\t"{said}: the folder generated has those for other systems"\n\t.end'
+    words = {word: it.format(said=said) if isinstance(it, str) else it for word, it in words.items()}
+    if form is not ELF:
+        text = text.replace("\n", f" {'#' if form is COFF else '//'} {said}\n", 1)
+    return form.format(error=error, named=said.replace(" ", "_"), **words) + text
+
+
+MAKE = {"library": library_for, "program": program_for, "text": text_for, "refusal": refusal_of}
 sys.stdout.write(MAKE[sys.argv[1]](sys.stdin.read(), *sys.argv[2:]))

@@ -8,15 +8,16 @@
  * looked at is a warning. The structs are those of rtp_wire.h. Nothing here throws, keeps a pointer or takes memory,
  * but for own_uris, which keeps the URIs that it is given.
  *
- * A view of what is gone after the statement doesn't compile, as rtpw::mid((*rtpw::parse(datagram, map)).values), and
- * neither does writing into it; of a result that isn't kept take a copy, (*rtpw::packet_parse(datagram)).ssrc.
+ * A view of what is gone after the statement, as rtpw::mid((*rtpw::parse(datagram, map)).values), mostly doesn't
+ * compile, and neither does writing into it; through -> it is a warning, and through a span that is made of it none. Of
+ * a result that isn't kept take a copy, (*rtpw::packet_parse(datagram)).ssrc.
  *
  *     const auto packet = rtpw::read({datagram, len}, map);
  *     if (packet.status() == rtpw::status::rtcp) { // which comes to the same port
  *         return control({datagram, len});
  *     }
- *     if (!packet) {
- *         return drop(rtpw::status_text(packet.status()));
+ *     if (!packet || !packet->padding_fits) {
+ *         return drop({datagram, len}); // no packet, or malformed padding
  *     }
  *     if (const auto mid = rtpw::mid(packet->header.values)) {
  *         route(*mid);
@@ -208,12 +209,10 @@ inline std::size_t payload_at(const rtpw_whole_packet &packet) noexcept {
 template <class Packet> using told = decltype(payload_at(std::declval<const Packet &>()));
 } // namespace detail
 
-/* The parts of the datagram that was read: the payload with its padding and without, and the body of the block. */
+/* The parts of the datagram that was read: the payload with its padding and without, and the body of the block. Of what
+ * read tells, the payload with its padding is the rest of the datagram, from header.header_len on. */
 inline bytes payload(bytes datagram, const rtpw_packet &packet) noexcept {
     return datagram.subspan(packet.payload_at, packet.payload_len);
-}
-inline bytes payload(bytes datagram, const rtpw_whole_packet &packet) noexcept {
-    return datagram.subspan(packet.header.header_len, datagram.size() - packet.header.header_len);
 }
 template <class Packet, class = detail::told<Packet>>
 bytes unpadded_payload(bytes datagram, const Packet &packet) noexcept {
@@ -323,6 +322,11 @@ class elements {
 
     class iterator {
       public:
+        using iterator_category = std::input_iterator_tag;
+        using value_type = element;
+        using difference_type = std::ptrdiff_t;
+        using pointer = const element *;
+        using reference = element;
         element operator*() const noexcept {
             return {at_->id, body_.subspan(at_->data_at, at_->data_len)};
         }
@@ -330,9 +334,17 @@ class elements {
             at_ = next_element(body_, form_, at_->end);
             return *this;
         }
+        iterator operator++(int) noexcept {
+            const iterator before = *this;
+            ++*this;
+            return before;
+        }
         /* There are more; only end() is compared with. */
         bool operator!=(const iterator &) const noexcept {
             return static_cast<bool>(at_);
+        }
+        bool operator==(const iterator &) const noexcept {
+            return !at_;
         }
 
       private:
@@ -628,8 +640,8 @@ inline result<std::size_t> write_send_time(std::uint32_t units, buffer buf) noex
         return ::rtpw_write_send_time(units, buf.data(), buf.size(), it);
     });
 }
-inline std::uint64_t extend_send_time(std::uint64_t near, std::uint32_t units) noexcept {
-    return ::rtpw_extend_send_time(near, units);
+inline std::uint64_t extend_send_time(std::uint64_t around, std::uint32_t units) noexcept {
+    return ::rtpw_extend_send_time(around, units);
 }
 inline result<std::int32_t> read_transmission_offset(bytes data) noexcept {
     return result<std::int32_t>([&](std::int32_t *it) {
@@ -715,8 +727,8 @@ inline result<std::size_t> write_ntp_56(std::uint64_t time, buffer buf) noexcept
         return ::rtpw_write_ntp_56(time, buf.data(), buf.size(), it);
     });
 }
-inline std::uint64_t extend_ntp_56(std::uint64_t near, std::uint64_t low) noexcept {
-    return ::rtpw_extend_ntp_56(near, low);
+inline std::uint64_t extend_ntp_56(std::uint64_t around, std::uint64_t low) noexcept {
+    return ::rtpw_extend_ntp_56(around, low);
 }
 inline result<rtpw_color_space> read_color_space(bytes data) noexcept {
     return result<rtpw_color_space>([&](rtpw_color_space *it) {

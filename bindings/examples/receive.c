@@ -15,8 +15,8 @@ static void receive(stream *stream, const rtpw_map *map, const uint8_t *datagram
     rtpw_whole_packet packet;
     uint64_t number;
     int32_t status = rtpw_read(datagram, len, map, &packet);
-    if (status != RTPW_OK) { /* RTPW_RTCP too, which goes to who answers it */
-        puts(rtpw_status_text(status));
+    if (status != RTPW_OK || !packet.padding_fits) { /* RTPW_RTCP goes to who answers it */
+        puts(status != RTPW_OK ? rtpw_status_text(status) : "malformed padding");
         return;
     }
     status = rtpw_wide_restarting_receive(&stream->receiver, stream->words, WORDS, packet.header.sequence_number,

@@ -1,28 +1,37 @@
 package rtpwire
 
-// Each function here uses the capacity of a slice, as append does: it returns what the slice becomes, which lies where
-// it lay where that has room, and in new memory else. With an error it returns the slice, as it was.
-
-// PutElement puts an element into the packet, as [PutElementIn] does, whose errors but ErrShortBuffer it returns. Bytes
-// behind the packet, up to the slice's capacity, are the room that it grows into.
+// PutElement puts an element into the packet, as [PutElementIn] does, whose errors but ErrShortBuffer it returns, and
+// returns what the packet becomes, as append does: where it lay where the slice's capacity has room for it, and in new
+// memory else. With an error it returns the packet, as it was.
 //
 //	packet, err = rtpwire.PutElement(packet, id, data, rtpwire.AnyForm)
+//
+// The packet that is passed is used up: its bytes may have changed, and those behind it up to the slice's capacity. Where
+// it goes to several receivers, or into a history of packets that are sent again, copy it first.
 func PutElement(packet []byte, id uint8, data []byte, allowed Forms) ([]byte, error) {
 	return longer(packet, func(buf []byte) ([]byte, error) { return PutElementIn(buf, len(packet), id, data, allowed) })
 }
 
-// AddElement adds an element behind all others, as [AddElementIn] does, whose errors but ErrShortBuffer it returns.
+// AddElement adds an element behind all others, as [AddElementIn] does, whose errors but ErrShortBuffer it returns. It
+// returns what the packet becomes, as [PutElement] does, where that has room and else in new memory. The packet that is
+// passed is used up: its bytes may have changed, and those behind it up to the slice's capacity. For several receivers, or
+// a history, copy it first.
 func AddElement(packet []byte, id uint8, data []byte, allowed Forms) ([]byte, error) {
 	return longer(packet, func(buf []byte) ([]byte, error) { return AddElementIn(buf, len(packet), id, data, allowed) })
 }
 
 // ChangeForm makes the packet's block one of this form, as [ChangeFormIn] does, whose errors but ErrShortBuffer it
-// returns.
+// returns. It returns what the packet becomes, as [PutElement] does, where that has room and else in new memory. The packet
+// that is passed is used up: its bytes may have changed, and those behind it up to the slice's capacity. For several
+// receivers, or a history, copy it first.
 func ChangeForm(packet []byte, form Form) ([]byte, error) {
 	return longer(packet, func(buf []byte) ([]byte, error) { return ChangeFormIn(buf, len(packet), form) })
 }
 
-// PutBlock gives the packet a block, as [PutBlockIn] does, whose errors but ErrShortBuffer it returns.
+// PutBlock gives the packet a block, as [PutBlockIn] does, whose errors but ErrShortBuffer it returns. It returns what the
+// packet becomes, as [PutElement] does, where that has room and else in new memory. The packet that is passed is used up:
+// its bytes may have changed, and those behind it up to the slice's capacity. For several receivers, or a history, copy it
+// first.
 func PutBlock(packet []byte, profile uint16, body []byte) ([]byte, error) {
 	change := func(buf []byte) ([]byte, error) { return PutBlockIn(buf, len(packet), profile, body) }
 	made, err := change(packet[:cap(packet)])
@@ -33,20 +42,24 @@ func PutBlock(packet []byte, profile uint16, body []byte) ([]byte, error) {
 }
 
 // ToRetransmission makes the packet a retransmission, as [ToRetransmissionIn] does, whose errors but ErrShortBuffer it
-// returns.
+// returns. It returns what the packet becomes, as [PutElement] does, where that has room and else in new memory. The packet
+// that is passed is used up: its bytes may have changed, and those behind it up to the slice's capacity. A packet of a
+// history, which may be asked for again, is copied first.
 func ToRetransmission(packet []byte, ssrc uint32, payloadType uint8, number uint16, ids *NewIDs) ([]byte, error) {
 	return longer(packet, func(buf []byte) ([]byte, error) {
 		return ToRetransmissionIn(buf, len(packet), ssrc, payloadType, number, ids)
 	})
 }
 
-// FromRetransmission makes the retransmission the packet that it repeats, as [FromRetransmissionIn] does.
+// FromRetransmission makes the retransmission the packet that it repeats, as [FromRetransmissionIn] does, whose errors it
+// returns, and with one the packet, as it was. What it returns lies where the packet lay. The packet that is passed is used
+// up: its bytes have changed. For several receivers, or a history, copy it first.
 func FromRetransmission(packet []byte, ssrc uint32, payloadType uint8, ids *NewIDs) ([]byte, error) {
 	made, err := FromRetransmissionIn(packet, len(packet), ssrc, payloadType, ids)
 	return orAsItWas(packet, made, err)
 }
 
-// Append appends the header, as [Header.WriteInto] writes it, and returns its error.
+// Append appends the header, as [Header.WriteInto] writes it, and returns its error, and with that the slice as it was.
 func (h *Header) Append(buf []byte, m *Map) ([]byte, error) {
 	n, err := h.write(buf[len(buf):cap(buf)], m)
 	if err == ErrShortBuffer {
@@ -59,7 +72,8 @@ func (h *Header) Append(buf []byte, m *Map) ([]byte, error) {
 	return appended(buf, n, err)
 }
 
-// AppendLayers appends the header with these layers, as [Header.WriteLayers] writes it, and returns its error.
+// AppendLayers appends the header with these layers, as [Header.WriteLayers] writes it, and returns its error, and with
+// that the slice as it was.
 func (h *Header) AppendLayers(buf []byte, m *Map, layers *Layers) ([]byte, error) {
 	n, err := h.wireLenLayers(m, layers)
 	if err != nil {
@@ -70,7 +84,8 @@ func (h *Header) AppendLayers(buf []byte, m *Map, layers *Layers) ([]byte, error
 	return appended(buf, n, err)
 }
 
-// AppendWith appends the header with a block of these elements, as [Header.WriteWith] writes it, and returns its error.
+// AppendWith appends the header with a block of these elements, as [Header.WriteWith] writes it, and returns its error,
+// and with that the slice as it was.
 func (h *Header) AppendWith(buf, data []byte, places []Place) ([]byte, error) {
 	n, err := h.WireLenWith(data, places)
 	if err != nil {

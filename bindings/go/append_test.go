@@ -129,3 +129,28 @@ func TestFieldsStayThoseOfTheBatch(t *testing.T) {
 	header, err := batch.At(0)
 	same(t, "the first", []any{header, err}, []any{[]byte{0x80, 0xE0, 0, 5, 0, 0, 0, 100, 0, 0, 0, 46}, nil})
 }
+
+// What a call changes is the packet that it was passed, and the bytes behind it: each of two receivers of one packet gets
+// its own element where the packet was copied first, and with the slice itself both have the last one.
+func TestThePacketThatIsPassedIsUsedUp(t *testing.T) {
+	put := func(packet []byte, receiver byte) []byte {
+		made, err := rtpwire.PutElement(packet, 3, []byte{receiver, 7, 8, 9}, rtpwire.AnyForm)
+		same(t, "put", err, nil)
+		return made
+	}
+	of := func(packet []byte) byte {
+		data, _ := parsed(t, packet, nil).Element(3)
+		return data[0]
+	}
+	shared := append(make([]byte, 0, 200), sample()...)
+	first, second := put(shared, 1), put(shared, 2)
+	same(t, "the bytes passed have changed", []bool{bytes.Equal(shared, sample()), &first[0] == &second[0]}, []bool{false, true})
+	same(t, "one element", []byte{of(first), of(second)}, []byte{2, 2})
+
+	whole := append(make([]byte, 0, 200), sample()...)
+	first, second = put(append([]byte(nil), whole...), 1), put(append([]byte(nil), whole...), 2)
+	same(t, "each its own", []byte{of(first), of(second)}, []byte{1, 2})
+	same(t, "as it was", []any{whole, whole[:200][37:]}, []any{sample(), make([]byte, 163)})
+	again, err := rtpwire.ToRetransmission(append([]byte(nil), whole...), 8, 97, 1, new(rtpwire.NewIDs))
+	same(t, "sent again", []any{err, len(again), whole}, []any{nil, 37, sample()})
+}

@@ -832,10 +832,10 @@ func rtpw_write_send_time(units uint32, buf *byte, size uintptr, n *uintptr) int
 }
 
 //go:noescape
-func text_extend_send_time(near uint64, units uint32) uint64
+func text_extend_send_time(around uint64, units uint32) uint64
 
-func rtpw_extend_send_time(near uint64, units uint32) uint64 {
-	return text_extend_send_time(near, units)
+func rtpw_extend_send_time(around uint64, units uint32) uint64 {
+	return text_extend_send_time(around, units)
 }
 
 //go:noescape
@@ -1064,10 +1064,10 @@ func rtpw_write_ntp_56(time uint64, buf *byte, size uintptr, n *uintptr) int32 {
 }
 
 //go:noescape
-func text_extend_ntp_56(near uint64, low uint64) uint64
+func text_extend_ntp_56(around uint64, low uint64) uint64
 
-func rtpw_extend_ntp_56(near uint64, low uint64) uint64 {
-	return text_extend_ntp_56(near, low)
+func rtpw_extend_ntp_56(around uint64, low uint64) uint64 {
+	return text_extend_ntp_56(around, low)
 }
 
 //go:noescape

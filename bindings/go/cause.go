@@ -43,7 +43,8 @@ var (
 	ErrLongBlock error = badField("rtpwire: an extension block of more than 65,535 words")
 	// ErrRefused: a replay, or too old to tell.
 	ErrRefused = errors.New("rtpwire: a replay, or too old to tell")
-	// ErrRTCP: the datagram is one of RTCP, on a port that RTP and RTCP share ([Packet.ParseMuxed]).
+	// ErrRTCP: the datagram is one of RTCP, on a port that RTP and RTCP share ([Packet.ParseMuxed],
+	// [Receiver.ReceivePacket]).
 	ErrRTCP = errors.New("rtpwire: a packet of RTCP")
 	// ErrNotFound: the packet has no such element, or no such place in its CSRC list.
 	ErrNotFound = errors.New("rtpwire: no such element")

@@ -44,9 +44,15 @@
 // [ParseTransportNumber], [ParseColorSpace], [ParseDependencyDescriptor], [ParseMixerLevel], [ParseNTP64] and [ParseNTP56],
 // each with what writes them, and [Packet.Token] has a mid as it lies. What is no standard's: an element of the id 0 with
 // length bits, at which reading ends by RFC 8285, 4.2, is passed over, and the elements behind it are read.
+// [Packet.AppendPlaces] lists it with the id 0, which no call writes.
 //
 // [WideReceiver] has a window of another size. [RestartingReceiver] and [WideRestartingReceiver], which are not for SRTP,
 // tell that a sender has started again: drop what is [Refused] alone, since what is [Restarted] is taken.
+//
+// [PutElement], [AddElement], [ChangeForm], [PutBlock] and [ToRetransmission] use the capacity of the packet's slice, as
+// append does: what they return lies where the packet lay where that has room, and in new memory else. The packet that is
+// passed to one of them, or to [FromRetransmission], is used up: its bytes may have changed, and those behind it up to its
+// capacity. Copy a packet first that goes to several receivers, or into a history of packets that are sent again.
 //
 // No function keeps a pointer to what it is given, but a Packet the datagram that it was read from ([Packet.HasChanged]
 // tells whether its places still hold), and a batch the buffer. Calls from several goroutines at once are safe as long as

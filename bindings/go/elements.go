@@ -50,12 +50,15 @@ type Place struct {
 	// Len is how many bytes they are: 0 to 255.
 	Len int
 	end int
-	// ID is the element's: as read 0 to 14 in the one-byte form, 1 to 255 in the two-byte form.
+	// ID is the element's: as read 0 to 14 in the one-byte form, 1 to 255 in the two-byte form. One of the id 0 is told as
+	// read ([Packet.AppendPlaces]), and never written.
 	ID uint8
 }
 
 // AppendPlaces appends the places of the elements of the packet's block, in order. They end where one is cut short,
-// and in the one-byte form where one has the id 15. Where the slice has room for them, and one more, it takes one
+// and in the one-byte form where one has the id 15. An element of the id 0 with length bits, which is none by RFC 8285, 4.2,
+// is listed with the id 0, which no call writes, and reading goes on behind it: take it out of places that are written
+// again. Where the slice has room for them, and one more, it takes one
 // call of the library and no memory.
 func (p *Packet) AppendPlaces(places []Place) []Place {
 	form, body := p.Block()

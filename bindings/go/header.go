@@ -1,5 +1,7 @@
 package rtpwire
 
+import "fmt"
+
 // A Header is the header of a packet (RFC 3550, 5.1), with the values of its block: [Packet.Header] is a copy of the one
 // that was read, and [Header.WriteInto] writes one. It may be copied.
 type Header struct {
@@ -29,6 +31,17 @@ type Header struct {
 // what is given is written.
 func NewHeader(values Values) *Header {
 	return &Header{HasExtension: values != Values{}, Values: values}
+}
+
+// String says in a line whose header it is: the SSRC, payload type, sequence number and timestamp, and how many bytes it
+// took in the packet, where it was read.
+func (h Header) String() string {
+	const format = "SSRC %d, payload type %d, number %d, timestamp %d"
+	fields := fmt.Sprintf(format, h.SSRC, h.PayloadType, h.SequenceNumber, h.Timestamp)
+	if h.headerLen == 0 {
+		return fields
+	}
+	return fmt.Sprintf("%s, header %d bytes", fields, h.headerLen)
 }
 
 // CSRC is the contributing sources, at most 15, in order. It is a part of the header, not a copy: what is written
@@ -86,7 +99,10 @@ func (h *Header) WriteLayers(buf []byte, m *Map, layers *Layers) (int, error) {
 
 // LeftOut is the kinds of which there is a value that WriteInto leaves out: all that are there where HasExtension is false,
 // and else those that aren't mapped; those of which a second value is absent, as an audio level without voice or one of two
-// playout delays; and KindLayers where a layer allocation was read. It returns ErrBadField as WriteInto does.
+// playout delays; and KindLayers where a layer allocation was read. It returns ErrBadField as WriteInto does. It
+// doesn't see elements that have no value: those of kinds without one, of URIs that aren't known and of a block of another
+// form are no part of a header. To send a packet on with all of its elements, change it where it lies ([Fields],
+// [Renumber]).
 func (h *Header) LeftOut(m *Map) (KindSet, error) {
 	return h.leftOut(m)
 }
@@ -98,7 +114,9 @@ func (h *Header) LeftOutLayers(m *Map, layers *Layers) (KindSet, error) {
 }
 
 // WriteAll writes the header as WriteInto does, where no value is left out. It returns the errors of WriteInto; and after
-// ErrBadField and before ErrShortBuffer a *[LeftOutError], where LeftOut tells any kind. Nothing is written then.
+// ErrBadField and before ErrShortBuffer a *[LeftOutError], where LeftOut tells any kind. Nothing is written then. It
+// doesn't see elements that have no value, as LeftOut doesn't: of a packet that was read they aren't written, and no error
+// says so.
 func (h *Header) WriteAll(buf []byte, m *Map) (int, error) {
 	kinds, err := h.leftOut(m)
 	if err != nil {

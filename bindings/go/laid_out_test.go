@@ -181,7 +181,8 @@ func TestCopiedTemplates(t *testing.T) {
 		return []byte{0x90, 96, 0, 5, 0, 0, 0, 100, 0, 0, 0, ssrc, 0xBE, 0xDE, 0, 2, 0x30, element, 0x41, 0, 7, 0, 0, 0}
 	}
 	headers("the first", &template, nil, 24, 2, header(44, 0xAA))
-	headers("a copy", &copied, rtpwire.CutFixedPart, 0, 0)
+	headers("a copy", &copied, rtpwire.ErrBadField, 0, 0)
+	headers("never made", new(rtpwire.HeaderTemplate), rtpwire.ErrBadField, 0, 0)
 	same(t, "made", copied.Make(second, numbered(), []byte{0, 0}), nil)
 	headers("the copy", &copied, nil, 24, 2, header(45, 0xBB))
 	headers("the first still", &template, nil, 24, 2, header(44, 0xAA))

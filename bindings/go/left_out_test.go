@@ -136,3 +136,38 @@ func TestTheLastKindOfASet(t *testing.T) {
 		t.Error("the set has a kind that is not in it")
 	}
 }
+
+// Elements that have no value are no part of a header that was read: neither LeftOut nor WriteAll sees them. A copy of the
+// packet that is changed where it lies has them all.
+func TestElementsWithoutAValueAreNotSeen(t *testing.T) {
+	m := new(Map)
+	if m.Set(1, KindMID) != nil || m.Set(2, KindDependencyDescriptor) != nil || m.Set(3, KindOwn) != nil {
+		t.Fatal("not set")
+	}
+	body := []byte{0x10, 'a', 0x20, 7, 0x30, 8, 0x40, 9} // a mid, two without a value, and one of an id that means nothing
+	packet := append([]byte{0x90, 96, 0, 5, 0, 0, 0, 160, 0, 0, 0, 7, 0xBE, 0xDE, 0, 2}, body...)
+	other := append([]byte(nil), packet...)
+	other[12] = 0xAB
+	for _, it := range []struct {
+		datagram []byte
+		block    []byte
+	}{{packet, []byte{0xBE, 0xDE, 0, 1, 0x10, 'a', 0, 0}}, {other, []byte{0xBE, 0xDE, 0, 0}}} {
+		var read Packet
+		if err := read.Parse(it.datagram, m); err != nil {
+			t.Fatal(err)
+		}
+		header := read.Header()
+		kinds, err := header.LeftOut(m)
+		buf := make([]byte, 40)
+		n, all := header.WriteAll(buf, m)
+		if kinds != 0 || err != nil || all != nil || !bytes.Equal(buf[12:n], it.block) {
+			t.Error(kinds, err, all, buf[:n])
+		}
+		sent := append([]byte(nil), it.datagram...)
+		var fields Fields
+		fields.SetSSRC(9)
+		if fields.Apply(sent) != nil || sent[11] != 9 || !bytes.Equal(sent[12:], it.datagram[12:]) {
+			t.Error(sent)
+		}
+	}
+}

@@ -1,6 +1,9 @@
 package rtpwire
 
-import "unsafe"
+import (
+	"encoding/binary"
+	"unsafe"
+)
 
 // read reads the packet, and says of none of RTP on a port that both share that it is of RTCP.
 func (p *Packet) read(datagram []byte, m *Map) error {
@@ -51,19 +54,27 @@ func (p *Packet) parseAlike(datagram []byte, m *Map) int32 {
 	return statusOK
 }
 
-// hasChanged is whether the datagram is no packet any more, or one with other fields or places.
+// hasChanged is whether the datagram is no packet any more, or one with other fields, places or contributing sources.
 func (p *Packet) hasChanged() bool {
 	var now PacketFields
 	if rtpw_packet_parse(first(p.datagram), size(p.datagram), now.c()) != statusOK {
 		return true
 	}
 	h := &p.header
-	return now != PacketFields{
+	if now != (PacketFields{
 		payloadAt: h.headerLen, payloadLen: len(p.datagram) - h.headerLen, unpaddedLen: p.unpaddedLen,
 		bodyAt: p.bodyAt, bodyLen: p.bodyLen, profile: p.profile, form: p.form, paddingFits: p.paddingFits,
 		Timestamp: h.Timestamp, SSRC: h.SSRC, SequenceNumber: h.SequenceNumber, PayloadType: h.PayloadType,
 		csrcCount: h.csrcCount, Marker: h.Marker, HasPadding: h.HasPadding,
+	}) {
+		return true
 	}
+	for i, source := range h.CSRC() {
+		if at := 12 + 4*i; binary.BigEndian.Uint32(p.datagram[at:]) != source {
+			return true
+		}
+	}
+	return false
 }
 
 func isRTCP(datagram []byte) bool {

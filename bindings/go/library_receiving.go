@@ -16,14 +16,14 @@ func (r *Receiver) receive(sequenceNumber uint16) (uint64, error) {
 }
 
 func (r *Receiver) receivePacket(datagram []byte, m *Map, p *Packet) (uint64, error) {
-	if err := p.parse(datagram, m); err != nil {
+	if err := p.read(datagram, m); err != nil {
 		return 0, err
 	}
 	return r.receive(p.header.SequenceNumber)
 }
 
 func (r *Receiver) checkPacket(datagram []byte, m *Map, p *Packet) (uint64, error) {
-	if err := p.parse(datagram, m); err != nil {
+	if err := p.read(datagram, m); err != nil {
 		return 0, err
 	}
 	number := r.numberOf(p.header.SequenceNumber)
@@ -64,14 +64,14 @@ func (r *WideReceiver) receive(sequenceNumber uint16) (uint64, error) {
 }
 
 func (r *WideReceiver) receivePacket(datagram []byte, m *Map, p *Packet) (uint64, error) {
-	if err := p.parse(datagram, m); err != nil {
+	if err := p.read(datagram, m); err != nil {
 		return 0, err
 	}
 	return r.receive(p.header.SequenceNumber)
 }
 
 func (r *WideReceiver) checkPacket(datagram []byte, m *Map, p *Packet) (uint64, error) {
-	if err := p.parse(datagram, m); err != nil {
+	if err := p.read(datagram, m); err != nil {
 		return 0, err
 	}
 	number := r.numberOf(p.header.SequenceNumber)
@@ -118,7 +118,7 @@ func receiveRestarting(r *rtpw_wide_restarting_receiver, words []uint64, sequenc
 }
 
 func receiveRestartingPacket(r *rtpw_wide_restarting_receiver, words []uint64, datagram []byte, m *Map, p *Packet) (uint64, Verdict, error) {
-	if err := p.parse(datagram, m); err != nil {
+	if err := p.read(datagram, m); err != nil {
 		return 0, Refused, err
 	}
 	return judge(r, words, p.header.SequenceNumber)

@@ -103,7 +103,9 @@ func StandardMap() *Map {
 // Set makes the id mean the kind from now on. It returns ErrBadField, and changes nothing, where the id is 0, or the kind
 // is KindNone, as of a URI that [KindOfURI] doesn't know, or one of 21 to 127.
 func (m *Map) Set(id uint8, kind Kind) error {
-	return m.set(id, kind)
+	err := m.set(id, kind)
+	m.letGo()
+	return err
 }
 
 // SetURI makes the id mean the kind that the URI names, as a line a=extmap:ID URI of SDP says, and returns it. One that
@@ -116,9 +118,25 @@ func (m *Map) SetURI(id uint8, uri string) (Kind, error) {
 	return ownURIs.SetURI(m, id, uri)
 }
 
-// Remove makes the id mean nothing from now on.
+// Remove makes the id mean nothing from now on. After the last kind that an [OwnURIs] gave the map may have kinds of another
+// one.
 func (m *Map) Remove(id uint8) {
 	m.kinds[id] = uint8(KindNone)
+	m.letGo()
+}
+
+// letGo lets the OwnURIs go where no id means a kind of it any more.
+func (m *Map) letGo() {
+	if m.own == nil {
+		return
+	}
+	last := m.own.last()
+	for _, kind := range m.kinds {
+		if Kind(kind) >= last {
+			return
+		}
+	}
+	m.own = nil
 }
 
 // Get is the kind that the id means; KindNone where it means none.

@@ -41,7 +41,7 @@ func TestHasChanged(t *testing.T) {
 		"SetElement": {false, func(buf []byte, n int) ([]byte, error) { return buf, rtpwire.SetElement(buf[:n], 1, []byte{3}) }},
 		"no call":    {false, func(buf []byte, n int) ([]byte, error) { return buf, nil }},
 		"SetPadding": {true, func(buf []byte, n int) ([]byte, error) { return buf, rtpwire.SetPadding(buf[:n], false) }},
-		"SetCSRCAt":  {false, func(buf []byte, n int) ([]byte, error) { return buf, rtpwire.SetCSRCAt(buf[:n], 0, 10) }},
+		"SetCSRCAt":  {true, func(buf []byte, n int) ([]byte, error) { return buf, rtpwire.SetCSRCAt(buf[:n], 0, 10) }},
 		"no packet": {true, func(buf []byte, n int) ([]byte, error) {
 			buf[0] = 0x71
 			return buf, nil
@@ -61,4 +61,42 @@ func TestHasChanged(t *testing.T) {
 			t.Errorf("%s: what was read anew has changed", name)
 		}
 	}
+}
+
+// Where a call made the packet anew in new memory the datagram that was read hasn't changed: only what the call returned
+// tells what the packet became.
+func TestHasChangedInNewMemory(t *testing.T) {
+	datagram := sample()
+	packet := parsed(t, datagram[:len(datagram):len(datagram)], nil)
+	for name, call := range map[string]func(p []byte) ([]byte, error){
+		"PutElement":       func(p []byte) ([]byte, error) { return rtpwire.PutElement(p, 3, make([]byte, 9), rtpwire.AnyForm) },
+		"AddElement":       func(p []byte) ([]byte, error) { return rtpwire.AddElement(p, 3, make([]byte, 9), rtpwire.AnyForm) },
+		"ChangeForm":       func(p []byte) ([]byte, error) { return rtpwire.ChangeForm(p, rtpwire.TwoByteForm) },
+		"PutBlock":         func(p []byte) ([]byte, error) { return rtpwire.PutBlock(p, 0xABAC, make([]byte, 12)) },
+		"ToRetransmission": func(p []byte) ([]byte, error) { return rtpwire.ToRetransmission(p, 8, 97, 1, new(rtpwire.NewIDs)) },
+	} {
+		made, err := call(packet.Datagram())
+		isMoved := name != "ToRetransmission" // it has as much room as the padding took
+		same(t, name, []any{err, &made[0] != &datagram[0], packet.HasChanged()}, []any{nil, isMoved, !isMoved})
+		if isMoved {
+			same(t, name, []any{datagram, parsed(t, made, nil).HasChanged()}, []any{sample(), false})
+		}
+		copy(datagram, sample())
+	}
+}
+
+// A contributing source that is another one is told by each of its bytes, and no memory is taken.
+func TestHasChangedBySources(t *testing.T) {
+	datagram := append([]byte{0x8F, 96, 0, 5, 0, 0, 0, 160, 0, 0, 0, 7}, make([]byte, 60)...)
+	datagram = append(datagram, 'h', 'i')
+	packet := parsed(t, datagram, nil)
+	for at := 12; at < 72; at++ {
+		datagram[at] ^= 0x80
+		changed := packet.HasChanged()
+		datagram[at] ^= 0x80
+		same(t, "changed", []bool{changed, packet.HasChanged()}, []bool{true, false})
+	}
+	datagram[72]++
+	same(t, "the payload", packet.HasChanged(), false)
+	same(t, "how often", testing.AllocsPerRun(10, func() { packet.HasChanged() }), 0.0)
 }

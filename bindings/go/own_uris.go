@@ -72,6 +72,13 @@ func (o *OwnURIs) SetURI(m *Map, id uint8, uri string) (Kind, error) {
 	return kind, m.Set(id, kind)
 }
 
+// last is the kind that was given last: those from it on up to 255 were.
+func (o *OwnURIs) last() Kind {
+	o.mutex.Lock()
+	defer o.mutex.Unlock()
+	return Kind(256 - len(o.kinds))
+}
+
 // URI is the URI of the kind ([Kind.URI]), also of one of your own that was given here; "" where there is none.
 func (o *OwnURIs) URI(kind Kind) string {
 	o.mutex.Lock()

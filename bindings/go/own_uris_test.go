@@ -172,3 +172,64 @@ func TestMapOfTheProgramsTable(t *testing.T) {
 	kind, err := other.SetURI(&m, 2, "urn:of-another-table")
 	same(t, "of another", []any{kind, err, m.Get(2)}, []any{rtpwire.KindNone, rtpwire.ErrBadField, rtpwire.KindNone})
 }
+
+// After the last kind that a table gave a map, whichever call took it off, the map may have those of another table, and is
+// as one that never had any; before that it may not. A kind that a program chose by hand is of no table.
+func TestTheLastKindOfATableIsRemoved(t *testing.T) {
+	for name, remove := range map[string]func(m *rtpwire.Map, id uint8) error{
+		"removed": func(m *rtpwire.Map, id uint8) error { m.Remove(id); return nil },
+		"no URI": func(m *rtpwire.Map, id uint8) error {
+			_, err := m.SetURI(id, "")
+			return err
+		},
+	} {
+		var first, second rtpwire.OwnURIs
+		var m, byHand rtpwire.Map
+		for id, uri := range []string{1: "urn:a", 2: "urn:b", 3: "urn:c", 4: "urn:a"} {
+			if id != 0 {
+				_, err := first.SetURI(&m, uint8(id), uri)
+				same(t, name, err, nil)
+			}
+		}
+		same(t, name, []error{m.Set(9, rtpwire.KindOwn), byHand.Set(9, rtpwire.KindOwn)}, []error{nil, nil})
+		for _, id := range []uint8{2, 1, 4, 3} {
+			_, err := second.SetURI(&m, 5, "urn:d")
+			same(t, name+": not yet", []any{err, m.Get(5)}, []any{rtpwire.ErrBadField, rtpwire.KindNone})
+			same(t, name, []any{remove(&m, id), m.Get(id)}, []any{nil, rtpwire.KindNone})
+		}
+		same(t, name, []bool{m == byHand, m == rtpwire.Map{}}, []bool{true, false})
+		kind, err := second.SetURI(&m, 5, "urn:d")
+		same(t, name+": of another table", []any{kind, err, m.Get(5)}, []any{second.KindOf("urn:d"), nil, kind})
+		m.Remove(5)
+		m.Remove(9)
+		same(t, name, m == rtpwire.Map{}, true)
+	}
+}
+
+// A known kind in place of the last one that a table gave leaves none of the table.
+func TestTheLastKindOfATableIsReplaced(t *testing.T) {
+	for name, replace := range map[string]func(m *rtpwire.Map) error{
+		"set":          func(m *rtpwire.Map) error { return m.Set(1, rtpwire.KindMID) },
+		"set by a URI": func(m *rtpwire.Map) error { _, err := m.SetURI(1, mid); return err },
+	} {
+		var first, second rtpwire.OwnURIs
+		var m, known rtpwire.Map
+		_, err := first.SetURI(&m, 1, "urn:a")
+		same(t, name, []error{err, replace(&m), known.Set(1, rtpwire.KindMID)}, []error{nil, nil, nil})
+		same(t, name, m == known, true)
+		kind, err := second.SetURI(&m, 2, "urn:b")
+		same(t, name+": of another table", []any{kind.IsOwn(), err}, []any{true, nil})
+	}
+}
+
+// A kind that isn't set, as the id is 0 or the kind none of the library, takes none off.
+func TestWhatIsNotSetStaysOfItsTable(t *testing.T) {
+	var first, second rtpwire.OwnURIs
+	var m rtpwire.Map
+	_, err := first.SetURI(&m, 1, "urn:a")
+	same(t, "set", []error{err, m.Set(1, rtpwire.KindNone), m.Set(1, 21), m.Set(0, rtpwire.KindMID)},
+		[]error{nil, rtpwire.ErrBadField, rtpwire.ErrBadField, rtpwire.ErrBadField})
+	m.Remove(7)
+	_, err = second.SetURI(&m, 2, "urn:a")
+	same(t, "of another table", []any{err, m.Get(1)}, []any{rtpwire.ErrBadField, first.KindOf("urn:a")})
+}

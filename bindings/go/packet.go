@@ -1,9 +1,12 @@
 package rtpwire
 
+import "fmt"
+
 // A Packet is a packet in the bytes of its datagram, as they were when it was read: its methods tell the fields and the
 // values, and lend parts of the datagram: an append to one copies, so that nothing of the packet or behind it changes. To
 // change it, change the bytes ([Fields], [PutElement]), and read what they become ([Packet.HasChanged]), or write a
-// [Packet.Header]. Use one again for the next packet: what it lent stays as it is.
+// [Packet.Header]. Use one again for the next packet: the parts of the datagram that it lent stay as they are, and what it
+// lent of its own memory, [Packet.CSRC] and [Packet.Values], is then that of the next packet.
 type Packet struct {
 	wholePacket
 	datagram []byte
@@ -83,7 +86,7 @@ func (p *PacketFields) NextPlace(place *Place, datagram []byte) bool {
 }
 
 // UnpaddedPayload is the payload of the datagram that was read last without its padding. It is not ok where the padding's
-// last byte counts more bytes than the payload has.
+// last byte counts more bytes than the payload has; a last byte of 0 takes nothing away ([Packet.UnpaddedPayload]).
 func (p *PacketFields) UnpaddedPayload(datagram []byte) (payload []byte, ok bool) {
 	if !p.paddingFits {
 		return nil, false
@@ -113,12 +116,19 @@ func (p *Packet) ParseMuxed(datagram []byte, m *Map) error {
 	return p.read(datagram, m)
 }
 
-// HasChanged is whether the bytes of the datagram say other fields now than when the packet was read, or that its parts lie
-// elsewhere: so it is after each call that moves the payload, where the slice that the call returned is to be read anew. It
-// takes the time of [PacketFields.Parse]. What it can't tell: elements that changed where they lie, and a retransmission
-// ([ToRetransmission]) of the same SSRC, payload type and number.
+// HasChanged is whether the bytes of the datagram say other fields or contributing sources now than when the packet was
+// read, or that its parts lie elsewhere: so it is after each call that moves the payload where it lies. A call that made the
+// packet anew in new memory, as [PutElement] does where the slice has no room, changed no byte of the datagram, and this is
+// false: so always read the slice that the call returned. It takes the time of [PacketFields.Parse]. What it can't tell:
+// elements that changed where they lie, and a retransmission ([ToRetransmission]) of the same SSRC, payload type and number.
 func (p *Packet) HasChanged() bool {
 	return p.hasChanged()
+}
+
+// String says in a line what packet it is: its SSRC, payload type, sequence number and timestamp, and how many bytes the
+// header and the payload with any padding have.
+func (p Packet) String() string {
+	return fmt.Sprintf("%s, payload %d bytes", p.header, len(p.datagram)-p.header.headerLen)
 }
 
 // Datagram is the whole datagram.
@@ -167,18 +177,22 @@ func (p *Packet) HasExtension() bool {
 	return p.header.HasExtension
 }
 
-// CSRC is the contributing sources, at most 15, in order: those that were read, not bytes of the datagram.
+// CSRC is the contributing sources, at most 15, in order: those that were read, not bytes of the datagram. They are a part
+// of the Packet, so that they change when it is used again: copy them to keep them.
 func (p *Packet) CSRC() []uint32 {
 	return p.header.CSRC()
 }
 
-// Values are what the elements of the block say under the map that the packet was read with, until it is used again: none
-// without a block, or in a block of another form.
+// Values are what the elements of the block say under the map that the packet was read with: none without a block, or in a
+// block of another form. They are a part of the Packet, so that they change when it is used again: copy them to keep them.
 func (p *Packet) Values() *ReadValues {
 	return &p.header.Values.ReadValues
 }
 
 // Header is a copy of the header, to be changed and written. It takes no memory where the compiler sees that it isn't kept.
+// It has the values of the block's elements and not the elements: those of kinds that have no value, of URIs that aren't
+// known and of a block of another form aren't in it. To send a packet on with all of its elements, change it where it lies
+// ([Fields], [Renumber]).
 func (p *Packet) Header() *Header {
 	header := p.header
 	return &header
@@ -192,7 +206,9 @@ func (p *Packet) Payload() []byte {
 }
 
 // UnpaddedPayload is the payload without its padding: the media. It is not ok where the padding's last byte counts more
-// bytes than the payload has: drop the packet. Of SRTP the padding is encrypted: decrypt first.
+// bytes than the payload has: drop the packet. Where P is set and that byte is 0, which no padding has (RFC 3550, 5.1),
+// nothing is taken away, and P of a packet without a payload takes nothing away either. Of SRTP the padding is encrypted:
+// decrypt first.
 func (p *Packet) UnpaddedPayload() (payload []byte, ok bool) {
 	if !p.paddingFits {
 		return nil, false
@@ -215,9 +231,11 @@ func (p *Packet) BlockProfile() uint16 {
 }
 
 // PeekSSRC is where a packet has its SSRC, to find the Receiver of a datagram before [Receiver.ReceivePacket] reads
-// it. It is not ok of fewer than twelve bytes, and says nothing else of the datagram.
+// it. It is not ok of fewer than twelve bytes, nor of RTCP ([IsRTCP]), whose bytes 8 to 11 are something else, and says
+// nothing else of the datagram. Where it isn't ok there is no receiver to find: ReceivePacket would return an error. A
+// stream with payload types 64 to 95, on a port of its own, is read by [Packet.Parse], which tells its SSRC.
 func PeekSSRC(datagram []byte) (ssrc uint32, ok bool) {
-	if len(datagram) < 12 {
+	if len(datagram) < 12 || isRTCP(datagram) {
 		return 0, false
 	}
 	b := datagram[8:12]
@@ -225,8 +243,9 @@ func PeekSSRC(datagram []byte) (ssrc uint32, ok bool) {
 }
 
 // IsRTCP is whether a datagram on a port that RTP and RTCP share is RTCP (RFC 5761, 4): it has version 2, and its
-// second byte, the RTCP packet type, is 192 to 223. [Packet.ParseMuxed] tells it too; [Packet.Parse] would take a receiver
-// report for RTP: as RTP that byte is M and a payload type of 64 to 95, which a stream on such a port must not have.
+// second byte, the RTCP packet type, is 192 to 223. [Packet.ParseMuxed], [Receiver.ReceivePacket] and
+// [Receiver.CheckPacket] tell it too; [Packet.Parse] would take a receiver report for RTP: as RTP that byte is M and a
+// payload type of 64 to 95, which a stream on such a port must not have.
 func IsRTCP(datagram []byte) bool {
 	return isRTCP(datagram)
 }

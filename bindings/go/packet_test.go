@@ -253,6 +253,27 @@ func TestRTCP(t *testing.T) {
 	same(t, "none", rtpwire.IsRTCP(nil), false)
 }
 
+// A packet and a header say in a line what they are, by value and by pointer, and a zero one and nil too.
+func TestPacketsInALine(t *testing.T) {
+	packet := parsed(t, sample(), nil)
+	const fields = "SSRC 44, payload type 33, number 47000, timestamp 10000"
+	var none *rtpwire.Packet
+	changed := packet.Header()
+	changed.SSRC = 7
+	written := rtpwire.NewHeader(rtpwire.Values{})
+	written.PayloadType, written.SequenceNumber, written.Timestamp, written.SSRC = 127, 65535, 1<<32-1, 1<<32-1
+	same(t, "lines", []string{
+		packet.String(), fmt.Sprint(packet), fmt.Sprintf("%v", *packet), fmt.Sprint(packet.Header()), fmt.Sprint(*packet.Header()),
+		changed.String(), written.String(), fmt.Sprint(rtpwire.Packet{}), fmt.Sprint(none),
+	}, []string{
+		fields + ", header 32 bytes, payload 5 bytes", fields + ", header 32 bytes, payload 5 bytes",
+		fields + ", header 32 bytes, payload 5 bytes", fields + ", header 32 bytes", fields + ", header 32 bytes",
+		"SSRC 7" + fields[len("SSRC 44"):] + ", header 32 bytes",
+		"SSRC 4294967295, payload type 127, number 65535, timestamp 4294967295",
+		"SSRC 0, payload type 0, number 0, timestamp 0, payload 0 bytes", "<nil>",
+	})
+}
+
 func TestPeekSSRC(t *testing.T) {
 	for length := 0; length < 12; length++ {
 		if _, ok := rtpwire.PeekSSRC(sample()[:length]); ok {
@@ -262,6 +283,16 @@ func TestPeekSSRC(t *testing.T) {
 	ssrc, ok := rtpwire.PeekSSRC([]byte{0x80, 0, 0, 1, 0, 0, 0, 2, 0xFE, 0xDC, 0xBA, 0x98})
 	same(t, "SSRC", ssrc, uint32(0xFEDCBA98))
 	same(t, "there is one", ok, true)
+	for second := 0; second < 256; second++ {
+		datagram := sample()
+		datagram[1] = byte(second)
+		ssrc, ok := rtpwire.PeekSSRC(datagram)
+		if 192 <= second && second <= 223 {
+			same(t, "of RTCP", []any{ssrc, ok}, []any{uint32(0), false})
+		} else {
+			same(t, "of RTP", []any{ssrc, ok}, []any{uint32(44), true})
+		}
+	}
 }
 
 func FuzzParse(f *testing.F) {
@@ -277,7 +308,7 @@ func FuzzParse(f *testing.F) {
 			}
 			return
 		}
-		if ssrc, ok := rtpwire.PeekSSRC(datagram); !ok || ssrc != packet.SSRC() {
+		if ssrc, ok := rtpwire.PeekSSRC(datagram); ok == rtpwire.IsRTCP(datagram) || ok && ssrc != packet.SSRC() {
 			t.Fatal("SSRC")
 		}
 		if packet.HeaderLen()+len(packet.Payload()) != len(datagram) {

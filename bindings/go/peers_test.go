@@ -30,6 +30,19 @@ func TestElementsOfTheID0Go(t *testing.T) {
 	same(t, "compact", []any{short, err}, []any{written(t, "90 BEDE0001 10770000 09"), nil})
 }
 
+// It is listed as read, with the id 0, and what is behind it too: places that are written again are those without it.
+func TestElementsOfTheID0AreListed(t *testing.T) {
+	packet := parsed(t, written(t, "90 BEDE0002 01AABB00 10770000 09"), nil)
+	_, body := packet.Block()
+	places := packet.AppendPlaces(nil)
+	same(t, "listed", []any{len(places), places[0].ID, places[0].Len, places[1].ID}, []any{2, uint8(0), 2, uint8(1)})
+	buf := make([]byte, 40)
+	_, err := packet.Header().WriteWith(buf, body, places)
+	same(t, "with it", err, rtpwire.ErrBadField)
+	n, err := packet.Header().WriteWith(buf, body, places[1:])
+	same(t, "without it", []any{buf[12:n], err}, []any{[]byte{0xBE, 0xDE, 0, 1, 0x10, 0x77, 0, 0}, nil})
+}
+
 // And none is written, neither from places nor under a map.
 func TestNoElementOfTheID0IsWritten(t *testing.T) {
 	header, data := rtpwire.NewHeader(rtpwire.Values{}), []byte{0xAA, 0xBB}

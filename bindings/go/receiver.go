@@ -29,21 +29,25 @@ func NewReceiver(rolloverCount uint64) (*Receiver, error) {
 	return r, nil
 }
 
-// ReceivePacket reads the packet that the datagram is ([Packet.Parse]), and takes it, which needn't be authenticated:
+// ReceivePacket reads the packet that the datagram is ([Packet.ParseMuxed]), and takes it, which needn't be authenticated:
 // it returns the extended sequence number. Of one transport with many sources [PeekSSRC] finds the receiver.
 //
-// It returns an error of Parse, and nothing changes; or ErrRefused where the packet is a replay or too old to tell:
-// then only p is changed, to what was read.
+// It returns an error of ParseMuxed, and nothing changes: [ErrRTCP] before all else of what [IsRTCP] is true of, whose
+// bytes 2 and 3 are no sequence number, and else a [Cause]. Or it returns ErrRefused where the packet is a replay or too
+// old to tell: then only p is changed, to what was read. A stream with payload types 64 to 95, on a port of its own, is
+// read by [Packet.Parse] and then judged by its number: [Receiver.Receive].
 func (r *Receiver) ReceivePacket(datagram []byte, m *Map, p *Packet) (uint64, error) {
 	return r.receivePacket(datagram, m, p)
 }
 
-// CheckPacket reads the packet that the datagram is ([Packet.Parse]), and tests whether it may be taken: it
+// CheckPacket reads the packet that the datagram is ([Packet.ParseMuxed]), and tests whether it may be taken: it
 // returns the extended sequence number, whose low 48 bits are SRTP's packet index. Authenticate
 // the packet, and then Record the number. The receiver doesn't change.
 //
-// It returns an error of Parse, and nothing changes; or ErrRefused where the packet is a replay or too old to tell:
-// then p is changed to what was read, and the number is told too.
+// It returns an error of ParseMuxed, and nothing changes: [ErrRTCP] before all else, as ReceivePacket does, of SRTCP
+// too. Or it returns ErrRefused where the packet is a replay or too old to tell: then p is changed to what was read, and
+// the number is told too. A stream with payload types 64 to 95, on a port of its own, is read by [Packet.Parse], and
+// [Receiver.NumberOf] and [Receiver.Accepts] check its number.
 func (r *Receiver) CheckPacket(datagram []byte, m *Map, p *Packet) (uint64, error) {
 	return r.checkPacket(datagram, m, p)
 }
@@ -100,7 +104,8 @@ func (s Standing) String() string {
 }
 
 // StandingOf is what is known of the number. A packet that was refused changed nothing, so after ErrRefused
-// r.StandingOf(r.NumberOf(p.SequenceNumber())) says why.
+// r.StandingOf(r.NumberOf(p.SequenceNumber())) says why. Numbers before the first one taken count as new too where the
+// window reaches them: none of them was taken.
 func (r *Receiver) StandingOf(number uint64) Standing {
 	return r.standingOf(number)
 }

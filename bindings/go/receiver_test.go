@@ -20,7 +20,7 @@ func TestStandings(t *testing.T) {
 	}{
 		{66537, rtpwire.StandingNew, rtpwire.StandingNew},
 		{66536, rtpwire.StandingTaken, rtpwire.StandingTaken},
-		{66409, rtpwire.StandingNew, rtpwire.StandingNew},
+		{66409, rtpwire.StandingNew, rtpwire.StandingNew}, // before the first one taken, and within the window
 		{66408, rtpwire.StandingTooOld, rtpwire.StandingNew},
 		{65513, rtpwire.StandingTooOld, rtpwire.StandingNew},
 		{65512, rtpwire.StandingTooOld, rtpwire.StandingTooOld},

@@ -26,7 +26,7 @@ type RestartingReceiver struct {
 	MaxMisorder uint16
 	next        uint16
 	// MinSequential is how many packets in a row, each with the number after that of the one before, a new source needs:
-	// its first packet is taken with the last of them. 0 is as 1.
+	// the first packet of it that is taken is the last one of so many, and those before it are refused. 0 is as 1.
 	MinSequential uint8
 	inRow         uint8
 	started       bool
@@ -74,9 +74,9 @@ func (r *RestartingReceiver) Receive(sequenceNumber uint16) (number uint64, verd
 	return receiveRestarting(r.c(), r.words[:], sequenceNumber)
 }
 
-// ReceivePacket reads the packet that the datagram is ([Packet.Parse]), and judges it. Of
-// one transport with many sources [PeekSSRC] finds the receiver. It returns an error of Parse, and nothing changes;
-// a packet that is refused is read too.
+// ReceivePacket reads the packet that the datagram is ([Packet.ParseMuxed]), and judges it. Of one transport with many
+// sources [PeekSSRC] finds the receiver. It returns an error of ParseMuxed, and nothing changes: [ErrRTCP] before all
+// else, as [Receiver.ReceivePacket] does. A packet that is refused is read too.
 func (r *RestartingReceiver) ReceivePacket(datagram []byte, m *Map, p *Packet) (number uint64, verdict Verdict, err error) {
 	return receiveRestartingPacket(r.c(), r.words[:], datagram, m, p)
 }

@@ -24,6 +24,21 @@ func judges(t *testing.T, r interface {
 	}
 }
 
+// Of a new source the last one of so many packets in a row is the first that is taken, and those before it are refused. One of
+// these that comes again is before the first one taken, where the window reaches it.
+func TestFirstPacketThatIsTaken(t *testing.T) {
+	rows := []judged{
+		{7, 0, rtpwire.Refused}, {9, 0, rtpwire.Refused}, {10, 0, rtpwire.Refused}, {11, 65547, rtpwire.Taken}, {12, 65548, rtpwire.Taken},
+	}
+	judges(t, &rtpwire.RestartingReceiver{MinSequential: 3}, rows)
+	r, err := rtpwire.NewWideRestartingReceiver(16, rtpwire.RestartBounds{MinSequential: 3})
+	same(t, "made", err, nil)
+	judges(t, r, rows)
+	same(t, "before the first one", r.StandingOf(65546), rtpwire.StandingNew)
+	number, verdict := r.Receive(10)
+	same(t, "it comes again", []any{number, verdict}, []any{uint64(65546), rtpwire.Taken})
+}
+
 func TestLargeJump(t *testing.T) {
 	var r rtpwire.RestartingReceiver
 	if _, ok := r.Highest(); ok {

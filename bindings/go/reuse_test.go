@@ -378,7 +378,11 @@ func TestNoBitIsLost(t *testing.T) {
 		same(t, "read", []any{packet.SSRC(), packet.Timestamp(), packet.SequenceNumber(), packet.PayloadType(), packet.Marker(), packet.CSRC()},
 			[]any{word, ^word, half, uint8(half) & 127, bit%2 == 0, []uint32{word, ^word}})
 		ssrc, ok := rtpwire.PeekSSRC(datagram)
-		same(t, "SSRC", []any{ssrc, ok}, []any{word, true})
+		if rtpwire.IsRTCP(datagram) {
+			same(t, "no SSRC", []any{ssrc, ok}, []any{uint32(0), false})
+		} else {
+			same(t, "SSRC", []any{ssrc, ok}, []any{word, true})
+		}
 
 		header.HasExtension, header.HasPadding = true, bit%3 == 0
 		v := &header.Values
@@ -397,4 +401,25 @@ func TestNoBitIsLost(t *testing.T) {
 		same(t, "values", packet.Header().Values, header.Values)
 		same(t, "P", packet.HasPadding(), bit%3 == 0)
 	}
+}
+
+// When a packet is used again, the parts of the datagram that it lent stay, and what it lent of its own memory is that of
+// the next packet.
+func TestWhatWasLentByAPacketThatIsUsedAgain(t *testing.T) {
+	m := everyKind(t)
+	var packet rtpwire.Packet
+	same(t, "read", packet.Parse(sample(), m), nil)
+	_, body := packet.Block()
+	element, _ := packet.Element(2)
+	lent := [][]byte{packet.Datagram(), packet.Payload(), body, element}
+	kept := []string{string(lent[0]), string(lent[1]), string(lent[2]), string(lent[3])}
+	sources, values, header := packet.CSRC(), packet.Values(), packet.Header()
+	same(t, "sources", []any{sources, header.CSRC()}, []any{[]uint32{1, 2}, []uint32{1, 2}})
+
+	next := sample()
+	next[15], next[19], next[24] = 8, 9, 0xF0 // the id 15, where reading ends
+	same(t, "read", packet.Parse(next, m), nil)
+	same(t, "parts of the datagram", []string{string(lent[0]), string(lent[1]), string(lent[2]), string(lent[3])}, kept)
+	same(t, "of the packet", []any{sources, values == packet.Values()}, []any{[]uint32{8, 9}, true})
+	same(t, "a copy", header.CSRC(), []uint32{1, 2})
 }

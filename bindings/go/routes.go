@@ -7,7 +7,8 @@ type Group struct {
 	// gets one.
 	IDs *NewIDs
 	// Elements are put into the packet in their order, at most 16, of ids of their own. Each is a place in the data that
-	// the header is made with.
+	// the header is made with, anywhere in them. The data of a receiver are those of all elements one after another, in this
+	// order, whatever the places here are ([RouteBatch.Add]).
 	Elements []Place
 	// Allowed are the forms that the block may get, where an element is put ([PutElement]) or gets an id above 14; else
 	// it keeps its form.
@@ -122,7 +123,8 @@ type routedHeader struct {
 // its own. With the packet's payload behind it each is the packet that goes to the receiver: what [Fields.Apply],
 // [Renumber], [PutElement] for each element and [Compact] make of a copy, one after the other, with [ChangeForm] before
 // Renumber where a new id is above 14 and the two-byte form is allowed. One receiver that gets none spoils no other. Use
-// one again, as a [HeaderBatch]. The zero RouteBatch is ready; a copy has the same receivers.
+// one again, as a [HeaderBatch]. The zero RouteBatch is ready; a copy shares the receivers with the other, and so only one
+// of the two may be used.
 //
 // The headers lie one after another in the buffer, from its first byte on, and [RouteBatch.At] tells each. So a buffer
 // is long enough that has room for the longest header of all packets as often as there are receivers, and for two bytes
@@ -157,8 +159,9 @@ func (b *RouteBatch) Reset() {
 	b.buf, b.given, b.written = nil, b.given[:0], nil
 }
 
-// Add adds a receiver. Its data begin there in the data: those of the group's elements, one after the other in their
-// order. It returns the receiver's fields, of which none is set yet; later [RouteBatch.Fields] tells them.
+// Add adds a receiver. Its data begin there in the data: those of the group's elements, one after the other in the
+// elements' order, whatever their places in the data are that the header is made with. It returns the receiver's fields, of
+// which none is set yet; later [RouteBatch.Fields] tells them.
 func (b *RouteBatch) Add(dataAt int) RoutedFields {
 	n := len(b.given)
 	if n == cap(b.given) {
@@ -235,12 +238,12 @@ func (b *RouteBatch) ClearPadding(i int, clears bool) {
 // another from the first byte on; those behind the last one stay. The batch keeps the buffer until it writes into another
 // one or is Reset. Data that overlap the buffer are copied first.
 //
-// It returns CutFixedPart where the template was never made, or the last Make failed. Nothing is written then, and Len
-// is 0.
+// It returns ErrBadField where the template has no header: it was never made, the last Make failed, or it is a copy of
+// another one. Nothing is written then, and Len is 0.
 func (b *RouteBatch) Write(t *HeaderTemplate, data, buf []byte) error {
 	b.buf, b.written = nil, nil
-	if t.isCopy() {
-		return CutFixedPart
+	if t.HeaderLen() == 0 {
+		return ErrBadField
 	}
 	return b.ended(buf, writeHeaders(t, data, b.given, buf))
 }

@@ -146,6 +146,45 @@ func TestGroups(t *testing.T) {
 	}
 }
 
+// The data of a receiver are those of the elements one after another in their order, wherever they lay in the data that the
+// header was made with: here the first element's lie behind those of the second.
+func TestDataInTheOrderOfTheElements(t *testing.T) {
+	group := &rtpwire.Group{IDs: each(), Elements: []rtpwire.Place{{ID: 6, At: 5, Len: 1}, {ID: 2, At: 0, Len: 2}}}
+	made := []byte{0x20, 0x21, 9, 9, 9, 0x60}
+	var template rtpwire.HeaderTemplate
+	same(t, "made", []any{template.Make(routable(), group, made), template.DataLen()}, []any{nil, 3})
+	prepared, err := group.Prepare()
+	same(t, "prepared", []any{err, prepared.DataLen()}, []any{nil, 3})
+	data := []byte{0xEE, 0x16, 0x12, 0x13, 0x26, 0x22, 0x23} // of two receivers, from the byte 1 on
+	var batch rtpwire.RouteBatch
+	batch.Add(1)
+	batch.Add(4)
+	buf := make([]byte, 100)
+	for _, write := range []func() error{
+		func() error { return batch.Write(&template, data, buf) },
+		func() error { return batch.RoutePrepared(routable(), prepared, data, buf) },
+	} {
+		same(t, "written", write(), nil)
+		for i, wanted := range [][]byte{
+			{0xBE, 0xDE, 0, 2, 0x10, 0xAA, 0x60, 0x16, 0x21, 0x12, 0x13, 0}, {0xBE, 0xDE, 0, 2, 0x10, 0xAA, 0x60, 0x26, 0x21, 0x22, 0x23, 0},
+		} {
+			header, err := batch.At(i)
+			same(t, "header", []any{header[12:], err}, []any{wanted, nil})
+		}
+	}
+}
+
+// A copy of a batch shares its receivers.
+func TestCopiesOfABatchShareItsReceivers(t *testing.T) {
+	var batch rtpwire.RouteBatch
+	batch.Add(0)
+	copied := batch
+	copied.Fields(0).SetSSRC(45)
+	same(t, "routed", batch.Route(routable(), &rtpwire.Group{IDs: each()}, nil, make([]byte, 100)), nil)
+	header, err := batch.At(0)
+	same(t, "the fields of the copy", []any{header[11], err}, []any{byte(45), nil})
+}
+
 // What no header can be made of is told as the calls tell it, and nothing is written.
 func TestHeadersThatAreNotMade(t *testing.T) {
 	sixteen := make([]rtpwire.Place, 17)
@@ -206,7 +245,7 @@ func TestHeadersThatAreNotMade(t *testing.T) {
 		}
 		same(t, what, []any{template.HeaderLen(), template.DataLen(), batch.Len(), buf[0]}, []any{0, 0, 0, uint8(0xEE)})
 		same(t, what+", and a template of none", []any{batch.Write(&template, data, buf), batch.Len(), buf[0]},
-			[]any{rtpwire.CutFixedPart, 0, uint8(0xEE)})
+			[]any{rtpwire.ErrBadField, 0, uint8(0xEE)})
 	}
 }
 
@@ -339,7 +378,7 @@ func TestTemplatesKeepNothing(t *testing.T) {
 	header, err := batch.At(0)
 	same(t, "of 16 bytes", []any{len(header), err, template.HeaderLen()}, []any{16, nil, 24})
 	same(t, "made anew", template.Make(routable()[:15], numbered(), data), rtpwire.CutBlockHeader)
-	same(t, "not of the last packet", []any{batch.Write(&template, data, buf), batch.Len()}, []any{rtpwire.CutFixedPart, 0})
+	same(t, "not of the last packet", []any{batch.Write(&template, data, buf), batch.Len()}, []any{rtpwire.ErrBadField, 0})
 	same(t, "routed", batch.Route(routable(), numbered(), data, buf), nil)
 	same(t, "no packet", []any{batch.Route(nil, numbered(), data, buf), batch.Len()}, []any{rtpwire.CutFixedPart, 0})
 	same(t, "routed", []any{batch.Route(routable(), numbered(), data, buf), batch.Len()}, []any{nil, 1})

@@ -792,7 +792,7 @@ odd:
 // rtpw_extend_send_time and what it calls take at most 136 bytes of the stack.
 TEXT ·text_extend_send_time(SB), NOSPLIT, $0-24
 	NO_LOCAL_POINTERS
-	MOVQ near+0(FP), DI
+	MOVQ around+0(FP), DI
 	MOVL units+8(FP), SI
 	MOVQ SP, AX
 	TESTB $8, AX
@@ -1161,7 +1161,7 @@ odd:
 // rtpw_extend_ntp_56 and what it calls take at most 136 bytes of the stack.
 TEXT ·text_extend_ntp_56(SB), NOSPLIT, $0-24
 	NO_LOCAL_POINTERS
-	MOVQ near+0(FP), DI
+	MOVQ around+0(FP), DI
 	MOVQ low+8(FP), SI
 	MOVQ SP, AX
 	TESTB $8, AX

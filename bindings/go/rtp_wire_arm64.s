@@ -503,7 +503,7 @@ TEXT ·text_write_send_time(SB), 0, $16-36
 // rtpw_extend_send_time and what it calls take at most 0 bytes of the stack.
 TEXT ·text_extend_send_time(SB), 0, $16-24
 	NO_LOCAL_POINTERS
-	MOVD near+0(FP), R0
+	MOVD around+0(FP), R0
 	MOVWU units+8(FP), R1
 	ADD $16, RSP
 	CALL rtp_wire<>+55992(SB)
@@ -739,7 +739,7 @@ TEXT ·text_write_ntp_56(SB), 0, $16-36
 // rtpw_extend_ntp_56 and what it calls take at most 0 bytes of the stack.
 TEXT ·text_extend_ntp_56(SB), 0, $16-24
 	NO_LOCAL_POINTERS
-	MOVD near+0(FP), R0
+	MOVD around+0(FP), R0
 	MOVD low+8(FP), R1
 	ADD $16, RSP
 	CALL rtp_wire<>+55956(SB)

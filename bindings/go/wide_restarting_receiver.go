@@ -9,7 +9,7 @@ type RestartBounds struct {
 	// or for the size of the window where that is more.
 	MaxMisorder uint16
 	// MinSequential is how many packets in a row, each with the number after that of the one before, a new source needs:
-	// its first packet is taken with the last of them. 0 is as 1.
+	// the first packet of it that is taken is the last one of so many, and those before it are refused. 0 is as 1.
 	MinSequential uint8
 }
 

@@ -3,8 +3,14 @@
 
 /** A number of 64 bits: a BigInt where it is above 2^53 - 1. */
 export type Extended = number | bigint;
-/** Bytes, where they lie. */
-export type Bytes = ArrayBuffer | ArrayBufferView;
+/** Bytes, where they lie: arrays of items of more than a byte are none. */
+export type Bytes = ArrayBuffer & { readonly BYTES_PER_ELEMENT?: undefined } | DataView | Uint8Array | Uint8ClampedArray
+    | Int8Array;
+/** An array, or a typed array, of numbers. */
+export type Numbers = readonly number[] | Uint8Array | Uint8ClampedArray | Int8Array | Uint16Array | Int16Array | Uint32Array
+    | Int32Array | Float32Array | Float64Array;
+/** The text of an SDP, its lines, or what has the text, as `remoteDescription` of an RTCPeerConnection. */
+export type Sdp = string | readonly string[] | { readonly type?: string; readonly sdp: string };
 
 /** Makes the module ready, which comes before each other call. Without a source it is rtp_wire.wasm beside the package. */
 export function load(
@@ -86,7 +92,7 @@ export class OwnUris {
 export class ExtensionMap implements Iterable<[number, number]> {
     constructor(kinds?: Iterable<[number, number]>);
     static standard(): ExtensionMap;
-    static fromSdp(sdp: string | string[], own?: OwnUris): ExtensionMap;
+    static fromSdp(sdp: Sdp, own?: OwnUris): ExtensionMap;
     static fromUris(uris: Iterable<[number, string]>, own?: OwnUris): ExtensionMap;
     get(id: number): number | undefined;
     set(id: number, kind: number): void;
@@ -109,7 +115,7 @@ export class NewIds implements Iterable<[number, number]> {
     delete(id: number): boolean;
     [Symbol.iterator](): Iterator<[number, number]>;
 }
-export function extensionsOf(sdp: string | string[]): [number, string][];
+export function extensionsOf(sdp: Sdp): [number, string][];
 export function kindOfUri(uri: string): number | undefined;
 export function uriOfKind(kind: number): string | undefined;
 
@@ -138,7 +144,8 @@ export class Packet {
     readonly form: number;
     readonly blockProfile: number | undefined;
     readonly body: Uint8Array;
-    readonly values: Values;
+    /** Frozen: `setElement` changes the packet. */
+    readonly values: Readonly<Values>;
     elements(): Element[];
     element(id: number): Uint8Array | undefined;
     setFields(fields: Fields): void;
@@ -147,6 +154,8 @@ export class Packet {
     removeElement(id: number): void;
     renumber(ids: NewIds): void;
     removePadding(): number;
+    /** The fields, the values and how many bytes the payload has. */
+    toJSON(): object;
 }
 export function isRtcp(datagram: Bytes): boolean;
 export function elementsOf(body: Bytes, form: number): IterableIterator<Element>;
@@ -179,15 +188,15 @@ export function pad(buffer: Bytes, len: number, padLen: number, blockSize?: numb
 
 /** Receivers of a packet, a row of each column for each of them; a row that is undefined keeps what the packet has. */
 export interface ReceiverColumns {
-    ssrc?: ArrayLike<number | undefined>;
-    sequenceNumber?: ArrayLike<number | undefined>;
-    timestamp?: ArrayLike<number | undefined>;
-    payloadType?: ArrayLike<number | undefined>;
-    marker?: ArrayLike<boolean | number | undefined>;
+    ssrc?: Numbers | readonly (number | undefined)[];
+    sequenceNumber?: Numbers | readonly (number | undefined)[];
+    timestamp?: Numbers | readonly (number | undefined)[];
+    payloadType?: Numbers | readonly (number | undefined)[];
+    marker?: Numbers | readonly (boolean | number | undefined)[];
     /** The number that a receiver got the packet with, to which it now gets it as a retransmission (RFC 4588, 4). */
-    originalNumber?: ArrayLike<number | undefined>;
+    originalNumber?: Numbers | readonly (number | undefined)[];
     /** Whether the payload is sent without its padding. */
-    clearsPadding?: ArrayLike<boolean | number | undefined>;
+    clearsPadding?: Numbers | readonly (boolean | number | undefined)[];
     /** The data of the group's elements, `dataLen` bytes for each receiver. */
     data?: Bytes;
 }
@@ -310,7 +319,7 @@ export type NumberArray = Int8Array | Uint8Array | Uint16Array | Int32Array | Ui
 export class Columns {
     private constructor();
     static parse(
-        buffer: Bytes, at: ArrayLike<number>, lengths: ArrayLike<number>, map?: ExtensionMap,
+        buffer: Bytes, at: Numbers, lengths: Numbers, map?: ExtensionMap,
         values?: Iterable<NumberColumn | TextName>,
     ): Columns;
     readonly length: number;
@@ -360,6 +369,7 @@ export class RestartingReceiver {
 export interface Report { fractionLost: number; cumulativeLost: number; extendedHighest: number; jitter: number }
 /** Statistics of the packets that came from one source. */
 export class ReceptionStatistics {
+    /** The arrival is a whole number of ticks, which counts modulo 2^32. */
     record(number: Extended, timestamp: number, arrival: number): void;
     readonly received: Extended;
     readonly expected: number;
@@ -378,7 +388,11 @@ export class Source {
     readonly tooOld: number;
     readonly outside: number;
     readonly received: number;
+    /** Less `received` the loss of RFC 3550, 6.4.1, which a duplicate lowers. */
     readonly expected: number;
+    /** How many numbers between the lowest and the highest that were taken weren't taken themselves. */
+    readonly missing: number;
+    /** The arrival is a whole number of ticks, which counts modulo 2^32. */
     receive(sequenceNumber: number, timestamp: number, arrival: number): Extended | undefined;
 }
 /** The receivers of many sources, by their SSRCs. */
@@ -386,7 +400,8 @@ export class Receivers implements Iterable<Source> {
     constructor(bounds?: Bounds);
     readonly size: number;
     source(ssrc: number): Source;
-    receive(columns: Columns, arrivals?: ArrayLike<number>): { taken: Uint8Array; numbers: Float64Array };
+    /** `arrivals` has a row for each datagram. */
+    receive(columns: Columns, arrivals?: Numbers): { taken: Uint8Array; numbers: Float64Array };
     [Symbol.iterator](): Iterator<Source>;
 }
 export function extendU8(previous: Extended, number: number): Extended;

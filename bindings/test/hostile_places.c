@@ -207,6 +207,7 @@ void places_round(void) {
     one_new_id(id, id_at_a_bound());
     one_new_id(id_at_a_bound(), id);
     for (uint8_t i = 1; i < 16; i++) {
+        /* Each means one kind alone, in twenty rounds each kind. */
         one_id(i, (uint8_t)(1 + round_number % 20));
         one_id_with_layers(i, (uint8_t)(1 + round_number % 20));
     }

@@ -1,14 +1,14 @@
 #!/usr/bin/env bash
-# Tests the texts of the library for C, and of the program, for systems other than this one, as far as a Linux on x86-64 can: Windows' under Wine,
-# macOS's from the bytes of their Mach-O objects, and those for RISC-V and ARM emulated. Each text has to pass the C tests,
-# the hostile calls between pages that may not be touched and the captures, to give back whole registers, and to give one
-# digest with all others of what every function answers and writes in a million calls of random arguments. The program has to
-# give what is due of the captures, and of a line that is none.
+# Tests the texts of the library for C, and of the program, for systems other than this one, as far as a Linux on x86-64
+# can: Windows' under Wine, macOS's from the bytes of their Mach-O objects, and those for RISC-V and ARM emulated. Each text
+# of the library has to pass the C tests, the hostile calls between pages that may not be touched and the captures, to give
+# back whole registers, and to give one digest with all others of what every function answers and writes in more than a
+# million calls of random arguments. The program has to give what is due of the captures, and of a line that is none.
 # bindings/js/test/mutants.py counts how many changes of constants such calls and the C tests see.
 #
 # usage: bindings/test/systems.sh [SYSTEM..]        SYSTEM as in generated/heads.sh; by default all
 #
-# ROUNDS says how many rounds of such calls there are: 1600, with which all takes about seven minutes of a processor.
+# ROUNDS says how many rounds of such calls there are: 1600, with which all takes about eleven minutes of a slow processor.
 #
 # It takes cc and clang; mingw and Wine for Windows, qemu-user and the cross compilers of Debian for the others, python3 with
 # pycparser for the digest. What isn't there is named, and what needs it is left out.
@@ -16,8 +16,8 @@ set -euo pipefail
 here=$(cd -- "$(dirname -- "$(readlink -f -- "${BASH_SOURCE[0]}")")" && pwd)
 top=$(cd -- "$here/../.." && pwd)
 scratch=$(mktemp -d)
-# Wine's server goes seconds after the last program.
-trap 'rm -rf -- "$scratch" 2>/dev/null || { sleep 4 && rm -rf -- "$scratch"; }' EXIT
+export WINEPREFIX=$scratch/wine WINEDEBUG=-all WINEDLLOVERRIDES='mscoree,mshtml=' WINEARCH=win64
+trap '[ ! -e "$WINEPREFIX" ] || wine_server -k; rm -rf -- "$scratch" 2>/dev/null || { sleep 4 && rm -rf -- "$scratch"; }' EXIT
 cd -- "$top"
 # shellcheck source=generated/heads.sh
 . generated/heads.sh
@@ -27,7 +27,7 @@ fail() {
     exit 1
 }
 has() { command -v "$1" >/dev/null; }
-# So many rounds of hostile are a million calls, which take seconds of a processor here, and emulated a minute or two.
+# So many rounds of hostile are 1.7 million calls, which take seconds of a processor here, and emulated a minute or two.
 rounds=${ROUNDS:-1600}
 tests='packets blocks padding faults headers statuses receivers reception corners peers standard datagrams routed alone apart'
 
@@ -44,11 +44,22 @@ declare -A emulator=(
     [Linux-x86_64]='' [Linux-aarch64]=qemu-aarch64 [Linux-riscv64]=qemu-riscv64
     [Darwin-arm64]=qemu-aarch64 [Darwin-x86_64]='' [Windows-x86_64]=wine
 )
+# Wine's server goes seconds after the last program, and one that begins just then may end without a word: so it is kept.
+wine_server() {
+    local it
+    for it in wineserver /usr/lib/wine/wineserver64 /usr/lib/wine/wineserver; do
+        if has "$it"; then
+            "$it" "$@" || true
+            return
+        fi
+    done
+}
 wine() {
     local it
     for it in wine64 /usr/lib/wine/wine64 wine; do
         if has "$it"; then
-            env -u DISPLAY WINEPREFIX="$scratch/wine" WINEDEBUG=-all WINEDLLOVERRIDES='mscoree,mshtml=' WINEARCH=win64 "$it" "$@"
+            if [ ! -e "$WINEPREFIX" ]; then mkdir "$WINEPREFIX" && wine_server -p; fi
+            env -u DISPLAY "$it" "$@"
             return
         fi
     done

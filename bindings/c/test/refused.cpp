@@ -23,7 +23,7 @@ void taken(std::vector<std::uint8_t> &kept, const rtpw_map &map, std::vector<rtp
     const auto payload = rtpw::unpadded_payload(rtpw::bytes(kept), *packet);
     const auto text = rtpw::token({kept.data(), kept.size()}, *packet, 1);
     const auto whole = rtpw::read(kept, map);
-    (void)rtpw::payload({kept.data(), kept.size()}, *whole), (void)rtpw::body(kept, *whole);
+    (void)rtpw::payload({kept.data(), kept.size()}, *packet), (void)rtpw::body(kept, *whole);
     (void)rtpw::unpadded_payload(rtpw::bytes(kept), *whole), (void)rtpw::data_of_element(kept, *whole, 1);
     (void)rtpw::set_ssrc(lent(), ssrc);
     (void)rtpw::set_ssrc({kept.data(), kept.size()}, payload[0]);

@@ -1,6 +1,10 @@
 package rtp
 
-import "errors"
+import (
+	"errors"
+
+	"rtp-wire.example/rtpwire"
+)
 
 var (
 	errHeaderSizeInsufficient             = errors.New("rtp: the header is cut short")
@@ -16,3 +20,47 @@ var (
 	errRFC8285TwoByteHeaderSize    = errors.New("rtp: an extension in the two-byte form has at most 255 bytes")
 	errRFC3550HeaderIDRange        = errors.New("rtp: what isn't of RFC 8285 has the id 0")
 )
+
+// A cutError is pion's error of bytes that are cut short, and the cause that rtpwire has for it.
+type cutError struct {
+	pions error
+	cause rtpwire.Cause
+}
+
+// Error says both in words.
+func (e cutError) Error() string {
+	return e.pions.Error() + ": " + e.cause.Error()
+}
+
+// Is makes it pion's error.
+func (e cutError) Is(target error) bool {
+	return target == e.pions
+}
+
+// Unwrap makes it the cause.
+func (e cutError) Unwrap() error {
+	return e.cause
+}
+
+var (
+	errCutFixedPart   error = cutError{errHeaderSizeInsufficient, rtpwire.CutFixedPart}
+	errCutSources     error = cutError{errHeaderSizeInsufficient, rtpwire.CutSources}
+	errCutBlockHeader error = cutError{errHeaderSizeInsufficientForExtension, rtpwire.CutBlockHeader}
+	errCutBlock       error = cutError{errHeaderSizeInsufficientForExtension, rtpwire.CutBlock}
+)
+
+// errorOf is the error for which bytes are no packet: pion's too, where it has one.
+func errorOf(err error) error {
+	switch err {
+	case rtpwire.CutFixedPart:
+		return errCutFixedPart
+	case rtpwire.CutSources:
+		return errCutSources
+	case rtpwire.CutBlockHeader:
+		return errCutBlockHeader
+	case rtpwire.CutBlock:
+		return errCutBlock
+	default:
+		return err
+	}
+}

@@ -14,7 +14,7 @@ func (h *Header) SetExtension(id uint8, payload []byte) error {
 			return err
 		}
 		h.Extension, h.ExtensionProfile = true, profile
-		h.Extensions = append(h.Extensions[:0], Extension{id, payload})
+		h.Extensions = []Extension{{id, payload}} // a shallow copy of the header may have those that lie there
 		return nil
 	}
 	if err := fits(h.ExtensionProfile, id, payload); err != nil {

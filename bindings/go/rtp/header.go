@@ -1,14 +1,19 @@
 // Package rtp has the headers and packets of pion's package rtp (github.com/pion/rtp 1.7), by the same names, read and
-// written by rtpwire: for a server that has code for those, or puts them under pion's interceptors, SRTP and WebRTC.
+// written by rtpwire: for a server that has code for those.
+//
+// By import its types aren't pion's, and pion's interceptors, SRTP and WebRTC don't take them. They work with these in a
+// module that replaces github.com/pion/rtp, by a line replace of its go.mod, with a copy of that package in which the files
+// of this one stand in place of packet.go, error.go, abssendtimeextension.go, audiolevelextension.go and
+// transportccextension.go: bindings/test/go_pion.sh in the repository makes such a copy, and runs pion's tests over it.
 //
 // What is read and written is as RFC 3550 and RFC 8285 have it. So it differs from pion's package where that doesn't: a
 // packet of another version than 2 is none, a block is in the two-byte form also where its appbits aren't 0, elements end
-// where one is cut short, and what no header can carry isn't written.
+// where one is cut short, an element of the id 0 with length bits isn't taken, and what no header can carry isn't written.
+// [AbsSendTimeExtension.Estimate] takes the moment nearest to that of arrival, where pion's takes the latest one that isn't
+// after it.
 package rtp
 
 import (
-	"errors"
-	"fmt"
 	"io"
 
 	"rtp-wire.example/rtpwire"
@@ -42,7 +47,10 @@ type Header struct {
 }
 
 // Unmarshal reads the header in front of the buffer, and returns how many bytes it takes. The data of its extensions are
-// parts of the buffer.
+// parts of the buffer. An element of the id 0 with length bits is none (RFC 8285, 4.2), and isn't taken: so what was read
+// can be written.
+//
+// Where the buffer has no header, errors.As finds the rtpwire.Cause in the error, and errors.Is rtpwire.ErrNotAPacket.
 func (h *Header) Unmarshal(buf []byte) (n int, err error) {
 	var parts rtpwire.PacketFields
 	if err := parts.Parse(buf); err != nil {
@@ -86,13 +94,28 @@ func (h *Header) takeLists(parts *rtpwire.PacketFields, buf []byte) {
 	if cap(h.Extensions) < len(places) {
 		h.Extensions = make([]Extension, len(places))
 	}
-	all := h.Extensions[:len(places)]
+	all, below := h.Extensions[:len(places)], uint32(0)
 	for i := range places {
 		it := &places[i]
 		end := it.At + it.Len
 		all[i] = Extension{it.ID, body[it.At:end:end]}
+		below |= uint32(it.ID) - 1 // below 0 of the id 0 alone
 	}
 	h.Extensions = all
+	if int32(below) < 0 {
+		h.dropNone()
+	}
+}
+
+// dropNone takes away what has the id 0, which no element has.
+func (h *Header) dropNone() {
+	kept := h.Extensions[:0]
+	for _, it := range h.Extensions {
+		if it.id != 0 {
+			kept = append(kept, it)
+		}
+	}
+	h.Extensions = kept
 }
 
 func (h *Header) takeSources(parts *rtpwire.PacketFields, buf []byte) {
@@ -102,18 +125,6 @@ func (h *Header) takeSources(parts *rtpwire.PacketFields, buf []byte) {
 	var packet rtpwire.Packet
 	if parts.CSRCCount() != 0 && packet.Parse(buf, nil) == nil {
 		h.CSRC = append(h.CSRC, packet.CSRC()...)
-	}
-}
-
-// errorOf is pion's error for which bytes are no packet.
-func errorOf(err error) error {
-	switch {
-	case errors.Is(err, rtpwire.CutFixedPart), errors.Is(err, rtpwire.CutSources):
-		return fmt.Errorf("%w: %v", errHeaderSizeInsufficient, err)
-	case errors.Is(err, rtpwire.CutBlockHeader), errors.Is(err, rtpwire.CutBlock):
-		return fmt.Errorf("%w: %v", errHeaderSizeInsufficientForExtension, err)
-	default:
-		return err
 	}
 }
 

@@ -14,7 +14,9 @@ type Packet struct {
 	PaddingSize byte
 }
 
-// Unmarshal reads the packet that the buffer is. Its payload and the data of its extensions are parts of the buffer.
+// Unmarshal reads the packet that the buffer is. Its payload and the data of its extensions are parts of the buffer. It
+// returns the errors of [Header.Unmarshal], and one that is no rtpwire.Cause where the padding's last byte counts more bytes
+// than the payload has.
 func (p *Packet) Unmarshal(buf []byte) error {
 	var parts rtpwire.PacketFields
 	if err := parts.Parse(buf); err != nil {

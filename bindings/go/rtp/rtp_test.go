@@ -2,9 +2,12 @@ package rtp_test
 
 import (
 	"bytes"
+	"errors"
 	"io"
+	"math/rand"
 	"reflect"
 	"testing"
+	"time"
 
 	"rtp-wire.example/rtpwire"
 	"rtp-wire.example/rtpwire/rtp"
@@ -199,5 +202,128 @@ func TestValues(t *testing.T) {
 	var sent rtp.AbsSendTimeExtension
 	if err != nil || !bytes.Equal(data, []byte{0xAB, 0xCD, 0xEF}) || sent.Unmarshal(data) != nil || sent.Timestamp != 0xABCDEF {
 		t.Error(data, err, sent)
+	}
+}
+
+// A header that isn't marked as one with a block gets its extensions in memory of its own: those of a shallow copy stay, as
+// pion's do.
+func TestShallowCopies(t *testing.T) {
+	var header rtp.Header
+	if _, err := header.Unmarshal(datagram); err != nil {
+		t.Fatal(err)
+	}
+	shallow := header
+	shallow.Extension = false
+	if err := shallow.SetExtension(5, []byte{7}); err != nil || !reflect.DeepEqual(shallow.GetExtensionIDs(), []uint8{5}) {
+		t.Error(err, shallow)
+	}
+	if !reflect.DeepEqual(header.GetExtensionIDs(), []uint8{1, 3}) || !bytes.Equal(header.GetExtension(1), []byte{0x8A}) {
+		t.Error(header)
+	}
+	if written, err := header.Marshal(); err != nil || !bytes.Equal(written, datagram[:28]) {
+		t.Error(written, err)
+	}
+}
+
+// The whole NTP time in units of 2^-18 seconds, as pion's is, by hand: 2208988800 seconds from 1900 to 1970, and 2^18 units a
+// second. The low 24 bits are written.
+func TestSendTimesOfMoments(t *testing.T) {
+	for _, it := range []struct {
+		moment time.Time
+		units  uint64
+	}{
+		{time.Unix(0, 0), 2208988800 << 18},
+		{time.Unix(1, 500000000), 2208988801<<18 + 1<<17},
+		{time.Unix(1700000000, 250000000), 3908988800<<18 + 1<<16},
+		{time.Unix(1700000000, 999999999), 3908988801<<18 - 1},
+		{time.Unix(1<<32-2208988800, 0), 0}, // the next era
+		{time.Unix(1<<32-2208988801, 0), 1<<50 - 1<<18},
+	} {
+		sent := rtp.NewAbsSendTimeExtension(it.moment)
+		data, err := sent.Marshal()
+		low := []byte{byte(it.units >> 16), byte(it.units >> 8), byte(it.units)}
+		if sent.Timestamp != it.units || err != nil || !bytes.Equal(data, low) ||
+			rtpwire.SendTime(it.units&0xFFFFFF) != rtpwire.SendTimeOf(it.moment) {
+			t.Error(it, sent, data, err)
+		}
+		// The nearest moment, also where it is after the arrival.
+		for _, off := range []time.Duration{-31 * time.Second, -time.Second, 0, time.Second, 31 * time.Second} {
+			if away := sent.Estimate(it.moment.Add(off)).Sub(it.moment); away < -4*time.Microsecond || away > 0 {
+				t.Error(it, off, away)
+			}
+		}
+	}
+}
+
+// Each cause is told beside pion's error, as errors of Go tell several.
+func TestCausesAreTold(t *testing.T) {
+	other := append([]byte(nil), datagram...)
+	other[0] = 0x71
+	for _, it := range []struct {
+		buf   []byte
+		cause rtpwire.Cause
+		pions string
+	}{
+		{nil, rtpwire.CutFixedPart, "rtp: the header is cut short: "},
+		{datagram[:11], rtpwire.CutFixedPart, "rtp: the header is cut short: "},
+		{other, rtpwire.OtherVersion, ""},
+		{datagram[:15], rtpwire.CutSources, "rtp: the header is cut short: "},
+		{datagram[:19], rtpwire.CutBlockHeader, "rtp: the extension block is cut short: "},
+		{datagram[:27], rtpwire.CutBlock, "rtp: the extension block is cut short: "},
+	} {
+		var header rtp.Header
+		_, err := header.Unmarshal(it.buf)
+		for _, err := range []error{err, new(rtp.Packet).Unmarshal(it.buf)} {
+			var cause rtpwire.Cause
+			if !errors.Is(err, rtpwire.ErrNotAPacket) || !errors.As(err, &cause) || cause != it.cause || !errors.Is(err, it.cause) ||
+				err.Error() != it.pions+it.cause.Error() {
+				t.Error(it, err)
+			}
+			if errors.Is(err, rtpwire.ErrRefused) || errors.Is(err, rtpwire.OtherVersion) != (it.cause == rtpwire.OtherVersion) {
+				t.Error(it, err)
+			}
+		}
+		if taken := testing.AllocsPerRun(10, func() { _, _ = header.Unmarshal(it.buf) }); taken != 0 {
+			t.Error(it, taken)
+		}
+	}
+	padded := append([]byte{0xA0}, datagram[1:12]...)
+	if err := new(rtp.Packet).Unmarshal(append(padded, 2)); err == nil || errors.Is(err, rtpwire.ErrNotAPacket) {
+		t.Error(err)
+	}
+}
+
+// What is read can be written: an element of the id 0 with length bits isn't taken, and those behind it are.
+func TestElementsOfTheID0AreNotTaken(t *testing.T) {
+	fixed := []byte{0x90, 96, 0, 5, 0, 0, 0, 160, 0, 0, 0, 7}
+	buf := append(fixed[:12:12], 0xBE, 0xDE, 0, 3, 0x10, 0x8A, 0x02, 7, 8, 9, 0x20, 1, 0x01, 2, 3, 0)
+	var header rtp.Header
+	if _, err := header.Unmarshal(buf); err != nil || !reflect.DeepEqual(header.GetExtensionIDs(), []uint8{1, 2}) ||
+		header.GetExtension(0) != nil || !bytes.Equal(header.GetExtension(2), []byte{1}) {
+		t.Error(err, header)
+	}
+	if written, err := header.Marshal(); err != nil || !bytes.Equal(written[12:], []byte{0xBE, 0xDE, 0, 1, 0x10, 0x8A, 0x20, 1}) {
+		t.Error(written, err)
+	}
+	random := rand.New(rand.NewSource(1))
+	for i := 0; i < 20000; i++ {
+		words := random.Intn(6)
+		buf := append(fixed[:12:12], [][]byte{{0xBE, 0xDE}, {0x10, 0}, {0x10, 7}, {0xAB, 0xAC}}[i%4]...)
+		buf = append(buf, 0, byte(words))
+		for at := 0; at < 4*words; at++ {
+			buf = append(buf, byte(random.Intn(4)<<(random.Intn(2)*4)|random.Intn(3)))
+		}
+		var again rtp.Header
+		if _, err := header.Unmarshal(buf); err != nil {
+			t.Fatal(err)
+		}
+		written, err := header.Marshal()
+		if err != nil || len(written) > len(buf) {
+			t.Fatalf("% X: % X, %v", buf, written, err)
+		}
+		if n, err := again.Unmarshal(written); n != len(written) || err != nil || len(header.Extensions) != len(again.Extensions) ||
+			len(again.Extensions) != 0 && !reflect.DeepEqual(header, again) {
+			t.Fatalf("% X: %v, %v", buf, again, err)
+		}
 	}
 }

@@ -62,14 +62,17 @@ func (t *TransportCCExtension) Unmarshal(data []byte) error {
 }
 
 // An AbsSendTimeExtension is the data of a send time (abs-send-time): the low 24 bits of Timestamp are written, the seconds
-// modulo 64 in units of 2^-18.
+// modulo 64 in units of 2^-18, and a time that was read has those alone.
 type AbsSendTimeExtension struct {
 	Timestamp uint64
 }
 
-// NewAbsSendTimeExtension is the send time of a moment.
+// NewAbsSendTimeExtension is the send time of a moment: its Timestamp is all of the NTP time in units of 2^-18 seconds, as
+// pion's is, and Marshal writes the low 24 bits of it.
 func NewAbsSendTimeExtension(sendTime time.Time) *AbsSendTimeExtension {
-	return &AbsSendTimeExtension{uint64(rtpwire.SendTimeOf(sendTime))}
+	const from1900To1970 = 2208988800
+	ntp := uint64(sendTime.Unix()+from1900To1970)<<32 | uint64(sendTime.Nanosecond())<<32/1e9
+	return &AbsSendTimeExtension{ntp >> 14}
 }
 
 // Marshal is the data's bytes.
@@ -90,7 +93,7 @@ func (t *AbsSendTimeExtension) Unmarshal(data []byte) error {
 	return nil
 }
 
-// Estimate is the moment nearest to that of arrival which the send time means.
+// Estimate is the moment nearest to that of arrival, before or after it, which the send time means.
 func (t *AbsSendTimeExtension) Estimate(receive time.Time) time.Time {
 	return rtpwire.SendTime(t.Timestamp & 0xFFFFFF).Estimate(receive)
 }

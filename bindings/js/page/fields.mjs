@@ -9,6 +9,12 @@ import { ssrcText } from './tables.mjs';
 const SHOWN = 16;
 const yesOrNo = flag => (flag ? 'yes' : 'no');
 
+/** The rows of a datagram of which the capture hasn't the whole header. */
+export function cutRows(datagram) {
+    const bytes = hexOf(datagram.subarray(0, SHOWN)) + (datagram.length > SHOWN ? ' ..' : '');
+    return [[`0-${datagram.length - 1}`, bytes, 'Header', 'The capture has only its beginning.']];
+}
+
 /** The rows of the table `fields` of tables.json. */
 export function fieldRows(wire, datagram, map) {
     const packet = wire.Packet.parse(datagram, map), rows = [], end = datagram.length, { csrcs } = packet;

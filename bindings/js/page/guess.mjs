@@ -7,6 +7,8 @@
 export const LOOKED_AT = 4096;
 // A send time has a fraction of 18 bits, modulo 64 seconds.
 const SEND_TIME_HZ = 2 ** 18, SEND_TIMES = 2 ** 24, SECOND = 1e9;
+// Transport-wide numbers of packets that are lost or come late are as far apart.
+const NEAR = 64;
 const ascii = new TextDecoder('latin1');
 
 /** The elements of an id. */
@@ -17,13 +19,16 @@ class Seen {
     changes = 0; // from an element of the source to its next one
     steps = 0; // from one to the next of the flow
     ones = 0; // where the number rises by one
+    near = 0; // where it is near to the one before
     paced = 0; // where it runs with the time
+    loud = false; // whether one is another level than silence
     #lastOfSource = new Map();
     #lastOfFlow = new Map();
 
     take(flow, source, time, data) {
         this.count++;
         this.lengths.add(data.length);
+        this.loud ||= data[0] !== 0x7F && data[0] !== 0xFF;
         const text = ascii.decode(data);
         if (!this.texts.has(source)) this.texts.set(source, new Set());
         this.texts.get(source).add(/^[0-9A-Za-z_-]{1,16}$/.test(text) ? text : '');
@@ -36,10 +41,12 @@ class Seen {
         this.#lastOfFlow.set(flow, {time, number});
         if (!before) return;
         this.steps++;
-        const up = number - before.number & 0xFFFF, ran = number - before.number & SEND_TIMES - 1;
+        const up = number - before.number & 0xFFFF;
         if (up === 1 || up === 2) this.ones++;
+        if ((up + NEAR & 0xFFFF) <= 2 * NEAR) this.near++;
         const passed = Math.floor((time - before.time) * SEND_TIME_HZ / SECOND);
-        if (Math.abs(ran - passed) < Math.floor(SEND_TIME_HZ / 10)) this.paced++;
+        const off = Math.abs((number - before.number - passed) % SEND_TIMES);
+        if (Math.min(off, SEND_TIMES - off) < Math.floor(SEND_TIME_HZ / 10)) this.paced++;
     }
     hasLength(length) { return this.lengths.size === 1 && this.lengths.has(length); }
 
@@ -68,6 +75,9 @@ export class Guess {
         }
     }
 
+    /** The ids that occur. */
+    get ids() { return [...this.#seen.keys()].sort((a, b) => a - b); }
+
     /**
      * By its id each kind, and how it was found. What the data don't tell is what the id usually means, where they don't
      * gainsay that. `usual` has the usual kinds by their ids.
@@ -92,8 +102,16 @@ export class Guess {
     }
 }
 
-/** Whether the elements of an id may be of the kind that it usually means. */
+/**
+ * Whether the elements of an id may be of the kind that it usually means, though their data aren't as those of its: one
+ * that comes again has to run, to rise or to change, but for the level of silence.
+ */
 function mayBe(Kind, kind, seen) {
     if ([Kind.MID, Kind.RID, Kind.REPAIRED_RID].includes(kind)) return seen.isText;
-    return seen.hasLength(kind === Kind.ABS_SEND_TIME ? 3 : kind === Kind.TRANSPORT_NUMBER ? 2 : 1);
+    if (kind === Kind.ABS_SEND_TIME) return seen.hasLength(3) && seen.steps === 0;
+    if (kind === Kind.TRANSPORT_NUMBER) {
+        return seen.hasLength(2) && (seen.steps === 0 || seen.changes > 0 && 10 * seen.near >= 9 * seen.steps);
+    }
+    const comesAgain = seen.count > seen.texts.size;
+    return seen.hasLength(1) && !(kind === Kind.AUDIO_LEVEL && comesAgain && seen.loud);
 }

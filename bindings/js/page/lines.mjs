@@ -15,10 +15,17 @@ for (let i = 0; i < 16; i++) {
 
 const withoutReturn = (bytes, at, end) => end > at && bytes[end - 1] === CR ? end - 1 : end;
 
-/** Whether the file begins with a line of digits, or one that maps an id. */
+/** How many bytes a mark of UTF-8 has before the first line. */
+const markOf = bytes => (bytes[0] === 0xEF && bytes[1] === 0xBB && bytes[2] === 0xBF ? 3 : 0);
+
+/** Whether the file begins with a line of digits, or one that maps an id. Empty lines may stand before it. */
 export function isLines(head) {
-    const lf = head.indexOf(LF), end = withoutReturn(head, 0, lf < 0 ? head.length : lf);
-    return end > 0 && head.subarray(0, end).every(it => DIGITS[it] !== 255) || MAP_LINE.test(text.decode(head.subarray(0, end)));
+    for (let at = markOf(head), lf = 0; lf >= 0; at = lf + 1) {
+        lf = head.indexOf(LF, at);
+        const line = head.subarray(at, withoutReturn(head, at, lf < 0 ? head.length : lf));
+        if (line.length) return line.every(it => DIGITS[it] !== 255) || MAP_LINE.test(text.decode(line));
+    }
+    return false;
 }
 
 /** The bytes that digits spell; undefined where the characters are other ones, or an odd number of them. */
@@ -44,11 +51,12 @@ export class LineReader {
     constructor(capture) {
         this.capture = capture;
         capture.isTimed = false;
+        capture.isText = true;
     }
     /** Reads the whole lines of the slice, and returns how many bytes they have. Their datagrams stand in its place. */
     read(datagrams) {
         const { bytes, isLast } = datagrams, decoded = new Uint8Array(bytes.length >> 1);
-        let at = 0, made = 0;
+        let at = datagrams.fileAt === 0 ? markOf(bytes) : 0, made = 0;
         while (at < bytes.length) {
             const lf = bytes.indexOf(LF, at);
             if (lf < 0 && !isLast) break;

@@ -20,44 +20,51 @@ export const isKnown = link => KNOWN.has(link);
  * Finds the payload of UDP in the frame that `view` has from `at` to `end`. Returns the one object `found`, which the
  * next call writes anew: `at` and `length` of what is captured, `size` of what there was, where the addresses and the
  * ports lie, and whether the datagram's first fragment is all there is; `rest` where it is a fragment that isn't the
- * first one; undefined where there is no payload.
+ * first one; and where there is no payload an object with the cause, a name of `left` in tables.json, and a number.
  */
 export function payloadOf(view, at, end, link) {
     const ip = networkAt(view, at, end, link);
-    if (ip === undefined || ip >= end) return undefined;
-    return view.getUint8(ip) >> 4 === 4 ? ofIpv4(view, ip, end) : ofIpv6(view, ip, end);
+    if (typeof ip !== 'number') return ip;
+    if (ip >= end) return CUT;
+    const version = view.getUint8(ip) >> 4;
+    return version === 4 ? ofIpv4(view, ip, end) : version === 6 ? ofIpv6(view, ip, end) : NO_IP;
 }
 
 const found = {at: 0, length: 0, size: 0, addressesAt: 0, addressesLength: 0, portsAt: 0, isFragment: false};
 const rest = Object.freeze({isRest: true});
+const CUT = Object.freeze({cause: 'cut'}), NO_IP = Object.freeze({cause: 'no_ip'});
+// Below these types the number says how long a frame of IEEE 802.3 is.
+const FIRST_TYPE = 0x0600;
 
 function networkAt(view, at, end, link) {
     if (RAW.has(link)) return at;
     if (link === NULL || link === LOOP) return at + 4;
     const typeAt = link === ETHERNET ? 12 : link === COOKED ? 14 : 0;
     let ip = at + (link === ETHERNET ? 14 : link === COOKED ? 16 : 20);
-    if (ip > end) return undefined;
+    if (ip > end) return CUT;
     let kind = view.getUint16(at + typeAt);
     while (TAGS.has(kind) && ip + 4 <= end) {
         kind = view.getUint16(ip + 2);
         ip += 4;
     }
-    return kind === IPV4 || kind === IPV6 ? ip : undefined;
+    if (kind === IPV4 || kind === IPV6) return ip;
+    return TAGS.has(kind) ? CUT : kind >= FIRST_TYPE ? {cause: 'type', number: kind} : {cause: 'no_type'};
 }
 
 function ofIpv4(view, at, end) {
     const length = 4 * (view.getUint8(at) & 15);
-    if (at + 20 > end || length < 20 || view.getUint8(at + 9) !== UDP) return undefined;
+    if (at + 20 > end || length < 20) return at + 20 > end ? CUT : NO_IP;
+    if (view.getUint8(at + 9) !== UDP) return {cause: 'protocol', number: view.getUint8(at + 9)};
     const flags = view.getUint16(at + 6);
     if (flags & 0x1FFF) return rest;
     return ofUdp(view, at + length, end, at + 12, 8, (flags & 0x2000) !== 0);
 }
 
 function ofIpv6(view, at, end) {
-    if (at + 40 > end || view.getUint8(at) >> 4 !== 6) return undefined;
+    if (at + 40 > end) return CUT;
     let kind = view.getUint8(at + 6), here = at + 40, isFragment = false;
     while (EXTENSIONS.has(kind)) {
-        if (here + 8 > end) return undefined;
+        if (here + 8 > end) return CUT;
         if (kind === FRAGMENT) {
             const offset = view.getUint16(here + 2);
             if (offset >> 3) return rest;
@@ -67,7 +74,7 @@ function ofIpv6(view, at, end) {
         here += extensionLength(view, kind, here);
         kind = next;
     }
-    return kind === UDP ? ofUdp(view, here, end, at + 8, 32, isFragment) : undefined;
+    return kind === UDP ? ofUdp(view, here, end, at + 8, 32, isFragment) : {cause: 'protocol', number: kind};
 }
 
 function extensionLength(view, kind, at) {
@@ -76,7 +83,7 @@ function extensionLength(view, kind, at) {
 }
 
 function ofUdp(view, at, end, addressesAt, addressesLength, isFragment) {
-    if (at + 8 > end) return undefined;
+    if (at + 8 > end) return CUT;
     const said = view.getUint16(at + 4);
     // A length of 0 is that of a datagram above 65,535 bytes (RFC 2675), or of one that the card has yet to split.
     found.size = said >= 8 ? said - 8 : end - at - 8;

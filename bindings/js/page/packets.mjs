@@ -5,7 +5,7 @@
 
 const COLUMNS = {
     row: Uint32Array, // the place among the datagrams, from 0
-    time: Float64Array, // nanoseconds from the first datagram
+    time: Float64Array, // nanoseconds from the earliest datagram
     source: Int32Array, // -1 where there are too many
     ssrc: Uint32Array,
     type: Uint8Array,

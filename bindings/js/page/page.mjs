@@ -127,11 +127,11 @@ function show(given) {
     for (const gaps of told.gaps) gaps.sort((a, b) => a.time - b.time);
     $('working').hidden = true;
     say(told.sentences);
-    $('told').hidden = told.packets.count === 0;
+    $('told').hidden = told.sources.length === 0;
     fill($('datagrams'), 'datagrams', told.datagrams);
     fill($('extensions'), 'extensions', told.extensions);
-    if (told.packets.count === 0) return;
     showSources();
+    if (told.sources.length === 0) return;
     axis = new Axis(told.firstTime, told.lastTime, told.isTimed);
     axis.watch(moved);
     overviewChart = overview(axis, told);
@@ -218,7 +218,7 @@ function ask(i) {
     if (headerOf === row[i]) return;
     headerOf = row[i];
     $('h-header').textContent = `Header of datagram ${row[i] + 1}`;
-    asked({request: 'header', place: place[i], length: placeLength[i], isText: !told.isTimed});
+    asked({request: 'header', place: place[i], length: placeLength[i], isText: told.isText});
 }
 
 function showHeader({ header }) {
@@ -248,5 +248,5 @@ $('drop').ondrop = event => {
     $('drop').classList.remove('over');
     if (event.dataTransfer.files[0]) open(event.dataTransfer.files[0]);
 };
-addEventListener('resize', () => told?.packets.count && drawAll());
-matchMedia('(prefers-color-scheme: dark)').addEventListener('change', () => told?.packets.count && drawAll());
+addEventListener('resize', () => told?.sources.length && drawAll());
+matchMedia('(prefers-color-scheme: dark)').addEventListener('change', () => told?.sources.length && drawAll());

@@ -148,7 +148,7 @@ export function picturesOf(axis, columns, { gaps, allocations, clock, isTimed })
     const lossTimes = gaps.map(it => it.time);
     return [
         numbers(axis, columns, gaps, lossTimes),
-        loss(axis, gaps, lossTimes),
+        loss(axis, gaps, lossTimes, columns.verdict.includes(RESTART)),
         ...(isTimed && clock ? [jitter(axis, columns, clock)] : []),
         ...(isTimed ? [rate(axis, columns)] : []),
         ...(columns.level.some(it => it !== NO_LEVEL) ? [levels(axis, columns)] : []),
@@ -181,7 +181,7 @@ function numbers(axis, { time, extended, verdict, number }, gaps, lossTimes) {
     });
 }
 
-function loss(axis, gaps, times) {
+function loss(axis, gaps, times, hasRestarts) {
     let bins = new Bins(axis);
     return new Chart(axis, {
         title: 'Lost packets', keys: [['--two', 'missed in a 300th of the range']],
@@ -191,7 +191,8 @@ function loss(axis, gaps, times) {
         sum: () => {
             const worst = gaps.reduce((most, it) => (it.lost > (most?.lost ?? 0) ? it : most), undefined);
             const lost = gaps.reduce((sum, it) => sum + it.lost, 0);
-            return worst ? `${lost} lost; the longest gap of ${worst.lost} at ${axis.text(worst.time)}.` : 'None is lost.';
+            return worst ? `${lost} lost; the longest gap of ${worst.lost} at ${axis.text(worst.time)}.`
+                : hasRestarts ? 'None is known to be lost: the sender began anew.' : 'None is lost.';
         },
     });
 }

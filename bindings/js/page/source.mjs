@@ -4,9 +4,17 @@
 // One source of a capture, and what a receiver of it would say of each packet.
 
 const SECOND = 1e9;
-// Of these clocks one is guessed where no SDP tells it, by the timestamps of so many nanoseconds.
-const CLOCKS = [8000, 16000, 48000, 90000];
+// The clocks of payload types that are assigned once for all (RFC 3551, 6).
+const STATIC = new Map([
+    ...[0, 3, 4, 5, 7, 8, 9, 12, 13, 15, 18].map(it => [it, 8000]), [10, 44100], [11, 44100],
+    ...[14, 26, 28, 31, 32, 33, 34].map(it => [it, 90000]), [6, 16000], [16, 11025], [17, 22050],
+]);
+// Of these clocks one is guessed where neither an SDP nor the payload type tells it, by the timestamps of so many
+// nanoseconds.
+const CLOCKS = [8000, 16000, 44100, 48000, 90000];
 const TOLD_BY = SECOND / 2;
+// A packet that is so many numbers ahead is outside of the stream, by the bounds of `RestartingReceiver`.
+const MOST_AHEAD = 3000;
 
 /** What is said of a packet, by its place in `verdicts` of tables.json. */
 export const TAKEN = 0, DUPLICATE = 1, LATE = 2, OUTSIDE = 3, RESTART = 4, NONE = 5;
@@ -44,11 +52,16 @@ class Epoch {
 export class Source {
     packets = 0;
     bytes = 0;
+    /** Whether two packets came one behind the other whose numbers are of one stream. */
+    isProbable = false;
+    #number;
     types = [];
     texts = {mid: [], rid: [], repairedRid: []};
     first = 0;
     last = 0;
     clock = undefined;
+    /** What tells it: a name of `clocks` in tables.json. */
+    clockBy = undefined;
     repairs = undefined;
     counts = [0, 0, 0, 0, 0, 0];
     reordered = 0;
@@ -61,6 +74,10 @@ export class Source {
     #began;
     #told;
     #highest = 0;
+    /** What the numbers of the receiver are less than those of the source. */
+    #base = 0;
+    /** The packet with the highest number that was taken. */
+    #top;
     #receiver;
     #statistics;
 
@@ -73,8 +90,11 @@ export class Source {
         this.#statistics = new wire.ReceptionStatistics();
     }
 
-    /** Counts a packet, and looks at its timestamp. */
-    see(time, payloadType, timestamp, size) {
+    /** Counts a packet, and looks at its number and timestamp. */
+    see(time, payloadType, number, timestamp, size) {
+        const apart = number - (this.#number ?? number) & 0xFFFF;
+        this.isProbable ||= apart !== 0 && Math.min(apart, 2 ** 16 - apart) < MOST_AHEAD;
+        this.#number = number;
         if (!this.#began) {
             this.first = this.last = time;
             this.#began = {time, timestamp};
@@ -91,36 +111,77 @@ export class Source {
         if (!this.texts[kind].includes(text)) this.texts[kind].push(text);
     }
 
-    /** The clock by the payload types that the SDP names, or the usual one that is nearest to the timestamps. */
+    /**
+     * The clock by the payload types that the SDP names, or by those that have always the same one, or the usual one that
+     * is nearest to the timestamps.
+     */
     tellClock(clocks) {
-        const type = this.types.find(it => clocks.get(it));
-        if (type !== undefined) this.clock = clocks.get(type);
-        else if (this.#told?.time > this.#began.time) {
-            const ran = ((this.#told.timestamp - this.#began.timestamp) >>> 0) * SECOND / (this.#told.time - this.#began.time);
+        for (const [of, by] of [[clocks, 'sdp'], [STATIC, 'static']]) {
+            const type = this.types.find(it => of.get(it));
+            if (type === undefined) continue;
+            this.clock = of.get(type);
+            this.clockBy = by;
+            return;
+        }
+        if (this.#told?.time > this.#began.time) {
+            const ticks = (this.#told.timestamp - this.#began.timestamp) >>> 0;
+            const ran = ticks * SECOND / (this.#told.time - this.#began.time);
+            // 48,000 Hz is likelier, and near where packets are late: it has 120 ticks in 2.5 ms, of which Opus has some.
+            const usual = CLOCKS.filter(it => it !== 44100 || ticks % 120);
             const far = it => Math.max(it / ran, ran / it);
-            this.clock = ran ? CLOCKS.reduce((best, it) => (far(it) < far(best) ? it : best)) : CLOCKS.at(-1);
+            this.clock = ran ? usual.reduce((best, it) => (far(it) < far(best) ? it : best)) : CLOCKS.at(-1);
+            this.clockBy = 'guess';
         }
     }
 
-    /** Has the receiver judge a packet: the verdict, the extended number (0 where it isn't taken), and the jitter. */
-    judge(sequenceNumber, timestamp, time, into) {
-        const number = this.#receiver.receive(sequenceNumber), { restarted } = this.#receiver;
+    /**
+     * Has the receiver judge a packet, behind which that of the number `following` came, or none where that is -1: the
+     * verdict, the extended number (0 where it isn't taken), and the jitter.
+     */
+    judge(sequenceNumber, timestamp, time, following, into) {
+        if (following === (sequenceNumber + 1 & 0xFFFF) && this.#endsOutage(sequenceNumber, timestamp, time)) {
+            // All that the window told of is far behind: a new receiver says the same of what comes now.
+            const { number } = this.#top;
+            this.#receiver = new this.#wire.RestartingReceiver();
+            this.#base = number + (sequenceNumber - number & 0xFFFF) - 2 ** 16 - sequenceNumber;
+        }
+        const got = this.#receiver.receive(sequenceNumber), { restarted } = this.#receiver;
+        const number = got === undefined ? undefined : this.#base + got;
         into.number = number ?? 0;
         into.verdict = number === undefined ? this.#refused(sequenceNumber) : restarted ? RESTART : TAKEN;
         into.jitter = NO_JITTER;
         this.counts[into.verdict]++;
-        if (number !== undefined) this.#take(number, restarted, time);
+        if (number !== undefined) this.#take(number, restarted, time, timestamp);
         if (into.verdict === OUTSIDE || this.clock === undefined) return;
         if (restarted) this.#statistics = new this.#wire.ReceptionStatistics();
-        this.#statistics.record(number ?? this.#receiver.numberOf(sequenceNumber), timestamp, arrivalOf(time, this.clock));
+        const ofStream = number ?? this.#base + this.#receiver.numberOf(sequenceNumber);
+        this.#statistics.record(ofStream, timestamp, arrivalOf(time, this.clock));
         into.jitter = this.jitter = Math.floor(this.#statistics.jitter);
         this.jitterHighest = Math.max(this.jitterHighest ?? 0, this.jitter);
     }
-    #take(number, restarted, time) {
+    #take(number, restarted, time, timestamp) {
         if (restarted || this.epochs.length === 0) this.epochs.push(new Epoch());
         this.epochs.at(-1).add(number, time);
         if (number < this.#highest) this.reordered++;
+        if (number > this.#highest) this.#top = {number, time, timestamp};
         this.#highest = Math.max(this.#highest, number);
+    }
+    /**
+     * Whether a packet from outside of the stream, behind which the next number came, goes on with it after an outage:
+     * its timestamp went on by as much as the time, within a second or a tenth of it, and the numbers went on forwards,
+     * at most four times as fast as they did before. Where they may have rolled over nothing is known.
+     */
+    #endsOutage(sequenceNumber, timestamp, time) {
+        if (this.clock === undefined || !this.#top) return false;
+        const { number, time: before, timestamp: stamp } = this.#top, ahead = sequenceNumber - number & 0xFFFF;
+        if (time <= before || ahead < MOST_AHEAD || ahead >= 2 ** 15) return false;
+        const { numbers: [first], times: [began] } = this.epochs.at(-1);
+        // how many numbers there were at the rate of before, times the time that these took
+        const took = BigInt(before - began), atThatRate = BigInt(number - first) * BigInt(time - before);
+        if (took <= 0 || atThatRate >= 32768n * took || BigInt(ahead) * took > 4n * atThatRate) return false;
+        const ticks = Number(BigInt(time - before) * BigInt(this.clock) / 1000000000n);
+        const off = (timestamp - stamp - ticks) % 2 ** 32 | 0;
+        return Math.abs(off) <= Math.max(this.clock, Math.floor(ticks / 10));
     }
     #refused(sequenceNumber) {
         if (this.#receiver.inRow) return OUTSIDE;

@@ -39,10 +39,11 @@ export function datagramRows({ counts }, { kinds }) {
 }
 
 export function extensionRows({ map, origins: found }, { origins }) {
-    return [...map.uris].map(([id, uri]) => [id, uri, origins[found.get(id)]]);
+    const uris = new Map(map.uris);
+    return [...found].map(([id, origin]) => [id, uris.get(id) ?? '', origins[origin]]);
 }
 
-export function sourceRow({ capture, sdp }, source) {
+export function sourceRow({ capture, sdp }, source, { clocks }) {
     const { isTimed } = capture, { texts, counts, found, expected } = source;
     const lost = found.reduce((sum, it) => sum + it.lost, 0), seconds = lostBySecond(found);
     const worst = isTimed ? worstOf(seconds) : undefined, took = source.last - source.first;
@@ -68,6 +69,7 @@ export function sourceRow({ capture, sdp }, source) {
         ratio(source.jitterHighest, 10000, source.clock),
         isTimed ? ratio(source.bytes, 8000000, took) : undefined,
         source.clock,
+        clocks[source.clockBy] ?? '',
         isTimed ? Math.floor(source.first / 1e6) : undefined,
         isTimed ? Math.floor(took / 1e6) : undefined,
         worst,
@@ -98,17 +100,30 @@ export function packetRow(packets, i, { isTimed, clocks, verdicts }) {
 
 const filled = (text, words) => text.replace(/\{(\w+)\}/g, (_, name) => words[name]);
 
+/** How many frames were left out for each cause: "95 of TCP, 3 of the Ethernet type 0x0806". */
+function causesText(causes, { left, protocols }) {
+    return causes.map(({ cause, number, count }) => {
+        const hex = `0x${number.toString(16).padStart(4, '0')}`;
+        const of = cause === 'type' ? hex : protocols[number] ?? `the IP protocol ${number}`;
+        return `${count} ${filled(left[cause], {of})}`;
+    }).join(', ');
+}
+
 /** What is told of a capture in words. */
-export function sentencesOf(analysis, { sentences }) {
+export function sentencesOf(analysis, described) {
+    const { sentences } = described;
     const { capture, counts, sources } = analysis, told = [];
     if (capture.count) {
         const [rtp, rtcp] = [counts.rtp[0], counts.rtcp[0]], worst = analysis.worst();
         const words = {datagrams: capture.count, rtp, rtcp, other: capture.count - rtp - rtcp, sources: sources.length};
         words.seconds = shown(Math.floor(analysis.lastTime / 1e6), {decimals: 3});
         told.push(filled(sentences[capture.isTimed ? 'read' : 'untimed'], words));
+        const restarts = sources.reduce((sum, it) => sum + it.counts[RESTART], 0);
         if (worst) told.push(filled(sentences.worst, worst));
-        else if (sources.length && !sources.some(it => it.found.length)) told.push(sentences.none_lost);
+        else if (sources.length && !restarts && !sources.some(it => it.found.length)) told.push(sentences.none_lost);
+        if (restarts) told.push(filled(sentences.restarts, {count: restarts}));
     }
-    return [...told, ...capture.sentences.map(({ name, words }) => filled(sentences[name], words))];
+    const all = words => (words.causes ? {...words, causes: causesText(words.causes, described)} : words);
+    return [...told, ...capture.sentences.map(({ name, words }) => filled(sentences[name], all(words)))];
 }
 

@@ -3,8 +3,8 @@
 
 // What reads a capture beside the page, so that this stays alive: it is asked by messages, and answers each by one.
 import * as wire from '../rtp_wire.mjs';
-import { Analysis } from './analysis.mjs';
-import { fieldRows } from './fields.mjs';
+import { Analysis, parsed } from './analysis.mjs';
+import { cutRows, fieldRows } from './fields.mjs';
 import { bytesOf } from './lines.mjs';
 import { datagramRows, extensionRows, sentencesOf, sourceRow } from './tables.mjs';
 
@@ -27,9 +27,10 @@ const REQUESTS = {
         });
         const order = analysis.inOrder(), { columns, buffers } = analysis.packets.given();
         postMessage({told: {
-            sentences: sentencesOf(analysis, described), isTimed: analysis.capture.isTimed, worst: analysis.worst(),
+            sentences: sentencesOf(analysis, described), isTimed: analysis.capture.isTimed,
+            isText: analysis.capture.isText, worst: analysis.worst(),
             firstTime: analysis.firstTime, lastTime: analysis.lastTime, datagrams: datagramRows(analysis, described),
-            extensions: extensionRows(analysis, described), sources: order.map(it => sourceRow(analysis, it)),
+            extensions: extensionRows(analysis, described), sources: order.map(it => sourceRow(analysis, it, described)),
             order: order.map(it => analysis.sources.indexOf(it)), clocks: analysis.sources.map(it => it.clock),
             gaps: analysis.sources.map(it => it.found), allocations: analysis.sources.map(it => it.allocations),
             packets: columns,
@@ -38,8 +39,9 @@ const REQUESTS = {
 
     /** The header of a packet, by where it lies in the file. */
     async header({ place, length, isText }) {
-        const bytes = new Uint8Array(await file.slice(place, place + length).arrayBuffer());
-        postMessage({header: fieldRows(wire, isText ? bytesOf(bytes) : bytes, analysis.map), place});
+        const read = new Uint8Array(await file.slice(place, place + length).arrayBuffer());
+        const bytes = isText ? bytesOf(read) : read, isWhole = parsed(wire, bytes, analysis.map) !== undefined;
+        postMessage({header: isWhole ? fieldRows(wire, bytes, analysis.map) : cutRows(bytes), place});
     },
 };
 

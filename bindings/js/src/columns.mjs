@@ -2,7 +2,7 @@
 // Copyright (c) 2026 The rtp-wire developers (NOTICE)
 
 // Many datagrams at once, each field and value of them in a column.
-import { RtpError } from './errors.mjs';
+import { badField, rowsOf } from './errors.mjs';
 import { placeOfMap, readLayers } from './header.mjs';
 import { HEADER, KIND, STATUS, TIME, VALUES, WHOLE_DATAGRAM, WHOLE_PACKET } from './layout.mjs';
 import { ExtensionMap } from './map.mjs';
@@ -54,6 +54,31 @@ const TEXTS = {
 // Where many datagrams are read: their structs, and a map of the kinds alone that are asked for.
 let slots, askedMap;
 const words = new Uint32Array(AT_ONCE);
+
+/** What is known of the column of this name. */
+function askedColumn(name) {
+    const table = Object.hasOwn(NUMBERS, name) ? NUMBERS : TEXTS;
+    if (!Object.hasOwn(table, name)) {
+        throw badField(`there is no column of ${String(name)}`);
+    }
+    return table[name];
+}
+
+/** The places or lengths of datagrams, all of them numbers. */
+function numbersOf(name, rows) {
+    if (rowsOf(name, rows) instanceof BigInt64Array || rows instanceof BigUint64Array) {
+        throw new TypeError(`${name} are BigInts, and no numbers`);
+    }
+    for (let i = 0; Array.isArray(rows) && i < rows.length; i++) {
+        if (typeof rows[i] !== 'number') {
+            throw new TypeError(`${name} have ${typeof rows[i]} in row ${i}, and no number`);
+        }
+    }
+    return rows;
+}
+
+const isWithinBuffer = (from, len, whole) =>
+    from >= 0 && len >= 0 && from + len <= whole && from % 1 === 0 && len % 1 === 0;
 
 /** A map of those ids that mean one of these kinds; nothing where no value is asked for. */
 function mapOf(map, kinds) {
@@ -124,22 +149,19 @@ export class Columns {
     }
 
     /**
-     * Reads the datagrams that begin at these places of the buffer and have so many bytes. They may overlap. The values
-     * are names as those of a packet's; in place of `videoTiming` its parts, of `captureTime` `captureSeconds` and
-     * `captureFraction`, and `layers` is 1 where `layersOf` tells an allocation.
+     * Reads the datagrams that begin at these places of the buffer and have so many bytes: arrays, or typed arrays, of
+     * as many rows. They may overlap. The values are names as those of a packet's; in place of `videoTiming` its parts,
+     * of `captureTime` `captureSeconds` and `captureFraction`, and `layers` is 1 where `layersOf` tells an allocation.
      */
     static parse(buffer, at, lengths, map, values = []) {
-        if (at.length !== lengths.length) {
-            throw new RtpError('BAD_FIELD', `there are ${at.length} places and ${lengths.length} lengths`);
+        if (numbersOf('places', at).length !== numbersOf('lengths', lengths).length) {
+            throw badField(`there are ${at.length} places and ${lengths.length} lengths`);
         }
         slots ??= allocate(AT_ONCE * SLOT);
         askedMap ??= allocate(256);
         const columns = new Columns(bytesOf(buffer), at, lengths, map), kinds = new Set();
         for (const name of values) {
-            const it = NUMBERS[name] ?? TEXTS[name];
-            if (it === undefined) {
-                throw new RtpError('BAD_FIELD', `there is no column of ${String(name)}`);
-            }
+            const it = askedColumn(name);
             kinds.add(it.kind);
             columns.values[name] = new it.array(at.length);
             columns.has[name] = new Uint8Array(at.length);
@@ -157,7 +179,7 @@ export class Columns {
         let first = Infinity, last = 0, sum = 0;
         for (let i = row; i < row + count; i++) {
             const from = at[i], len = lengths[i];
-            if (!(from >= 0 && len >= 0 && from + len <= whole)) {
+            if (!isWithinBuffer(from, len, whole)) {
                 continue;
             }
             first = from < first ? from : first;
@@ -173,7 +195,7 @@ export class Columns {
         let to = 0;
         for (let i = row, slot = slots >> 2; i < row + count; i++, slot += SLOT >> 2) {
             const from = at[i], len = lengths[i];
-            const isWithin = from >= 0 && len >= 0 && from + len <= whole;
+            const isWithin = isWithinBuffer(from, len, whole);
             if (isWithin && !together) {
                 u8.set(bytes.subarray(from, from + len), buffer + to);
             }
@@ -244,6 +266,9 @@ export class Columns {
 
     /** A value that was asked for; undefined where it isn't there. */
     value(name, row) {
+        if (!Object.hasOwn(this.has, name)) {
+            throw badField(`the column ${String(name)} wasn't asked for`);
+        }
         return this.has[name][row] ? this.values[name].at(row) : undefined;
     }
 

@@ -64,6 +64,26 @@ export function flag(name, value) {
     return value ? 1 : 0;
 }
 
+/** The rows of a column, an array of any kind of numbers. */
+export function rowsOf(name, column) {
+    if (!Array.isArray(column) && !(ArrayBuffer.isView(column) && !(column instanceof DataView))) {
+        throw new TypeError(`${name} are ${column === null ? 'null' : typeof column}, and no array`);
+    }
+    return column;
+}
+
+/** Refuses what is given by another name than these. */
+export function named(what, given, names) {
+    if (typeof given !== 'object' || given === null) {
+        throw new TypeError(`${what} are ${given === null ? 'null' : typeof given}, and no object`);
+    }
+    for (const name of Object.keys(given)) {
+        if (!names.includes(name)) {
+            throw badField(`there is no ${name} among ${what}: there are ${names.join(', ')}`);
+        }
+    }
+}
+
 /** The id of an element. */
 export function elementId(id) {
     if (Number.isInteger(id) && (id < 1 || id > 255)) {

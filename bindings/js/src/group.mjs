@@ -2,7 +2,7 @@
 // Copyright (c) 2026 The rtp-wire developers (NOTICE)
 
 // One packet to all its receivers: a header for each, before the one payload.
-import { badField, check, elementId, unsigned, within } from './errors.mjs';
+import { badField, check, elementId, named, rowsOf, unsigned, within } from './errors.mjs';
 import { placeElements } from './header.mjs';
 import { ELEMENT, FIELDS, GROUP, ROUTED_HEADER, TEMPLATE } from './layout.mjs';
 import { NewIds } from './map.mjs';
@@ -37,14 +37,18 @@ const COLUMNS = [
     {name: 'originalNumber', bits: 16, place: ROUTED_HEADER.originalNumber, has: ROUTED_HEADER.isRetransmission},
     {name: 'clearsPadding', bits: 1, place: ROUTED_HEADER.clearsPadding, has: ROUTED_HEADER.clearsPadding},
 ];
+const COLUMN_NAMES = [...COLUMNS.map(it => it.name), 'data'];
+
+/** A row of a column, which of a flag may be a boolean. */
+const rowOf = (name, value, bits) => unsigned(name, bits === 1 && typeof value === 'boolean' ? Number(value) : value, bits);
 
 function putColumn(to, count, { name, bits, place, has }, column) {
-    if (column.length !== count) {
+    if (rowsOf(name, column).length !== count) {
         throw badField(`${name} has ${column.length} rows, and there are ${count} receivers`);
     }
     for (let i = 0, at = to; i < count; i++, at += ROUTED_HEADER.size) {
         if (column[i] !== undefined) {
-            const value = unsigned(name, Number(column[i]), bits);
+            const value = rowOf(name, column[i], bits);
             u8[at + has] = 1;
             if (bits === 32) {
                 u32[at + place >> 2] = value;
@@ -104,10 +108,11 @@ export class HeaderTemplate {
      * The headers of all receivers, one after another in one buffer. Columns tell the receivers, a row for each:
      * `ssrc`, `sequenceNumber`, `timestamp`, `payloadType`, `marker`, where it isn't the packet's; `originalNumber` of
      * those that get it as a retransmission (RFC 4588, 4), which stands in two bytes behind the header; `clearsPadding`
-     * where the payload is sent without its padding. A row that is undefined is as without the column. `data` are the
-     * data of the elements, `dataLen` bytes for each receiver.
+     * where the payload is sent without its padding. A row that is undefined is as without the column, and any other is
+     * a number, or of a flag a boolean. `data` are the data of the elements, `dataLen` bytes for each receiver.
      */
     write(count, columns = {}) {
+        named('columns of receivers', columns, COLUMN_NAMES);
         const to = roomOf('receivers', within('the number of receivers', count, 0, 0xFFFFF) * ROUTED_HEADER.size);
         const room = count * (this.headerLen + 2), buf = roomOf('headers', room);
         const made = output(8), header = roomOf('header', this.headerLen);

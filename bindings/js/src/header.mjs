@@ -2,7 +2,7 @@
 // Copyright (c) 2026 The rtp-wire developers (NOTICE)
 
 // A header as a value of its own.
-import { RtpError, check, elementId, flag, unsigned, within } from './errors.mjs';
+import { RtpError, check, elementId, flag, named, unsigned, within } from './errors.mjs';
 import { ELEMENT, HEADER, KIND, LAYERS, VALUES } from './layout.mjs';
 import { ExtensionMap } from './map.mjs';
 import { allocate, bytesOf, inputOf, library, output, put, putData, size, u16, u32, u8 } from './memory.mjs';
@@ -47,11 +47,7 @@ export class Header {
     headerLen = 0;
 
     constructor(fields = {}) {
-        for (const name of Object.keys(fields)) {
-            if (!(name in this)) {
-                throw new RtpError('BAD_FIELD', `a header has no field ${name}`);
-            }
-        }
+        named('fields of a header', fields, Object.keys(this));
         Object.assign(this, fields);
     }
 

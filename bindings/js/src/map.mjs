@@ -8,9 +8,17 @@ import { allocate, library, output, putData, size, text, u8 } from './memory.mjs
 
 const MOST_URI = 1024, encoder = new TextEncoder();
 
+/** The URI, which has to be a text. */
+function uriText(uri) {
+    if (typeof uri !== 'string') {
+        throw new TypeError(`a URI is ${uri === null ? 'null' : typeof uri}, and no string`);
+    }
+    return uri;
+}
+
 /** The kind of a URI, a number of `Kind`; undefined where the library doesn't know it, also where it is misspelled. */
 export function kindOfUri(uri) {
-    const bytes = encoder.encode(uri);
+    const bytes = encoder.encode(uriText(uri));
     if (bytes.length > MOST_URI) {
         return undefined;
     }
@@ -33,6 +41,7 @@ export class OwnUris {
 
     /** The number of a URI, a new one where it has none; undefined where all 128 are given. */
     kindOf(uri) {
+        uriText(uri);
         const kind = this.#kinds.get(uri) ?? KIND.OWN + this.#kinds.size;
         if (kind > 255) {
             return undefined;
@@ -49,10 +58,21 @@ export class OwnUris {
 
 const SHARED = new OwnUris();
 
+/** The text of an SDP. */
+function textOf(sdp) {
+    if (Array.isArray(sdp) && sdp.every(it => typeof it === 'string')) {
+        return sdp.join('\n');
+    }
+    const text = sdp?.sdp ?? sdp;
+    if (typeof text !== 'string') {
+        throw new TypeError(`an SDP is ${sdp === null ? 'null' : typeof sdp}, and no text, lines or object with the text sdp`);
+    }
+    return text;
+}
+
 /** The lines `a=extmap:ID URI` of an SDP, as pairs. Ids that no element has are passed over. */
 export function extensionsOf(sdp) {
-    const lines = Array.isArray(sdp) ? sdp.join('\n') : String(sdp);
-    return [...lines.matchAll(/^\s*a=extmap:(\d+)(?:\/\w+)?[ \t]+(\S+)/gm)].map(([, id, uri]) => [Number(id), uri])
+    return [...textOf(sdp).matchAll(/^\s*a=extmap:(\d+)(?:\/\w+)?[ \t]+(\S+)/gm)].map(([, id, uri]) => [Number(id), uri])
         .filter(([id]) => id >= 1 && id <= 255);
 }
 
@@ -77,7 +97,8 @@ export class ExtensionMap {
         return map;
     }
 
-    /** The map of an SDP's lines `a=extmap:ID URI`: of its text, or of an array of lines. */
+    /** The map of an SDP's lines `a=extmap:ID URI`: of its text, of an array of lines, or of an object whose `sdp` is the
+     * text, as `remoteDescription` of an RTCPeerConnection is. */
     static fromSdp(sdp, own = SHARED) {
         return ExtensionMap.fromUris(extensionsOf(sdp), own);
     }

@@ -88,12 +88,16 @@ export function allocate(bytes, owner) {
     return at;
 }
 
-/** The bytes of an ArrayBuffer, a typed array or a DataView, where they lie. */
+/** The bytes of an ArrayBuffer, a typed array or a DataView, where they lie. Items of more than a byte, which lie in the
+ * machine's order, are none. */
 export function bytesOf(data) {
     if (data instanceof Uint8Array) {
         return data;
     }
     if (ArrayBuffer.isView(data)) {
+        if (data.BYTES_PER_ELEMENT > 1) {
+            throw new TypeError(`the items of ${data.constructor.name} are ${data.BYTES_PER_ELEMENT} bytes: give its bytes`);
+        }
         return new Uint8Array(data.buffer, data.byteOffset, data.byteLength);
     }
     if (data instanceof ArrayBuffer || (typeof SharedArrayBuffer === 'function' && data instanceof SharedArrayBuffer)) {

@@ -2,14 +2,15 @@
 // Copyright (c) 2026 The rtp-wire developers (NOTICE)
 
 // A packet where it lies in its datagram.
-import { check, flag, unsigned, within } from './errors.mjs';
+import { check, flag, named, unsigned, within } from './errors.mjs';
 import { csrcsAt, placeOfMap, readLayers } from './header.mjs';
 import { ELEMENT, FIELDS, FORM, HEADER, STATUS, VALUES, WHOLE_PACKET } from './layout.mjs';
 import { NewIds } from './map.mjs';
 import { bytesOf, library, output, put, putData, size, u16, u32, u8 } from './memory.mjs';
-import { valuesAt } from './values.mjs';
+import { freeze, valuesAt, withoutBigInts } from './values.mjs';
 
 const LONG_PADDING = 'the padding is longer than the payload';
+const SET_TOGETHER = ['payloadType', 'sequenceNumber', 'timestamp', 'ssrc', 'marker'];
 
 /** Whether a datagram on a port that RTP and RTCP share is RTCP (RFC 5761, 4). */
 export function isRtcp(datagram) {
@@ -150,6 +151,7 @@ export class Packet {
     /** Sets those that are given after one look at the packet: all of them or, where one is refused, none. */
     setFields(fields) {
         const at = output();
+        named('fields', fields, SET_TOGETHER);
         u8.fill(0, at, at + FIELDS.size);
         const table = [
             ['payloadType', 7, u8, 0], ['sequenceNumber', 16, u16, 1], ['timestamp', 32, u32, 2], ['ssrc', 32, u32, 2],
@@ -229,9 +231,27 @@ export class Packet {
         return this.#bytes.subarray(this.#told.bodyAt, this.headerLen);
     }
 
-    /** What the elements say under the map; a value that isn't there is no property. */
+    /** What the elements say under the map; a value that isn't there is no property. They are frozen: `setElement` changes
+     * the packet. */
     get values() {
-        return this.#told.values;
+        const told = this.#told;
+        if (!told.isFrozen) {
+            told.isFrozen = true;
+            freeze(told.values);
+        }
+        return told.values;
+    }
+
+    /** The fields, the values and how many bytes the payload has, for JSON. */
+    toJSON() {
+        const { payloadType, sequenceNumber, timestamp, ssrc, marker, hasPadding, csrcs, form, headerLen, values } = this;
+        const fields = {payloadType, sequenceNumber, timestamp, ssrc, csrcs, marker, hasPadding, form, headerLen};
+        return {...fields, payloadLen: this.payload.length, values: withoutBigInts(values)};
+    }
+
+    /** The same for Node's console. */
+    [Symbol.for('nodejs.util.inspect.custom')](depth, options, inspect) {
+        return depth < 0 ? '[Packet]' : `Packet ${inspect(this.toJSON(), options)}`;
     }
 
     #hasElements() {

@@ -2,7 +2,7 @@
 // Copyright (c) 2026 The rtp-wire developers (NOTICE)
 
 // The numbers of a stream, extended, and which of them were taken.
-import { check, unsigned, within } from './errors.mjs';
+import { check, named, unsigned, within } from './errors.mjs';
 import { STATUS, WIDE_RECEIVER, WIDE_RESTARTING_RECEIVER } from './layout.mjs';
 import { allocate, halves, library, number64, output, put64, u16, u8 } from './memory.mjs';
 
@@ -22,7 +22,9 @@ export class Receiver {
     #words;
     #count;
 
-    constructor({ rolloverCount = 1, words = 2 } = {}) {
+    constructor(options = {}) {
+        named('options of a receiver', options, ['rolloverCount', 'words']);
+        const { rolloverCount = 1, words = 2 } = options;
         this.#count = wordsOf(words);
         const count = halves('rolloverCount', rolloverCount);
         this.#at = allocate(WIDE_RECEIVER.size + 8 * words, this);
@@ -64,6 +66,17 @@ export class Receiver {
     }
 }
 
+/** The bounds of a `RestartingReceiver` where each is in its range. */
+export function boundsOf(given) {
+    named('bounds', given, ['words', 'maxDropout', 'maxMisorder', 'minSequential']);
+    const { words = 16, maxDropout = MAX_DROPOUT, minSequential = 1 } = given;
+    wordsOf(words);
+    const { maxMisorder = Math.max(MAX_DROPOUT, 64 * words) } = given;
+    within('maxDropout', maxDropout, 1, 0xFFFF);
+    within('maxMisorder', maxMisorder, 1, 0xFFFF);
+    return {words, maxDropout, maxMisorder, minSequential: unsigned('minSequential', minSequential, 8)};
+}
+
 /**
  * The receive state of one stream that isn't authenticated and whose sender may start again under the same SSRC (RFC
  * 3550, A.1). Not for SRTP.
@@ -80,17 +93,14 @@ export class RestartingReceiver {
     /** Whether the packet that was received last is the first one after its sender has started again. */
     restarted = false;
 
-    constructor({
-        words = 16, maxDropout = MAX_DROPOUT, maxMisorder = Math.max(MAX_DROPOUT, 64 * words), minSequential = 1,
-    } = {}) {
-        this.#count = wordsOf(words);
-        const bounds = [within('maxDropout', maxDropout, 1, 0xFFFF), within('maxMisorder', maxMisorder, 1, 0xFFFF)];
-        const sequential = unsigned('minSequential', minSequential, 8);
+    constructor(bounds = {}) {
+        const { words, maxDropout, maxMisorder, minSequential } = boundsOf(bounds);
+        this.#count = words;
         this.#at = allocate(WIDE_RESTARTING_RECEIVER.size + 8 * words, this);
         this.#words = this.#at + WIDE_RESTARTING_RECEIVER.size;
-        u16[this.#at + WIDE_RESTARTING_RECEIVER.maxDropout >> 1] = bounds[0];
-        u16[this.#at + WIDE_RESTARTING_RECEIVER.maxMisorder >> 1] = bounds[1];
-        u8[this.#at + WIDE_RESTARTING_RECEIVER.minSequential] = sequential;
+        u16[this.#at + WIDE_RESTARTING_RECEIVER.maxDropout >> 1] = maxDropout;
+        u16[this.#at + WIDE_RESTARTING_RECEIVER.maxMisorder >> 1] = maxMisorder;
+        u8[this.#at + WIDE_RESTARTING_RECEIVER.minSequential] = minSequential;
     }
 
     /** Judges the next packet of the source, and returns its extended number; undefined where it is refused. */

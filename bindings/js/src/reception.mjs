@@ -2,9 +2,25 @@
 // Copyright (c) 2026 The rtp-wire developers (NOTICE)
 
 // What a receiver reports of the packets that came from a source.
-import { check, unsigned, within } from './errors.mjs';
+import { badField, check, unsigned, within } from './errors.mjs';
 import { RECEPTION, REPORT, STATUS } from './layout.mjs';
 import { allocate, halves, i32, library, number64, output, u32, u8 } from './memory.mjs';
+
+/** The time of an arrival modulo 2^32: any whole number of ticks, as `Date.now() * 48` is. */
+export function ticksOf(arrival) {
+    const ticks = typeof arrival === 'number' ? arrival >>> 0 : undefined;
+    if (ticks === arrival && ticks !== undefined) {
+        return ticks;
+    }
+    if (!Number.isInteger(arrival)) {
+        const told = typeof arrival === 'number' ? arrival : typeof arrival;
+        throw new TypeError(`arrival is ${told}, and no whole number of ticks: Math.round makes one`);
+    }
+    if (!Number.isSafeInteger(arrival)) {
+        throw badField(`arrival is ${arrival}, and not up to 2^53 - 1`);
+    }
+    return ticks;
+}
 
 /**
  * Statistics of the packets that came from one source (RFC 3550, 6.4.1, A.3 and A.8). Record each packet of the source,
@@ -14,10 +30,10 @@ import { allocate, halves, i32, library, number64, output, u32, u8 } from './mem
 export class ReceptionStatistics {
     #at = allocate(RECEPTION.size, this);
 
-    /** Records a packet by its extended number, its timestamp and the time of its arrival, in ticks of the timestamp's
-     * clock, from any moment on, modulo 2^32. */
+    /** Records a packet by its extended number, its timestamp and the time of its arrival, a whole number of ticks of the
+     * timestamp's clock from any moment on, which counts modulo 2^32. */
     record(number, timestamp, arrival) {
-        const at = this.#at, ticks = unsigned('timestamp', timestamp, 32), came = unsigned('arrival', arrival, 32);
+        const at = this.#at, ticks = unsigned('timestamp', timestamp, 32), came = ticksOf(arrival);
         if (number >= 0 && number <= Number.MAX_SAFE_INTEGER && Number.isInteger(number)) {
             library.reception_record(at, number % 0x100000000, Math.floor(number / 0x100000000), ticks, came);
         } else {

@@ -158,7 +158,7 @@ export function readMixerLevel(data, csrcCount, index) {
     return i8[read('mixer_level', data, unsigned('csrcCount', csrcCount, 32), unsigned('index', index, 32))];
 }
 export function writeMixerLevels(levels) {
-    const given = Int8Array.from(levels, it => within('a level', it, -127, 0));
+    const given = Int8Array.from([...levels], it => within('a level', it, -127, 0));
     return written('mixer_levels', putData(bytesOf(given)), given.length);
 }
 

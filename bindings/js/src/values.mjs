@@ -2,7 +2,7 @@
 // Copyright (c) 2026 The rtp-wire developers (NOTICE)
 
 // What the elements of a block say.
-import { badField, flag, unsigned, within } from './errors.mjs';
+import { badField, flag, named, unsigned, within } from './errors.mjs';
 import { LAYER, LAYERS, STREAM, TIME, VALUES } from './layout.mjs';
 import { i8, i32, number64, put64, text, u16, u32, u8 } from './memory.mjs';
 
@@ -74,6 +74,7 @@ const VALUE_FIELDS = {
     videoContentType: [at => u8[at], (at, value) => (u8[at] = unsigned('videoContentType', value, 8))],
     frameMarking: of32('frameMarking'),
 };
+const NAMES = [...Object.keys(VALUE_FIELDS), 'videoTiming', 'layers'];
 const hasOf = name => VALUES[`has${name[0].toUpperCase()}${name.slice(1)}`];
 // The name of each value, where it stands and whether it is there, how it is read and put.
 const TABLE = Object.entries(VALUE_FIELDS).map(([name, [read, put]]) => [name, VALUES[name], hasOf(name), read, put]);
@@ -95,13 +96,23 @@ export function valuesAt(at) {
     return values;
 }
 
-/** Puts the values into an empty struct, but for a layer allocation. */
-export function putValues(at, values) {
-    for (const name of Object.keys(values)) {
-        if (!(name in VALUE_FIELDS) && name !== 'videoTiming' && name !== 'layers') {
-            throw badField(`there is no value ${name}`);
+/** Values that nobody changes any more. */
+export function freeze(values) {
+    for (const name in values) {
+        if (typeof values[name] === 'object') {
+            freeze(values[name]);
         }
     }
+    Object.freeze(values);
+}
+
+/** The values as JSON has them, which knows no BigInt: a rate of a layer may be one. */
+export const withoutBigInts = values =>
+    JSON.parse(JSON.stringify(values, (_, it) => typeof it === 'bigint' ? Number(it) : it));
+
+/** Puts the values into an empty struct, but for a layer allocation. */
+export function putValues(at, values) {
+    named('values', values, NAMES);
     for (const [name, place, has, , put] of TABLE) {
         if (values[name] !== undefined) {
             put(at + place, values[name]);

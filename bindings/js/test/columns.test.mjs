@@ -165,7 +165,22 @@ test('places that are far apart, out of order, twice, and not within the buffer'
     refuses('BAD_FIELD', () => Columns.parse(buffer, [0], []));
     refuses('BAD_FIELD', () => Columns.parse(buffer, [0], [13], undefined, ['loudness']));
     assert.throws(() => Columns.parse('8021', [0], [13]), TypeError);
+    assert.throws(() => Columns.parse(new Uint16Array(8), [0], [13]), TypeError);
+    refuses('BAD_FIELD', () => Columns.parse(buffer, [0], [13], undefined, ['toString']));
+    refuses('BAD_FIELD', () => columns.value('audioLevel', 0));
+    refuses('BAD_FIELD', () => columns.value('toString', 0));
     assert.throws(() => Columns.parse(buffer, [0], [13], {}, ['mid']), TypeError);
+});
+
+test('places that are no numbers, or no rows', () => {
+    const one = bytes('8021B798 00002710 0000002C 01');
+    for (const [at, lengths] of [[0, 13], [new Set([0]), new Set([13])], [[0].values(), [13].values()], [['0'], ['13']],
+        [[0], [13n]], [[null], [13]], [[,], [13]], [BigUint64Array.of(0n), BigUint64Array.of(13n)], [[0], undefined],
+        [new DataView(new ArrayBuffer(1)), [13]], ['0', [13]]]) {
+        assert.throws(() => Columns.parse(one, at, lengths), TypeError);
+    }
+    assert.deepEqual([...Columns.parse(one, Float64Array.of(0, 0.5, 0), [13, 12, 12.5]).status],
+        [0, rtp.Status.BAD_FIELD, rtp.Status.BAD_FIELD]);
 });
 
 test('a map that has changed since, and layers that were not asked for', () => {

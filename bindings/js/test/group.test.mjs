@@ -100,5 +100,17 @@ test('what is refused', () => {
     refuses('BAD_FIELD', () => template.write(1, {payloadType: [128], data: bytes('0007')}));
     refuses('BAD_FIELD', () => template.write(1, {sequenceNumber: [65536], data: bytes('0007')}));
     refuses('BAD_FIELD', () => template.write(-1));
-    assert.throws(() => template.write(1, {ssrc: ['x'], data: bytes('0007')}), TypeError);
+    for (const ssrc of ['x', '', '45', null, 45.5, true, 45n]) {
+        assert.throws(() => template.write(1, {ssrc: [ssrc], data: bytes('0007')}), TypeError);
+    }
+    for (const ssrc of [45, new Set([45]), '4', null]) {
+        assert.throws(() => template.write(1, {ssrc, data: bytes('0007')}), TypeError);
+    }
+    for (const name of ['SSRC', 'sequence_number', 'toString']) {
+        refuses('BAD_FIELD', () => template.write(1, {[name]: [1], data: bytes('0007')}));
+    }
+    assert.throws(() => template.write(1, [5]), error => error.code === 'BAD_FIELD');
+    assert.throws(() => template.write(1, 5), TypeError);
+    assert.throws(() => template.write(1, {marker: [null], data: bytes('0007')}), TypeError);
+    assert.throws(() => template.write(1, {data: Uint16Array.of(7)}), TypeError);
 });

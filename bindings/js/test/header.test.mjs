@@ -36,8 +36,15 @@ test('fields that are out of their range, or none', () => {
     for (const fields of [{marker: 1}, {hasPadding: 0}, {hasExtension: 'no'}, {ssrc: '1'}]) {
         assert.throws(() => new Header(fields).write(none), TypeError);
     }
-    refuses('BAD_FIELD', () => new Header({sequence: 1}));
+    for (const name of ['sequence', 'write', 'toString']) {
+        refuses('BAD_FIELD', () => new Header({[name]: 1}));
+    }
     assert.throws(() => new Header().write(), TypeError);
+    assert.throws(() => new Header(5), TypeError);
+    for (const values of [5, null, 'mid']) {
+        assert.throws(() => new Header({values}).write(none), TypeError);
+    }
+    assert.throws(() => rtp.writeMixerLevels(5), TypeError);
 });
 
 test('each value, written and read', () => {
@@ -83,7 +90,7 @@ test('values that are out of their range, or none', () => {
         {playoutDelayMin: {ticks: 1, hertz: 0}, playoutDelayMax: time}, {videoContentType: 256}, {frameMarking: 2 ** 32},
         {transmissionOffset: -1}, {videoTiming: {flags: 256, encodeStart: 0, encodeFinish: 0, packetizeComplete: 0,
             lastLeftPacer: 0}}, {videoTiming: {flags: 0, encodeStart: 65536, encodeFinish: 0, packetizeComplete: 0,
-            lastLeftPacer: 0}}, {loudness: 1}];
+            lastLeftPacer: 0}}, {loudness: 1}, {toString: 1}];
     for (const values of wrong) {
         refuses('BAD_FIELD', () => new Header({values}).write(none));
         assert.throws(() => new Header({values}).write(none), ({ message }) => message.includes(Object.keys(values)[0])

@@ -23,6 +23,12 @@ test('the lines of an SDP', () => {
     assert.deepEqual(map.uris, listed);
     assert.deepEqual([map.unknown, map.leftOut], [[[255, 'urn:x:mine']], []]);
     assert.deepEqual([...ExtensionMap.fromSdp('')], []);
+    assert.deepEqual(ExtensionMap.fromSdp({type: 'offer', sdp}).uris, listed);
+    assert.deepEqual([rtp.extensionsOf({sdp}), rtp.extensionsOf({sdp: ''})], [listed, []]);
+    for (const none of [undefined, null, 5, {}, {sdp: 5}, {sdp: null}, [5], ['v=0', null], Symbol('v=0')]) {
+        assert.throws(() => ExtensionMap.fromSdp(none), TypeError);
+        assert.throws(() => rtp.extensionsOf(none), TypeError);
+    }
 });
 
 test('the kinds and their URIs', () => {
@@ -36,6 +42,11 @@ test('the kinds and their URIs', () => {
     };
     for (const [kind, uri] of Object.entries(uris)) {
         assert.deepEqual([rtp.kindOfUri(uri), rtp.uriOfKind(Kind[kind])], [Kind[kind], uri]);
+    }
+    for (const uri of [undefined, null, 5, ['urn:x']]) {
+        assert.throws(() => rtp.kindOfUri(uri), TypeError);
+        assert.throws(() => new OwnUris().kindOf(uri), TypeError);
+        assert.throws(() => ExtensionMap.fromUris([[1, uri]]), TypeError);
     }
     assert.deepEqual([rtp.kindOfUri('urn:x'), rtp.kindOfUri(''), rtp.kindOfUri(MID + ' '), rtp.kindOfUri('u'.repeat(2000))],
         [undefined, undefined, undefined, undefined]);

@@ -206,10 +206,10 @@ test('retransmissions', () => {
 
 test('bytes of any typed array', () => {
     const datagram = bytes('8021B798 00002710 0000002C');
-    for (const it of [datagram.buffer, new DataView(datagram.buffer), new Uint16Array(datagram.buffer), Buffer.from(datagram)]) {
+    for (const it of [datagram.buffer, new DataView(datagram.buffer), new Int8Array(datagram.buffer), Buffer.from(datagram)]) {
         assert.equal(rtp.Packet.parse(it).ssrc, 44);
     }
-    const words = new Uint16Array(8), at = new Uint16Array(words.buffer, 4);
+    const words = new Uint16Array(8), at = new Int8Array(words.buffer, 4);
     new Uint8Array(words.buffer, 4).set(datagram);
     rtp.Packet.parse(at).ssrc = 45;
     assert.equal(hex(new Uint8Array(words.buffer)), '00000000' + '8021b798000027100000002d');
@@ -251,4 +251,16 @@ test('a length that is none', () => {
     refuses('BAD_FIELD', () => rtp.pad(buffer, 41, 4));
     refuses('BAD_FIELD', () => rtp.pad(buffer, -1, 4));
     assert.equal(rtp.pad(buffer, 12, 4), 16);
+});
+
+test('items of more than a byte are no bytes', () => {
+    const ids = new rtp.NewIds(), buffer = bytes('80600005 00000064 0000002C 00000000'), data = Uint16Array.of(7);
+    for (const call of [() => rtp.Packet.parse(new Uint16Array(10)), () => rtp.isRtcp(new Float32Array(3)),
+        () => rtp.putElement(buffer, 12, 1, data), () => rtp.putElement(new Uint32Array(9), 12, 1, bytes('01')),
+        () => rtp.writeElements([[1, data]], 1), () => rtp.HeaderTemplate.make(buffer, ids, [[1, data]]),
+        () => rtp.readSendTime(new Int16Array(2)), () => rtp.Header.parse(new BigUint64Array(2))]) {
+        assert.throws(call, /TypeError: the items of \w+ are \d bytes/);
+    }
+    assert.equal(rtp.Packet.parse(new Int8Array(buffer.buffer)).ssrc, 44);
+    assert.equal(rtp.Packet.parse(new DataView(buffer.buffer)).ssrc, 44);
 });

@@ -100,10 +100,16 @@ test('statistics', () => {
     assert.equal(statistics.report(), undefined);
     statistics.record(2n ** 53n, 0xFFFFFFFF, 0xFFFFFFFF);
     assert.equal(statistics.report().extendedHighest, (2 ** 53 - 65536) % 2 ** 32);
-    for (const given of [[-1, 0, 0], [1, -1, 0], [1, 0, 2 ** 32], [2 ** 53, 0, 0]]) {
+    for (const given of [[-1, 0, 0], [1, -1, 0], [1, 0, 2 ** 53], [2 ** 53, 0, 0]]) {
         refuses('BAD_FIELD', () => statistics.record(...given));
     }
     assert.throws(() => statistics.record(1.5, 0, 0), TypeError);
+    assert.throws(() => statistics.record(1, 0, 0.5), TypeError);
+    // an arrival counts modulo 2^32: transits 1000, and 1016 above 2^32
+    const late = new ReceptionStatistics();
+    late.record(65541, 0, 1000 - 2 ** 32);
+    late.record(65542, 3000, 4016 + 2 ** 45);
+    assert.equal(late.jitter, 1);
     const report = {fractionLost: 64, cumulativeLost: -2, extendedHighest: 65544, jitter: 1};
     assert.equal(hex(rtp.reportBlock(report, 44, 0x12345678, 65536)), '0000002c40fffffe000100080000000112345678' + '00010000');
     assert.equal(hex(rtp.reportBlock(report, 44)).slice(32), '00000000' + '00000000');
@@ -149,6 +155,66 @@ test('arrivals', () => {
     none.receive(columnsOf([[7, 5, 0], [7, 6, 3000], [7, 8, 9000]]));
     assert.equal(none.source(7).statistics.jitter, 0);
     assert.equal(receivers.source(7).receiver.receive(8 - 64 + 65536), undefined);
+});
+
+test('an arrival is looked at before a packet is taken', () => {
+    const { source, told } = {source: new rtp.Receivers().source(7), told: it => [it.received, it.duplicates, it.missing]};
+    for (const [timestamp, arrival] of [[0, 12.5], [0, undefined], [0, '1'], [0, 1n], [0.5, 0], [0, NaN]]) {
+        assert.throws(() => source.receive(1, timestamp, arrival), TypeError);
+    }
+    refuses('BAD_FIELD', () => source.receive(1, 0, 2 ** 53));
+    refuses('BAD_FIELD', () => source.receive(1, 2 ** 32, 0));
+    assert.deepEqual(told(source), [0, 0, 0]);
+    assert.deepEqual([source.receive(1, 0, 1000 + 2 ** 40), source.receive(2, 3000, 4016)], [65537, 65538]);
+    assert.deepEqual([told(source), source.statistics.jitter], [[2, 0, 0], 1]);
+    const columns = columnsOf([[7, 5, 0], [7, 6, 3000], [7, 8, 9000]]), receivers = new Receivers();
+    for (const arrivals of [[0, 1, 1.5], [0, 1, undefined], [0, , 2], Float64Array.of(0, 1, NaN), BigInt64Array.of(0n, 1n, 2n),
+        new Set([0, 1, 2]), 5, null]) {
+        assert.throws(() => receivers.receive(columns, arrivals), TypeError);
+    }
+    for (const arrivals of [[], [0, 1], [0, 1, 2, 3], [0, 1, 2 ** 53]]) {
+        refuses('BAD_FIELD', () => receivers.receive(columns, arrivals));
+    }
+    assert.equal(receivers.size, 0);
+    const now = 86210106950496;
+    assert.deepEqual([...receivers.receive(columns, [1000, 4016, 10000].map(it => it + now)).taken], [1, 1, 1]);
+    assert.equal(receivers.source(7).statistics.jitter, 1.9375);
+    // a datagram that is no packet needs none
+    const report = rtp.Columns.parse(bytes('81C90007 00000009 00000007'), [0], [12]);
+    assert.deepEqual([...receivers.receive(report, [undefined]).taken], [0]);
+});
+
+test('numbers that are missing', () => {
+    const missing = numbers => {
+        const source = new rtp.Source(7);
+        numbers.forEach(it => source.receive(it, 0, 0));
+        return [source.missing, source.expected - source.received];
+    };
+    assert.deepEqual(missing([]), [0, 0]);
+    assert.deepEqual(missing([1, 2, 2, 3, 3, 6, 7, 8]), [2, 0]);
+    assert.deepEqual(missing([3, 1, 2, 4, 6]), [1, -1]); // the first one isn't the lowest
+    assert.deepEqual(missing([65534, 1, 65533]), [2, 1]);
+    assert.deepEqual(missing([1, 4, 30000, 30001, 30003]), [3, 3]);
+    assert.deepEqual(missing([1, 4, 30000, 30001, 30003, 9, 10, 12]), [4, 4]);
+});
+
+test('what is no receiver\'s', () => {
+    for (const [make, names] of [[it => new Receiver(it), ['rollover', 'maxDropout', 'toString']],
+        [it => new RestartingReceiver(it), ['max_dropout', 'rolloverCount', 'toString']],
+        [it => new Receivers(it), ['max_dropout', 'toString']]]) {
+        names.forEach(it => refuses('BAD_FIELD', () => make({[it]: 9})));
+        assert.throws(() => make(9), TypeError);
+        assert.throws(() => make(null), TypeError);
+        refuses('BAD_FIELD', () => make({words: 0}));
+    }
+    const receivers = new Receivers(), it = receivers.source(7);
+    for (const ssrc of ['7', 7.5, undefined, 7n]) {
+        assert.throws(() => receivers.source(ssrc), TypeError);
+    }
+    refuses('BAD_FIELD', () => receivers.source(2 ** 32));
+    assert.deepEqual([receivers.size, receivers.source(7)], [1, it]);
+    assert.throws(() => receivers.receive({length: 1, isRtp: [0]}), TypeError);
+    assert.throws(() => receivers.receive(null), TypeError);
 });
 
 test('a source that starts again twice', () => {

@@ -10,7 +10,7 @@ import subprocess
 import tempfile
 from pathlib import Path
 
-SECONDS = 60
+SECONDS = 300
 DEFINED = re.compile(r"^static (?:void|u32|u64) (w2c_\w+)\(Z_m_instance_t\* instance.*?^}\n", re.M | re.S)
 DECLARED = re.compile(r"^static (?:void|u32|u64) w2c_\w+\(Z_m_instance_t\*[^;{]*;$", re.M)
 FRAME = re.compile(r"w2c_j0 = instance->w2c_g0;\n *w2c_j1 = (\d+)ull;\n *w2c_j0 ([+-])= w2c_j1;")

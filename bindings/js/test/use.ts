@@ -18,6 +18,19 @@ async function it() {
     for (const source of new Receivers()) { source.restarts.toFixed(); }
     try { new Header({payloadType: 96, values: {mid: '0'}}).writeAll(new ExtensionMap([[1, Kind.MID]])); }
     catch (error) { if (error instanceof RtpError && error.code === 'LEFT_OUT') { error.kinds?.length; } }
+    ExtensionMap.fromSdp({type: 'offer', sdp: 'a=extmap:1 urn:x'});
+    new Receivers().receive(columns, [1, 2]);
+    Packet.parse(new ArrayBuffer(12)), Packet.parse(new DataView(new ArrayBuffer(12)));
+    // @ts-expect-error
+    ExtensionMap.fromSdp(null);
+    // @ts-expect-error
+    Packet.parse(new Uint16Array(6));
+    // @ts-expect-error
+    Columns.parse(first, 0, 12);
+    // @ts-expect-error
+    packet.values.audioLevel = -5;
+    // @ts-expect-error
+    packet.setFields({sequence_number: 5});
     // @ts-expect-error
     writeOrientation({turn: 45, camera: 'front', flip: false});
     // @ts-expect-error

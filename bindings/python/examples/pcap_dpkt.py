@@ -38,6 +38,14 @@ def level_of(rest: bytes) -> Optional[int]:
     return level
 
 
+def is_cut(data: bytes) -> bool:
+    """Whether the sources of a packet, or its block of header extensions, go on behind what was captured."""
+    end = 12 + 4 * (data[0] & 15)
+    if data[0] & 16:  # X
+        end += 4 + 4 * int.from_bytes(data[end + 2 : end + 4], "big")
+    return end > len(data)
+
+
 class Source:
     """What was received of an SSRC: as extended numbers, of which those that came already, and those that are 128 and
     more below the greatest, are refused."""
@@ -70,7 +78,7 @@ class Source:
 def main(name: str) -> int:
     sources: Dict[int, Source] = {}
     for time, data in datagrams_of(name):
-        if len(data) < 12 or data[0] >> 6 != 2 or 192 <= data[1] <= 223:  # no RTP, or RTCP
+        if len(data) < 12 or data[0] >> 6 != 2 or 192 <= data[1] <= 223 or is_cut(data):  # no RTP, or RTCP
             continue
         packet = dpkt.rtp.RTP(data)
         level = level_of(packet.data) if packet.x else None

@@ -12,7 +12,7 @@ import pickle
 import threading
 import unittest
 from pathlib import Path
-from typing import Any, Dict, Tuple
+from typing import Any, Dict, List, Tuple
 
 import rtp_wire
 from rtp_wire import (
@@ -245,6 +245,51 @@ class Fields(unittest.TestCase):
         header = Header(sequence_number=5, csrc=(1,), has_extension=True, values=Values(mid="a"), header_len=3)
         self.assertEqual(repr(header), told)
 
+    def test_a_misspelled_name_cannot_be_set(self) -> None:
+        value: Any
+        wrong_names = (Header(), "seqence_number"), (Header.parse(PLAIN), "seqence_number"), (Values(), "audio_levle")
+        for value, name in wrong_names:
+            for wrong in (name, "extra", "__dict__"):
+                self.assertRaises(AttributeError, setattr, value, wrong, 5)
+                self.assertNotIn(wrong, vars(value))
+            for same in copies_of(value):
+                self.assertEqual((same, type(same), list(vars(same))), (value, type(value), [*FIELDS[type(value)]]))
+                self.assertRaises(AttributeError, setattr, same, name, 5)
+        with self.assertRaises(AttributeError):
+            Header().values.audio_levle = 5  # type: ignore[attr-defined]
+
+        class Own(Header):  # a class of one's own may have attributes of its own
+            extra = 0
+
+        own: Any = Own.parse(PLAIN)
+        own.extra = 5
+        self.assertEqual((type(own), own.extra, own.ssrc), (Own, 5, Header.parse(PLAIN).ssrc))
+
+    def test_values_of_a_packet_cannot_be_set(self) -> None:
+        level = bytearray.fromhex("90000000 00000000 00000000 BEDE0001 108A0000")
+        allocation = rtp_wire.Layers(((Layer((5,), None),),), 0)
+        layered = Header(values=Values(layers=allocation)).write_all(Map({1: Kind.LAYERS}))
+        for datagram, kind, wanted in (
+            (level, Kind.AUDIO_LEVEL, Values(audio_level=-10, voice_activity=True)),
+            (layered, Kind.LAYERS, Values(layers=allocation)),
+            (level, Kind.MID, Values()),
+        ):
+            packet = Packet.parse(datagram, Map({1: kind}))
+            values: Any = packet.values
+            self.assertEqual((values == wanted, wanted == values, isinstance(values, Values)), (True, True, True))
+            self.assertEqual((repr(values), vars(values)), (repr(wanted), vars(wanted)))
+            for name in ("audio_level", "audio_levle", "layers", "__dict__"):
+                self.assertRaises(AttributeError, setattr, values, name, -3)
+            self.assertEqual(packet.values, wanted)
+            for other in copies_of(values):
+                self.assertEqual((other, type(other)), (wanted, Values))
+                other.audio_level = -3
+                self.assertEqual((other.audio_level, packet.values), (-3, wanted))
+            self.assertEqual(dataclasses.asdict(values), dataclasses.asdict(wanted))
+        packet = Packet.parse(level, Map({1: Kind.AUDIO_LEVEL}))
+        packet.set_element(1, dataclasses.replace(packet.values, audio_level=-3).data_of(Kind.AUDIO_LEVEL))
+        self.assertEqual(packet.values, Values(audio_level=-3, voice_activity=True))
+
     def test_what_is_not_there_cannot_be_set(self) -> None:
         packet = Packet.parse(bytearray(PLAIN))
         states = (Receiver(0), WideReceiver(16, 1), RestartingReceiver())
@@ -259,6 +304,11 @@ class Fields(unittest.TestCase):
             self.assertRaises(AttributeError, setattr, state, "highest", 5)
         with self.assertRaises(AttributeError):
             Time(1, 2).seconds = 5.0  # type: ignore[misc]
+
+
+def copies_of(value: Any) -> List[Any]:
+    stored = pickle.loads(pickle.dumps(value))
+    return [copy.copy(value), copy.deepcopy(value), stored, dataclasses.replace(value)]
 
 
 class Calls(unittest.TestCase):
@@ -320,7 +370,7 @@ class Calls(unittest.TestCase):
             lambda: NewIds.to_retransmission(map),
             lambda: NewIds.from_retransmission(map),
             lambda: Map(map),
-            lambda: Packet.parse(PLAIN).values,
+            lambda: copy.copy(Packet.parse(PLAIN).values),
             lambda: Header.parse(PLAIN).values,
             lambda: Header().values,
         ]

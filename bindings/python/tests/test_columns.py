@@ -17,11 +17,13 @@ from rtp_wire import (
     NotAPacket,
     Packet,
     Receiver,
+    RestartingReceiver,
     Status,
     Time,
     Values,
     Verdict,
     VideoTiming,
+    WideReceiver,
     is_rtcp,
 )
 
@@ -317,14 +319,27 @@ class Reading(unittest.TestCase):
             self.assertEqual(memoryview(columns.values[number].data).format, code)
         self.assertEqual(len(columns.texts["mid"].data), 34)
 
+    def test_receivers_that_judge_one_by_one(self) -> None:
+        columns = Columns.parse(PLAIN, [0], [14])
+        for judge in (RestartingReceiver(), WideReceiver(2, 1), None, 5):
+            receivers: Any = {8: judge, 9: judge}
+            with self.assertRaises(TypeError) as raised:
+                columns.receive(receivers)
+            self.assertIn(f"the receiver of 8 is {type(judge).__name__}, and not Receiver", str(raised.exception))
+            self.assertEqual(receivers, {8: judge, 9: judge})
+        others: Any = {9: RestartingReceiver()}  # of a source that has no packet here
+        self.assertEqual(list(columns.receive(others).verdict), [1])
+
     def test_buffers(self) -> None:
-        buffers: List[Any] = [PLAIN, bytearray(PLAIN), memoryview(PLAIN), array("H", PLAIN)]
+        buffers: List[Any] = [PLAIN, bytearray(PLAIN), memoryview(PLAIN), array("b", PLAIN)]
         buffers.append(memoryview(b"\0" + PLAIN)[1:])
         for buffer in buffers:
             columns = Columns.parse(buffer, [0], [14])
             self.assertEqual((columns.ssrc[0], bytes(columns.payload(0) or b"")), (8, b"hi"))
         with self.assertRaises(TypeError):
             Columns.parse(memoryview(PLAIN * 2)[::2], [0], [14])
+        with self.assertRaises(TypeError):
+            Columns.parse(array("H", PLAIN), [0], [14])
         lent = bytearray(PLAIN)
         columns = Columns.parse(lent, [0], [14])
         with self.assertRaises(BufferError):

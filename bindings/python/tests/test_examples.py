@@ -134,7 +134,7 @@ class Captures(unittest.TestCase):
 
     def test_the_table_of_the_readme(self) -> None:
         program = blocks("python")[0]
-        self.assertLessEqual(len(program.splitlines()), 10)
+        self.assertLessEqual(len(program.splitlines()), 15)
         said = subprocess.run(
             [sys.executable, "-c", program],
             cwd=CAPTURES.parent,
@@ -144,6 +144,17 @@ class Captures(unittest.TestCase):
         )
         shown = next(it for it in blocks("") if it.startswith("$ python3 table.py\n"))
         self.assertEqual(said.stdout, shown.partition("\n")[2])
+        # a report, STUN and an empty line among the packets change nothing
+        others = ["80C80006 00000007 00000001 00000002 00000003 00000004 00000005", "00010000" + "00" * 16, ""]
+        lines = (CAPTURES / "firefox-sim.lines").read_text("utf-8").splitlines()
+        lines[6:6] = [it.replace(" ", "") for it in others]
+        with tempfile.TemporaryDirectory() as folder:
+            (Path(folder) / "captures").mkdir()
+            (Path(folder) / "captures/firefox-sim.lines").write_text("\n".join(lines), "utf-8")
+            again = subprocess.check_output(
+                [sys.executable, "-c", program.replace("lines[:10]", "lines[:13]")], cwd=folder, text=True
+            )
+        self.assertEqual(again, said.stdout)
 
 
 def packet(number: int, ssrc: int, level: int = -1) -> bytes:
@@ -249,6 +260,23 @@ class Pcap(unittest.TestCase):
         self.assertEqual([row[0] for row in rows], ["5", "70", "900"])
         # each source has lost packets, has refused some, and has levels
         self.assertTrue(all(int(row[2]) > 500 and int(row[3]) > 20 and float(row[5]) < -30 for row in rows))
+
+    @unittest.skipUnless(importlib.util.find_spec("dpkt"), "dpkt isn't there")
+    def test_the_same_of_frames_that_are_cut(self) -> None:
+        # as by a snap length: a packet of which the sources or the block were not captured whole is none
+        plain = packet(0, 7, 10)
+        sources = bytes([plain[0] | 2]) + plain[1:12] + bytes(8) + plain[12:]
+        whole = [ipv4(udp(packet(at, 5, 10 + at))) for at in range(3)] + [ipv6(udp(sources))]
+        frames = [(100, 0, it[:length]) for it in whole for length in range(3, len(it) + 1)]
+        with tempfile.NamedTemporaryFile() as file:
+            file.write(pcap("<", 0xA1B2C3D4, frames))
+            file.flush()
+            told = [
+                subprocess.check_output([sys.executable, str(HERE / "examples" / name), file.name], text=True)
+                for name in ("pcap.py", "pcap_dpkt.py")
+            ]
+        self.assertEqual(told[0], told[1])
+        self.assertEqual([line.split()[0] for line in told[0].splitlines()], ["ssrc", "5", "7"])
 
     def test_tags_of_virtual_lans(self) -> None:
         # none, one and several, as IEEE 802.1Q and 802.1ad have them

@@ -44,17 +44,24 @@ SAMPLE = bytes.fromhex("B2A1B798 00002710 0000002C 00000001 00000002 BEDE0002 10
 EVEN = SAMPLE[:32] + bytes.fromhex("0102030405060003")
 FAR = 1 << 40  # past 2^32
 SHAPES: "List[Callable[[bytes], Any]]" = [
-    lambda data: array.array("H", data),
-    lambda data: array.array("I", data),
+    lambda data: array.array("B", data),
+    lambda data: array.array("b", data),
     lambda data: memoryview(bytearray(data)).cast("B", (len(data) // 2, 2)),
-    lambda data: memoryview(array.array("H", data)),
+    lambda data: memoryview(array.array("b", data)),
     lambda data: memoryview(bytearray(data)).cast("c"),
-    lambda data: (ctypes.c_uint32 * (len(data) // 4)).from_buffer_copy(data),
+    lambda data: (ctypes.c_uint8 * len(data)).from_buffer_copy(data),
+]
+# Items of more than a byte: what numpy makes of a list of numbers has each of them in one.
+LARGER: "List[Callable[[bytes], Any]]" = [
+    lambda data: array.array("H", data),
+    lambda data: array.array("q", list(data)),
+    lambda data: memoryview(bytearray(data)).cast("I"),
+    lambda data: (ctypes.c_uint64 * len(data))(*data),
 ]
 
 
 class Shapes(unittest.TestCase):
-    """A buffer is its bytes, whatever their type and shape are."""
+    """A buffer of items of a byte is its bytes, whatever their type and shape are."""
 
     def test_they_are_read(self) -> None:
         for shape in SHAPES:
@@ -75,7 +82,7 @@ class Shapes(unittest.TestCase):
             data = shape(EVEN)
             packet = Packet.parse(data)
             packet.ssrc = 77
-            packet.set_element(2, array.array("H", b"\1\2"))
+            packet.set_element(2, array.array("b", b"\1\2"))
             self.assertEqual(bytes(memoryview(data)), EVEN[:11] + b"\x4D" + EVEN[12:27] + b"\1\2" + EVEN[29:])
             buf = shape(bytes(16))
             self.assertEqual(Header(ssrc=5).write_to(buf, Map()), 12)
@@ -92,7 +99,7 @@ class Shapes(unittest.TestCase):
             self.assertEqual(Header().write_with([(1, shape(b"\7\7\7\7"))])[16:], b"\x13\7\7\7\7\0\0\0")
 
     def test_those_that_are_read_only(self) -> None:
-        for data in (EVEN, memoryview(EVEN), memoryview(EVEN).cast("H"), memoryview(bytearray(EVEN)).toreadonly()):
+        for data in (EVEN, memoryview(EVEN), memoryview(EVEN).cast("b"), memoryview(bytearray(EVEN)).toreadonly()):
             buffer: Any = data
             calls: Dict[str, Callable[[], Any]] = {
                 "put_element": lambda: rtp_wire.put_element(buffer, 40, 1, b"a"),
@@ -135,8 +142,34 @@ class Shapes(unittest.TestCase):
                 call()
             self.assertEqual(str(raised.exception), "the bytes of the buffer don't lie together")
 
+    def test_those_of_larger_items(self) -> None:
+        even = bytearray(EVEN)
+        for shape in LARGER:
+            large: Any = shape(EVEN)
+            calls: List[Callable[[], Any]] = [
+                lambda: Packet.parse(large),
+                lambda: Header.parse(large),
+                lambda: rtp_wire.is_rtcp(large),
+                lambda: rtp_wire.compact(large),
+                lambda: next(rtp_wire.elements(large, 1)),
+                lambda: rtp_wire.put_element(bytearray(EVEN), 40, 1, large),
+                lambda: rtp_wire.put_block(large, 40, 0, b""),
+                lambda: rtp_wire.write_elements([(1, large)], 1),
+                lambda: rtp_wire.Columns.parse(large, [0], [40]),
+                lambda: rtp_wire.HeaderTemplate(large, NewIds()),
+                lambda: rtp_wire.HeaderTemplate(EVEN, NewIds(), [(1, large)]),
+                lambda: rtp_wire.read_send_time(large),
+                lambda: Header().write_to(large, Map()),
+                lambda: Packet.parse(even).set_element(1, large),
+            ]
+            for call in calls:
+                with self.assertRaises(TypeError) as raised:
+                    call()
+                self.assertRegex(str(raised.exception), "the items of the buffer have [248] bytes each, and not one")
+        self.assertEqual(even, EVEN)
+
     def test_those_of_no_bytes(self) -> None:
-        for none in (b"", bytearray(), memoryview(b""), memoryview(bytearray()), array.array("I")):
+        for none in (b"", bytearray(), memoryview(b""), memoryview(bytearray()), array.array("b")):
             buffer: Any = none
             for parse in (Packet.parse, Header.parse):
                 self.assertRaises(NotAPacket, parse, buffer)

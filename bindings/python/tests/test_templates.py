@@ -384,7 +384,7 @@ class Writing(unittest.TestCase):
         buffers: List[Callable[[], Any]] = [
             lambda: bytearray(74),
             lambda: memoryview(bytearray(80))[3:77],
-            lambda: array("H", bytes(74)),
+            lambda: array("b", bytes(74)),
         ]
         for make in buffers:
             buffer = make()

@@ -90,7 +90,7 @@ class Browser:
             raise RuntimeError(json.dumps(told["exceptionDetails"])[:800])
         return told["result"].get("value")
 
-    def until(self, expression, seconds=30.0):
+    def until(self, expression, seconds=120.0):
         """Waits until an expression is true, and returns it."""
         end = time.monotonic() + seconds
         while not (found := self.ask(expression)):

@@ -5,6 +5,7 @@ from pathlib import Path
 
 sys.path.append(str(Path(__file__).resolve().parents[3] / "python/tests"))
 import made_captures as made
+from made_cases import cases  # noqa: F401
 
 MILLISECOND, SECOND, START = made.MILLISECOND, made.SECOND, made.START
 
@@ -52,7 +53,7 @@ def forms():
     plain = plain_call()
     flows = [(it, made.ethernet(made.ipv6(made.udp(made.rtp(place, ssrc=place % 3))))) for place, (it, _) in enumerate(plain)]
     for of in ("2001:db8:0:0:1:0:0:2", "1:0:2:3:4:5:6:7", "::1", "1::"):
-        flows.append((START, made.ethernet(made.ipv6(made.udp(made.rtp(1)), of=of))))
+        flows += [(START, made.ethernet(made.ipv6(made.udp(made.rtp(it)), of=of))) for it in (1, 2)]
     ports = [(it, made.ethernet(made.ipv4(made.udp(made.rtp(place), (50000, 40001))))) for place, (it, _) in enumerate(plain)]
     yield "flows.pcap", made.pcap(sorted([*plain, *flows, *ports])), None
     ng = made.section() + made.interface(1, made.option(9, b"\x09")) + b"".join(made.enhanced(*it) for it in plain)
@@ -68,7 +69,7 @@ def forms():
     # more than a slice of the file, so that packets go on behind its end
     long = [(it, made.frame(made.rtp(place & 0xFFFF, payload=bytes(900)))) for place, it in enumerate(range(START, START + 9000, 1))]
     yield "slices.pcap", made.pcap(long, unit=1), None
-    kinds = [(START + it, made.frame(bytes([it, it * 7 & 255]) + bytes(it % 40))) for it in range(256)]
+    kinds = [(START + it, made.frame(bytes([it, it * 7 & 255, 0, it]) + bytes(it % 40))) for it in range(256)]
     yield "kinds.pcap", made.pcap(kinds), None
     backwards = [(START + SECOND - it * MILLISECOND, made.frame(made.rtp(it, 90 * it))) for it in range(100)]
     yield "backwards.pcap", made.pcap(backwards), None

@@ -15,7 +15,7 @@ TOP = HERE.parents[3]
 sys.path.append(str(HERE))
 
 from browser import Browser
-from files import call_of, damaged, forms, made, streams
+from files import call_of, cases, damaged, forms, made, streams
 from rtp_wire._analysis import Analysis
 from rtp_wire._capture import read_capture
 from rtp_wire._fields import fields_of
@@ -75,14 +75,14 @@ class Shown(unittest.TestCase):
         self.addCleanup(folder.cleanup)
         self.folder = Path(folder.name)
 
-    def open(self, name, data, sdp=None, seconds=30.0):
+    def open(self, name, data, sdp=None, seconds=120.0):
         """Has the page read a file, and tells what Python says of it."""
         file = self.folder / name
         file.write_bytes(data)
         self.show(file, sdp, seconds)
         return Analysis(read_capture(data), None if sdp is None else Sdp(sdp))
 
-    def show(self, file, sdp=None, seconds=30.0):
+    def show(self, file, sdp=None, seconds=120.0):
         browser.ask(f"document.getElementById('sdp').value = {json.dumps(sdp or '')}")
         browser.ask("document.getElementById('said').replaceChildren()")
         browser.give("#file", file)
@@ -143,8 +143,30 @@ class Told(Shown):
     def test_a_file_after_another_one(self):
         # the header of its first packet is shown, though that has the place of the one that was shown before
         for ssrc in (1, 2):
-            self.open(f"{ssrc}.pcap", made.pcap([(START, made.frame(made.rtp(1, ssrc=ssrc)))]))
+            self.open(f"{ssrc}.pcap", made.pcap((START, made.frame(made.rtp(it, ssrc=ssrc))) for it in (1, 2)))
             browser.until(f"document.getElementById('fields').textContent.includes('0x0000000{ssrc}')", 5)
+
+    def test_cases(self):
+        for case in cases():
+            with self.subTest(case.name):
+                self.open(case.name, case.data, case.sdp)
+                said = self.sentences()
+                self.assertEqual([it for it in case.said if it not in said], [], said)
+                self.assertEqual([it for it in case.unsaid if it in said], [])
+                if case.extensions is not None:
+                    found = {it["id"]: (it.get("uri", ""), it["origin"]) for it in self.named("extensions")}
+                    self.assertEqual(found.keys(), case.extensions.keys())
+                    for id, (uri, origin) in case.extensions.items():
+                        self.assertEqual((found[id][0][-len(uri) :] if uri else found[id][0], found[id][1]), (uri, origin))
+                if case.source:
+                    (source,) = self.named("sources")
+                    self.assertEqual({it: source.get(it, "") for it in case.source}, case.source)
+
+    def named(self, table):
+        """The rows of a table, each cell by the name of its column."""
+        names = {heading_of(it): it["name"] for it in DESCRIBED["tables"][table]["columns"]}
+        headings, *rows = self.rows(table)
+        return [{names[it]: cell for it, cell in zip(headings, row)} for row in rows]
 
     def test_damaged_files(self):
         for name, data in damaged():
@@ -154,8 +176,14 @@ class Told(Shown):
             if analysis.sources:
                 self.same(name, "sources", source_rows(analysis)[:200])
 
+    def test_a_header_that_is_cut(self):
+        data = next(it.data for it in cases() if it.name == "cut_fixed.pcap")
+        self.open("cut_fixed.pcap", data)
+        browser.until("document.getElementById('fields').textContent.includes('The capture has only its beginning.')", 5)
+        self.assertNotIn("This can't be read", " ".join(self.sentences()))
+
     def test_many_sources_in_the_table(self):
-        self.open("many.pcap", made.pcap((START, made.frame(made.rtp(1, ssrc=it))) for it in range(201)))
+        self.open("many.pcap", made.pcap((START, made.frame(made.rtp(it & 1, ssrc=it // 2))) for it in range(402)))
         self.assertEqual(browser.ask("document.getElementById('more').textContent"), "200 of 201 are shown; the CSV has all.")
         self.assertEqual(len(browser.ask(SAVED % "sources").splitlines()), 202)
 
@@ -296,7 +324,7 @@ class Large(Shown):
         """Reads the file, and tells the seconds that it took by the clock, and of the processors."""
         browser.ask("document.getElementById('file').value = ''")
         began, used = time.monotonic(), browser.processor_time()
-        self.show(self.file, seconds=60)
+        self.show(self.file, seconds=240)
         return time.monotonic() - began, browser.processor_time() - used
 
     def test_the_time(self):

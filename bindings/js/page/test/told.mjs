@@ -16,7 +16,7 @@ function tablesOf(analysis) {
     return {
         datagrams: datagramRows(analysis, described),
         extensions: extensionRows(analysis, described),
-        sources: analysis.inOrder().map(it => sourceRow(analysis, it)),
+        sources: analysis.inOrder().map(it => sourceRow(analysis, it, described)),
         packets: Array.from({length: packets.count}, (_, i) => packetRow(packets, i, words)),
     };
 }

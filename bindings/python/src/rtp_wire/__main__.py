@@ -29,10 +29,13 @@ from ._tables import (
     extension_rows,
     heading_of,
     packet_rows,
+    sentence_of,
     sentences_of,
     source_rows,
 )
 
+# Sentences by which a file is no capture, and those that tell nothing wrong of one.
+NO_CAPTURE, NO_FAULT = ("empty", "compressed", "no_capture"), ("guessed", "sdp")
 TABLES = ("datagrams", "extensions", "sources", "packets")
 
 
@@ -84,12 +87,23 @@ def _told(analysis: Analysis, given: argparse.Namespace) -> Iterator[str]:
         yield f"\n{DESCRIBED['tables'][name]['title']}\n{told(name, _rows_of(analysis, name))}"
 
 
+def _analysed(given: argparse.Namespace) -> Analysis:
+    """What the files say. ValueError where the first one is no capture. What is wrong with it is told beside a table."""
+    data = given.file.read_bytes()
+    sdp = Sdp(given.sdp.read_text("utf-8", "replace")) if given.sdp else None
+    analysis = Analysis(read_capture(data), sdp)
+    for it in analysis.capture.sentences:
+        if it.name in NO_CAPTURE:
+            raise ValueError(sentence_of(it))
+        if (given.table or given.packet is not None) and it.name not in NO_FAULT:
+            print(f"rtp_wire: {sentence_of(it)}", file=sys.stderr)
+    return analysis
+
+
 def main(given: Optional[List[str]] = None) -> int:
     arguments = _arguments(given)
     try:
-        data = arguments.file.read_bytes()
-        sdp = Sdp(arguments.sdp.read_text("utf-8", "replace")) if arguments.sdp else None
-        for text in _told(Analysis(read_capture(data), sdp), arguments):
+        for text in _told(_analysed(arguments), arguments):
             sys.stdout.write(text)
         sys.stdout.flush()
     except BrokenPipeError:

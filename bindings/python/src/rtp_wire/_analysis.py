@@ -5,9 +5,10 @@ from __future__ import annotations
 from array import array
 from typing import Dict, List, NamedTuple, Optional, Tuple
 
-from ._capture import SECOND, Capture
+from ._capture import Capture
 from ._columns import Columns
 from ._errors import NotAPacket
+from ._frames import SECOND
 from ._guess import LOOKED_AT, Guess
 from ._kind import OwnUris
 from ._map import Map
@@ -17,6 +18,8 @@ from ._source import NONE, Judged, Source
 
 # So many sources are told; of others packets are only counted.
 MOST_SOURCES = 4096
+# The bytes of a header before CSRCs and the block.
+FIXED = 12
 VALUES = ("audio_level", "voice_activity", "transport_number", "mid", "rid", "repaired_rid")
 TEXTS = ("mid", "rid", "repaired_rid")
 # Kinds of datagrams by the first byte (RFC 7983, 7): each with the first one and the last one of its range.
@@ -40,24 +43,31 @@ class Analysis:
         self.capture, self.sdp = capture, sdp or Sdp()
         self.map, self.origins = self._find_map(sdp is not None)
         self.columns = Columns.parse(capture.data, capture.at, capture.lengths, self.map, VALUES)
+        self._take_cut()
         self.counts = {it: [0, 0] for it in KINDS}
         self.sources: List[Source] = []
         self.source_of = array("i", [-1]) * len(capture)
         self.judged: Dict[int, Judged] = {}  # by the datagram's place
         self._count()
         self._see()
+        self._drop_doubtful()
         for source in self.sources:
             source.tell_clock(self.sdp.clocks)
         self._judge()
         self._pair()
 
     def _find_map(self, has_sdp: bool) -> Tuple[Map, Dict[int, str]]:
-        """The map, and how each of its entries was found."""
+        """The map, and of each id that occurs what tells its meaning."""
+        guess = self._look()
         for uris, origin in ((self.sdp.uris, "sdp"), (self.capture.map_lines, "lines")):
             if uris:
-                return Map.from_uris(uris, OwnUris()), dict.fromkeys(uris, origin)
+                return Map.from_uris(uris, OwnUris()), {it: origin if it in uris else "unknown" for it in guess.ids}
         if len(self.capture):
             self.capture.say("sdp" if has_sdp else "guessed")
+        return guess.map()
+
+    def _look(self) -> Guess:
+        """Looks at the elements of the first packets."""
         guess, capture, looked = Guess(), self.capture, 0
         for row, (at, length) in enumerate(zip(capture.at, capture.lengths)):
             if looked == LOOKED_AT:
@@ -72,7 +82,25 @@ class Analysis:
             found = [(it.id, bytes(it.data)) for it in packet.elements()]
             guess.look(capture.flow_of[row], packet.ssrc, capture.times[row], found)
             looked += 1
-        return guess.map()
+        return guess
+
+    def _take_cut(self) -> None:
+        """Takes packets of whose header the capture has the fixed part alone, which says all that counts of losses."""
+        capture, columns, cut = self.capture, self.columns, []
+        for row, (at, length, size) in enumerate(zip(capture.at, capture.lengths, capture.sizes)):
+            is_told = columns.is_rtp[row] or columns.is_rtcp[row]
+            if FIXED <= length < size and not is_told and capture.data[at] >> 6 == 2:
+                cut.append(row)
+        if not cut:
+            return
+        # without X and CSRCs it is a whole header
+        headers = b"".join(b"\x80" + capture.data[capture.at[it] + 1 : capture.at[it] + FIXED] for it in cut)
+        read = Columns.parse(headers, range(0, len(headers), FIXED), [FIXED] * len(cut))
+        for name in ("is_rtp", "sequence_number", "timestamp", "ssrc", "payload_type", "marker"):
+            column, of_fixed = getattr(columns, name), getattr(read, name)
+            for place, row in enumerate(cut):
+                column[row] = of_fixed[place]
+        capture.say("cut_headers", count=len(cut))
 
     def kind_of(self, row: int) -> str:
         """What kind of datagram it is: a name of `kinds` in tables.json."""
@@ -104,22 +132,45 @@ class Analysis:
             if index == len(self.sources):
                 self.sources.append(Source(ssrc, flow))
             self.source_of[row] = index
-            self.sources[index].see(time, payload_type, columns.timestamp[row], capture.sizes[row])
+            number, timestamp = columns.sequence_number[row], columns.timestamp[row]
+            self.sources[index].see(time, payload_type, number, timestamp, capture.sizes[row])
             for it in TEXTS:
                 if columns.texts[it].there[row]:
                     self.sources[index].name(it, columns.texts[it][row])
         if left_out:
             capture.say("sources", count=len(index_of), most=MOST_SOURCES, packets=left_out)
 
+    def _drop_doubtful(self) -> None:
+        """Leaves out what is hardly a source: RFC 3550, A.1, has two packets in a row tell one. Here two numbers of one
+        stream do, since packets may be lost, and the SDP or a mid or rid."""
+        kept = [it for it, source in enumerate(self.sources) if self._is_source(source)]
+        if len(kept) == len(self.sources):
+            return
+        place_of = {index: place for place, index in enumerate(kept)}
+        packets = sum(it.packets for it in self.sources) - sum(self.sources[it].packets for it in kept)
+        self.capture.say("doubtful", count=len(self.sources) - len(kept), packets=packets)
+        self.sources = [self.sources[it] for it in kept]
+        self.source_of = array("i", (place_of.get(it, -1) for it in self.source_of))
+
+    def _is_source(self, source: Source) -> bool:
+        sdp = self.sdp
+        told = any(it in sdp.names for it in source.types) or source.ssrc in (*sdp.repaired, *sdp.repaired.values())
+        return source.is_probable or told or any(source.texts.values())
+
     def _judge(self) -> None:
         columns, times = self.columns, self.capture.times
         if not self.capture.is_timed:
             for source in self.sources:
-                source.clock = None
+                source.clock, source.clock_by = None, ""
+        following, next_of = array("i", [-1]) * len(times), [-1] * len(self.sources)
+        for row in range(len(times) - 1, -1, -1):
+            index = self.source_of[row]
+            if index >= 0:
+                following[row], next_of[index] = next_of[index], columns.sequence_number[row]
         for row, index in enumerate(self.source_of):
             if index >= 0:
                 number, timestamp = columns.sequence_number[row], columns.timestamp[row]
-                self.judged[row] = self.sources[index].judge(number, timestamp, times[row])
+                self.judged[row] = self.sources[index].judge(number, timestamp, times[row], following[row])
 
     def judged_of(self, row: int) -> Judged:
         return self.judged.get(row, Judged(NONE, 0, None))

@@ -50,8 +50,11 @@ _release_buffer.restype = None
 
 
 def view_of(data: Buffer) -> memoryview:
-    """The bytes of an object that has the buffer protocol, as they lie. TypeError where they don't lie together."""
+    """The bytes of an object that has the buffer protocol, as they lie. TypeError where they don't lie together, or are
+    the parts of larger items, as those of an array of numpy that has a byte of a datagram in each of its int64."""
     view = memoryview(data)
+    if view.itemsize != 1:
+        raise TypeError(f"the items of the buffer have {view.itemsize} bytes each, and not one")
     if not view.c_contiguous:
         raise TypeError("the bytes of the buffer don't lie together")
     return view if view.format == "B" and view.ndim == 1 else view.cast("B")

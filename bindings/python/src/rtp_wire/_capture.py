@@ -4,25 +4,16 @@ from __future__ import annotations
 
 import re
 from array import array
-from struct import unpack_from
-from typing import Dict, Iterator, List, NamedTuple, Tuple
+from typing import Dict, List, NamedTuple, Optional, Tuple
 
-from ._links import KNOWN, Fragment, payload_of
+from ._frames import PCAP, PCAPNG, SECOND, Frame, Frames, pcap_frames, pcapng_frames
+from ._links import KNOWN, Fragment, Left, payload_of
 
-# The first four bytes of a file of pcap: its byte order, and how many fractions a second has.
-PCAP = {
-    b"\xa1\xb2\xc3\xd4": (">", 10**6),
-    b"\xd4\xc3\xb2\xa1": ("<", 10**6),
-    b"\xa1\xb2\x3c\x4d": (">", 10**9),
-    b"\x4d\x3c\xb2\xa1": ("<", 10**9),
-}
-PCAPNG = b"\x0a\x0d\x0d\x0a"
-INTERFACE, OLD_PACKET, SIMPLE_PACKET, PACKET = 1, 2, 3, 6
-RESOLUTION, OFFSET = 9, 14
 GZIP, ZSTD = b"\x1f\x8b", b"\x28\xb5\x2f\xfd"
-SECOND = 10**9
-# A record of pcap has no more bytes, whatever it says.
-LONGEST = 1 << 18
+# A mark of UTF-8 before the first line.
+MARK = b"\xef\xbb\xbf"
+# So many causes are told, for which frames were left out.
+MOST_CAUSES = 6
 
 
 class Sentence(NamedTuple):
@@ -32,15 +23,6 @@ class Sentence(NamedTuple):
     words: Dict[str, object]
 
 
-class Frame(NamedTuple):
-    """A frame where it lies in the file."""
-
-    time: int  # nanoseconds
-    at: int
-    length: int
-    link: int
-
-
 class Capture:
     """The datagrams of a file, by columns, and what is to be said of it."""
 
@@ -48,7 +30,7 @@ class Capture:
         self.data = data  # what the places are of
         self.at, self.lengths = array("Q"), array("Q")
         self.sizes = array("Q")
-        self.times: List[int] = []  # nanoseconds from the first datagram
+        self.times: List[int] = []  # nanoseconds from the earliest datagram
         self.flow_of = array("Q")  # an index of the flows
         self.flows: Dict[bytes, int] = {}
         self.is_timed = True
@@ -75,9 +57,9 @@ def read_capture(data: bytes) -> Capture:
     if not data:
         capture.say("empty")
     elif data[:4] in PCAP:
-        _take_frames(capture, _pcap_frames(capture, data))
+        _take_frames(capture, pcap_frames(capture.say, data))
     elif data[:4] == PCAPNG:
-        _take_frames(capture, _pcapng_frames(capture, data))
+        _take_frames(capture, pcapng_frames(capture.say, data))
     elif data[:2] == GZIP or data[:4] == ZSTD:
         capture.say("compressed")
     elif is_lines(data[:4096]):
@@ -87,123 +69,62 @@ def read_capture(data: bytes) -> Capture:
     return capture
 
 
-def _take_frames(capture: Capture, frames: Iterator[Frame]) -> None:
+def _take_frames(capture: Capture, frames: Frames) -> None:
     unknown: Dict[int, int] = {}
-    rests = first = short = 0
-    start = None
-    for time, at, length, link in frames:
-        if link not in KNOWN:
-            unknown[link] = unknown.get(link, 0) + 1
+    left: Dict[Left, int] = {}
+    rests = first = short = untimed = 0
+    times: List[Optional[int]] = []
+    data = capture.data
+    for frame in frames:
+        if isinstance(frame, Frame) and frame.link not in KNOWN:
+            unknown[frame.link] = unknown.get(frame.link, 0) + 1
             continue
-        found = payload_of(capture.data, at, at + length, link)
-        if isinstance(found, Fragment):
+        found = frame if isinstance(frame, Left) else payload_of(data, frame.at, frame.at + frame.length, frame.link)
+        if isinstance(found, Left):
+            left[found] = left.get(found, 0) + 1
+        elif isinstance(found, Fragment):
             rests += 1
-        elif found:
-            start = time if start is None else start
+        elif isinstance(frame, Frame):
             first += found.is_fragment
             short += found.length < found.size and not found.is_fragment
-            capture.add(time - start, found.at, found.length, found.size, found.flow)
+            untimed += not frame.is_timed
+            times.append(frame.time)
+            capture.add(0, found.at, found.length, found.size, found.flow)
     for link, count in sorted(unknown.items()):
         capture.say("links", count=count, link=link)
     if rests or first:
         capture.say("fragments", count=rests, first=first)
     if short:
         capture.say("short", count=short)
+    if left:
+        capture.say("left_out", count=sum(left.values()), causes=_causes(left))
+    _count_times(capture, times, untimed)
     if not capture.times and not capture.sentences:
         capture.say("no_datagram")
 
 
-def _pcap_frames(capture: Capture, data: bytes) -> Iterator[Frame]:
-    order, per_second = PCAP[data[:4]]
-    if len(data) < 24:
-        capture.say("cut", at=0, got=len(data), want=24)
+def _causes(left: Dict[Left, int]) -> List[Tuple[str, int, int]]:
+    """Why frames were left out: the causes with their numbers and counts, that of most first."""
+    listed = sorted(((*cause, count) for cause, count in left.items()), key=lambda it: (-it[2], it[:2]))
+    if len(listed) <= MOST_CAUSES:
+        return listed
+    told, rest = listed[: MOST_CAUSES - 1], listed[MOST_CAUSES - 1 :]
+    return [*told, ("others", 0, sum(count for _, _, count in rest))]
+
+
+def _count_times(capture: Capture, times: List[Optional[int]], untimed: int) -> None:
+    """Has the times count from the earliest one; where none is told they are places, as those of lines."""
+    start = min((it for it in times if it is not None), default=None)
+    if start is None:
+        capture.is_timed = not times
+        capture.times = [place * SECOND for place in range(len(times))]
         return
-    link = unpack_from(order + "I", data, 20)[0] & 0xFFFF
-    at = 24
-    while at < len(data):
-        if at + 16 > len(data):
-            capture.say("cut", at=at, got=len(data) - at, want=16)
-            return
-        seconds, part, length, _ = unpack_from(order + "IIII", data, at)
-        if length > LONGEST:
-            capture.say("bad_block", at=at, want=16 + length)
-            return
-        if at + 16 + length > len(data):
-            capture.say("cut", at=at, got=len(data) - at, want=16 + length)
-            return
-        yield Frame(seconds * SECOND + part * (SECOND // per_second), at + 16, length, link)
-        at += 16 + length
-
-
-class _Interface(NamedTuple):
-    link: int
-    per_second: int
-    offset: int  # nanoseconds
-
-    def time(self, high: int, low: int) -> int:
-        return (high << 32 | low) * SECOND // self.per_second + self.offset
-
-
-def _pcapng_frames(capture: Capture, data: bytes) -> Iterator[Frame]:
-    order, at, time = "<", 0, 0
-    interfaces: List[_Interface] = []
-    while at < len(data):
-        if at + 12 > len(data):
-            capture.say("cut", at=at, got=len(data) - at, want=12)
-            return
-        if data[at : at + 4] == PCAPNG:
-            order, interfaces = "<" if data[at + 8 : at + 12] == b"\x4d\x3c\x2b\x1a" else ">", []
-        kind, size = unpack_from(order + "II", data, at)
-        if size < 12 or size % 4:
-            capture.say("bad_block", at=at, want=size)
-            return
-        if at + size > len(data):
-            capture.say("cut", at=at, got=len(data) - at, want=size)
-            return
-        if kind == INTERFACE and size >= 20:
-            interfaces.append(_interface_of(data, at, size, order))
-        elif kind in (PACKET, OLD_PACKET, SIMPLE_PACKET):
-            frame = _frame_of(data, at, kind, order, interfaces, time)
-            if frame:
-                time = frame.time
-                yield frame
-        at += size
-
-
-def _interface_of(data: bytes, at: int, size: int, order: str) -> _Interface:
-    per_second, offset = 10**6, 0
-    here, end = at + 16, at + size - 4
-    while here + 4 <= end:
-        code, length = unpack_from(order + "HH", data, here)
-        if code == 0 or here + 4 + length > end:
-            break
-        if code == RESOLUTION and length == 1:
-            unit = data[here + 4]
-            per_second = 2 ** (unit & 127) if unit & 128 else 10**unit
-        elif code == OFFSET and length == 8:
-            offset = unpack_from(order + "q", data, here + 4)[0] * SECOND
-        here += 4 + length + -length % 4
-    return _Interface(unpack_from(order + "H", data, at + 8)[0], per_second, offset)
-
-
-def _frame_of(
-    data: bytes, at: int, kind: int, order: str, interfaces: List[_Interface], before: int
-) -> "Frame | None":
-    """The frame of a block. One that tells no time has that of the one before it."""
-    size = unpack_from(order + "I", data, at + 4)[0]
-    if kind == SIMPLE_PACKET:
-        if size < 16 or not interfaces:
-            return None
-        length = min(unpack_from(order + "I", data, at + 8)[0], size - 16)
-        return Frame(before, at + 12, length, interfaces[0].link)
-    if size < 32:
-        return None
-    index = unpack_from(order + ("I" if kind == PACKET else "H"), data, at + 8)[0]
-    high, low, length = unpack_from(order + "III", data, at + 12)
-    if index >= len(interfaces) or length > size - 32:
-        return None
-    interface = interfaces[index]
-    return Frame(interface.time(high, low), at + 28, length, interface.link)
+    capture.times = [0 if it is None else it - start for it in times]
+    earlier = sum(time < before for before, time in zip(capture.times, capture.times[1:]))
+    if earlier:
+        capture.say("unordered", count=earlier)
+    if untimed:
+        capture.say("untimed_some", count=untimed)
 
 
 # ---- Lines of hexadecimal digits, as the program rtp_lines takes them ----
@@ -213,8 +134,9 @@ _HEX_LINE = re.compile(rb"(?:[0-9a-fA-F]{2})*")
 
 
 def is_lines(beginning: bytes) -> bool:
-    """Whether the file begins with a line of digits, or one that maps an id."""
-    line = beginning.split(b"\n")[0].removesuffix(b"\r")
+    """Whether the file begins with a line of digits, or one that maps an id. Empty lines may stand before it."""
+    lines = (it.removesuffix(b"\r") for it in beginning.removeprefix(MARK).split(b"\n"))
+    line = next(filter(None, lines), b"")
     return bool(re.fullmatch(rb"[0-9a-fA-F]+", line) or _MAP_LINE.fullmatch(line))
 
 
@@ -230,7 +152,7 @@ def _take_lines(capture: Capture, data: bytes) -> None:
     decoded = bytearray()
     bad = first_bad = 0
     capture.is_timed = False
-    lines = data.split(b"\n")
+    lines = data.removeprefix(MARK).split(b"\n")
     if not lines[-1]:
         lines.pop()
     for place, line in enumerate(lines, 1):

@@ -195,8 +195,12 @@ class Columns:
     def receive(self, receivers: MutableMapping[int, Receiver], rollover_count: int = 1) -> Verdicts:
         """Has each packet judged by the receiver of its SSRC, one after the other, as `Receiver.receive` does; where
         there is none yet one is put there, which begins at the rollover count: at 1, where nothing is authenticated, a
-        packet from before the first one has a number too. RTCP isn't judged. BadField where one of the columns ssrc,
-        sequence_number and is_rtp was made longer or shorter, or of another type.
+        packet from before the first one has a number too. RTCP isn't judged.
+
+        A receiver knows no restart: the packets of a sender that has started again are refused as too old, or taken as
+        if numbers had been lost. Where one may have, a `RestartingReceiver` of each source judges packet by packet;
+        here it is a TypeError. Receivers are those of one flow: in two, an SSRC may stand for other numbers. BadField
+        where one of the columns ssrc, sequence_number and is_rtp was made longer or shorter, or of another type.
 
         >>> import rtp_wire
         >>> buffer = bytes.fromhex("8021FFFF 00002710 0000002C" + "80210000 00002710 0000002C")

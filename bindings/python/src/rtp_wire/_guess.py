@@ -13,6 +13,8 @@ from ._map import Map
 LOOKED_AT = 4096
 # A send time has a fraction of 18 bits, modulo 64 seconds.
 SEND_TIME_HZ, SEND_TIMES = 1 << 18, 1 << 24
+# Transport-wide numbers of packets that are lost or come late are as far apart.
+NEAR = 64
 
 
 @dataclass
@@ -27,11 +29,14 @@ class _Seen:
     last_of_flow: Dict[int, Tuple[int, int]] = field(default_factory=dict)  # a time, and the data as a number
     steps: int = 0  # from one to the next of the flow
     ones: int = 0  # where the number rises by one
+    near: int = 0  # where it is near to the one before
     paced: int = 0  # where it runs with the time
+    loud: bool = False  # whether one is another level than silence
 
     def take(self, source: Tuple[int, int], time: int, data: bytes) -> None:
         self.count += 1
         self.lengths.add(len(data))
+        self.loud |= data[:1].hex() not in ("7f", "ff")
         text = data.decode("latin-1") if re.fullmatch(rb"[0-9A-Za-z_-]{1,16}", data) else ""
         self.texts.setdefault(source, set()).add(text)
         self.changes += self.last_of_source.get(source, data) != data
@@ -41,8 +46,10 @@ class _Seen:
             before, last = self.last_of_flow[source[0]]
             self.steps += 1
             self.ones += 1 <= (number - last) % 65536 <= 2
-            ran = (number - last) % SEND_TIMES
-            self.paced += abs(ran - (time - before) * SEND_TIME_HZ // 10**9) < SEND_TIME_HZ // 10
+            self.near += (number - last + NEAR) % 65536 <= 2 * NEAR
+            passed = (time - before) * SEND_TIME_HZ // 10**9
+            off = (number - last - passed + SEND_TIMES // 2) % SEND_TIMES - SEND_TIMES // 2
+            self.paced += abs(off) < SEND_TIME_HZ // 10
         self.last_of_flow[source[0]] = time, number
 
     def kind(self) -> Optional[Kind]:
@@ -74,8 +81,8 @@ class Guess:
             self._seen.setdefault(id, _Seen()).take((flow, ssrc), time, data)
 
     def map(self) -> Tuple[Map, Dict[int, str]]:
-        """The map, and by its id how each entry was found. What the data don't tell is what the id usually means, where
-        they don't gainsay that."""
+        """The map, and by its id how each entry was found: all ids that occur are there. What the data don't tell is what
+        the id usually means, where they don't gainsay that."""
         made = Map()
         origins: Dict[int, str] = {}
         for id, seen in sorted(self._seen.items()):
@@ -88,7 +95,12 @@ class Guess:
             seen_there = self._seen.get(id)
             if id not in made and made.id_of(kind) is None and (not seen_there or _may_be(kind, seen_there)):
                 made[id], origins[id] = kind, "usual"
-        return made, origins
+        return made, {id: origins.get(id, "unknown") for id in self.ids}
+
+    @property
+    def ids(self) -> List[int]:
+        """The ids that occur."""
+        return sorted(self._seen)
 
     def _text_ids(self, made: Map) -> List[int]:
         """Ids of texts: that of most sources is the mid, and of the others the first is the rid; the repaired rid is on
@@ -99,8 +111,13 @@ class Guess:
 
 
 def _may_be(kind: Kind, seen: _Seen) -> bool:
-    """Whether the elements of an id may be of the kind that it usually means."""
+    """Whether the elements of an id may be of the kind that it usually means, though their data aren't as those of its:
+    one that comes again has to run, to rise or to change, but for the level of silence."""
     if kind in (Kind.MID, Kind.RID, Kind.REPAIRED_RID):
         return seen.is_text()
-    lengths = {Kind.ABS_SEND_TIME: 3, Kind.TRANSPORT_NUMBER: 2}
-    return seen.lengths == {lengths.get(kind, 1)}
+    if kind == Kind.ABS_SEND_TIME:
+        return seen.lengths == {3} and not seen.steps
+    if kind == Kind.TRANSPORT_NUMBER:
+        return seen.lengths == {2} and (not seen.steps or (seen.changes > 0 and 10 * seen.near >= 9 * seen.steps))
+    comes_again = seen.count > len(seen.texts)
+    return seen.lengths == {1} and not (kind == Kind.AUDIO_LEVEL and comes_again and seen.loud)

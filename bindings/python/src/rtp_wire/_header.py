@@ -3,8 +3,8 @@
 from __future__ import annotations
 
 from ctypes import c_size_t, c_uint32
-from dataclasses import dataclass, field
-from typing import TYPE_CHECKING, FrozenSet, Iterable, Optional, Tuple, cast
+from dataclasses import dataclass, field, fields
+from typing import TYPE_CHECKING, Any, Dict, FrozenSet, Iterable, Optional, Tuple, cast
 
 from . import _library
 from ._buffers import address_of, place_of, view_of, writable_view_of
@@ -31,7 +31,8 @@ def read_layers(address: Address, length: int, map: Map) -> Layers:
 
 @dataclass
 class Header:
-    """The header of a packet, with the values of its block: read by `parse`, or filled and written by `write_all`.
+    """The header of a packet, with the values of its block: read by `parse`, or filled and written by `write_all`. What is
+    no field can't be set: it is an AttributeError.
 
     >>> from rtp_wire import Kind
     >>> header = Header(payload_type=33, sequence_number=47000, values=Values(mid="1"))
@@ -71,6 +72,13 @@ class Header:
     header_len: int = field(default=0, compare=False)
     """How many bytes the header took that was read: the payload begins there. Nothing is written of it."""
 
+    if not TYPE_CHECKING:  # by which a name that there isn't is found before
+
+        def __setattr__(self, name: str, value: object) -> None:
+            if name not in _FIELDS and type(self) is Header:
+                raise AttributeError(f"a header has no field {name!r}")
+            object.__setattr__(self, name, value)
+
     def __post_init__(self) -> None:
         if self.has_extension is None:
             self.has_extension = self.values != Values()
@@ -82,21 +90,27 @@ class Header:
         data, at = place_of(datagram)
         map, raw = Map() if map is None else map, _library.RawHeader()
         check(_library.parse(at, len(data), raw_map(map), raw))
-        values = values_of(raw.values)
+        layers = None
         if raw.values.has[-1]:
-            values.layers = read_layers(at, len(data), map)
-        return cls(
-            raw.payload_type,
-            raw.sequence_number,
-            raw.timestamp,
-            raw.ssrc,
-            tuple(raw.csrc[: raw.csrc_count]),
-            raw.marker != 0,
-            raw.has_padding != 0,
-            raw.has_extension != 0,
-            values,
-            raw.header_len,
-        )
+            layers = read_layers(at, len(data), map)
+        values = values_of(raw.values, layers)
+        fields_of: Dict[str, Any] = {
+            "payload_type": raw.payload_type,
+            "sequence_number": raw.sequence_number,
+            "timestamp": raw.timestamp,
+            "ssrc": raw.ssrc,
+            "csrc": tuple(raw.csrc[: raw.csrc_count]),
+            "marker": raw.marker != 0,
+            "has_padding": raw.has_padding != 0,
+            "has_extension": raw.has_extension != 0,
+            "values": values,
+            "header_len": raw.header_len,
+        }
+        if cls is not Header:
+            return cls(**fields_of)
+        header = object.__new__(Header)
+        vars(header).update(fields_of)  # all that __init__ does, in one step
+        return header
 
     def _raw(self, with_values: bool = True) -> _library.RawHeader:
         raw = _library.RawHeader()
@@ -209,6 +223,8 @@ class Header:
             checked(_library.write_with_form(*given, allowed, *into), LONG)
         return bytes(memoryview(buf)[: length.value])
 
+
+_FIELDS = {it.name for it in fields(Header)}
 
 # Why a header isn't written, all of whose fields are in their ranges.
 NO_LAYERS = "no element can carry the layers"

@@ -25,6 +25,10 @@ class Judges:
         self, receivers: MutableMapping[int, Receiver], rollover_count: int, ssrcs: Iterable[int]
     ) -> None:
         judges = {ssrc: receivers[ssrc] if ssrc in receivers else Receiver(rollover_count) for ssrc in ssrcs}
+        for ssrc, judge in judges.items():
+            if not isinstance(judge, Receiver):
+                told = f"the receiver of {ssrc} is {type(judge).__name__}, and not Receiver"
+                raise TypeError(f"{told}: have it judge the packets one by one")
         apart = {id(it): it for it in judges.values()}  # one may be that of several sources
         places = dict(zip(apart, range(len(apart))))
         self.receivers, self.judges, self.apart = receivers, judges, list(apart.values())

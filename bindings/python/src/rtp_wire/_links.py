@@ -4,7 +4,7 @@ from __future__ import annotations
 
 from ipaddress import ip_address
 from struct import unpack_from
-from typing import NamedTuple, Optional, Tuple, Union
+from typing import NamedTuple, Tuple, Union
 
 ETHERNET, NULL, LOOP, COOKED, COOKED_2 = 1, 0, 108, 113, 276
 RAW = (12, 14, 101, 228, 229)
@@ -35,36 +35,55 @@ class Fragment(NamedTuple):
     """One that is not the first of its datagram."""
 
 
-Found = Union[Payload, Fragment, None]
+class Left(NamedTuple):
+    """A frame that is left out."""
+
+    cause: str
+    """A name of `left` in tables.json."""
+    number: int = 0
+    """The Ethernet type, or the protocol of IP."""
+
+
+Found = Union[Payload, Fragment, Left]
+CUT, NO_IP = Left("cut"), Left("no_ip")
+# Below these types the number says how long a frame of IEEE 802.3 is.
+FIRST_TYPE = 0x0600
 
 
 def payload_of(data: bytes, at: int, end: int, link: int) -> Found:
-    """The payload of UDP in the frame that lies there; None where it has none."""
+    """The payload of UDP in the frame that lies there."""
     ip = _network_at(data, at, end, link)
-    if ip is None or ip >= end:
-        return None
-    return _of_ipv4(data, ip, end) if data[ip] >> 4 == 4 else _of_ipv6(data, ip, end)
+    if isinstance(ip, Left):
+        return ip
+    if ip >= end:
+        return CUT
+    version = data[ip] >> 4
+    return _of_ipv4(data, ip, end) if version == 4 else _of_ipv6(data, ip, end) if version == 6 else NO_IP
 
 
-def _network_at(data: bytes, at: int, end: int, link: int) -> Optional[int]:
-    """Where the header of IP begins in a frame; None where there is none."""
+def _network_at(data: bytes, at: int, end: int, link: int) -> Union[int, Left]:
+    """Where the header of IP begins in a frame."""
     if link in RAW:
         return at
     if link in (NULL, LOOP):
         return at + 4
     type_at, ip = {ETHERNET: (12, 14), COOKED: (14, 16), COOKED_2: (0, 20)}[link]
     if at + ip > end:
-        return None
+        return CUT
     (kind,), ip = unpack_from(">H", data, at + type_at), at + ip
     while kind in TAGS and ip + 4 <= end:
         (kind,), ip = unpack_from(">H", data, ip + 2), ip + 4
-    return ip if kind in (IPV4, IPV6) else None
+    if kind in (IPV4, IPV6):
+        return ip
+    return CUT if kind in TAGS else Left("type", kind) if kind >= FIRST_TYPE else Left("no_type")
 
 
 def _of_ipv4(data: bytes, at: int, end: int) -> Found:
     length = 4 * (data[at] & 15)
-    if at + 20 > end or length < 20 or data[at + 9] != UDP:
-        return None
+    if at + 20 > end or length < 20:
+        return CUT if at + 20 > end else NO_IP
+    if data[at + 9] != UDP:
+        return Left("protocol", data[at + 9])
     (flags,) = unpack_from(">H", data, at + 6)
     if flags & 0x1FFF:
         return Fragment()
@@ -72,19 +91,19 @@ def _of_ipv4(data: bytes, at: int, end: int) -> Found:
 
 
 def _of_ipv6(data: bytes, at: int, end: int) -> Found:
-    if at + 40 > end or data[at] >> 4 != 6:
-        return None
+    if at + 40 > end:
+        return CUT
     kind, here, is_fragment = data[at + 6], at + 40, False
     while kind in EXTENSIONS:
         if here + 8 > end:
-            return None
+            return CUT
         if kind == FRAGMENT:
             (offset,) = unpack_from(">H", data, here + 2)
             if offset >> 3:
                 return Fragment()
             is_fragment = offset & 1 != 0
         kind, here = data[here], here + _extension_length(data, kind, here)
-    return _of_udp(data, here, end, data[at + 8 : at + 40], is_fragment) if kind == UDP else None
+    return _of_udp(data, here, end, data[at + 8 : at + 40], is_fragment) if kind == UDP else Left("protocol", kind)
 
 
 def _extension_length(data: bytes, kind: int, at: int) -> int:
@@ -95,7 +114,7 @@ def _extension_length(data: bytes, kind: int, at: int) -> int:
 
 def _of_udp(data: bytes, at: int, end: int, addresses: bytes, is_fragment: bool) -> Found:
     if at + 8 > end:
-        return None
+        return CUT
     (said,) = unpack_from(">H", data, at + 4)
     # A length of 0 is that of a datagram above 65,535 bytes (RFC 2675), or of one that the card has yet to split.
     size = said - 8 if said >= 8 else end - at - 8

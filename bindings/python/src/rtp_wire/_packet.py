@@ -146,8 +146,8 @@ class Packet:
                 raise error_of(status)
         self._raw, self._values = raw, None
         if map is not None and bytes(raw)[_HAS_LAYERS_AT]:
-            self._values = values_of(raw.values)
-            self._values.layers = read_layers(at, self._len, map)
+            layers = read_layers(at, self._len, map)
+            self._values = values_of(raw.values, layers, of_a_packet=True)
 
     def __reduce__(self) -> Tuple[object, ...]:
         """Its datagram and map: what is stored is read again."""
@@ -316,10 +316,10 @@ class Packet:
 
     @property
     def values(self) -> Values:
-        """What the elements say under the map that the packet was parsed with; without a map each field is
-        None."""
+        """What the elements say under the map that the packet was parsed with; without a map each field is None. They
+        can't be set: `set_element` changes the packet, with the data that a copy of them has (`Values.data_of`)."""
         if self._values is None:
-            self._values = values_of(self._raw.values)
+            self._values = values_of(self._raw.values, of_a_packet=True)
         return self._values
 
     def elements(self) -> Iterator[Element]:

@@ -42,7 +42,8 @@ def structured_array(
 
     With receivers each packet is judged as by `Columns.receive`, and there are the fields `number`, masked where the
     packet isn't taken, and `verdict`, a `Verdict` as a number. The numbers have a sign, so that of those of a source
-    `numpy.diff` is -2 where one comes two late: one from 2^63 on is told less 2^64."""
+    `numpy.diff` is -2 where one comes two late: one from 2^63 on is told less 2^64. As with `Columns.receive` they know no
+    restart, and are those of one flow."""
     numpy: Any = import_module("numpy")
     data = place_of(buffer)[0]
     begins, sizes = places_of(at, lengths)

@@ -6,10 +6,11 @@ import csv
 import io
 import json
 from pathlib import Path
-from typing import Any, Dict, Iterable, Iterator, List, Optional, Union
+from typing import Any, Dict, Iterable, Iterator, List, Optional, Tuple, Union
 
 from ._analysis import Analysis
-from ._capture import SECOND, Sentence
+from ._capture import Sentence
+from ._frames import SECOND
 from ._links import ends_of
 from ._source import DUPLICATE, LATE, OUTSIDE, RESTART, TAKEN, Source
 
@@ -62,7 +63,17 @@ def as_csv(name: str, rows: Table) -> str:
 
 
 def sentence_of(sentence: Sentence) -> str:
-    return str(DESCRIBED["sentences"][sentence.name]).format(**sentence.words)
+    words = {name: _causes(it) if isinstance(it, list) else it for name, it in sentence.words.items()}
+    return str(DESCRIBED["sentences"][sentence.name]).format(**words)
+
+
+def _causes(causes: List[Tuple[str, int, int]]) -> str:
+    """How many frames were left out for each cause: "95 of TCP, 3 of the Ethernet type 0x0806"."""
+    texts = []
+    for cause, number, count in causes:
+        of = f"0x{number:04x}" if cause == "type" else DESCRIBED["protocols"].get(str(number), f"the IP protocol {number}")
+        texts.append(f"{count} {DESCRIBED['left'][cause].format(of=of)}")
+    return ", ".join(texts)
 
 
 def datagram_rows(analysis: Analysis) -> Table:
@@ -72,7 +83,7 @@ def datagram_rows(analysis: Analysis) -> Table:
 
 def extension_rows(analysis: Analysis) -> Table:
     uris, origins = analysis.map.uris, DESCRIBED["origins"]
-    return [[id, uris.get(id, ""), origins[analysis.origins[id]]] for id in analysis.map]
+    return [[id, uris.get(id, ""), origins[origin]] for id, origin in analysis.origins.items()]
 
 
 def source_rows(analysis: Analysis) -> Table:
@@ -116,6 +127,7 @@ def _source_row(analysis: Analysis, source: Source, flows: List[bytes]) -> List[
         _ratio(source.jitter_highest, 10_000, source.clock),
         _ratio(source.bytes, 8 * SECOND // 1000, took) if is_timed else None,
         source.clock,
+        DESCRIBED["clocks"].get(source.clock_by, ""),
         source.first // 1_000_000 if is_timed else None,
         took // 1_000_000 if is_timed else None,
         worst,
@@ -161,9 +173,11 @@ def sentences_of(analysis: Analysis) -> Iterator[str]:
         seconds = shown(max(capture.times) // 1_000_000, milliseconds)
         name = "read" if capture.is_timed else "untimed"
         yield sentence_of(Sentence(name, {**words, "seconds": seconds, "sources": len(analysis.sources)}))
-        worst = analysis.worst()
+        worst, restarts = analysis.worst(), sum(it.counts[RESTART] for it in analysis.sources)
         if worst:
             yield sentence_of(Sentence("worst", worst._asdict()))
-        elif analysis.sources and not any(it.gaps() for it in analysis.sources):
+        elif analysis.sources and not restarts and not any(it.gaps() for it in analysis.sources):
             yield sentence_of(Sentence("none_lost", {}))
+        if restarts:
+            yield sentence_of(Sentence("restarts", {"count": restarts}))
     yield from map(sentence_of, capture.sentences)

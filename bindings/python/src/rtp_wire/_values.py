@@ -47,7 +47,19 @@ class VideoTiming(NamedTuple):
 @dataclass(repr=False)
 class Values:
     """What the elements of a block say under a map. A value is None where it isn't there. Some are read as str0m does
-    and not as the standard of the extension has them: what says so names the call that does."""
+    and not as the standard of the extension has them: what says so names the call that does.
+
+    A value may be set, but for those that a packet tells: they say what lies in its datagram, and a copy of them may
+    be changed. What is no value can't be set: it is an AttributeError.
+
+    >>> import dataclasses
+    >>> from rtp_wire import Kind, Map, Packet
+    >>> datagram = bytearray.fromhex("90000000 00000000 00000000 BEDE0001 108A0000")
+    >>> packet = Packet.parse(datagram, Map({1: Kind.AUDIO_LEVEL}))
+    >>> packet.set_element(1, dataclasses.replace(packet.values, audio_level=-5).data_of(Kind.AUDIO_LEVEL))
+    >>> packet.values
+    Values(audio_level=-5, voice_activity=True)
+    """
 
     mid: Optional[str] = None
     """The media section, up to 16 letters, digits and underscores (RFC 9143). As read each other character is an
@@ -114,6 +126,13 @@ class Values:
         check(_library.data_of(kind_number(kind), raw, address_of(view), len(data), length))
         return bytes(view[: length.value])
 
+    if not TYPE_CHECKING:  # by which a name that there isn't is found before
+
+        def __setattr__(self, name: str, value: object) -> None:
+            if name not in _ABSENT and type(self) is Values:
+                raise AttributeError(f"there is no value {name!r}")
+            object.__setattr__(self, name, value)
+
     def __repr__(self) -> str:
         """With the values that are there alone."""
         told = ((it.name, getattr(self, it.name)) for it in fields(self))
@@ -121,6 +140,22 @@ class Values:
 
 
 Raw = _library.RawValues
+_ABSENT: Dict[str, Any] = {it.name: None for it in fields(Values)}
+
+
+class _Told(Values):
+    """Values that a packet tells, which can't be set. In all else they are `Values`, as a copy of them is."""
+
+    if not TYPE_CHECKING:
+        __class__ = property(lambda self: Values)
+
+        def __setattr__(self, name: str, value: object) -> None:
+            told = f"{name} is what a packet tells, and can't be set"
+            raise AttributeError(f"{told}: set_element changes the packet, and a copy of the values may be changed")
+
+    def __reduce__(self) -> Tuple[object, ...]:
+        return Values, tuple(vars(self).values())
+
 
 
 def _time_of(raw: _library.RawTime) -> Time:
@@ -152,11 +187,14 @@ def _readers_of(has: bytes) -> Tuple[Tuple[str, Callable[[Raw], Any]], ...]:
     return tuple((name, _READERS.get(name) or attrgetter(name)) for name in there)
 
 
-def values_of(raw: Raw) -> Values:
-    """The values of the struct, but for a layer allocation."""
-    values = Values()
+def values_of(raw: Raw, layers: Optional[Layers] = None, of_a_packet: bool = False) -> Values:
+    """The values of the struct, with this layer allocation; those of a packet can't be set."""
+    values: Values = object.__new__(_Told if of_a_packet else Values)
+    there = vars(values)
+    there.update(_ABSENT)
     for name, read in _readers_of(bytes(raw.has)):
-        setattr(values, name, read(raw))
+        there[name] = read(raw)
+    there["layers"] = layers
     return values
 
 

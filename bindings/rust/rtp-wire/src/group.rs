@@ -31,7 +31,8 @@ pub struct Group<'a> {
     /// What the data of the elements are bytes of.
     pub data: &'a [u8],
     /// The elements that are then put into the header, in this order, each by its place in `data`: at most 16, of ids
-    /// of their own, as [`put_element`](crate::put_element) takes them.
+    /// of their own, as [`put_element`](crate::put_element) takes them. A receiver's own data are theirs one after
+    /// another in this order, whatever the places here are.
     pub elements: &'a [Place],
     /// The form that alone the block may get, or both. One that gets no element, and no id above 14, keeps its form.
     pub allowed: Option<Form>,

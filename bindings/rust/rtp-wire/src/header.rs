@@ -272,7 +272,10 @@ impl Header {
         Ok(kinds)
     }
 
-    /// Writes the header as [`write_to`](Header::write_to) does, where no value is left out.
+    /// Writes the header as [`write_to`](Header::write_to) does, where no value is left out. Of a packet that was read
+    /// it writes the values alone: elements that have none, as those of an unknown URI, and a block of another form
+    /// aren't seen here. To send it on with all of these change it where it lies
+    /// ([`PacketMut`](crate::PacketMut)).
     ///
     /// # Errors
     ///

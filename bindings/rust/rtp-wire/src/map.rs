@@ -257,6 +257,18 @@ impl Map {
         if id != 0 {
             self.kinds.kind[id as usize] = kind.number();
         }
+        self.settled()
+    }
+
+    /// The same map, which is none of an `OwnUris` where no id means a kind of the caller's own.
+    const fn settled(mut self) -> Map {
+        let mut id = 1;
+        while id < 256 && self.kinds.kind[id] < sys::KIND_OWN {
+            id += 1;
+        }
+        if id == 256 {
+            self.table = 0;
+        }
         self
     }
 
@@ -272,10 +284,14 @@ impl Map {
         }
         let Some(kind) = kind else {
             sys::map_remove(&mut self.kinds, id);
+            *self = self.settled();
             return Ok(());
         };
         match sys::map_set(&mut self.kinds, id, kind.number()) {
-            sys::OK => Ok(()),
+            sys::OK => {
+                *self = self.settled();
+                Ok(())
+            }
             _ => Err(BadId),
         }
     }

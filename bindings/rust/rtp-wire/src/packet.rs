@@ -170,7 +170,8 @@ impl<'a> Packet<'a> {
     }
 
     /// The payload without its padding; `None` where the padding's last byte counts more bytes than the
-    /// payload has. Of SRTP the padding is encrypted: decrypt first.
+    /// payload has. A last byte of 0 takes nothing away, and neither does P of an empty payload. Of SRTP the
+    /// padding is encrypted: decrypt first.
     #[must_use]
     pub fn unpadded_payload(&self) -> Option<&'a [u8]> {
         if self.parts.padding_fits == 0 {
@@ -221,7 +222,8 @@ impl<'a> Packet<'a> {
         (self.parts.block_form != sys::NO_BLOCK).then_some(body)
     }
 
-    /// The elements of the block, in order: none where there is no block, or one of another form.
+    /// The elements of the block, in order: none where there is no block, or one of another form. One of the id 0 with
+    /// length bits (RFC 8285, 4.2) is told with the id 0, which no call writes, and those behind it are told too.
     #[must_use]
     pub fn elements(&self) -> Elements<'a> {
         Elements::of(self.block())

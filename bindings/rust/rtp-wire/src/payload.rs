@@ -101,10 +101,11 @@ pub fn to_retransmission(
 /// The first that applies; nothing changes then.
 ///
 /// ```
-/// use rtp_wire::{from_retransmission, NewIds};
+/// use rtp_wire::{from_retransmission, Map, NewIds};
 ///
+/// let ids = NewIds::from_retransmission(&Map::standard()); // an id that has none here loses its elements
 /// let mut buf = *b"\x80\x61\0\x07\0\0\0\x0A\0\0\0\x2D\0\x05\xAA\xBB";
-/// assert_eq!(from_retransmission(&mut buf, 16, 44, 96, &NewIds::new()), Ok(14));
+/// assert_eq!(from_retransmission(&mut buf, 16, 44, 96, &ids), Ok(14));
 /// assert_eq!(buf[..14], *b"\x80\x60\0\x05\0\0\0\x0A\0\0\0\x2C\xAA\xBB");
 /// ```
 pub fn from_retransmission(

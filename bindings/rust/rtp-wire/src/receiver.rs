@@ -112,6 +112,7 @@ impl Receiver {
 
     /// Takes a packet that needn't be authenticated, and returns its extended number; `None`, and
     /// nothing changes, where it is a replay or too old to tell.
+    #[must_use]
     pub fn receive(&mut self, sequence_number: u16) -> Option<u64> {
         sys::receiver_receive(&mut self.state, sequence_number)
     }

@@ -4,6 +4,7 @@ use crate::views::{RestartingState, WideState};
 
 /// What a [`RestartingReceiver`] says of a packet. The low 16 bits of a number are those of the header.
 #[derive(Clone, Copy, Debug, PartialEq, Eq)]
+#[must_use]
 pub enum Arrival {
     /// It has this extended number, and is taken.
     Taken(u64),
@@ -114,9 +115,9 @@ impl<const WORDS: usize> WideRestartingReceiver<WORDS> {
     }
 
     /// A receiver that has taken nothing yet, with other bounds. A packet of the stream is less than
-    /// `max_dropout` above the highest number taken; 0 stands for 3,000. A source is valid, and its first
-    /// packet is taken, with the last of `min_sequential` packets in a row, each with the number after that
-    /// of the one before; 0 is the same as 1, and RFC 3550's `MIN_SEQUENTIAL` is 2.
+    /// `max_dropout` above the highest number taken; 0 stands for 3,000. The first packet of a source that is
+    /// taken is the last of `min_sequential` packets in a row, each with the number after that of the one
+    /// before; those before it are refused. 0 is the same as 1, and RFC 3550's `MIN_SEQUENTIAL` is 2.
     #[must_use]
     pub fn with_bounds(max_dropout: u16, min_sequential: u8) -> Self {
         let mut receiver = Self::new();

@@ -170,7 +170,7 @@ mod c {
         pub fn rtpw_write_elements(data: *const u8, data_len: usize, elements: *const Place, count: usize, form: u8, buf: *mut u8, size: usize, len: *mut usize) -> i32;
         pub fn rtpw_read_send_time(data: *const u8, data_len: usize, units: *mut u32) -> i32;
         pub fn rtpw_write_send_time(units: u32, buf: *mut u8, size: usize, len: *mut usize) -> i32;
-        pub fn rtpw_extend_send_time(near: u64, units: u32) -> u64;
+        pub fn rtpw_extend_send_time(around: u64, units: u32) -> u64;
         pub fn rtpw_read_transmission_offset(data: *const u8, data_len: usize, offset: *mut i32) -> i32;
         pub fn rtpw_write_transmission_offset(offset: i32, buf: *mut u8, size: usize, len: *mut usize) -> i32;
         pub fn rtpw_read_frame_marking(data: *const u8, data_len: usize, marking: *mut FrameMarkingView) -> i32;
@@ -189,7 +189,7 @@ mod c {
         pub fn rtpw_write_ntp_64(time: u64, buf: *mut u8, size: usize, len: *mut usize) -> i32;
         pub fn rtpw_read_ntp_56(data: *const u8, data_len: usize, time: *mut u64) -> i32;
         pub fn rtpw_write_ntp_56(time: u64, buf: *mut u8, size: usize, len: *mut usize) -> i32;
-        pub fn rtpw_extend_ntp_56(near: u64, low: u64) -> u64;
+        pub fn rtpw_extend_ntp_56(around: u64, low: u64) -> u64;
         pub fn rtpw_read_color_space(data: *const u8, data_len: usize, space: *mut ColorSpaceView) -> i32;
         pub fn rtpw_write_color_space(space: *const ColorSpaceView, buf: *mut u8, size: usize, len: *mut usize) -> i32;
         pub fn rtpw_read_dependency_descriptor(data: *const u8, data_len: usize, descriptor: *mut DependencyDescriptorView) -> i32;
@@ -467,9 +467,9 @@ pub fn write_send_time(units: u32, buf: &mut [u8], len: &mut usize) -> i32 {
     unsafe { c::rtpw_write_send_time(units, buf.as_mut_ptr(), buf.len(), len) }
 }
 
-pub fn extend_send_time(near: u64, units: u32) -> u64 {
+pub fn extend_send_time(around: u64, units: u32) -> u64 {
     // SAFETY: as above.
-    unsafe { c::rtpw_extend_send_time(near, units) }
+    unsafe { c::rtpw_extend_send_time(around, units) }
 }
 
 pub fn read_transmission_offset(data: &[u8]) -> Option<i32> {
@@ -578,9 +578,9 @@ pub fn write_ntp_56(time: u64, buf: &mut [u8], len: &mut usize) -> i32 {
     unsafe { c::rtpw_write_ntp_56(time, buf.as_mut_ptr(), buf.len(), len) }
 }
 
-pub fn extend_ntp_56(near: u64, low: u64) -> u64 {
+pub fn extend_ntp_56(around: u64, low: u64) -> u64 {
     // SAFETY: as above.
-    unsafe { c::rtpw_extend_ntp_56(near, low) }
+    unsafe { c::rtpw_extend_ntp_56(around, low) }
 }
 
 pub fn read_color_space(data: &[u8]) -> Option<ColorSpaceView> {

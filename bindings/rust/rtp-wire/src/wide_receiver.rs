@@ -105,6 +105,7 @@ impl<const WORDS: usize> WideReceiver<WORDS> {
 
     /// Takes a packet that needn't be authenticated, and returns its extended number; `None`, and
     /// nothing changes, where it is a replay or too old to tell.
+    #[must_use]
     pub fn receive(&mut self, sequence_number: u16) -> Option<u64> {
         sys::wide_receiver_receive(&mut self.state, &mut self.words, sequence_number)
     }

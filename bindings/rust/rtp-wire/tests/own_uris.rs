@@ -216,3 +216,21 @@ fn the_call_of_1_0_drops_what_is_not_known() {
     assert_eq!(Map::from_uris([(0, MID)]), Err(BadId));
     assert_eq!(Map::from_uris([(0, "urn:x")]), Ok(Map::new()));
 }
+
+#[test]
+fn a_map_without_own_kinds_is_of_no_uris() {
+    let mut uris = OwnUris::new();
+    let mut map = uris.map([(3, "urn:x"), (5, MID), (7, "urn:y")]).unwrap();
+    let known = Map::new().with(5, Kind::Mid);
+    map.set(3, None).unwrap();
+    assert_ne!(
+        map,
+        known.with(7, own(129)),
+        "the numbers are of these URIs"
+    );
+    assert_eq!(map.with(7, Kind::Rid), known.with(7, Kind::Rid));
+    map.set(7, Some(Kind::Rid)).unwrap();
+    assert_eq!(map, known.with(7, Kind::Rid));
+    map.set(7, None).unwrap();
+    assert_eq!(map, known);
+}

@@ -5,21 +5,55 @@
  * outputs holds for every input. Two things are written in C, and tested: rtpw_status_text, and the comparison that
  * stands in front of seven functions of elements and blocks, which refuses data that lie in the buffer.
  *
- *     rtpw_map map; // what the ids of header extensions mean, by the SDP (rtpw_map_set); here the usual ones
- *     rtpw_map_standard(&map);
- *     ...
+ * What a server takes first, each with when; the others stand below, by their subjects:
+ *
+ *     rtpw_map_set                  for each line a=extmap of a peer's SDP: what the id means, the number of
+ *     rtpw_kind_of_uri                its URI
+ *     rtpw_new_ids_between          for two peers: the ids that elements get on the way from one to the other
+ *     rtpw_read                     for each datagram: its header and where its parts lie, or that it is RTCP
+ *     rtpw_next_element             for its elements one by one, also those that no value is of
+ *     rtpw_wide_restarting_receive  where nothing is authenticated: its number, or that it came before or the
+ *                                     sender has started again
+ *     rtpw_receiver_start           with SRTP: for each SSRC, then for each of its packets
+ *     rtpw_receiver_number_of         its number,
+ *     rtpw_receiver_accepts           whether that is worth authenticating,
+ *     rtpw_receiver_record            and that it is authentic
+ *     rtpw_set_fields               for a packet that goes on to one peer, where it lies: its fields,
+ *     rtpw_renumber                   its ids,
+ *     rtpw_set_element                the data of an element,
+ *     rtpw_remove_element             or an element less
+ *     rtpw_put_element              and with room behind it: an element that it may not have
+ *     rtpw_prepare_group            for all peers that a stream goes to, then for each packet
+ *     rtpw_make_from_group            what they have in common,
+ *     rtpw_write_headers              and the header for each
+ *     rtpw_write                    for a header of one's own, with values
+ *
+ *     rtpw_map map = {{0}}; // what the ids of a peer mean
+ *     if (rtpw_map_set(&map, 1, rtpw_kind_of_uri((const uint8_t *)uri, strlen(uri))) != RTPW_OK) {
+ *         return unknown(uri); // it gets a number of your own (rtpw_map)
+ *     }
+ *     rtpw_wide_restarting_receiver receiver = {0}; // of one SSRC, with a window of 64 * 16 numbers
+ *     uint64_t words[16] = {0};
+ *     ..
  *     rtpw_whole_packet packet;
+ *     uint64_t number;
  *     int32_t status = rtpw_read(datagram, len, &map, &packet);
  *     if (status == RTPW_RTCP) { // which comes to the same port
  *         return control(datagram, len);
  *     }
- *     if (status != RTPW_OK) {
- *         return drop(status);
+ *     if (status != RTPW_OK || !packet.padding_fits) {
+ *         return drop(datagram, len); // no packet, or padding longer than its payload
+ *     }
+ *     status = rtpw_wide_restarting_receive(&receiver, words, 16, packet.header.sequence_number, &number);
+ *     if (status == RTPW_RESTARTED) {
+ *         begin_anew(packet.header.ssrc); // and go on: the packet is taken
+ *     } else if (status != RTPW_OK) {
+ *         return drop(datagram, len); // it came before, is too old, or far from the stream
  *     }
  *     if (packet.header.values.has_audio_level) {
  *         show(packet.header.ssrc, packet.header.values.audio_level);
  *     }
- *     deliver(packet.header.ssrc, packet.header.timestamp, datagram + packet.header.header_len, packet.unpadded_len);
+ *     deliver(number, packet.header.timestamp, datagram + packet.header.header_len, packet.unpadded_len);
  *
  * Each function may be called with any values, and returns. It keeps no pointer, has no state of its
  * own and takes no memory but that of the stack. Calls on several threads at once are safe as long as
@@ -37,8 +71,9 @@
  *
  * A buffer is a pointer and then its size in bytes. Numbers are in the byte order of the machine: what stands in a
  * packet in network byte order is turned. Outputs are written whole where the status is RTPW_OK, and else not at all,
- * unless they are RTPW_WRITTEN_IF others; what rtpw_make_template and rtpw_make_from_group leave in their buffer then may be anything. The calls
- * for many at once return nothing, and write a status beside each; so does rtpw_write_headers, which returns one too.
+ * unless they are RTPW_WRITTEN_IF others; what rtpw_make_template and rtpw_make_from_group leave in their buffer then
+ * may be anything. The calls for many at once return nothing, and write a status beside each; so does
+ * rtpw_write_headers, which returns one too.
  *
  * Where a call has several faults, the status is that of the first of these:
  *   1. an argument is out of its range whatever the buffers hold, or data lie in the buffer: RTPW_BAD_FIELD, and from
@@ -133,7 +168,7 @@ enum {
     RTPW_NONE = 11,             /* there is no such element */
     RTPW_RESTARTED = 12,        /* a packet is taken, as with RTPW_OK, and is the first one after its sender has started
                                  * again: whoever drops what isn't RTPW_OK drops it */
-    RTPW_BAD_ID = 13,           /* the id is 0, which no element has */
+    RTPW_BAD_ID = 13,           /* the id is 0, which is padding's */
     RTPW_FORM_NOT_ALLOWED = 14, /* the block has, or an element needs, a form that isn't allowed */
     RTPW_LONG_BLOCK = 15,       /* the block would have more than 65,535 words */
     RTPW_LONG_ID = 16,          /* an id is above 14, which the one-byte form can't carry */
@@ -263,7 +298,9 @@ RTPW_CHECKED int32_t rtpw_set_csrc(RTPW_INOUT RTPW_COUNT(len) uint8_t *datagram,
                                    uint32_t source);
 
 /* Gives the last element of this id these data. RTPW_BAD_FIELD, before all else, where one of them lies in the
- * datagram; RTPW_NONE where the packet has no element of the id, or its last one has another number of bytes. */
+ * datagram; RTPW_NONE where the packet has no element of the id, or its last one has another number of bytes. Where
+ * rtpw_id_of returned 0 don't call it: padding of the one-byte form that has length bits (RFC 8285, 4.2) is told, found,
+ * set and removed as an element of the id 0, though none is put or written. */
 RTPW_CHECKED int32_t rtpw_set_element(RTPW_INOUT RTPW_COUNT(len) uint8_t *datagram, size_t len, uint8_t id,
                                       RTPW_COUNT(data_len) RTPW_MAY_OVERLAP(datagram) const uint8_t *data,
                                       size_t data_len);
@@ -363,7 +400,7 @@ RTPW_CHECKED int32_t rtpw_change_form(RTPW_INOUT RTPW_COUNT(size) uint8_t *buf, 
  * and rtpw_compact leave:
  *
  *     int32_t status = rtpw_packet_parse(bytes, len, &packet);
- *     if (status == RTPW_OK && packet.body_len == 0) {
+ *     if (status == RTPW_OK && packet.body_len == 0 && packet.block_form != RTPW_OTHER_FORM) { // not that of Cryptex
  *         status = rtpw_remove_block(bytes, sizeof bytes, &len);
  *     }
  *
@@ -391,7 +428,7 @@ typedef struct {
     size_t data_at;  /* where its data begin */
     size_t data_len; /* 0 to 255 */
     size_t end;      /* where its data end */
-    uint8_t id;      /* 0 to 14 in the one-byte form, 1 to 255 in the two-byte form */
+    uint8_t id;      /* 0 to 14 in the one-byte form, where 0 is padding's with length bits; 1 to 255 in the other */
 } rtpw_element;
 
 /* The first element from an offset on. RTPW_OK; RTPW_NONE where reading ends before an element;
@@ -464,12 +501,15 @@ enum {
  *
  * Or from the lines of an SDP, `a=extmap:ID URI` (RFC 8285, 5 and 6). A URI that this library doesn't know gets a
  * number of yours, the same in the maps of all peers of a call: so its elements go on from one to the other. Without a
- * number they become padding (rtpw_renumber), though both peers agreed on them. `uris` is kept for the call:
+ * number they become padding (rtpw_renumber), though both peers agreed on them. Where a URI may stand several times, as
+ * urn:ietf:params:rtp-hdrext:encrypt before the one that it encrypts (RFC 6904) or one with attributes, let `uri` be
+ * all that stands behind the id: else both ids mean one kind, and rtpw_new_ids_between makes one of them. `uris` is
+ * kept for the call:
  *
  *     uint8_t kind = rtpw_kind_of_uri((const uint8_t *)uri, strlen(uri));
  *     for (int own = RTPW_KIND_OWN; kind == RTPW_KIND_NONE && own < 256; own++) {
  *         if (uris[own] == NULL) {
- *             uris[own] = strdup(uri);
+ *             uris[own] = strdup(uri); // of POSIX and C23
  *         }
  *         if (uris[own] != NULL && strcmp(uris[own], uri) == 0) {
  *             kind = (uint8_t)own;
@@ -584,7 +624,7 @@ RTPW_CHECKED int32_t rtpw_values_read(RTPW_COUNT(body_len) const uint8_t *body, 
  *     size_t data_len;
  *     if (rtpw_data_of(RTPW_KIND_ABS_SEND_TIME, &values, data, sizeof data, &data_len) == RTPW_OK) {
  *         uint8_t id = rtpw_id_of(&map, RTPW_KIND_ABS_SEND_TIME);
- *         status = rtpw_set_element(datagram, len, id, data, data_len);
+ *         status = id == 0 ? RTPW_NONE : rtpw_set_element(datagram, len, id, data, data_len);
  *     }
  *
  * RTPW_OK; RTPW_BAD_FIELD where the kind is RTPW_KIND_NONE or one of 21 to 127, or a value that is there,
@@ -612,7 +652,8 @@ typedef struct {
     uint8_t has_padding;   /* P: 0 or 1. As written only with padding behind the payload (rtpw_pad): where one that was
                             * read is written for a payload without its padding clear it, or each peer takes the
                             * payload's last bytes for padding */
-    uint8_t has_extension; /* X: 0 or 1, whether there is a block */
+    uint8_t has_extension; /* X: 0 or 1, whether there is a block. As written of a header that was read: a block of
+                            * another form isn't here, and an empty one is written unless it is cleared */
     rtpw_values values;    /* of the block: none where there is none */
 } rtpw_header;
 
@@ -834,12 +875,12 @@ RTPW_CHECKED int32_t rtpw_read_send_time(RTPW_COUNT(data_len) const uint8_t *dat
 RTPW_CHECKED int32_t rtpw_write_send_time(uint32_t units, RTPW_OUT RTPW_COUNT(size) uint8_t *buf, size_t size,
                                           RTPW_OUT size_t *len);
 /* The time, in units of 2^-32 seconds, whose low 38 bits are the low 24 of `units` and then 14 zeros, and that is
- * nearest to `near`, modulo 2^64; of two that are equally near the later one. Where `near` is the time at which the
+ * nearest to `around`, modulo 2^64; of two that are equally near the later one. Where `around` is the time at which the
  * packet arrived, of a clock that is less than 32 seconds off the sender's, it is the time at which that sent it:
  *
  *     uint64_t sent = rtpw_extend_send_time(0xE0000000C0000000, 0xFFFFFF); // 0xDFFFFFFFFFFFC000
  */
-uint64_t rtpw_extend_send_time(uint64_t near, uint32_t units);
+uint64_t rtpw_extend_send_time(uint64_t around, uint32_t units);
 
 /* The transmission time offset (RFC 5450, 3): how long after the time of its timestamp the packet was sent, in ticks of
  * the stream's clock, -8,388,608 to 8,388,607; another is RTPW_BAD_FIELD. Three bytes, with a sign.
@@ -971,10 +1012,10 @@ RTPW_CHECKED int32_t rtpw_read_ntp_56(RTPW_COUNT(data_len) const uint8_t *data, 
                                       RTPW_OUT uint64_t *time);
 RTPW_CHECKED int32_t rtpw_write_ntp_56(uint64_t time, RTPW_OUT RTPW_COUNT(size) uint8_t *buf, size_t size,
                                        RTPW_OUT size_t *len);
-/* The timestamp of 64 bits that ends in the low 56 bits of `low` and is nearest to `near`, modulo 2^64; of two that are
- * equally near the later one. Where `near` is less than 97 days off, as the time at which the packet arrived, it is the
- * time that the sender meant. */
-uint64_t rtpw_extend_ntp_56(uint64_t near, uint64_t low);
+/* The timestamp of 64 bits that ends in the low 56 bits of `low` and is nearest to `around`, modulo 2^64; of two that
+ * are equally near the later one. Where `around` is less than 97 days off, as the time at which the packet arrived, it
+ * is the time that the sender meant. */
+uint64_t rtpw_extend_ntp_56(uint64_t around, uint64_t low);
 
 /* Which numbers stand for the colors of a video. */
 enum {
@@ -1069,6 +1110,7 @@ typedef struct {
  * own. Make it once for two streams:
  *
  *     rtpw_new_ids_between(&publisher.map, &subscriber.map, &route.ids);
+ *     route.ids.id[rtpw_id_of(&publisher.map, RTPW_KIND_TRANSPORT_NUMBER)] = 0; // it is of one transport alone
  *     ...
  *     int32_t status = rtpw_renumber(datagram, len, &route.ids); // for each packet
  */
@@ -1082,10 +1124,11 @@ RTPW_CHECKED int32_t rtpw_renumber(RTPW_INOUT RTPW_COUNT(len) uint8_t *datagram,
 /* ---- Padding and retransmissions ---- */
 
 /* Makes a packet of padding alone after its header: sets P, and writes the padding from header_len on,
- * zeros and in the last byte their count: pad_len rounded up to whole blocks, at most 240 bytes. With a
- * pad_len of 0 nothing changes, no room is wanted, and the count is 0. To pad a packet with a payload, pass
- * the end of the payload as header_len. Whether the buffer holds a packet isn't looked at: with a header_len of 0
- * the padding takes the place of the first byte, and no P is set. RTPW_OK;
+ * zeros and in the last byte their count: pad_len rounded up to whole blocks, at most 240 bytes, which are whole blocks
+ * of 16 bytes, and not of each size. With a pad_len of 0 nothing changes, no room is wanted, and the count is 0. To
+ * pad a packet with a payload, pass the end of the payload without its padding as header_len. Whether the buffer holds
+ * a packet isn't looked at: with a header_len of 0 the padding takes the place of the first byte, and no P is set.
+ * RTPW_OK;
  * RTPW_BAD_FIELD where block_size is 0, whatever pad_len is; RTPW_SHORT_BUFFER where size is below header_len
  * and the padding. The packet then has header_len + *count bytes. */
 RTPW_CHECKED int32_t rtpw_pad(RTPW_INOUT RTPW_COUNT(size) uint8_t *datagram, size_t size, size_t header_len,
@@ -1162,7 +1205,8 @@ RTPW_CHECKED int32_t rtpw_from_retransmission(RTPW_INOUT RTPW_COUNT(size) uint8_
  * caller set it.
  *
  * SRTP: number_of, accepts, authenticate the packet, record; a forged packet then changes nothing.
- * Where nothing is authenticated: receive. */
+ * Where nothing is authenticated one stray packet far ahead is taken, and shuts out all that come behind it, as a
+ * sender's restart may: rtpw_wide_restarting_receiver refuses the one and tells the other. */
 typedef struct {
     uint64_t highest;       /* the highest number taken; before that, 65,536 times the first packet's rollover count */
     uint64_t recorded_low;  /* bit i: whether highest - i is taken, and so bit 0 is set; 0 before that */
@@ -1307,16 +1351,20 @@ RTPW_CHECKED int32_t rtpw_restarting_receive(RTPW_INOUT RTPW_WRITTEN_IF(RTPW_OK,
 /* Statistics of the packets that came from one source, by which its receiver reports what it got (RFC 3550, 6.4.1,
  * A.3 and A.8):
  *
- *     uint64_t number = rtpw_receiver_number_of(&receiver, packet.sequence_number);
- *     rtpw_reception_record(&reception, number, packet.timestamp, now);
+ *     status = rtpw_wide_restarting_receive(&receiver, words, 16, header->sequence_number, &number);
+ *     if (status == RTPW_RESTARTED) {
+ *         memset(&reception, 0, sizeof reception); // and begin anew
+ *     }
+ *     if (receiver.in_row == 0) { // it is of the stream, taken or not
+ *         number = rtpw_extend_u16(receiver.highest, header->sequence_number);
+ *         rtpw_reception_record(&reception, number, header->timestamp, now);
+ *     }
  *
- * Record each packet of the source, those that are late and duplicates too, whether the receiver then takes it or
- * refuses it: they count as received, so that the loss may be negative. With SRTP record it once it is authentic.
+ * Record each packet of the source, those that are late and duplicates too, whether the receiver takes it or
+ * refuses it: they count as received, so that the loss may be negative. With SRTP record it once it is authentic, by
+ * rtpw_receiver_number_of.
  * Packets are expected from the first one's number on, even where one with a lower number comes later: once one came
  * these are highest - first + 1.
- *
- * Of packets that an rtpw_restarting_receiver refuses record those of the stream, after which its in_row is 0:
- * rtpw_extend_u16(receiver.highest, ..) is their number. After RTPW_RESTARTED begin anew with {0}.
  *
  * 56 bytes of plain memory. {0} has recorded nothing yet. Each value may be passed, but what is reported of one that
  * these calls don't leave means nothing. A count of packets past 64 bits stays at 2^64 - 1. */
@@ -1404,7 +1452,8 @@ RTPW_CHECKED int32_t rtpw_wide_restarting_receive(RTPW_INOUT RTPW_WRITTEN_IF(RTP
 
 /* The number nearest to the previous one, modulo 2^64, that ends in these 8, 15, 16 or 32 bits. Where two
  * are equally near it is the one with the rollover count of the previous one. The sixteenth bit of what is
- * extended as 15 bits isn't looked at. */
+ * extended as 15 bits isn't looked at. Begin with the first number and one rollover, 2^16 more for 16 bits: from 0 on a
+ * number in the upper half of the range gets one near 2^64. */
 uint64_t rtpw_extend_u8(uint64_t previous, uint8_t number);
 uint64_t rtpw_extend_u15(uint64_t previous, uint16_t number);
 uint64_t rtpw_extend_u16(uint64_t previous, uint16_t number);
@@ -1432,7 +1481,7 @@ uint64_t rtpw_extend_u32(uint64_t previous, uint32_t number);
  *         const rtpw_header *header = &it->packet.header;
  *         if (it->status == RTPW_RTCP) {
  *             control(buf + it->at, it->len);
- *         } else if (it->status == RTPW_OK) {
+ *         } else if (it->status == RTPW_OK && it->packet.padding_fits) {
  *             deliver(header->ssrc, buf + it->at + header->header_len, it->packet.unpadded_len);
  *         }
  *     }
@@ -1597,7 +1646,9 @@ typedef struct {
 /* Checks and tables what receivers have in common, once for all packets: the new ids of a packet's elements, the
  * elements that are put into it, and the form that its block may get (`allowed`, as in rtpw_put_element). Of an element
  * its id and data_len are looked at, and not where its data lie: each receiver brings its own. So a server prepares a
- * group when a session's ids are agreed on, and for each packet calls rtpw_make_from_group and rtpw_write_headers:
+ * group when a session's ids are agreed on, and for each packet calls rtpw_make_from_group and rtpw_write_headers. Where
+ * no element is put and no new id asks for another form, the block keeps its form, allowed or not
+ * (rtpw_make_template): a peer that hasn't agreed to a form has to be looked after by rtpw_change_form.
  *
  *     const rtpw_element element = {0, 2, 0, 4};      // two bytes of the id 4
  *     rtpw_group group;

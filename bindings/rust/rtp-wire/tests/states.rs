@@ -331,7 +331,7 @@ fn refused_packets_are_of_the_stream_or_not() {
 fn packets_of_the_stream_are_reported() {
     let (mut receiver, mut statistics) = (RestartingReceiver::new(), ReceptionStatistics::new());
     for low in [5, 6, 6, 40_000, 5] {
-        receiver.receive(low);
+        let _ = receiver.receive(low);
         if receiver.in_row() == 0 {
             statistics.record(receiver.number_of(low), 0, 0);
         }
