@@ -7,7 +7,7 @@ use Rattle.std.proofs.lemmas.Iterator.Consumers.{YieldsList-from_first}
 use Rattle.std.proofs.lemmas.Iterator.Search.{any_from_yields_List}
 use Rattle.std.proofs.lemmas.List.Folds.{Any-from_list_any, list_any-from_Any}
 use Rattle.rtp_ext.specs.Elements.{Element}
-use Rattle.rtp_wire.proofs.packet.remaking_block.has_long_id.Goals as goal
+use Rattle.rtp_wire.proofs.packet.rewriting.has_long_id.Goals as goal
 
 pub returns : goal.returns
 returns c elements are =
