@@ -187,4 +187,3 @@ PutsElement-front old element allowed new rest len len-is puts =
           ap (take 2) (drop-append-le (sources_end old) new rest (omega (arith, long)))
           ∙ take-append-le 2 (drop (sources_end old) new) rest (omega (arith, long, length-drop (sources_end old) new)) ∙ puts.new_word_is other;
     }
-

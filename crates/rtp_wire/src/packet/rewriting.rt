@@ -161,9 +161,14 @@ impl Plan {
             datagram.now room self.now.new_form goes (elements_added comes.entry)) cause) }
     {
         let body = &datagram[self.payload_at - self.body_len..self.payload_at];
-        let Some(elements_len) =
-            rewritten_len(self.form, self.new_form, body, &self.survey, goes, comes)
-        else {
+        let Some(elements_len) = rewritten_len(
+            self.form,
+            self.new_form,
+            body,
+            &self.survey,
+            goes,
+            comes,
+        ) else {
             if has_long_id(self.form, body) {
                 return Err(NotPut::LongId);
             }
