@@ -1,6 +1,6 @@
 -- What is known of a packet into which an element is put, and of what it becomes.
 use Rattle.std.proofs.Common.{◌≡◌, ℕ, ◌+◌, ◌-◌, ◌*◌, ◌%◌, ◌<◌, ◌≤◌, Bool, true, false, List, length, drop, max, Option, Some, None, inl, inr, refl, sym, ap, subst, ◌∙◌, arith, length-take, []}
-use Rattle.std.specs.Prelude.{slice_index, slice_range, option_map, unwrap_or, if◌then◌else◌, ◌↔◌, IsTrue}
+use Rattle.std.specs.Prelude.{is_some, slice_index, slice_range, option_map, unwrap_or, if◌then◌else◌, ◌↔◌, IsTrue}
 use Rattle.std.specs.Option.{option_eq}
 use Rattle.std.specs.Borrow.{Bor}
 use Rattle.std.proofs.lemmas.Bool.{false≢true, cases_lt}
@@ -23,16 +23,22 @@ use Rattle.rtp_wire.specs.declared.packet.not_put.NotPut.{NotPut}
 use Rattle.rtp_wire.specs.declared.packet.not_put.NotPut.TheVariants.{CutPacket, NotAPacket, ZeroId, LongData, OtherForm, LongId, OneByteOnly, LongBlock, NoRoom}
 use Rattle.rtp_wire.specs.Block.{word_at}
 use Rattle.rtp_wire.specs.NotAHeader.{sources_end}
-use Rattle.rtp_wire.specs.PartsAt.{has_block, header_end}
+use Rattle.rtp_wire.specs.PartsAt.{has_block, header_end, parts_at}
 use Rattle.rtp_wire.specs.PartsOf.{parts_of}
 use Rattle.rtp_wire.proofs.BlockLemmas.{word_at-cells}
 use Rattle.rtp_wire.proofs.HeaderFound.{HasHeader-packet}
 use Rattle.rtp_wire.proofs.PacketLemmas.{one_packet, no_packet}
-use Rattle.rtp_wire.proofs.PartsLemmas.{block-header, no_other_form}
+use Rattle.rtp_wire.proofs.PartsLemmas.{block-header, no_other_form, some_there, IsPacket-found}
 use Rattle.rtp_wire.specs.Packet.{PacketParts, IsPacket}
 use Rattle.rtp_wire.specs.PacketElements.{AreElementsOf}
 use Rattle.rtp_wire.specs.PutIntoPacket.{IsGrowth, form_of_block, body_of_block, elements_with, IsLongId, AppliesToPacket, IsFirstNotPut, put_place}
-use Rattle.rtp_wire.specs.RewrittenBlock.{IsFormOfBody}
+use Rattle.rtp_wire.specs.RewrittenBlock.{IsFormOfBody, IsPlan, StopsForm}
+use Rattle.rtp_wire.specs.declared.packet.rewriting.Plan.{Plan}
+use Rattle.std.specs.List.{AllByRecursion}
+use Rattle.rtp_ext.specs.PutElement.{without}
+use Rattle.rtp_ext.proofs.AnewLemmas.{AreElements-each}
+use Rattle.rtp_ext.proofs.InRowLemmas.{writable_without}
+use Rattle.rtp_ext.proofs.NarrowLemmas.{wide_each}
 use Rattle.rtp_wire.proofs.ResizedLemmas.{whole-announced}
 use Rattle.rtp_ext.proofs.ServingFormLemmas.{IsWritable-one}
 
@@ -67,16 +73,19 @@ pub block-elements : (block : Option (ExtensionsForm × List ℕ)) (elements : L
 block-elements None elements new_form form is are = elements-nothing form elements are
 block-elements (Some block) elements new_form form is are = subst (λ (f : ExtensionsForm). AreElements f block.1 elements) is are
 
--- the block that a packet lends, or an empty body
-pub block-found : (block : Option (ExtensionsForm × Bor (List ℕ))) (was : Option (ExtensionsForm × List ℕ)) (default found : ExtensionsForm × Bor (List ℕ))
-    → option_map (λ b. (b.0, b.1.now)) block ≡ was → default.1.now ≡ [] → found ≡ unwrap_or block default
-    → (found.1.now ≡ body_of_block was) × IsFormOfBody was default.0 found.0
-block-found None was default found was-is none found-is =
-    let P : Option (ExtensionsForm × List ℕ) → Type 0 = λ w. (found.1.now ≡ body_of_block w) × IsFormOfBody w default.0 found.0 in
-    subst P was-is (ap (λ (b : ExtensionsForm × Bor (List ℕ)). b.1.now) found-is ∙ none, ap (λ (b : ExtensionsForm × Bor (List ℕ)). b.0) found-is)
-block-found (Some block) was default found was-is none found-is =
-    let P : Option (ExtensionsForm × List ℕ) → Type 0 = λ w. (found.1.now ≡ body_of_block w) × IsFormOfBody w default.0 found.0 in
-    subst P was-is (ap (λ (b : ExtensionsForm × Bor (List ℕ)). b.1.now) found-is, ap (λ (b : ExtensionsForm × Bor (List ℕ)). b.0) found-is)
+-- what is found of the block that a packet lends, or of none: its form, how many bytes its body has, and what that has of an id
+abbrev pub IsFound : Option (ExtensionsForm × List ℕ) → ExtensionsForm → ℕ → ExtensionsForm × ℕ × Survey → Type 0
+IsFound block new_form id found = (found.1 ≡ length (body_of_block block)) × IsFormOfBody block new_form found.0 × IsSurvey found.0 (body_of_block block) id found.2
+
+pub found-some : (block : Option (ExtensionsForm × Bor (List ℕ))) (was : Option (ExtensionsForm × List ℕ)) (new_form : ExtensionsForm) (id : ℕ) (form : ExtensionsForm) (body : Bor (List ℕ)) (survey : Survey)
+    → option_map (λ b. (b.0, b.1.now)) block ≡ was → block ≡ Some (form, body) → IsSurvey form body.now id survey → IsFound was new_form id (form, length body.now, survey)
+found-some block was new_form id form body survey was-is is surveyed =
+    subst (λ (w : Option (ExtensionsForm × List ℕ)). IsFound w new_form id (form, length body.now, survey)) (sym (ap (option_map (λ b. (b.0, b.1.now))) is) ∙ was-is) (refl, refl, surveyed)
+
+pub found-none : (block : Option (ExtensionsForm × Bor (List ℕ))) (was : Option (ExtensionsForm × List ℕ)) (new_form : ExtensionsForm) (id : ℕ) (survey : Survey)
+    → option_map (λ b. (b.0, b.1.now)) block ≡ was → block ≡ None → IsSurvey new_form [] id survey → IsFound was new_form id (new_form, 0, survey)
+found-none block was new_form id survey was-is is surveyed =
+    subst (λ (w : Option (ExtensionsForm × List ℕ)). IsFound w new_form id (new_form, 0, survey)) (sym (ap (option_map (λ b. (b.0, b.1.now))) is) ∙ was-is) (refl, refl, surveyed)
 
 -- a body has at most 65,535 words
 short-part : (form : Option ExtensionsForm) (body : List ℕ) (n : ℕ) → length body ≤ n → length (body_of_block (option_map (λ f. (f, body)) form)) ≤ n
@@ -101,6 +110,10 @@ short-body packet =
     omega (arith, length-take (packet.header_len - (sources_end bytes + 4)) (drop (sources_end bytes + 4) bytes), packet.ends, end) in
     subst (λ (block : Option (ExtensionsForm × List ℕ)). length (body_of_block block) ≤ 262140) (block-header bytes packet.header_len packet.form (HasHeader-packet packet))
     (short-part packet.form (slice_range bytes (sources_end bytes + 4) packet.header_len) 262140 long)
+
+-- the plan is that of the parts of the packet, whatever they are called
+pub plan-of : (bytes : List ℕ) (parts : PacketParts) (goes : ℕ) (plan : Plan) → IsPacket bytes parts → IsPlan bytes (parts_at bytes) goes plan → IsPlan bytes parts goes plan
+plan-of bytes parts goes plan is planned = subst (λ (p : PacketParts). IsPlan bytes p goes plan) (one_packet bytes parts is) planned
 
 -- a test whether a form is found
 pub form-tested : (found : Option ExtensionsForm) (form : ExtensionsForm) (test : Bool) → test ≡ option_eq (sameb the_type) found (Some form) → IsTrue test ↔ (found ≡ Some form)
@@ -195,3 +208,19 @@ module _ (bytes : List ℕ) (element : Element) (allowed : Option ExtensionsForm
 
   pub first-only : element.0 ≤ 14 → IsFirstNotPut (StopsForm bytes element allowed) OneByteOnly
   first-only low = record { applies = (parts, is, not); none_before = none_before_only low }
+
+-- a block of another profile has none of the two forms, and this is looked at first
+pub first-other_form : (packet : RtpPacket) (element : Element) (allowed : Option ExtensionsForm) → is_some (parts_of packet).other_block ≡ true
+    → IsFirstNotPut (StopsForm packet.datagram.now element allowed) OtherForm
+first-other_form packet element allowed some =
+    let other = some_there (parts_of packet).other_block some in
+    record {
+      applies = record { parts = parts_of packet; is_packet = IsPacket-found packet; other = other.0; other_is = other.1 };
+      none_before = none_before_other;
+    }
+  where
+    none_before_other : (cause : NotPut) → put_place cause < 4 → StopsForm packet.datagram.now element allowed cause → ⊥
+    none_before_other OtherForm before fact = omega arith
+    none_before_other LongId before fact = omega arith
+    none_before_other OneByteOnly before fact = omega arith
+    none_before_other cause before fact = fact

@@ -1,5 +1,5 @@
 -- A packet whose block is rewritten: how long it becomes, and why it may not be.
-use Rattle.std.proofs.Common.{◌≡◌, ℕ, zero, suc, ◌+◌, ◌-◌, ◌*◌, ◌%◌, ◌<◌, ◌≤◌, Bool, true, false, cond, List, [], ◌∷◌, ◌++◌, length, take, max, Option, Some, None, refl, sym, ap, subst, ◌∙◌, arith}
+use Rattle.std.proofs.Common.{◌≡◌, ℕ, zero, suc, ◌+◌, ◌-◌, ◌*◌, ◌%◌, ◌<◌, ◌≤◌, Bool, true, false, cond, List, [], ◌∷◌, ◌++◌, length, take, drop, max, Option, Some, None, refl, sym, ap, subst, ◌∙◌, arith}
 use Rattle.std.specs.Prelude.{IfSome, Any, not, if◌then◌else◌}
 use Rattle.std.proofs.lemmas.Bool.{eqb-true}
 use Rattle.std.specs.List.{AllByRecursion, list_any}
@@ -11,6 +11,7 @@ use Rattle.rtp_ext.specs.ElementsInARow.{IsWritable, elements_added}
 use Rattle.rtp_ext.specs.PutElement.{has_id, without, put_among}
 use Rattle.rtp_ext.proofs.AnewLemmas.{AreElements-each}
 use Rattle.rtp_ext.proofs.NarrowLemmas.{wide_each}
+use Rattle.rtp_ext.proofs.InRowLemmas.{writable_without}
 use Rattle.rtp_ext.specs.WrittenBlock.{whole_words}
 use Rattle.rtp_wire.specs.declared.packet.not_put.NotPut.{NotPut}
 use Rattle.rtp_wire.specs.declared.packet.not_put.NotPut.TheVariants.{CutPacket, ZeroId, LongData, NotAPacket, OtherForm, LongId, OneByteOnly, LongBlock, NoRoom}
@@ -25,23 +26,24 @@ use Rattle.rtp_wire.proofs.PacketLemmas.{one_packet}
 use Rattle.rtp_wire.proofs.HeaderLemmas.{one_list}
 use Rattle.rtp_wire.proofs.PutPlanLemmas.{whole-words, block-elements}
 use Rattle.rtp_wire.proofs.ResizedLemmas.{sources_end-is, len-is, whole-announced}
+use Rattle.rtp_wire.proofs.SetInPlaceLemmas.{body-before}
 
 -- ---- what comes among the elements
+
+each-both : (P : Element → Type 0) (xs ys : List Element) → AllByRecursion P xs → AllByRecursion P ys → AllByRecursion P (xs ++ ys)
+each-both P [] ys all each = each
+each-both P (x ∷ xs) ys all each = (all.0, each-both P xs ys all.1 each)
 
 -- what holds of each element and of each that comes holds of each then
 pub each-among : (P : Element → Type 0) (goes : ℕ) (comes elements : List Element) → AllByRecursion P comes → AllByRecursion P elements → AllByRecursion P (put_among goes comes elements)
 each-among P goes comes [] all each = all
-each-among P goes comes (element ∷ elements) all each = by_tests (has_id goes element) (list_any (has_id goes) elements)
+each-among P goes comes (element ∷ elements) all each = by_tests (has_id goes element) (list_any (has_id goes) elements) (each-among P goes comes elements all each.1)
   where
-    both : (es : List Element) → AllByRecursion P es → AllByRecursion P elements → AllByRecursion P (es ++ elements)
-    both [] none rest = rest
-    both (e ∷ es) some rest = (some.0, both es some.1 rest)
-
-    by_tests : (goes_here more : Bool)
-        → AllByRecursion P (if goes_here then (if more then put_among goes comes elements else comes ++ elements) else element ∷ put_among goes comes elements)
-    by_tests true true = each-among P goes comes elements all each.1
-    by_tests true false = both comes all each.1
-    by_tests false more = (each.0, each-among P goes comes elements all each.1)
+    by_tests : (gone more : Bool) → AllByRecursion P (put_among goes comes elements)
+        → AllByRecursion P (if gone then (if more then put_among goes comes elements else comes ++ elements) else element ∷ put_among goes comes elements)
+    by_tests true true rest = rest
+    by_tests true false rest = each-both P comes elements all each.1
+    by_tests false more rest = (each.0, rest)
 
 -- an element that can be written is one in a row
 pub each-added : (form : ExtensionsForm) (added : Option (ℕ × Bor (List ℕ))) → IfSome added (λ element. IsWritable form (element.0, element.1.now)) → AllByRecursion (IsWritable form) (elements_added added)
@@ -167,11 +169,18 @@ module _ (bytes : List ℕ) (form : ExtensionsForm) (goes : ℕ) (comes : List E
 
 -- ---- what is found
 
+-- the elements that are surveyed are those of the body where it lies
+pub surveyed : (bytes : List ℕ) (parts : PacketParts) (goes : ℕ) (plan : Plan) (is : IsPlan bytes parts goes plan)
+    → AreElements plan.form (take (plan.payload_at - (plan.payload_at - plan.body_len)) (drop (plan.payload_at - plan.body_len) bytes)) is.survey_is.elements
+surveyed bytes parts goes plan is =
+    subst (λ (b : List ℕ). AreElements plan.form b is.survey_is.elements)
+    (sym (body-before bytes parts is.is_packet parts.block plan.payload_at plan.body_len refl is.payload_is is.body_is)) is.survey_is.are_elements
+
 module _ (bytes : List ℕ) (parts : PacketParts) (goes : ℕ) (plan : Plan) (is : IsPlan bytes parts goes plan) (comes : List Element) (writable : AllByRecursion (IsWritable plan.new_form) comes) where
   abbrev elements : List Element
   elements = is.survey_is.elements
 
-  are-in_packet : AreElementsOf parts.block elements
+  pub are-in_packet : AreElementsOf parts.block elements
   are-in_packet = block-elements parts.block elements plan.new_form plan.form is.was_form is.survey_is.are_elements
 
   abbrev pub new-rewritten : AllByRecursion (IsWritable plan.new_form) (rewritten_elements goes comes elements) → IsRewritten bytes plan.new_form goes comes

@@ -102,16 +102,16 @@ impl Plan {
         ensures form { result.new_form ≡ new_form }
         ensures plan { IsPlan (datagram_of packet.now) (parts_of packet.now) goes result }
     {
-        let (form, body) = match packet.block() {
-            Some(block) => block,
-            None => (new_form, &[]),
+        let (form, body_len, survey) = match packet.block() {
+            Some((form, body)) => (form, body.len(), survey_of(form, body, goes)),
+            None => (new_form, 0, survey_of(new_form, &[], goes)),
         };
         Plan {
             block_at: sources_end(packet.datagram[0]),
             payload_at: packet.header_len(),
-            body_len: body.len(),
+            body_len,
             form,
-            survey: survey_of(form, body, goes),
+            survey,
             is_announced: packet.form() == Some(new_form),
             new_form,
         }

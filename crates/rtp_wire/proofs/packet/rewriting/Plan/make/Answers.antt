@@ -18,10 +18,9 @@ use Rattle.rtp_wire.specs.PartsAt.{parts_at}
 use Rattle.rtp_wire.specs.PutIntoPacket.{body_of_block}
 use Rattle.rtp_wire.specs.GrowingPacket.{with_extension_bit}
 use Rattle.rtp_wire.specs.RewrittenBlock.{rewritten_elements, IsRewritten, IsPlan}
-use Rattle.rtp_wire.proofs.PacketLemmas.{one_packet}
 use Rattle.rtp_wire.proofs.ResizedLemmas.{len-is, take-body}
 use Rattle.rtp_wire.proofs.GrowthLemmas.{IsLaid, IsLaid-announced, IsLaid-new, middle-laid, length-middle, IsPacket-new, behind-new, word-new, written-new}
-use Rattle.rtp_wire.proofs.PutPlanLemmas.{body-elements}
+use Rattle.rtp_wire.proofs.PutPlanLemmas.{plan-of, body-elements}
 use Rattle.rtp_wire.proofs.SetInPlaceLemmas.{body-ends}
 use Rattle.rtp_wire.proofs.RewrittenLemmas.{rewritten-fit, rewritten-fits, rewritten-whole, rewritten-len}
 use Rattle.rtp_wire.proofs.packet.rewriting.Plan.make.Goals as goal
@@ -33,10 +32,8 @@ resize-requires-clause-order c =
     omega (arith, is.payload_is, len-is c.args.buf.now c.args.len (parts_at (take c.args.len c.args.buf.now)) is.is_packet c.requires.within)
 
 -- the plan is that of the parts that are rewritten
-plan-of : (c : Joined-not-self) → IsPlan (take c.args.len c.args.buf.now) c.requires.rewritten.0.parts c.args.goes c.args.self.now
-plan-of c =
-    subst (λ (parts : PacketParts). IsPlan (take c.args.len c.args.buf.now) parts c.args.goes c.args.self.now)
-    (one_packet (take c.args.len c.args.buf.now) c.requires.rewritten.0.parts c.requires.rewritten.0.is_packet) c.requires.plan
+planned : (c : Joined-not-self) → IsPlan (take c.args.len c.args.buf.now) c.requires.rewritten.0.parts c.args.goes c.args.self.now
+planned c = plan-of (take c.args.len c.args.buf.now) c.requires.rewritten.0.parts c.args.goes c.args.self.now c.requires.rewritten.0.is_packet c.requires.plan
 
 module _ (c : Joined-not-self) where
   abbrev self : Plan
@@ -46,7 +43,7 @@ module _ (c : Joined-not-self) where
   rewritten = c.requires.rewritten.0
 
   abbrev is : IsPlan (take c.args.len c.args.buf.now) rewritten.parts c.args.goes self
-  is = plan-of c
+  is = planned c
 
   laid : IsLaid c.args.buf.now c.args.len rewritten.parts rewritten.is_packet self.new_form self.block_at c.args.new_body_len c.if-not-self.buf
   laid = elim c.if-not-self.branch [
@@ -110,14 +107,14 @@ rewrite_body-requires-clause-within c =
       arith,
       length-room joined,
       rewritten-fits (take c.args.len c.args.buf.now) c.args.self.now.new_form c.args.goes (elements_added c.args.comes) c.requires.rewritten.0,
-      (plan-of joined).body_is,
+      (planned joined).body_is,
       c.requires.rewritten.1,
     )
 
 pub rewrite_body-requires-clause-survey : goal.rewrite_body-requires-clause-survey
 rewrite_body-requires-clause-survey c =
     let joined = (goal.at.rewrite_body-requires-clause-survey c).Joined-not-self in
-    subst (λ (b : List ℕ). IsSurvey c.args.self.now.form b c.args.goes c.args.self.now.survey) (sym (body-here joined)) (plan-of joined).survey_is
+    subst (λ (b : List ℕ). IsSurvey c.args.self.now.form b c.args.goes c.args.self.now.survey) (sym (body-here joined)) (planned joined).survey_is
 
 pub rewrite_body-requires-clause-carried : goal.rewrite_body-requires-clause-carried
 rewrite_body-requires-clause-carried c = λ elements are. carried (goal.at.rewrite_body-requires-clause-carried c).Joined-not-self elements are
@@ -128,14 +125,14 @@ rewrite_body-requires-clause-room c = λ elements are. fits (goal.at.rewrite_bod
 abbrev len-here : (c : Joined-not-self) → (c.args.self.now.payload_at ≤ c.args.len)
     × (c.args.self.now.block_at + 4 + c.args.new_body_len + (c.args.len - c.args.self.now.payload_at) ≡ c.requires.rewritten.0.len) × (c.args.len ≤ c.requires.rewritten.0.len)
 len-here c =
-    rewritten-len c.args.buf.now c.args.len c.requires.rewritten.0.parts c.args.goes c.args.self.now (plan-of c) c.args.self.now.new_form (elements_added c.args.comes) c.requires.rewritten.0 c.args.new_body_len
+    rewritten-len c.args.buf.now c.args.len c.requires.rewritten.0.parts c.args.goes c.args.self.now (planned c) c.args.self.now.new_form (elements_added c.args.comes) c.requires.rewritten.0 c.args.new_body_len
     c.requires.within c.requires.rewritten.1
 
 pub returns-clause-rewritten : goal.returns-clause-rewritten
 returns-clause-rewritten c =
     let joined = (goal.at.returns-clause-rewritten c).Joined-not-self in
     let self = c.args.self.now in
-    let is = plan-of joined in
+    let is = planned joined in
     let rewritten = c.requires.rewritten.0 in
     let all = len-here joined in
     let body : List ℕ = c.rewrite_body.new.body in
@@ -168,7 +165,7 @@ pub returns-clause-behind : goal.returns-clause-behind
 returns-clause-behind c = λ new_len new_len-is.
     let joined = (goal.at.returns-clause-behind c).Joined-not-self in
     let self = c.args.self.now in
-    let is = plan-of joined in
+    let is = planned joined in
     let rewritten = c.requires.rewritten.0 in
     behind-new c.args.buf.now c.args.len rewritten.parts rewritten.is_packet c.requires.within self.block_at is.block_is self.payload_at is.payload_is c.args.new_body_len c.requires.room
     self.new_form c.if-not-self.buf (laid joined) c.rewrite_body.new.body (c.rewrite_body.auto.body ∙ length-room joined) new_len

@@ -1,38 +1,31 @@
-use Rattle.rtp_wire.proofs.Common.{◌≡◌, ℕ, List, length, Option, Some, arith, refl, sym, ap, ◌∙◌, subst, ◌↔◌, IsTrue, ExtensionsForm, Element, IsSurvey, needed_form, allowed_form, parts_of}
-use Rattle.rtp_wire.proofs.PartsLemmas.{none_there}
-use Rattle.rtp_wire.proofs.PutPlanLemmas.{short-body, here, found-growth, form-tested, IsWritable-allowed, first-not_allowed}
-use Rattle.rtp_wire.proofs.packet.putting.Plan.new.Goals as goal
+use Rattle.rtp_wire.proofs.Common.{◌≡◌, ◌↔◌, ℕ, Option, Some, arith, refl, sym, ap, ◌∙◌, subst, IsTrue, ExtensionsForm, parts_of, length, body_of_block}
+use Rattle.rtp_ext.specs.declared.survey.Survey.{Survey}
+use Rattle.rtp_wire.proofs.PartsLemmas.{IsPacket-found}
+use Rattle.rtp_wire.proofs.PutPlanLemmas.{IsFound, found-some, found-none, short-body, form-tested}
+use Rattle.rtp_wire.proofs.packet.rewriting.Plan.new.Goals as goal
+use Rattle.rtp_wire.proofs.packet.rewriting.Plan.new.Goals.{After-eq, in-Some, in-None}
 
-pub returns-in_default-clause-cause : goal.returns-in_default-clause-cause
-returns-in_default-clause-cause c =
-    let bytes = c.args.datagram.now in
-    let element : Element = (c.args.id, c.args.data.now) in
-    let parts = parts_of c.in_ok-packet.packet in
-    first-not_allowed bytes element c.args.allowed parts c.in_ok-packet.ensures.found (none_there _ (sym c.has_other_form.ensures ∙ c.if-has_other_form.false))
-    (let some = c.if-id-eq0.false in omega arith) c.if-data-gt255.false
-    (ap (λ (form : Option ExtensionsForm). allowed_form c.args.allowed (needed_form form element)) (sym c.form.ensures) ∙ sym c.form_to_put.ensures ∙ c.in_default.is)
-    c.not_allowed.result c.not_allowed.ensures.long c.not_allowed.ensures.other
+found : (c : After-eq) → IsFound (parts_of c.args.packet.now).block c.args.new_form c.args.goes c.match-block.form
+found c = elim c.match-block.branch [
+  | in-Some w ↦
+      subst (IsFound (parts_of c.args.packet.now).block c.args.new_form c.args.goes) (sym w.form-is)
+      (found-some c.block.result _ c.args.new_form c.args.goes _ _ _ c.block.ensures.parts w.in-Some.is w.survey_of.ensures)
+  | in-None w ↦
+      subst (IsFound (parts_of c.args.packet.now).block c.args.new_form c.args.goes) (sym w.form-is)
+      (found-none c.block.result _ c.args.new_form c.args.goes _ c.block.ensures.parts w.in-None.is w.survey_of-in-None.ensures)
+]
 
-pub returns-clause-found : goal.returns-clause-found
-returns-clause-found c =
-    let growth =
-    found-growth c.args.datagram.now (c.args.id, c.args.data.now) c.args.allowed c.in_ok-packet.packet c.block.result _ c.unwrap_or-form.result c.survey_of.result c.form.result
-    c.in_ok-packet.ensures.found (none_there _ (sym c.has_other_form.ensures ∙ c.if-has_other_form.false)) c.block.ensures.parts refl c.unwrap_or-form.ensures c.survey_of.ensures c.form.ensures (sym c.form_to_put.ensures ∙ c.in-Some.is) in
-    let here =
-    here c.args.datagram.now (c.args.id, c.args.data.now) c.args.allowed c.in_ok-packet.packet c.block.result _ c.unwrap_or-form.result c.survey_of.result c.form.result
-    c.in_ok-packet.ensures.found (none_there _ (sym c.has_other_form.ensures ∙ c.if-has_other_form.false)) c.block.ensures.parts refl c.unwrap_or-form.ensures c.survey_of.ensures c.form.ensures (sym c.form_to_put.ensures ∙ c.in-Some.is) in
-    let parts = parts_of c.in_ok-packet.packet in
+pub returns-clause-plan : goal.returns-clause-plan
+returns-clause-plan c =
+    let all = found (goal.at.returns-clause-plan c).After-eq in
     record {
-      growth = growth;
+      is_packet = IsPacket-found c.args.packet.now;
+      no_other = c.requires;
       block_is = c.sources_end.ensures;
       payload_is = c.header_len.ensures;
-      body_is = ap length here.0;
-      few = omega (arith, ap length here.0, short-body c.in_ok-packet.packet);
-      was_form = here.1;
-      survey_is = subst (λ (b : List ℕ). IsSurvey c.unwrap_or-form.result.0 b c.args.id c.survey_of.result) here.0 c.survey_of.ensures;
-      announced = subst (λ (f : Option ExtensionsForm). IsTrue c.eq.result ↔ (f ≡ Some c.in-Some.new_form)) c.form-2.ensures
-          (form-tested c.form-2.result c.in-Some.new_form c.eq.result c.eq.ensures);
-      form_is = refl;
-      writable = (IsWritable-allowed c.form.result c.args.allowed (c.args.id, c.args.data.now) c.in-Some.new_form (let some = c.if-id-eq0.false in omega arith) (let fits = c.ranges.id.fits in omega arith)
-          c.if-data-gt255.false (sym c.form_to_put.ensures ∙ c.in-Some.is));
+      body_is = all.0;
+      few = omega (arith, all.0, short-body c.args.packet.now);
+      was_form = all.1;
+      survey_is = all.2;
+      announced = subst (λ (f : Option ExtensionsForm). IsTrue c.eq.result ↔ (f ≡ Some c.args.new_form)) c.form.ensures (form-tested c.form.result c.args.new_form c.eq.result c.eq.ensures);
     }

@@ -1,6 +1,5 @@
-use Rattle.rtp_wire.proofs.Common.{◌≡◌, ℕ, ◌+◌, ◌-◌, ◌≤◌, List, length, take, drop, Some, rules, sym, ap, ◌∙◌, subst, OnTrue_at, OnTrue_from, OnFalse_at, OnFalse_from, ExtensionsForm, AreElements, SetsLast, IsSurvey, PacketParts, IsPacket, IsPlan}
-use Rattle.rtp_wire.proofs.PacketLemmas.{one_packet}
-use Rattle.rtp_wire.proofs.PutPlanLemmas.{body-elements}
+use Rattle.rtp_wire.proofs.Common.{◌≡◌, ℕ, ◌+◌, ◌-◌, ◌≤◌, List, length, take, drop, Some, rules, sym, ap, ◌∙◌, subst, OnTrue_at, OnTrue_from, OnFalse_at, OnFalse_from, ExtensionsForm, AreElements, SetsLast, IsSurvey, false≢true}
+use Rattle.rtp_wire.proofs.PutPlanLemmas.{plan-of, body-elements}
 use Rattle.rtp_wire.proofs.SetInPlaceLemmas.{form-announced, body-ends, body-here, put_mid-same, PutsElement-set}
 use Rattle.rtp_wire.proofs.packet.rewriting.Plan.set.Goals as goal
 
@@ -22,14 +21,17 @@ set_sole-requires c =
           (sym (body-here c.args.datagram.now _ plan.is_packet self.new_form (plan.announced.0 c.if-not-self.false) self.block_at self.payload_at plan.block_is plan.payload_is)) plan.survey_is,
     )
 
--- the plan is that of the parts of which it is asked
-plan-of : (c : goal.After-set_sole) (parts : PacketParts) → IsPacket c.args.datagram.now parts → IsPlan c.args.datagram.now parts c.args.id c.args.self.now
-plan-of c parts is = subst (λ (p : PacketParts). IsPlan c.args.datagram.now p c.args.id c.args.self.now) (one_packet c.args.datagram.now parts is) c.requires.plan
+pub returns-then-not-self-clause-answer : goal.returns-then-not-self-clause-answer
+returns-then-not-self-clause-answer c = λ allowed growth form-is.
+    let plan = plan-of c.args.datagram.now growth.parts c.args.id c.args.self.now growth.is_packet c.requires.plan in (
+      λ wrong. absurd (false≢true wrong),
+      λ is. absurd (false≢true (sym c.if-not-self.true ∙ plan.announced.1 (is.0 ∙ ap (λ (f : ExtensionsForm). Some f) (sym form-is)))),
+    )
 
 pub returns-clause-set : goal.returns-clause-set
 returns-clause-set c = λ allowed growth form-is.
     let self = c.args.self.now in
-    let plan = plan-of (goal.at.returns-clause-set c).After-set_sole growth.parts growth.is_packet in
+    let plan = plan-of c.args.datagram.now growth.parts c.args.id self growth.is_packet c.requires.plan in
     let some = plan.announced.0 c.if-not-self.false in
     let same : self.form ≡ self.new_form = form-announced growth.parts.block self.new_form self.form plan.was_form some in
     let here = body-here c.args.datagram.now growth.parts growth.is_packet self.new_form some self.block_at self.payload_at plan.block_is plan.payload_is in
@@ -48,7 +50,7 @@ returns-clause-set c = λ allowed growth form-is.
 pub returns-clause-answer : goal.returns-clause-answer
 returns-clause-answer c = λ allowed growth form-is.
     let self = c.args.self.now in
-    let plan = plan-of (goal.at.returns-clause-answer c).After-set_sole growth.parts growth.is_packet in
+    let plan = plan-of c.args.datagram.now growth.parts c.args.id self growth.is_packet c.requires.plan in
     let some = plan.announced.0 c.if-not-self.false in
     let here = body-here c.args.datagram.now growth.parts growth.is_packet self.new_form some self.block_at self.payload_at plan.block_is plan.payload_is in
     let answer = c.set_sole.ensures.answer self.form growth.elements (subst (λ (b : List ℕ). IsSurvey self.form b c.args.id self.survey) (sym here) plan.survey_is)
