@@ -31,7 +31,8 @@ pub struct Datagram {
     pub is_rtcp: u8,
 }
 
-/// The same with a whole header and its values: `rtpw_datagram_header` in C, 248 bytes.
+/// One of several datagrams in a buffer, of which the whole header and its values are written:
+/// `rtpw_datagram_header` in C, 248 bytes.
 #[repr(C)]
 #[derive(Clone, Copy)]
 pub struct DatagramHeader {
@@ -47,7 +48,8 @@ pub struct DatagramHeader {
     pub is_rtcp: u8,
 }
 
-/// The same with a whole packet: `rtpw_whole_datagram` in C, 280 bytes.
+/// One of several datagrams in a buffer, of which the whole packet is written:
+/// `rtpw_whole_datagram` in C, 280 bytes.
 #[repr(C)]
 #[derive(Clone, Copy)]
 pub struct WholeDatagram {

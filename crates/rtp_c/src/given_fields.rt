@@ -40,7 +40,8 @@ impl<'a> GivenFields<'a> {
         Self::with_x(view, view.has_extension != 0)
     }
 
-    /// The same, where it is known whether X is set.
+    /// The fields of the struct, where it is known whether X is set; `None` where no header can have
+    /// them.
     #[inline(always)]
     pub fn with_x(view: &'a HeaderView, has_extension: bool) -> Option<Self>
         requires { has_extension ≡ is_nonzero view.now.has_extension }

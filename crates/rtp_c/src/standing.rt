@@ -39,7 +39,8 @@ pub extern "C" fn rtpw_receiver_standing_of(receiver: &StoredReceiver, number: u
     number_of(receiver_of(receiver).standing_of(SeqNo::from(number)))
 }
 
-/// The same with a window of these words, and 3 where they are none, or more than 512.
+/// What is known of the number, as [`rtpw_receiver_standing_of`] says, with a window of these words;
+/// 3 where they are none, or more than 512.
 #[unsafe(no_mangle)]
 pub extern "C" fn rtpw_wide_receiver_standing_of(
     receiver: &StoredWideReceiver,

@@ -53,7 +53,7 @@ pub fn status_of(cause: NotAPacket) -> i32
     }
 }
 
-// The same, where a packet was to be changed or found where it lies. It stays out of line, since
+// The status of this cause, where a packet was to be changed or found where it lies. It stays out of line, since
 // few such buffers hold none, and a call on a packet then does nothing for it.
 #[cold]
 #[inline(never)]

@@ -85,8 +85,8 @@ fn write_without_block(map: &StoredMap, header: &HeaderView, buf: &mut [u8], len
     write_with_x(map, header, false, buf, len, values)
 }
 
-// The same, where X is set, of the values that the header has. It stays out of line, so that a
-// value that is none is refused before a register is saved.
+// Writes the header as `rtpw_write` does, where X is set, with the values that it has. It stays out
+// of line, so that a value that is none is refused before a register is saved.
 #[inline(never)]
 fn write_with_block(
     map: &StoredMap,
@@ -103,7 +103,7 @@ fn write_with_block(
     write_with_x(map, header, true, buf, len, values)
 }
 
-// The same, where it is known whether X is set.
+// Writes the header as `rtpw_write` does, where it is known whether X is set.
 #[inline(always)]
 fn write_with_x(
     map: &StoredMap,

@@ -1,6 +1,6 @@
 use Rattle.rtp_ext.proofs.Common.{arith, length, ◌+◌}
 use Rattle.rtp_ext.proofs.RowFormLemmas.{ChangesRowTo-start, ChangesRowTo-next, ChangesRow-end, ahead, in_room, carried}
-use Rattle.rtp_ext.proofs.two_byte_rows.change_row.Goals as goal
+use Rattle.rtp_ext.proofs.form_change.change_row_in.Goals as goal
 
 pub loop-place-init : goal.loop-place-init
 loop-place-init c = ChangesRowTo-start c.args.form c.args.new_form c.args.room.now c.args.len c.requires

@@ -1,5 +1,5 @@
 use Rattle.rtp_ext.proofs.Common.{◌-◌, length, ChangesRowTo}
-use Rattle.rtp_ext.proofs.two_byte_rows.change_row.Given as goal
+use Rattle.rtp_ext.proofs.form_change.change_row_in.Given as goal
 
 -- the elements up to the offset stand at the front in the other form
 abbrev pub invariant-loop-place : goal.invariant-loop-place
