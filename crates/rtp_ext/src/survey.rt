@@ -47,8 +47,8 @@ pub fn survey_of(form: ExtensionsForm, body: &[u8], id: u8) -> Survey
     survey_by(form, body, id, true)
 }
 
-// The same. Trying the front first takes fewer steps where elements are counted, and more where
-// only the last place is asked for, which has a tighter loop.
+// What a body has of an id, by trying the front first or not. Trying it takes fewer steps where
+// elements are counted, and more where only the last place is asked for, which has a tighter loop.
 #[inline(always)]
 pub(super) fn survey_by(form: ExtensionsForm, body: &[u8], id: u8, front_first: bool) -> Survey
     ensures { IsSurvey form body.now id result }
@@ -132,7 +132,7 @@ impl Walk<'_> {
     }
 }
 
-// The same. It is inlined, so that each form has loops of its own.
+// What a body of one form has of an id. It is inlined, so that each form has loops of its own.
 #[inline(always)]
 fn survey_in(form: ExtensionsForm, body: &[u8], id: u8, front_first: bool) -> Survey
     ensures { IsSurvey form body.now id result }
