@@ -1,5 +1,5 @@
 -- Two rows of elements that are put in another form, one behind the other.
-use Rattle.rtp_ext.proofs.Common.{◌≡◌, ℕ, ◌+◌, ◌-◌, ◌≤◌, List, [], ◌∷◌, ◌++◌, length, take, drop, append_assoc, length-append, length-drop, length-take-le, arith, refl, sym, ap, ◌∙◌, slice_range, append-nil, take_at, drop_at, take-append-le, take-take, drop-append-le, drop_all, take_rest, paste, put_mid, ExtensionsForm, OneByte, TwoByte, Element, elements_bytes, StandInRows, HasRowsFor, IsRowFor, ChangesRow}
+use Rattle.rtp_ext.proofs.Common.{◌≡◌, ℕ, ◌+◌, ◌-◌, ◌≤◌, List, [], ◌++◌, length, take, drop, length-append, length-drop, length-take-le, arith, refl, sym, ap, ◌∙◌, slice_range, append-nil, take_at, drop_at, take-append-le, take-take, drop-append-le, drop_all, take_rest, paste, put_mid, ExtensionsForm, OneByte, TwoByte, Element, elements_bytes, StandInRows, HasRowsFor, IsRowFor, ChangesRow}
 use Rattle.rtp_ext.proofs.ServingFormLemmas.{length-two}
 use Rattle.rtp_ext.proofs.RowFormLemmas.{row-same, each_element}
 use Rattle.rtp_ext.proofs.AnewLemmas.{length-both}

@@ -1,5 +1,5 @@
 -- A body that is rewritten: the elements that stay, in two rows, and what comes between them.
-use Rattle.rtp_ext.proofs.Common.{◌≡◌, ◌≢◌, ℕ, ◌+◌, ◌-◌, ◌≤◌, List, [], ◌∷◌, ◌++◌, length, take, drop, Option, Some, None, IfSome, Bor, length-append, length-take-le, arith, refl, sym, ap, ◌∙◌, subst, inl, inr, ◌⊎◌, slice_range, AllByRecursion, take-take, drop-take, append-nil, ExtensionsForm, OneByte, TwoByte, Element, IsElement, element_bytes, elements_bytes, element_header, AreElements, IsWritable, Survey, IsSurvey, start_around, end_around, StandInRows, HasRows, HasRowsFor, without, others, put_among, row_to}
+use Rattle.rtp_ext.proofs.Common.{◌≡◌, ℕ, ◌+◌, ◌-◌, ◌≤◌, List, [], ◌∷◌, ◌++◌, length, take, drop, Option, Some, None, IfSome, Bor, length-append, length-take-le, arith, refl, sym, ap, ◌∙◌, subst, inl, inr, ◌⊎◌, slice_range, AllByRecursion, take-take, drop-take, append-nil, ExtensionsForm, OneByte, TwoByte, Element, IsElement, element_bytes, elements_bytes, element_header, AreElements, IsWritable, Survey, IsSurvey, start_around, end_around, StandInRows, HasRows, HasRowsFor, without, others, put_among}
 use Rattle.rtp_ext.specs.ElementsInARow.{elements_added}
 use Rattle.rtp_ext.proofs.PlaceLemmas.{length-element, length-header-some}
 use Rattle.rtp_ext.proofs.LastPlaceLemmas.{AreElements-same}

@@ -1,4 +1,4 @@
-use Rattle.rtp_ext.proofs.Common.{◌≡◌, ℕ, ◌+◌, ◌-◌, true, ap, subst, length, take, drop, refl, arith, IsWritable, goes, false≢true}
+use Rattle.rtp_ext.proofs.Common.{◌≡◌, ◌+◌, ◌-◌, true, ap, subst, length, take, drop, refl, arith, IsWritable, goes, false≢true}
 use Rattle.rtp_ext.specs.BodySurvey.{IsRowLengthTo}
 use Rattle.rtp_ext.proofs.RowLengthLemmas.{IsRowLengthTo-start, IsRowLengthTo-gone, IsRowLengthTo-other, content-is, not-carried, row-length, row-carried}
 use Rattle.rtp_ext.proofs.GatheredLemmas.{goes-this, goes-zero}

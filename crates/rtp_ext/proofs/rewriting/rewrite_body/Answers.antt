@@ -1,4 +1,4 @@
-use Rattle.rtp_ext.proofs.Common.{◌≡◌, ℕ, ◌+◌, ◌-◌, ◌≤◌, List, ◌++◌, length, take, arith, sym, ap, ◌∙◌, subst, ExtensionsForm, Element, AreElements, elements_bytes, StandInRows, other_form, others, rewritten, row_to}
+use Rattle.rtp_ext.proofs.Common.{◌≡◌, ℕ, ◌+◌, ◌-◌, ◌≤◌, List, ◌++◌, length, take, arith, sym, ◌∙◌, subst, ExtensionsForm, Element, AreElements, elements_bytes, StandInRows, other_form, others, rewritten}
 use Rattle.rtp_ext.specs.ElementsInARow.{elements_added}
 use Rattle.rtp_ext.proofs.AnewLemmas.{row_to-zeros}
 use Rattle.rtp_ext.proofs.RowFormLemmas.{each_element}

@@ -1,4 +1,4 @@
-use Rattle.rtp_ext.proofs.Common.{ℕ, ◌+◌, List, length, sym, ap, ◌∙◌, arith, Element, AreElements, elements_bytes, others, IsWritable}
+use Rattle.rtp_ext.proofs.Common.{arith, IsWritable}
 use Rattle.rtp_ext.specs.ElementsInARow.{elements_added}
 use Rattle.rtp_ext.proofs.RewrittenLemmas.{length-rewritten, rewritten-each, rewritten-stays, added-each}
 use Rattle.rtp_ext.proofs.rewriting.rewritten_len.Goals as goal
