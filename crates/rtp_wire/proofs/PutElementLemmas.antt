@@ -1,6 +1,9 @@
 -- What an element that is put into a packet makes of the buffer, and why it may not be put.
 use Rattle.std.proofs.Common.{◌≡◌, ℕ, ◌+◌, ◌-◌, ◌*◌, ◌<◌, ◌≤◌, true, List, [], ◌∷◌, ◌++◌, length, take, drop, max, Option, Some, None, refl, sym, ap, subst, ◌∙◌, arith, length-drop, length-take-le}
+use Rattle.std.specs.Prelude.{Result, IfErr}
+use Rattle.std.proofs.lemmas.Result.{IfErr-weaker}
 use Rattle.std.specs.List.{AllByRecursion}
+use Rattle.rtp_wire.specs.PacketElements.{AreElementsOf}
 use Rattle.std.proofs.lemmas.List.{take-append-le, take-take, drop-append-le}
 use Rattle.std.proofs.lemmas.Option.{none-some, same_Some}
 use Rattle.rtp_ext.specs.declared.form.ExtensionsForm.{ExtensionsForm}
@@ -34,6 +37,14 @@ first-of_more P Q n to places from cause first = record {
   none_before = λ earlier before fact. let place = places cause first.applies in first.none_before earlier before (from earlier (omega (arith, before, place)) fact);
 }
 
+-- causes that apply together have the same first one
+pub cause-to : {A : Type 0} (P Q : NotPut → Type 0) → ((cause : NotPut) → P cause → Q cause) → ((cause : NotPut) → Q cause → P cause) → (result : Result A NotPut)
+    → IfErr result (IsFirstBy put_place P) → IfErr result (IsFirstBy put_place Q)
+cause-to {A} P Q to from result fact =
+    IfErr-weaker result (IsFirstBy put_place P) (IsFirstBy put_place Q)
+    (λ cause first. record { applies = to cause first.applies; none_before = λ earlier before fact. first.none_before earlier before (from earlier fact) }) fact
+
+-- where they stand in the order of looking
 pub element-places : (element : Element) (cause : NotPut) → StopsElement element cause → put_place cause < 3
 element-places element ZeroId fact = omega arith
 element-places element LongData fact = omega arith
@@ -93,11 +104,11 @@ module _ (buf : List ℕ) (len : ℕ) (element : Element) (allowed : Option Exte
         abbrev bytes : List ℕ
         bytes = take len buf
 
-        form-of : (others : PacketParts) → IsPacket bytes others → allowed_form allowed (needed_form (form_of_block others.block) element) ≡ Some form
+        pub form-of : (others : PacketParts) → IsPacket bytes others → allowed_form allowed (needed_form (form_of_block others.block) element) ≡ Some form
         form-of others are =
             ap (λ (p : PacketParts). allowed_form allowed (needed_form (form_of_block p.block) element)) (sym (one_packet bytes others are) ∙ one_packet bytes parts is) ∙ some
 
-        carried : (others : PacketParts) (elements : List Element) → IsPacket bytes others → AreElementsOf others.block elements
+        pub carried : (others : PacketParts) (elements : List Element) → IsPacket bytes others → AreElementsOf others.block elements
             → AllByRecursion (IsWritable form) (rewritten_elements element.0 (element ∷ []) elements)
         carried others elements packet are =
             each-among (IsWritable form) element.0 (element ∷ []) (without 0 elements) (writable, tt) (carried-with others.block elements element allowed form are (form-of others packet))

@@ -7,6 +7,7 @@ use Rattle.rtp_ext.specs.Elements.{Element, AreElements, elements_bytes}
 use Rattle.rtp_ext.specs.ElementsInARow.{IsWritable}
 use Rattle.rtp_ext.specs.PutElement.{has_id, without, put_among, row_to}
 use Rattle.rtp_ext.specs.WrittenBlock.{whole_words}
+use Rattle.rtp_ext.proofs.AnewLemmas.{all-parts}
 use Rattle.rtp_wire.specs.PutIntoPacket.{body_of_block}
 use Rattle.rtp_wire.specs.RemadeBlock.{IsRemade, RemakesBlock, HasUncarried}
 use Rattle.rtp_wire.specs.RewrittenBlock.{IsRewritten, RewritesBlock, CarriesNot}
@@ -27,13 +28,9 @@ among-last id comes (element ∷ elements) = by_test (has_id id element) refl
         else element ∷ put_among id comes (without id elements)) other
         ∙ ap (λ (es : List Element). element ∷ es) (among-last id comes elements)
 
-each-before : (P : Element → Type 0) (elements comes : List Element) → AllByRecursion P (elements ++ comes) → AllByRecursion P elements
-each-before P [] comes all = tt
-each-before P (element ∷ elements) comes all = (all.0, each-before P elements comes all.1)
-
 module _ (bytes : List ℕ) (form : ExtensionsForm) (added : List Element) where
   without-carried : (elements : List Element) → AllByRecursion (IsWritable form) (put_among 0 added (without 0 elements)) → AllByRecursion (IsWritable form) (without 0 elements)
-  without-carried elements all = each-before (IsWritable form) (without 0 elements) added (subst (AllByRecursion (IsWritable form)) (among-last 0 added elements) all)
+  without-carried elements all = (all-parts (IsWritable form) (without 0 elements) added (subst (AllByRecursion (IsWritable form)) (among-last 0 added elements) all)).0
 
   abbrev pub remade-of : IsRewritten bytes form 0 added → IsRemade bytes form added
   remade-of rewritten = record {

@@ -47,12 +47,6 @@ IsKept-rewritten packet form added new len has longer room =
 
 -- ---- the causes
 
-pub cause-to : {A : Type 0} (P Q : NotPut → Type 0) → ((cause : NotPut) → P cause → Q cause) → ((cause : NotPut) → Q cause → P cause) → (result : Result A NotPut)
-    → IfErr result (IsFirstBy put_place P) → IfErr result (IsFirstBy put_place Q)
-cause-to {A} P Q to from result fact =
-    IfErr-weaker result (IsFirstBy put_place P) (IsFirstBy put_place Q)
-    (λ cause first. record { applies = to cause first.applies; none_before = λ earlier before fact. first.none_before earlier before (from earlier fact) }) fact
-
 -- the same form, in the packet and in what is kept of it
 pub kept-form : (packet : RtpPacketBuf) → packet.form ≡ form_of_block (parts_within packet).block
 kept-form packet = (kept-parts packet (parts_within packet) (is_packet packet)).1
