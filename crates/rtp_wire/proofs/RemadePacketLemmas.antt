@@ -9,9 +9,6 @@ use Rattle.rtp_ext.specs.declared.form.ExtensionsForm.{ExtensionsForm}
 use Rattle.rtp_ext.specs.declared.form.ExtensionsForm.TheVariants.{OneByte, TwoByte}
 use Rattle.rtp_ext.specs.ElementsInARow.{IsWritable}
 use Rattle.rtp_ext.specs.PutElement.{without, needed_form, allowed_form}
-use Rattle.rtp_ext.proofs.AnewLemmas.{AreElements-each}
-use Rattle.rtp_ext.proofs.NarrowLemmas.{wide_each}
-use Rattle.rtp_ext.proofs.InRowLemmas.{writable_without}
 use Rattle.rtp_ext.specs.Elements.{Element}
 use Rattle.rtp_wire.specs.declared.packet.rtp_packet_buf.RtpPacketBuf.{RtpPacketBuf}
 use Rattle.rtp_wire.specs.declared.packet.not_put.NotPut.{NotPut}
@@ -63,8 +60,8 @@ module _ (bytes : List ℕ) (room : ℕ) (was : Option ExtensionsForm) (form : E
   pub to-form : IsInOther was form → (cause : NotPut) → StopsRewriting bytes room form 0 [] cause → KeepsFromForm bytes room was form cause
   to-form is LongId fact = (is, fact.0)
   to-form is OneByteOnly fact = (is, uncarried-of bytes form [] tt fact)
-  to-form is LongBlock fact = (is, remade-of bytes form [] fact.0, fact.1)
-  to-form is (NoRoom n) fact = (is, remade-of bytes form [] fact.0, fact.1, fact.2)
+  to-form is LongBlock fact = (is, (remade-of bytes form [] fact.0, fact.1))
+  to-form is (NoRoom n) fact = (is, (remade-of bytes form [] fact.0, fact.1, fact.2))
   to-form is cause fact = absurd fact
 
   pub from-form : (HasOtherForm bytes → ⊥) → (cause : NotPut) → KeepsFromForm bytes room was form cause → StopsRewriting bytes room form 0 [] cause
@@ -128,8 +125,8 @@ module _ (packet : RtpPacketBuf) (room : ℕ) (element : Element) (allowed : Opt
           → KeepsFromAdding (bytes_of packet) room (form_of_block (parts_within packet).block) element allowed cause
       to-adding LongId fact = absurd (carries-all fact.1)
       to-adding OneByteOnly fact = absurd (carries-all fact)
-      to-adding LongBlock fact = (form, some, remade-of (bytes_of packet) form (element ∷ []) fact.0, fact.1)
-      to-adding (NoRoom n) fact = (form, some, remade-of (bytes_of packet) form (element ∷ []) fact.0, fact.1, fact.2)
+      to-adding LongBlock fact = (form, some, (remade-of (bytes_of packet) form (element ∷ []) fact.0, fact.1))
+      to-adding (NoRoom n) fact = (form, some, (remade-of (bytes_of packet) form (element ∷ []) fact.0, fact.1, fact.2))
       to-adding cause fact = absurd fact
 
       pub from-adding : (HasOtherForm (bytes_of packet) → ⊥) → (cause : NotPut)
