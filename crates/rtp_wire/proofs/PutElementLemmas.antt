@@ -19,7 +19,7 @@ use Rattle.rtp_wire.specs.NotAPacket.{IsFirstBy}
 use Rattle.rtp_wire.specs.Packet.{PacketParts, IsPacket, block_len, header_len_of}
 use Rattle.rtp_wire.specs.PartsAt.{parts_at}
 use Rattle.rtp_wire.specs.PutIntoPacket.{IsGrowth, PutsElement, IsSetInPlace, anew, form_of_block, body_of_block, elements_with, AppliesToPut, put_place}
-use Rattle.rtp_wire.specs.RewrittenBlock.{StopsElement, StopsForm, rewritten_elements, IsRewritten, RewritesBlock, CarriesNot, StopsRewriting}
+use Rattle.rtp_wire.specs.RewrittenBlock.{StopsForm, rewritten_elements, IsRewritten, RewritesBlock, CarriesNot, StopsRewriting}
 use Rattle.rtp_wire.proofs.PacketLemmas.{one_packet, no_packet}
 use Rattle.rtp_wire.proofs.ResizedLemmas.{sources_end-is}
 use Rattle.rtp_wire.proofs.PutPlanLemmas.{no_long_id, carried-with}
@@ -45,11 +45,6 @@ cause-to {A} P Q to from result fact =
     (λ cause first. record { applies = to cause first.applies; none_before = λ earlier before fact. first.none_before earlier before (from earlier fact) }) fact
 
 -- where they stand in the order of looking
-pub element-places : (element : Element) (cause : NotPut) → StopsElement element cause → put_place cause < 3
-element-places element ZeroId fact = omega arith
-element-places element LongData fact = omega arith
-element-places element cause fact = absurd fact
-
 pub form-places : (bytes : List ℕ) (element : Element) (allowed : Option ExtensionsForm) (cause : NotPut) → StopsForm bytes element allowed cause → put_place cause < 7
 form-places bytes element allowed OtherForm fact = omega arith
 form-places bytes element allowed LongId fact = omega arith
@@ -59,29 +54,13 @@ form-places bytes element allowed cause fact = absurd fact
 -- ---- why an element isn't put
 
 module _ (buf : List ℕ) (len : ℕ) (element : Element) (allowed : Option ExtensionsForm) (within : len ≤ length buf) where
-  -- no form can carry it
-  pub element-to_put : (cause : NotPut) → StopsElement element cause → AppliesToPut buf len element allowed cause
-  element-to_put ZeroId fact = fact
-  element-to_put LongData fact = fact
-  element-to_put cause fact = absurd fact
-
-  pub put-to_element : (cause : NotPut) → put_place cause < 3 → AppliesToPut buf len element allowed cause → StopsElement element cause
-  put-to_element CutPacket before fact = omega arith
-  put-to_element ZeroId before fact = fact
-  put-to_element LongData before fact = fact
-  put-to_element (NotAPacket cause) before fact = omega arith
-  put-to_element OtherForm before fact = omega arith
-  put-to_element LongId before fact = omega arith
-  put-to_element OneByteOnly before fact = omega arith
-  put-to_element LongBlock before fact = omega arith
-  put-to_element (NoRoom needed) before fact = omega arith
-
   module _ (above : 1 ≤ element.0) (short : length element.1 ≤ 255) where
     -- none applies before the packet is looked at
     pub none_before_packet : (cause : NotPut) → put_place cause < 3 → AppliesToPut buf len element allowed cause → ⊥
+    none_before_packet CutPacket before fact = omega (arith, within, fact)
     none_before_packet ZeroId before fact = omega (arith, above, fact)
     none_before_packet LongData before fact = omega (arith, short, fact)
-    none_before_packet cause before fact = put-to_element cause before fact
+    none_before_packet cause before fact = omega arith
 
     module _ (parts : PacketParts) (is : IsPacket (take len buf) parts) where
       -- its block has no form that can carry it

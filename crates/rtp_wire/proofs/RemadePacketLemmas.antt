@@ -19,7 +19,7 @@ use Rattle.rtp_wire.specs.PacketElements.{AreElementsOf}
 use Rattle.rtp_wire.specs.PacketBuf.{bytes_of, parts_within}
 use Rattle.rtp_wire.specs.PutIntoPacket.{form_of_block, put_place, IsFirstNotPut}
 use Rattle.rtp_wire.specs.RemadeBlock.{IsTooLong, HasNoRoom, IsInOther, KeepsFromForm, form_with, KeepsFromAdding}
-use Rattle.rtp_wire.specs.RewrittenBlock.{StopsElement, StopsForm, RewritesBlock, CarriesNot, StopsRewriting}
+use Rattle.rtp_wire.specs.RewrittenBlock.{StopsForm, RewritesBlock, CarriesNot, StopsRewriting}
 use Rattle.rtp_wire.proofs.PacketBufLemmas.{IsKept, IsKept-parts, is_packet, kept-parts, length-bytes}
 use Rattle.rtp_wire.proofs.PartsLemmas.{some_there, none_there, no_other_form, length-packet}
 use Rattle.rtp_wire.proofs.RewrittenLemmas.{long-uncarried, each-among}
@@ -83,17 +83,6 @@ module _ (bytes : List ℕ) (room : ℕ) (was : Option ExtensionsForm) (form : E
 
 -- an element behind the others
 module _ (packet : RtpPacketBuf) (room : ℕ) (element : Element) (allowed : Option ExtensionsForm) where
-  pub element-to_adding : (cause : NotPut) → StopsElement element cause → KeepsFromAdding (bytes_of packet) room (form_of_block (parts_within packet).block) element allowed cause
-  element-to_adding ZeroId fact = fact
-  element-to_adding LongData fact = fact
-  element-to_adding cause fact = absurd fact
-
-  pub adding-to_element : (cause : NotPut) → put_place cause < 3 → KeepsFromAdding (bytes_of packet) room (form_of_block (parts_within packet).block) element allowed cause → StopsElement element cause
-  adding-to_element CutPacket before fact = fact
-  adding-to_element ZeroId before fact = fact
-  adding-to_element LongData before fact = fact
-  adding-to_element cause before fact = omega arith
-
   pub form-to_adding : (cause : NotPut) → StopsForm (bytes_of packet) element allowed cause → KeepsFromAdding (bytes_of packet) room (form_of_block (parts_within packet).block) element allowed cause
   form-to_adding OtherForm fact = fact
   form-to_adding LongId fact = fact
