@@ -1,6 +1,9 @@
 -- What an element that is put into a packet makes of the buffer, and why it may not be put.
 use Rattle.std.proofs.Common.{◌≡◌, ℕ, ◌+◌, ◌-◌, ◌*◌, ◌<◌, ◌≤◌, true, List, [], ◌∷◌, ◌++◌, length, take, drop, max, Option, Some, None, refl, sym, ap, subst, ◌∙◌, arith, length-drop, length-take-le}
+use Rattle.std.specs.Prelude.{Result, IfErr}
+use Rattle.std.proofs.lemmas.Result.{IfErr-weaker}
 use Rattle.std.specs.List.{AllByRecursion}
+use Rattle.rtp_wire.specs.PacketElements.{AreElementsOf}
 use Rattle.std.proofs.lemmas.List.{take-append-le, take-take, drop-append-le}
 use Rattle.std.proofs.lemmas.Option.{none-some, same_Some}
 use Rattle.rtp_ext.specs.declared.form.ExtensionsForm.{ExtensionsForm}
@@ -16,7 +19,7 @@ use Rattle.rtp_wire.specs.NotAPacket.{IsFirstBy}
 use Rattle.rtp_wire.specs.Packet.{PacketParts, IsPacket, block_len, header_len_of}
 use Rattle.rtp_wire.specs.PartsAt.{parts_at}
 use Rattle.rtp_wire.specs.PutIntoPacket.{IsGrowth, PutsElement, IsSetInPlace, anew, form_of_block, body_of_block, elements_with, AppliesToPut, put_place}
-use Rattle.rtp_wire.specs.RewrittenBlock.{StopsElement, StopsForm, rewritten_elements, IsRewritten, RewritesBlock, CarriesNot, StopsRewriting}
+use Rattle.rtp_wire.specs.RewrittenBlock.{StopsForm, rewritten_elements, IsRewritten, RewritesBlock, CarriesNot, StopsRewriting}
 use Rattle.rtp_wire.proofs.PacketLemmas.{one_packet, no_packet}
 use Rattle.rtp_wire.proofs.ResizedLemmas.{sources_end-is}
 use Rattle.rtp_wire.proofs.PutPlanLemmas.{no_long_id, carried-with}
@@ -34,11 +37,14 @@ first-of_more P Q n to places from cause first = record {
   none_before = λ earlier before fact. let place = places cause first.applies in first.none_before earlier before (from earlier (omega (arith, before, place)) fact);
 }
 
-pub element-places : (element : Element) (cause : NotPut) → StopsElement element cause → put_place cause < 3
-element-places element ZeroId fact = omega arith
-element-places element LongData fact = omega arith
-element-places element cause fact = absurd fact
+-- causes that apply together have the same first one
+pub cause-to : {A : Type 0} (P Q : NotPut → Type 0) → ((cause : NotPut) → P cause → Q cause) → ((cause : NotPut) → Q cause → P cause) → (result : Result A NotPut)
+    → IfErr result (IsFirstBy put_place P) → IfErr result (IsFirstBy put_place Q)
+cause-to {A} P Q to from result fact =
+    IfErr-weaker result (IsFirstBy put_place P) (IsFirstBy put_place Q)
+    (λ cause first. record { applies = to cause first.applies; none_before = λ earlier before fact. first.none_before earlier before (from earlier fact) }) fact
 
+-- where they stand in the order of looking
 pub form-places : (bytes : List ℕ) (element : Element) (allowed : Option ExtensionsForm) (cause : NotPut) → StopsForm bytes element allowed cause → put_place cause < 7
 form-places bytes element allowed OtherForm fact = omega arith
 form-places bytes element allowed LongId fact = omega arith
@@ -48,29 +54,13 @@ form-places bytes element allowed cause fact = absurd fact
 -- ---- why an element isn't put
 
 module _ (buf : List ℕ) (len : ℕ) (element : Element) (allowed : Option ExtensionsForm) (within : len ≤ length buf) where
-  -- no form can carry it
-  pub element-to_put : (cause : NotPut) → StopsElement element cause → AppliesToPut buf len element allowed cause
-  element-to_put ZeroId fact = fact
-  element-to_put LongData fact = fact
-  element-to_put cause fact = absurd fact
-
-  pub put-to_element : (cause : NotPut) → put_place cause < 3 → AppliesToPut buf len element allowed cause → StopsElement element cause
-  put-to_element CutPacket before fact = omega arith
-  put-to_element ZeroId before fact = fact
-  put-to_element LongData before fact = fact
-  put-to_element (NotAPacket cause) before fact = omega arith
-  put-to_element OtherForm before fact = omega arith
-  put-to_element LongId before fact = omega arith
-  put-to_element OneByteOnly before fact = omega arith
-  put-to_element LongBlock before fact = omega arith
-  put-to_element (NoRoom needed) before fact = omega arith
-
   module _ (above : 1 ≤ element.0) (short : length element.1 ≤ 255) where
     -- none applies before the packet is looked at
     pub none_before_packet : (cause : NotPut) → put_place cause < 3 → AppliesToPut buf len element allowed cause → ⊥
+    none_before_packet CutPacket before fact = omega (arith, within, fact)
     none_before_packet ZeroId before fact = omega (arith, above, fact)
     none_before_packet LongData before fact = omega (arith, short, fact)
-    none_before_packet cause before fact = put-to_element cause before fact
+    none_before_packet cause before fact = omega arith
 
     module _ (parts : PacketParts) (is : IsPacket (take len buf) parts) where
       -- its block has no form that can carry it
@@ -93,11 +83,11 @@ module _ (buf : List ℕ) (len : ℕ) (element : Element) (allowed : Option Exte
         abbrev bytes : List ℕ
         bytes = take len buf
 
-        form-of : (others : PacketParts) → IsPacket bytes others → allowed_form allowed (needed_form (form_of_block others.block) element) ≡ Some form
+        pub form-of : (others : PacketParts) → IsPacket bytes others → allowed_form allowed (needed_form (form_of_block others.block) element) ≡ Some form
         form-of others are =
             ap (λ (p : PacketParts). allowed_form allowed (needed_form (form_of_block p.block) element)) (sym (one_packet bytes others are) ∙ one_packet bytes parts is) ∙ some
 
-        carried : (others : PacketParts) (elements : List Element) → IsPacket bytes others → AreElementsOf others.block elements
+        pub carried : (others : PacketParts) (elements : List Element) → IsPacket bytes others → AreElementsOf others.block elements
             → AllByRecursion (IsWritable form) (rewritten_elements element.0 (element ∷ []) elements)
         carried others elements packet are =
             each-among (IsWritable form) element.0 (element ∷ []) (without 0 elements) (writable, tt) (carried-with others.block elements element allowed form are (form-of others packet))

@@ -36,8 +36,7 @@ use Rattle.rtp_wire.specs.RewrittenBlock.{IsFormOfBody, IsPlan, StopsForm}
 use Rattle.rtp_wire.specs.declared.packet.rewriting.Plan.{Plan}
 use Rattle.std.specs.List.{AllByRecursion}
 use Rattle.rtp_ext.specs.PutElement.{without}
-use Rattle.rtp_ext.proofs.AnewLemmas.{AreElements-each}
-use Rattle.rtp_ext.proofs.InRowLemmas.{writable_without}
+use Rattle.rtp_ext.proofs.AnewLemmas.{writable_without, AreElements-each}
 use Rattle.rtp_ext.proofs.NarrowLemmas.{wide_each}
 use Rattle.rtp_wire.proofs.ResizedLemmas.{whole-announced}
 use Rattle.rtp_ext.proofs.ServingFormLemmas.{IsWritable-one}

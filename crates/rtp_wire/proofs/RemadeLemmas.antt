@@ -7,33 +7,30 @@ use Rattle.rtp_ext.specs.Elements.{Element, AreElements, elements_bytes}
 use Rattle.rtp_ext.specs.ElementsInARow.{IsWritable}
 use Rattle.rtp_ext.specs.PutElement.{has_id, without, put_among, row_to}
 use Rattle.rtp_ext.specs.WrittenBlock.{whole_words}
+use Rattle.rtp_ext.proofs.AnewLemmas.{all-parts}
 use Rattle.rtp_wire.specs.PutIntoPacket.{body_of_block}
 use Rattle.rtp_wire.specs.RemadeBlock.{IsRemade, RemakesBlock, HasUncarried}
 use Rattle.rtp_wire.specs.RewrittenBlock.{IsRewritten, RewritesBlock, CarriesNot}
 use Rattle.rtp_wire.proofs.RewrittenLemmas.{each-among}
 
 -- without elements of the id what comes is last
-among-last : (id : ℕ) (comes elements : List Element) → put_among id comes (without id elements) ≡ without id elements ++ comes
+pub among-last : (id : ℕ) (comes elements : List Element) → put_among id comes (without id elements) ≡ without id elements ++ comes
 among-last id comes [] = refl
-among-last id comes (element ∷ elements) = by_test (has_id id element) refl
+among-last id comes (element ∷ elements) = by_test (has_id id element) refl (among-last id comes elements)
   where
-    by_test : (b : Bool) → has_id id element ≡ b
+    by_test : (b : Bool) → has_id id element ≡ b → put_among id comes (without id elements) ≡ without id elements ++ comes
         → put_among id comes (cond (not b) (element ∷ without id elements) (without id elements)) ≡ cond (not b) (element ∷ without id elements) (without id elements) ++ comes
-    by_test true same = among-last id comes elements
-    by_test false other =
+    by_test true same rest = rest
+    by_test false other rest =
         ap (λ (b : Bool).
         if b
         then (if list_any (has_id id) (without id elements) then put_among id comes (without id elements) else comes ++ without id elements)
         else element ∷ put_among id comes (without id elements)) other
-        ∙ ap (λ (es : List Element). element ∷ es) (among-last id comes elements)
-
-each-before : (P : Element → Type 0) (elements comes : List Element) → AllByRecursion P (elements ++ comes) → AllByRecursion P elements
-each-before P [] comes all = tt
-each-before P (element ∷ elements) comes all = (all.0, each-before P elements comes all.1)
+        ∙ ap (λ (es : List Element). element ∷ es) rest
 
 module _ (bytes : List ℕ) (form : ExtensionsForm) (added : List Element) where
-  without-carried : (elements : List Element) → AllByRecursion (IsWritable form) (put_among 0 added (without 0 elements)) → AllByRecursion (IsWritable form) (without 0 elements)
-  without-carried elements all = each-before (IsWritable form) (without 0 elements) added (subst (AllByRecursion (IsWritable form)) (among-last 0 added elements) all)
+  pub without-carried : (elements : List Element) → AllByRecursion (IsWritable form) (put_among 0 added (without 0 elements)) → AllByRecursion (IsWritable form) (without 0 elements)
+  without-carried elements all = (all-parts (IsWritable form) (without 0 elements) added (subst (AllByRecursion (IsWritable form)) (among-last 0 added elements) all)).0
 
   abbrev pub remade-of : IsRewritten bytes form 0 added → IsRemade bytes form added
   remade-of rewritten = record {

@@ -9,9 +9,6 @@ use Rattle.rtp_ext.specs.declared.form.ExtensionsForm.{ExtensionsForm}
 use Rattle.rtp_ext.specs.declared.form.ExtensionsForm.TheVariants.{OneByte, TwoByte}
 use Rattle.rtp_ext.specs.ElementsInARow.{IsWritable}
 use Rattle.rtp_ext.specs.PutElement.{without, needed_form, allowed_form}
-use Rattle.rtp_ext.proofs.AnewLemmas.{AreElements-each}
-use Rattle.rtp_ext.proofs.NarrowLemmas.{wide_each}
-use Rattle.rtp_ext.proofs.InRowLemmas.{writable_without}
 use Rattle.rtp_ext.specs.Elements.{Element}
 use Rattle.rtp_wire.specs.declared.packet.rtp_packet_buf.RtpPacketBuf.{RtpPacketBuf}
 use Rattle.rtp_wire.specs.declared.packet.not_put.NotPut.{NotPut}
@@ -22,7 +19,7 @@ use Rattle.rtp_wire.specs.PacketElements.{AreElementsOf}
 use Rattle.rtp_wire.specs.PacketBuf.{bytes_of, parts_within}
 use Rattle.rtp_wire.specs.PutIntoPacket.{form_of_block, put_place, IsFirstNotPut}
 use Rattle.rtp_wire.specs.RemadeBlock.{IsTooLong, HasNoRoom, IsInOther, KeepsFromForm, form_with, KeepsFromAdding}
-use Rattle.rtp_wire.specs.RewrittenBlock.{StopsElement, StopsForm, RewritesBlock, CarriesNot, StopsRewriting}
+use Rattle.rtp_wire.specs.RewrittenBlock.{StopsForm, RewritesBlock, CarriesNot, StopsRewriting}
 use Rattle.rtp_wire.proofs.PacketBufLemmas.{IsKept, IsKept-parts, is_packet, kept-parts, length-bytes}
 use Rattle.rtp_wire.proofs.PartsLemmas.{some_there, none_there, no_other_form, length-packet}
 use Rattle.rtp_wire.proofs.RewrittenLemmas.{long-uncarried, each-among}
@@ -47,12 +44,6 @@ IsKept-rewritten packet form added new len has longer room =
 
 -- ---- the causes
 
-pub cause-to : {A : Type 0} (P Q : NotPut → Type 0) → ((cause : NotPut) → P cause → Q cause) → ((cause : NotPut) → Q cause → P cause) → (result : Result A NotPut)
-    → IfErr result (IsFirstBy put_place P) → IfErr result (IsFirstBy put_place Q)
-cause-to {A} P Q to from result fact =
-    IfErr-weaker result (IsFirstBy put_place P) (IsFirstBy put_place Q)
-    (λ cause first. record { applies = to cause first.applies; none_before = λ earlier before fact. first.none_before earlier before (from earlier fact) }) fact
-
 -- the same form, in the packet and in what is kept of it
 pub kept-form : (packet : RtpPacketBuf) → packet.form ≡ form_of_block (parts_within packet).block
 kept-form packet = (kept-parts packet (parts_within packet) (is_packet packet)).1
@@ -69,8 +60,8 @@ module _ (bytes : List ℕ) (room : ℕ) (was : Option ExtensionsForm) (form : E
   pub to-form : IsInOther was form → (cause : NotPut) → StopsRewriting bytes room form 0 [] cause → KeepsFromForm bytes room was form cause
   to-form is LongId fact = (is, fact.0)
   to-form is OneByteOnly fact = (is, uncarried-of bytes form [] tt fact)
-  to-form is LongBlock fact = (is, remade-of bytes form [] fact.0, fact.1)
-  to-form is (NoRoom n) fact = (is, remade-of bytes form [] fact.0, fact.1, fact.2)
+  to-form is LongBlock fact = (is, (remade-of bytes form [] fact.0, fact.1))
+  to-form is (NoRoom n) fact = (is, (remade-of bytes form [] fact.0, fact.1, fact.2))
   to-form is cause fact = absurd fact
 
   pub from-form : (HasOtherForm bytes → ⊥) → (cause : NotPut) → KeepsFromForm bytes room was form cause → StopsRewriting bytes room form 0 [] cause
@@ -92,17 +83,6 @@ module _ (bytes : List ℕ) (room : ℕ) (was : Option ExtensionsForm) (form : E
 
 -- an element behind the others
 module _ (packet : RtpPacketBuf) (room : ℕ) (element : Element) (allowed : Option ExtensionsForm) where
-  pub element-to_adding : (cause : NotPut) → StopsElement element cause → KeepsFromAdding (bytes_of packet) room (form_of_block (parts_within packet).block) element allowed cause
-  element-to_adding ZeroId fact = fact
-  element-to_adding LongData fact = fact
-  element-to_adding cause fact = absurd fact
-
-  pub adding-to_element : (cause : NotPut) → put_place cause < 3 → KeepsFromAdding (bytes_of packet) room (form_of_block (parts_within packet).block) element allowed cause → StopsElement element cause
-  adding-to_element CutPacket before fact = fact
-  adding-to_element ZeroId before fact = fact
-  adding-to_element LongData before fact = fact
-  adding-to_element cause before fact = omega arith
-
   pub form-to_adding : (cause : NotPut) → StopsForm (bytes_of packet) element allowed cause → KeepsFromAdding (bytes_of packet) room (form_of_block (parts_within packet).block) element allowed cause
   form-to_adding OtherForm fact = fact
   form-to_adding LongId fact = fact
@@ -134,8 +114,8 @@ module _ (packet : RtpPacketBuf) (room : ℕ) (element : Element) (allowed : Opt
           → KeepsFromAdding (bytes_of packet) room (form_of_block (parts_within packet).block) element allowed cause
       to-adding LongId fact = absurd (carries-all fact.1)
       to-adding OneByteOnly fact = absurd (carries-all fact)
-      to-adding LongBlock fact = (form, some, remade-of (bytes_of packet) form (element ∷ []) fact.0, fact.1)
-      to-adding (NoRoom n) fact = (form, some, remade-of (bytes_of packet) form (element ∷ []) fact.0, fact.1, fact.2)
+      to-adding LongBlock fact = (form, some, (remade-of (bytes_of packet) form (element ∷ []) fact.0, fact.1))
+      to-adding (NoRoom n) fact = (form, some, (remade-of (bytes_of packet) form (element ∷ []) fact.0, fact.1, fact.2))
       to-adding cause fact = absurd fact
 
       pub from-adding : (HasOtherForm (bytes_of packet) → ⊥) → (cause : NotPut)

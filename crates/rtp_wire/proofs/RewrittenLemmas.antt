@@ -9,9 +9,8 @@ use Rattle.rtp_ext.specs.declared.form.ExtensionsForm.TheVariants.{OneByte, TwoB
 use Rattle.rtp_ext.specs.Elements.{Element, IsElement, AreElements, elements_bytes}
 use Rattle.rtp_ext.specs.ElementsInARow.{IsWritable, elements_added}
 use Rattle.rtp_ext.specs.PutElement.{has_id, without, put_among}
-use Rattle.rtp_ext.proofs.AnewLemmas.{AreElements-each}
+use Rattle.rtp_ext.proofs.AnewLemmas.{writable_without, AreElements-each, without-each, among-each}
 use Rattle.rtp_ext.proofs.NarrowLemmas.{wide_each}
-use Rattle.rtp_ext.proofs.InRowLemmas.{writable_without}
 use Rattle.rtp_ext.specs.WrittenBlock.{whole_words}
 use Rattle.rtp_wire.specs.declared.packet.not_put.NotPut.{NotPut}
 use Rattle.rtp_wire.specs.declared.packet.not_put.NotPut.TheVariants.{CutPacket, ZeroId, LongData, NotAPacket, OtherForm, LongId, OneByteOnly, LongBlock, NoRoom}
@@ -27,28 +26,13 @@ use Rattle.rtp_wire.proofs.HeaderLemmas.{one_list}
 use Rattle.rtp_wire.proofs.PutPlanLemmas.{whole-words, block-elements}
 use Rattle.rtp_wire.proofs.ResizedLemmas.{sources_end-is, len-is, whole-announced}
 use Rattle.rtp_wire.proofs.SetInPlaceLemmas.{body-before}
+use Rattle.rtp_wire.proofs.PartsLemmas.{length-packet}
 
 -- ---- what comes among the elements
 
-each-both : (P : Element → Type 0) (xs ys : List Element) → AllByRecursion P xs → AllByRecursion P ys → AllByRecursion P (xs ++ ys)
-each-both P [] ys all each = each
-each-both P (x ∷ xs) ys all each = (all.0, each-both P xs ys all.1 each)
-
 -- what holds of each element and of each that comes holds of each then
 pub each-among : (P : Element → Type 0) (goes : ℕ) (comes elements : List Element) → AllByRecursion P comes → AllByRecursion P elements → AllByRecursion P (put_among goes comes elements)
-each-among P goes comes [] all each = all
-each-among P goes comes (element ∷ elements) all each = by_tests (has_id goes element) (list_any (has_id goes) elements) (each-among P goes comes elements all each.1)
-  where
-    by_tests : (gone more : Bool) → AllByRecursion P (put_among goes comes elements)
-        → AllByRecursion P (if gone then (if more then put_among goes comes elements else comes ++ elements) else element ∷ put_among goes comes elements)
-    by_tests true true rest = rest
-    by_tests true false rest = each-both P comes elements all each.1
-    by_tests false more rest = (each.0, rest)
-
--- an element that can be written is one in a row
-pub each-added : (form : ExtensionsForm) (added : Option (ℕ × Bor (List ℕ))) → IfSome added (λ element. IsWritable form (element.0, element.1.now)) → AllByRecursion (IsWritable form) (elements_added added)
-each-added form None writable = tt
-each-added form (Some element) writable = (writable, tt)
+each-among P goes comes elements all each = among-each P goes comes elements (without-each P goes elements each) all
 
 -- ---- a packet becomes one thing
 
@@ -264,3 +248,10 @@ rewritten-len buf len parts goes plan is form comes rewritten body_len within bo
       omega (arith, all, start, payload, is.block_is, body_len-is, rewritten.len_is),
       omega (arith, all, rewritten.len_is, rewritten-fits (take len buf) form goes comes rewritten, block_len-within rewritten.parts.block, none),
     )
+
+-- a packet that stays as long has a body that is no longer
+pub short-kept : (bytes : List ℕ) (goes : ℕ) (plan : Plan) (form : ExtensionsForm) (comes : List Element) (rewritten : IsRewritten bytes form goes comes) → IsPlan bytes rewritten.parts goes plan
+    → rewritten.len ≡ length bytes → rewritten.body_len ≤ 262140
+short-kept bytes goes plan form comes rewritten is as_long =
+    let none : block_len rewritten.parts.other_block ≡ 0 = ap (λ (other : Option (ℕ × List ℕ)). block_len other) rewritten.no_other in
+    omega (arith, as_long, rewritten.len_is, length-packet bytes rewritten.parts rewritten.is_packet, block_len-within rewritten.parts.block, is.body_is, is.few, none)
