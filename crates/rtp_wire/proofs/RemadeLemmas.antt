@@ -1,36 +1,26 @@
 -- A block that is rewritten with no element but those of the id 0 gone is one that is made anew, with what comes behind its own elements.
-use Rattle.std.proofs.Common.{◌≡◌, ℕ, ◌+◌, ◌*◌, Bool, true, false, cond, List, [], ◌∷◌, ◌++◌, length, take, max, Some, refl, sym, ap, subst, ◌∙◌, arith}
-use Rattle.std.specs.Prelude.{not, if◌then◌else◌}
-use Rattle.std.specs.List.{AllByRecursion, list_any}
+use Rattle.std.proofs.Common.{◌≡◌, ◌≢◌, ℕ, ◌+◌, ◌*◌, List, ◌++◌, length, take, max, Some, refl, sym, ap, subst, ◌∙◌, arith}
+use Rattle.std.specs.List.{AllByRecursion}
+use Rattle.std.proofs.lemmas.List.Elements.{All-from_recursion}
 use Rattle.rtp_ext.specs.declared.form.ExtensionsForm.{ExtensionsForm}
 use Rattle.rtp_ext.specs.Elements.{Element, AreElements, elements_bytes}
 use Rattle.rtp_ext.specs.ElementsInARow.{IsWritable}
-use Rattle.rtp_ext.specs.PutElement.{has_id, without, put_among, row_to}
+use Rattle.rtp_ext.specs.PutElement.{without, put_among, row_to}
 use Rattle.rtp_ext.specs.WrittenBlock.{whole_words}
-use Rattle.rtp_ext.proofs.AnewLemmas.{all-parts}
+use Rattle.rtp_ext.proofs.AnewLemmas.{all-parts, no_zero_left}
+use Rattle.rtp_ext.proofs.PutLemmas.{put_among-none}
 use Rattle.rtp_wire.specs.PutIntoPacket.{body_of_block}
 use Rattle.rtp_wire.specs.RemadeBlock.{IsRemade, RemakesBlock, HasUncarried}
 use Rattle.rtp_wire.specs.RewrittenBlock.{IsRewritten, RewritesBlock, CarriesNot}
 use Rattle.rtp_wire.proofs.RewrittenLemmas.{each-among}
 
--- without elements of the id what comes is last
-pub among-last : (id : ℕ) (comes elements : List Element) → put_among id comes (without id elements) ≡ without id elements ++ comes
-among-last id comes [] = refl
-among-last id comes (element ∷ elements) = by_test (has_id id element) refl (among-last id comes elements)
-  where
-    by_test : (b : Bool) → has_id id element ≡ b → put_among id comes (without id elements) ≡ without id elements ++ comes
-        → put_among id comes (cond (not b) (element ∷ without id elements) (without id elements)) ≡ cond (not b) (element ∷ without id elements) (without id elements) ++ comes
-    by_test true same rest = rest
-    by_test false other rest =
-        ap (λ (b : Bool).
-        if b
-        then (if list_any (has_id id) (without id elements) then put_among id comes (without id elements) else comes ++ without id elements)
-        else element ∷ put_among id comes (without id elements)) other
-        ∙ ap (λ (es : List Element). element ∷ es) rest
+-- where no id but 0 goes, what comes is last
+pub among-last : (comes elements : List Element) → put_among 0 comes (without 0 elements) ≡ without 0 elements ++ comes
+among-last comes elements = put_among-none 0 comes (without 0 elements) (All-from_recursion (λ (e : Element). e.0 ≢ 0) (without 0 elements) (no_zero_left elements))
 
 module _ (bytes : List ℕ) (form : ExtensionsForm) (added : List Element) where
   pub without-carried : (elements : List Element) → AllByRecursion (IsWritable form) (put_among 0 added (without 0 elements)) → AllByRecursion (IsWritable form) (without 0 elements)
-  without-carried elements all = (all-parts (IsWritable form) (without 0 elements) added (subst (AllByRecursion (IsWritable form)) (among-last 0 added elements) all)).0
+  without-carried elements all = (all-parts (IsWritable form) (without 0 elements) added (subst (AllByRecursion (IsWritable form)) (among-last added elements) all)).0
 
   abbrev pub remade-of : IsRewritten bytes form 0 added → IsRemade bytes form added
   remade-of rewritten = record {
@@ -43,7 +33,7 @@ module _ (bytes : List ℕ) (form : ExtensionsForm) (added : List Element) where
     are_elements = rewritten.are_elements;
     are_carried = without-carried rewritten.elements rewritten.are_carried;
     body_len_is = rewritten.body_len_is
-        ∙ ap (λ (es : List Element). max (length (body_of_block rewritten.parts.block)) (whole_words (length (elements_bytes form es)))) (among-last 0 added rewritten.elements);
+        ∙ ap (λ (es : List Element). max (length (body_of_block rewritten.parts.block)) (whole_words (length (elements_bytes form es)))) (among-last added rewritten.elements);
     len_is = rewritten.len_is;
   }
 
@@ -61,9 +51,9 @@ module _ (bytes : List ℕ) (form : ExtensionsForm) (added : List Element) where
     remade = remade-of made.rewritten;
     body = made.body;
     len_is = made.len_is;
-    body_is = made.body_is ∙ ap (λ (es : List Element). row_to form es made.rewritten.body_len) (among-last 0 added made.rewritten.elements);
+    body_is = made.body_is ∙ ap (λ (es : List Element). row_to form es made.rewritten.body_len) (among-last added made.rewritten.elements);
     is_packet = made.is_packet;
-    are_elements = subst (AreElements form made.body) (among-last 0 added made.rewritten.elements) made.are_elements;
+    are_elements = subst (AreElements form made.body) (among-last added made.rewritten.elements) made.are_elements;
     word_is = made.word_is;
     new_word_is = made.new_word_is;
   }
@@ -80,7 +70,7 @@ module _ (bytes : List ℕ) (form : ExtensionsForm) (added : List Element) where
       are_elements = remade.are_elements;
       are_carried = each-among (IsWritable form) 0 added (without 0 remade.elements) writable remade.are_carried;
       body_len_is = remade.body_len_is
-          ∙ ap (λ (es : List Element). max (length (body_of_block remade.parts.block)) (whole_words (length (elements_bytes form es)))) (sym (among-last 0 added remade.elements));
+          ∙ ap (λ (es : List Element). max (length (body_of_block remade.parts.block)) (whole_words (length (elements_bytes form es)))) (sym (among-last added remade.elements));
       len_is = remade.len_is;
     }
 
