@@ -1,31 +1,28 @@
 -- What an element that is put into a packet makes of the buffer, and why it may not be put.
-use Rattle.std.proofs.Common.{◌≡◌, ℕ, ◌+◌, ◌-◌, ◌*◌, ◌<◌, ◌≤◌, true, List, [], ◌∷◌, ◌++◌, length, take, drop, max, Option, Some, None, refl, sym, ap, subst, ◌∙◌, arith, length-drop, length-take-le}
+use Rattle.std.proofs.Common.{◌≡◌, ℕ, ◌+◌, ◌<◌, ◌≤◌, true, List, [], ◌∷◌, ◌++◌, length, take, drop, max, Option, Some, None, sym, ap, subst, ◌∙◌, arith, length-drop}
 use Rattle.std.specs.Prelude.{Result, IfErr}
 use Rattle.std.proofs.lemmas.Result.{IfErr-weaker}
 use Rattle.std.specs.List.{AllByRecursion}
 use Rattle.rtp_wire.specs.PacketElements.{AreElementsOf}
-use Rattle.std.proofs.lemmas.List.{take-append-le, take-take, drop-append-le}
+use Rattle.std.proofs.lemmas.List.{take-append-le, drop-append-le}
 use Rattle.std.proofs.lemmas.Option.{none-some, same_Some}
 use Rattle.rtp_ext.specs.declared.form.ExtensionsForm.{ExtensionsForm}
 use Rattle.rtp_ext.specs.Elements.{Element, elements_bytes}
 use Rattle.rtp_ext.specs.ElementsInARow.{IsWritable}
 use Rattle.rtp_ext.specs.PutElement.{without, needed_form, allowed_form}
 use Rattle.rtp_ext.specs.WrittenBlock.{whole_words}
-use Rattle.rtp_ext.proofs.RawWritingLemmas.{IsWritable-short}
 use Rattle.rtp_wire.specs.declared.packet.not_put.NotPut.{NotPut}
 use Rattle.rtp_wire.specs.declared.packet.not_put.NotPut.TheVariants.{CutPacket, NotAPacket, ZeroId, LongData, OtherForm, LongId, OneByteOnly, LongBlock, NoRoom}
 use Rattle.rtp_wire.specs.NotAHeader.{sources_end}
 use Rattle.rtp_wire.specs.NotAPacket.{IsFirstBy}
-use Rattle.rtp_wire.specs.Packet.{PacketParts, IsPacket, block_len, header_len_of}
-use Rattle.rtp_wire.specs.PartsAt.{parts_at}
+use Rattle.rtp_wire.specs.Packet.{PacketParts, IsPacket}
 use Rattle.rtp_wire.specs.PutIntoPacket.{IsGrowth, PutsElement, IsSetInPlace, anew, form_of_block, body_of_block, elements_with, AppliesToPut, put_place}
 use Rattle.rtp_wire.specs.RewrittenBlock.{StopsForm, rewritten_elements, IsRewritten, RewritesBlock, CarriesNot, StopsRewriting}
 use Rattle.rtp_wire.proofs.PacketLemmas.{one_packet, no_packet}
 use Rattle.rtp_wire.proofs.ResizedLemmas.{sources_end-is}
 use Rattle.rtp_wire.proofs.PutPlanLemmas.{no_long_id, carried-with}
 use Rattle.rtp_wire.proofs.RewrittenLemmas.{each-among}
-use Rattle.rtp_wire.proofs.PartsLemmas.{length-packet, no_other_form}
-use Rattle.rtp_wire.proofs.SetInPlaceLemmas.{body-ends, block_len-announced}
+use Rattle.rtp_wire.proofs.PartsLemmas.{no_other_form}
 
 -- ---- causes that come one after the other
 

@@ -1,44 +1,42 @@
 -- What is known of a packet into which an element is put, and of what it becomes.
-use Rattle.std.proofs.Common.{◌≡◌, ℕ, ◌+◌, ◌-◌, ◌*◌, ◌%◌, ◌<◌, ◌≤◌, Bool, true, false, List, length, drop, max, Option, Some, None, inl, inr, refl, sym, ap, subst, ◌∙◌, arith, length-take, []}
-use Rattle.std.specs.Prelude.{is_some, slice_index, slice_range, option_map, unwrap_or, if◌then◌else◌, ◌↔◌, IsTrue}
+use Rattle.std.proofs.Common.{◌≡◌, ℕ, ◌+◌, ◌-◌, ◌*◌, ◌%◌, ◌<◌, ◌≤◌, Bool, true, false, List, length, drop, Option, Some, None, refl, sym, ap, subst, ◌∙◌, arith, length-take, []}
+use Rattle.std.specs.Prelude.{is_some, slice_index, slice_range, option_map, if◌then◌else◌, ◌↔◌, IsTrue}
 use Rattle.std.specs.Option.{option_eq}
 use Rattle.std.specs.Borrow.{Bor}
-use Rattle.std.proofs.lemmas.Bool.{false≢true, cases_lt}
+use Rattle.std.proofs.lemmas.Bool.{false≢true}
 use denote.Enum.Bare.{sameb}
 use Rattle.rtp_ext.specs.contracts.form.ExtensionsForm.{the_type}
 use Rattle.std.proofs.lemmas.List.{get_or-drop}
 use Rattle.std.proofs.lemmas.Option.{none-some, same_Some}
 use Rattle.rtp_ext.specs.declared.form.ExtensionsForm.{ExtensionsForm}
 use Rattle.rtp_ext.specs.declared.form.ExtensionsForm.TheVariants.{OneByte, TwoByte}
-use Rattle.rtp_ext.specs.Elements.{Element, AreElements, elements_bytes, ended}
+use Rattle.rtp_ext.specs.Elements.{Element, AreElements, ended}
 use Rattle.rtp_ext.specs.declared.survey.Survey.{Survey}
 use Rattle.rtp_ext.specs.BodySurvey.{IsSurvey}
 use Rattle.rtp_ext.specs.WrittenBlock.{whole_words}
 use Rattle.rtp_ext.specs.ElementsInARow.{IsWritable, serves_one_byte}
 use Rattle.rtp_ext.specs.PutElement.{needed_form, allowed_form}
-use Rattle.rtp_ext.proofs.RawWritingLemmas.{IsWritable-short}
 use Rattle.rtp_ext.proofs.LastPlaceLemmas.{AreElements-same}
 use Rattle.rtp_wire.specs.declared.packet.rtp_packet.RtpPacket.{RtpPacket}
 use Rattle.rtp_wire.specs.declared.packet.not_put.NotPut.{NotPut}
-use Rattle.rtp_wire.specs.declared.packet.not_put.NotPut.TheVariants.{CutPacket, NotAPacket, ZeroId, LongData, OtherForm, LongId, OneByteOnly, LongBlock, NoRoom}
+use Rattle.rtp_wire.specs.declared.packet.not_put.NotPut.TheVariants.{OtherForm, LongId, OneByteOnly}
 use Rattle.rtp_wire.specs.Block.{word_at}
 use Rattle.rtp_wire.specs.NotAHeader.{sources_end}
 use Rattle.rtp_wire.specs.PartsAt.{has_block, header_end, parts_at}
 use Rattle.rtp_wire.specs.PartsOf.{parts_of}
 use Rattle.rtp_wire.proofs.BlockLemmas.{word_at-cells}
 use Rattle.rtp_wire.proofs.HeaderFound.{HasHeader-packet}
-use Rattle.rtp_wire.proofs.PacketLemmas.{one_packet, no_packet}
+use Rattle.rtp_wire.proofs.PacketLemmas.{one_packet}
 use Rattle.rtp_wire.proofs.PartsLemmas.{block-header, no_other_form, some_there, IsPacket-found}
 use Rattle.rtp_wire.specs.Packet.{PacketParts, IsPacket}
 use Rattle.rtp_wire.specs.PacketElements.{AreElementsOf}
-use Rattle.rtp_wire.specs.PutIntoPacket.{IsGrowth, form_of_block, body_of_block, elements_with, IsLongId, AppliesToPacket, IsFirstNotPut, put_place}
+use Rattle.rtp_wire.specs.PutIntoPacket.{form_of_block, body_of_block, IsLongId, IsFirstNotPut, put_place}
 use Rattle.rtp_wire.specs.RewrittenBlock.{IsFormOfBody, IsPlan, StopsForm}
 use Rattle.rtp_wire.specs.declared.packet.rewriting.Plan.{Plan}
 use Rattle.std.specs.List.{AllByRecursion}
 use Rattle.rtp_ext.specs.PutElement.{without}
 use Rattle.rtp_ext.proofs.AnewLemmas.{writable_without, AreElements-each}
 use Rattle.rtp_ext.proofs.NarrowLemmas.{wide_each}
-use Rattle.rtp_wire.proofs.ResizedLemmas.{whole-announced}
 use Rattle.rtp_ext.proofs.ServingFormLemmas.{IsWritable-one}
 
 -- the elements of a block are those of its body, and there are none without one

@@ -1,23 +1,17 @@
 -- A packet in a buffer whose block is made anew: what the buffer then keeps of it, and why it may not be.
-use Rattle.std.proofs.Common.{◌≡◌, ℕ, ◌+◌, ◌-◌, ◌*◌, ◌<◌, ◌≤◌, true, false, List, [], ◌∷◌, length, take, Option, Some, None, inl, inr, refl, sym, ap, subst, ◌∙◌, arith, length-take-le}
-use Rattle.std.specs.Prelude.{Result, IfErr, is_some}
-use Rattle.std.proofs.lemmas.Result.{IfErr-weaker}
-use Rattle.std.specs.List.{AllByRecursion}
-use Rattle.std.proofs.lemmas.Bool.{cases_lt}
+use Rattle.std.proofs.Common.{◌≡◌, ℕ, ◌+◌, ◌-◌, ◌<◌, ◌≤◌, true, false, List, [], ◌∷◌, length, take, Option, Some, refl, sym, ap, subst, ◌∙◌, arith, length-take-le}
+use Rattle.std.specs.Prelude.{is_some}
 use Rattle.std.proofs.lemmas.Option.{none-some, same_Some}
 use Rattle.rtp_ext.specs.declared.form.ExtensionsForm.{ExtensionsForm}
-use Rattle.rtp_ext.specs.declared.form.ExtensionsForm.TheVariants.{OneByte, TwoByte}
 use Rattle.rtp_ext.specs.ElementsInARow.{IsWritable}
-use Rattle.rtp_ext.specs.PutElement.{without, needed_form, allowed_form}
+use Rattle.rtp_ext.specs.PutElement.{without}
 use Rattle.rtp_ext.specs.Elements.{Element}
 use Rattle.rtp_wire.specs.declared.packet.rtp_packet_buf.RtpPacketBuf.{RtpPacketBuf}
 use Rattle.rtp_wire.specs.declared.packet.not_put.NotPut.{NotPut}
 use Rattle.rtp_wire.specs.declared.packet.not_put.NotPut.TheVariants.{CutPacket, ZeroId, LongData, NotAPacket, OtherForm, LongId, OneByteOnly, LongBlock, NoRoom}
-use Rattle.rtp_wire.specs.NotAPacket.{IsFirstBy}
 use Rattle.rtp_wire.specs.Packet.{HasOtherForm}
-use Rattle.rtp_wire.specs.PacketElements.{AreElementsOf}
 use Rattle.rtp_wire.specs.PacketBuf.{bytes_of, parts_within}
-use Rattle.rtp_wire.specs.PutIntoPacket.{form_of_block, put_place, IsFirstNotPut}
+use Rattle.rtp_wire.specs.PutIntoPacket.{form_of_block, put_place}
 use Rattle.rtp_wire.specs.RemadeBlock.{IsTooLong, HasNoRoom, IsInOther, KeepsFromForm, form_with, KeepsFromAdding}
 use Rattle.rtp_wire.specs.RewrittenBlock.{StopsForm, RewritesBlock, CarriesNot, StopsRewriting}
 use Rattle.rtp_wire.proofs.PacketBufLemmas.{IsKept, IsKept-parts, is_packet, kept-parts, length-bytes}

@@ -1,22 +1,21 @@
 -- A packet whose block is rewritten: how long it becomes, and why it may not be.
-use Rattle.std.proofs.Common.{◌≡◌, ℕ, zero, suc, ◌+◌, ◌-◌, ◌*◌, ◌%◌, ◌<◌, ◌≤◌, Bool, true, false, cond, List, [], ◌∷◌, ◌++◌, length, take, drop, max, Option, Some, None, refl, sym, ap, subst, ◌∙◌, arith}
-use Rattle.std.specs.Prelude.{IfSome, Any, not, if◌then◌else◌}
+use Rattle.std.proofs.Common.{◌≡◌, ℕ, zero, suc, ◌+◌, ◌-◌, ◌*◌, ◌%◌, ◌<◌, ◌≤◌, Bool, true, false, cond, List, [], ◌∷◌, length, take, drop, max, Option, Some, None, refl, sym, ap, subst, ◌∙◌, arith}
+use Rattle.std.specs.Prelude.{Any, not}
 use Rattle.std.proofs.lemmas.Bool.{eqb-true}
-use Rattle.std.specs.List.{AllByRecursion, list_any}
-use Rattle.std.specs.Borrow.{Bor}
+use Rattle.std.specs.List.{AllByRecursion}
 use Rattle.rtp_ext.specs.declared.form.ExtensionsForm.{ExtensionsForm}
 use Rattle.rtp_ext.specs.declared.form.ExtensionsForm.TheVariants.{OneByte, TwoByte}
 use Rattle.rtp_ext.specs.Elements.{Element, IsElement, AreElements, elements_bytes}
-use Rattle.rtp_ext.specs.ElementsInARow.{IsWritable, elements_added}
+use Rattle.rtp_ext.specs.ElementsInARow.{IsWritable}
 use Rattle.rtp_ext.specs.PutElement.{has_id, without, put_among}
 use Rattle.rtp_ext.proofs.AnewLemmas.{writable_without, AreElements-each, without-each, among-each}
 use Rattle.rtp_ext.proofs.NarrowLemmas.{wide_each}
 use Rattle.rtp_ext.specs.WrittenBlock.{whole_words}
 use Rattle.rtp_wire.specs.declared.packet.not_put.NotPut.{NotPut}
-use Rattle.rtp_wire.specs.declared.packet.not_put.NotPut.TheVariants.{CutPacket, ZeroId, LongData, NotAPacket, OtherForm, LongId, OneByteOnly, LongBlock, NoRoom}
+use Rattle.rtp_wire.specs.declared.packet.not_put.NotPut.TheVariants.{LongId, OneByteOnly, LongBlock, NoRoom}
 use Rattle.rtp_wire.specs.declared.packet.rewriting.Plan.{Plan}
 use Rattle.rtp_wire.specs.NotAPacket.{IsFirstBy}
-use Rattle.rtp_wire.specs.Packet.{PacketParts, IsPacket, header_len_of, block_len}
+use Rattle.rtp_wire.specs.Packet.{PacketParts, header_len_of, block_len}
 use Rattle.rtp_wire.specs.PacketElements.{AreElementsOf}
 use Rattle.rtp_wire.specs.PutIntoPacket.{body_of_block, put_place, IsLongId}
 use Rattle.rtp_wire.specs.RemadeBlock.{HasLongIds, HasUncarried}

@@ -1,4 +1,4 @@
-use Rattle.rtp_wire.proofs.Common.{◌≡◌, ℕ, ◌≤◌, ◌++◌, true, false, IsPacket, List, [], ◌∷◌, length, take, drop, Some, Option, arith, rules, refl, sym, ap, ◌∙◌, subst, length-take-le, false≢true, OnTrue_at, OnFalse_at, take-append-drop, ExtensionsForm, Element, needed_form, allowed_form, form_of_block, PutsElement, IsPlan}
+use Rattle.rtp_wire.proofs.Common.{◌≡◌, ℕ, ◌++◌, true, false, IsPacket, List, [], ◌∷◌, length, take, drop, Some, arith, rules, refl, sym, ap, ◌∙◌, subst, length-take-le, false≢true, OnTrue_at, OnFalse_at, take-append-drop, ExtensionsForm, Element, needed_form, allowed_form, form_of_block, PutsElement, IsPlan}
 use Rattle.std.specs.Prelude.{IfOk, IfErr, IsErr, ◌↔◌}
 use Rattle.std.proofs.lemmas.Result.{IfOk-weaker}
 use Rattle.rtp_ext.specs.ElementsInARow.{IsWritable}

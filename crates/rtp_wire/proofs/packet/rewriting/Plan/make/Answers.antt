@@ -1,4 +1,4 @@
-use Rattle.std.proofs.Common.{◌≡◌, ℕ, ◌+◌, ◌-◌, ◌*◌, ◌≤◌, ◌++◌, List, length, take, drop, refl, arith, sym, ap, ◌∙◌, subst, length-take-le}
+use Rattle.std.proofs.Common.{◌≡◌, ℕ, ◌+◌, ◌-◌, ◌*◌, ◌≤◌, List, length, take, drop, refl, arith, sym, ap, ◌∙◌, subst, length-take-le}
 use Rattle.std.proofs.lemmas.Bool.{false≢true}
 use Rattle.std.proofs.lemmas.List.{take-take}
 use Rattle.std.specs.Prelude.{slice_range}
@@ -13,7 +13,7 @@ use Rattle.rtp_ext.specs.BodySurvey.{IsSurvey}
 use Rattle.rtp_ext.proofs.LastPlaceLemmas.{AreElements-same}
 use Rattle.rtp_wire.specs.declared.packet.rewriting.Plan.{Plan}
 use Rattle.rtp_wire.specs.NotAHeader.{sources_end}
-use Rattle.rtp_wire.specs.Packet.{PacketParts, header_len_of}
+use Rattle.rtp_wire.specs.Packet.{header_len_of}
 use Rattle.rtp_wire.specs.PartsAt.{parts_at}
 use Rattle.rtp_wire.specs.PutIntoPacket.{body_of_block}
 use Rattle.rtp_wire.specs.GrowingPacket.{with_extension_bit}

@@ -1,5 +1,4 @@
-use Rattle.rtp_wire.proofs.Common.{◌≡◌, ◌↔◌, ℕ, Option, Some, arith, refl, sym, ap, ◌∙◌, subst, IsTrue, ExtensionsForm, parts_of, length, body_of_block}
-use Rattle.rtp_ext.specs.declared.survey.Survey.{Survey}
+use Rattle.rtp_wire.proofs.Common.{◌≡◌, ◌↔◌, Option, Some, arith, sym, subst, IsTrue, ExtensionsForm, parts_of}
 use Rattle.rtp_wire.proofs.PartsLemmas.{IsPacket-found}
 use Rattle.rtp_wire.proofs.PutPlanLemmas.{IsFound, found-some, found-none, short-body, form-tested}
 use Rattle.rtp_wire.proofs.packet.rewriting.Plan.new.Goals as goal

@@ -1,4 +1,4 @@
-use Rattle.rtp_wire.proofs.Common.{◌≡◌, ℕ, ◌+◌, ◌-◌, ◌≤◌, length, take, arith, rules, refl, false≢true}
+use Rattle.rtp_wire.proofs.Common.{◌≡◌, ◌+◌, ◌-◌, ◌≤◌, length, take, arith, rules, refl, false≢true}
 use Rattle.rtp_ext.specs.ElementsInARow.{elements_added}
 use Rattle.rtp_wire.specs.declared.packet.not_put.NotPut.TheVariants.{NoRoom}
 use Rattle.rtp_wire.specs.NotAPacket.{IsFirstBy}
