@@ -31,7 +31,7 @@ pub struct Datagram {
     pub is_rtcp: u8,
 }
 
-/// One of several datagrams in a buffer, of which the whole header and its values are written:
+/// A datagram in a buffer, and what is told of its whole header and of its values:
 /// `rtpw_datagram_header` in C, 248 bytes.
 #[repr(C)]
 #[derive(Clone, Copy)]
@@ -48,8 +48,8 @@ pub struct DatagramHeader {
     pub is_rtcp: u8,
 }
 
-/// One of several datagrams in a buffer, of which the whole packet is written:
-/// `rtpw_whole_datagram` in C, 280 bytes.
+/// A datagram in a buffer, and what is told of the whole packet: `rtpw_whole_datagram` in C, 280
+/// bytes.
 #[repr(C)]
 #[derive(Clone, Copy)]
 pub struct WholeDatagram {
