@@ -1,8 +1,6 @@
 //! Single values that C gives to be written, each where its flag is set.
 
-ghost use Rattle.std.specs.Prelude.{◌≡◌, ◌<◌, ◌≤◌, ◌-◌, ℕ, List, Some, IfSome, IfNone};
-ghost use Rattle.rtp_base.specs.Id.{padded};
-ghost use Rattle.rtp_values.specs.KindBytes.{IsTextOf};
+ghost use Rattle.std.specs.Prelude.{◌≡◌, ◌<◌, length, IfSome, IfNone};
 ghost use Rattle.rtp_c.specs.Told.{degrees_of, fraction_of};
 ghost use Rattle.rtp_c.specs.ValuesView.{timing_in};
 ghost use Rattle.rtp_c.specs.Given.{given, text_in, turn_of, IsTextIn};
@@ -15,11 +13,9 @@ use rtp_values::{AbsCaptureTime, VideoOrientation, VideoTiming};
 // The text, where it is there.
 #[inline(always)]
 pub fn given_text<const N: usize>(has: u8, bytes: &[u8; N]) -> Option<&[u8]>
-    requires text { 0 < has → IsTextIn bytes.now (text_in bytes.now) }
-    requires room { 1 ≤ N }
-    ensures some { IfSome result (λ text. (id : List ℕ)
-        × (given has (padded (N - 1) (text_in bytes.now)) ≡ Some id)
-        × IsTextOf (N - 1) id text.now) }
+    requires { 0 < has → IsTextIn bytes.now (text_in bytes.now) }
+    ensures some { IfSome result (λ text. (0 < has) × (text.now ≡ text_in bytes.now)
+        × (length bytes.now ≡ N)) }
     ensures none { IfNone result (has ≡ 0) }
 {
     if has == 0 {
