@@ -89,8 +89,8 @@ fn change_row(form: ExtensionsForm, room: &mut [u8], len: usize) -> usize
 
 // Puts the elements in so many bytes at the front of the body, and those in the `count` bytes at
 // the offset, in the other form: these behind those, at the front. Returns how many bytes the first
-// take, where the others begin and how many these take. It stays out of line, since few blocks
-// change their form.
+// take, and how many the others take behind them. It stays out of line, since few blocks change
+// their form.
 #[inline(never)]
 pub(super) fn change_rows(
     form: ExtensionsForm,
@@ -98,15 +98,15 @@ pub(super) fn change_rows(
     front: usize,
     at: usize,
     count: usize,
-) -> (usize, usize, usize)
+) -> (usize, usize)
     requires { HasRowsFor form (other_form form) body.old front at count }
     ensures { (rows : HasRowsFor form (other_form form) body.old front at count) →
-        StandInRows (other_form form) rows.before rows.after body.new result.0 result.1 result.2 }
+        StandInRows (other_form form) rows.before rows.after body.new result.0 result.0 result.1 }
 {
     let rest = body.len() - count;
     body.copy_within(at..at + count, rest);
     body.copy_within(..front, rest - front);
     let front = change_row(form, &mut body[..rest], front);
     let count = change_row(form, &mut body[front..], count);
-    (front, front, count)
+    (front, count)
 }

@@ -191,7 +191,8 @@ pub fn rewrite_body(
     let (start, end) = survey.around(goes);
     let (front, count) = put_in_rows(form, body, body_len, survey, goes, start, end);
     let (front, at, count) = if changes_form(form, new_form, survey) {
-        change_rows(form, body, front, end, count)
+        let (front, count) = change_rows(form, body, front, end, count);
+        (front, front, count)
     } else {
         (front, end, count)
     };

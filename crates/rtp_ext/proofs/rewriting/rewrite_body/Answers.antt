@@ -7,8 +7,8 @@ use Rattle.rtp_ext.proofs.RewrittenLemmas.{put_is, rows-stay, rows_for, len-betw
 use Rattle.rtp_ext.proofs.rewriting.rewrite_body.Goals as goal
 use Rattle.rtp_ext.proofs.rewriting.rewrite_body.Goals.{Joined-changes_form, then-changes_form, else-changes_form}
 
-pub change_rows-requires : goal.change_rows-requires
-change_rows-requires c =
+pub change_rows-front-requires : goal.change_rows-front-requires
+change_rows-front-requires c =
     rows_for c.args.form c.args.new_form c.args.body.now c.put_in_rows-front.new.body c.args.body_len c.args.goes c.args.survey.now c.around-start.result.0 c.around-start.result.1
     c.put_in_rows-front.result.0 c.put_in_rows-front.result.1 c.requires.within c.requires.survey c.around-start.ensures.start c.around-start.ensures.end c.put_in_rows-front.ensures
     (elements_added c.args.comes) c.requires.carried c.requires.room (other_form c.args.form) c.if-changes_form.ensures.changes
@@ -22,13 +22,13 @@ rows c =
     elim c.if-changes_form.branch [
       | then-changes_form w ↦
           let is = w.if-changes_form.ensures.changes in
-          let changed = w.change_rows.ensures
+          let changed = w.change_rows-front.ensures
           (rows_for c.args.form c.args.new_form c.args.body.now c.put_in_rows-front.new.body c.args.body_len c.args.goes c.args.survey.now c.around-start.result.0 c.around-start.result.1
           c.put_in_rows-front.result.0 c.put_in_rows-front.result.1 c.requires.within c.requires.survey c.around-start.ensures.start c.around-start.ensures.end c.put_in_rows-front.ensures
           (elements_added c.args.comes) c.requires.carried c.requires.room (other_form c.args.form) is) in
           subst (λ (f : ExtensionsForm). StandInRows f xs ys c.if-changes_form.body c.if-changes_form.front.0 c.if-changes_form.front.1 c.if-changes_form.front.2) (sym is)
           (subst (λ (b : List ℕ). StandInRows (other_form c.args.form) xs ys b c.if-changes_form.front.0 c.if-changes_form.front.1 c.if-changes_form.front.2) (sym w.body-is)
-          (subst (λ at. StandInRows (other_form c.args.form) xs ys w.change_rows.new.body at.0 at.1 at.2) (sym w.front-is) changed))
+          (subst (λ at. StandInRows (other_form c.args.form) xs ys w.change_rows-front.new.body at.0 at.1 at.2) (sym w.front-is) changed))
       | else-changes_form w ↦
           subst (λ (b : List ℕ). StandInRows c.args.new_form xs ys b c.if-changes_form.front.0 c.if-changes_form.front.1 c.if-changes_form.front.2) (sym w.body-is)
           (subst (λ at. StandInRows c.args.new_form xs ys c.put_in_rows-front.new.body at.0 at.1 at.2) (sym w.front-is)
