@@ -160,12 +160,20 @@ pub fn rewritten_len(
     Some(len + added_len(new_form, comes))
 }
 
-/// Rewrites a body in a form that can carry its elements (RFC 8285, 4.2 and 4.3): without those of
-/// the id 0, which is padding's, and of the id that goes, the others in a row, the one that comes in
-/// place of the last one that goes, or behind all, and zeros to the end of the slice, at whose
-/// front the body lies. With the id 0 no others go, and the one that comes is the last.
+// Makes a body of the element that comes, if one comes, and zeros.
 #[inline(always)]
-pub fn rewrite_body(
+fn put_alone(form: ExtensionsForm, body: &mut [u8], comes: Option<(u8, &[u8])>)
+    requires writable { IfSome comes (λ element. IsWritable form (element.0, element.1.now)) }
+    requires room { length (elements_bytes form (elements_added comes)) ≤ length body.old }
+    ensures { body.new ≡ row_to form (elements_added comes.entry) (length body.old) }
+{
+    put_added(form, body, 0, comes);
+    clear_after(body, added_len(form, comes));
+}
+
+// Rewrites a body as `rewrite_body` does, of which any bytes may be elements.
+#[inline(always)]
+fn rewrite_rows(
     form: ExtensionsForm,
     new_form: ExtensionsForm,
     body: &mut [u8],
@@ -198,4 +206,39 @@ pub fn rewrite_body(
     };
     let len = put_between(new_form, body, front, at, count, comes);
     clear_after(body, len);
+}
+
+/// Rewrites a body in a form that can carry its elements (RFC 8285, 4.2 and 4.3): without those of
+/// the id 0, which is padding's, and of the id that goes, the others in a row, the one that comes in
+/// place of the last one that goes, or behind all, and zeros to the end of the slice, at whose
+/// front the body lies. With the id 0 no others go, and the one that comes is the last.
+#[inline(always)]
+pub fn rewrite_body(
+    form: ExtensionsForm,
+    new_form: ExtensionsForm,
+    body: &mut [u8],
+    body_len: usize,
+    survey: &Survey,
+    goes: u8,
+    comes: Option<(u8, &[u8])>,
+)
+    requires within { body_len ≤ length body.old }
+    requires survey { IsSurvey form (take body_len body.old) goes survey.now }
+    requires carried { (elements : List Element) →
+        AreElements form (take body_len body.old) elements →
+        AllByRecursion (IsWritable new_form) (rewritten goes comes elements) }
+    requires writable { IfSome comes (λ element. IsWritable new_form (element.0, element.1.now)) }
+    requires room { (elements : List Element) → AreElements form (take body_len body.old) elements →
+        length (elements_bytes new_form (rewritten goes comes elements)) ≤ length body.old }
+    ensures row { (elements : List Element) → AreElements form (take body_len body.old) elements →
+        body.new ≡ row_to new_form (rewritten goes comes.entry elements) (length body.old) }
+    ensures elements { (elements : List Element) →
+        AreElements form (take body_len body.old) elements →
+        AreElements new_form body.new (rewritten goes comes.entry elements) }
+{
+    if body_len == 0 {
+        put_alone(new_form, body, comes);
+    } else {
+        rewrite_rows(form, new_form, body, body_len, survey, goes, comes);
+    }
 }
