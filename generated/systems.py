@@ -15,6 +15,7 @@ SPDX-License-Identifier: MIT OR Apache-2.0
 Copyright (c) 2026 The rtp-wire developers (NOTICE)
 """
 
+import heapq
 import re
 import sys
 
@@ -130,6 +131,13 @@ UNKNOWN = {
     "windows": r"\t\.(file|ident|cfi_sections)[\t ].*\n|\t\.seh_(start|end)epilogue\n"
     r"|\t\.def\t@feat\.00;\n(.*\n)*?\t\.endef\n\t\.globl\t@feat\.00\n@feat\.00 = .*\n",
 }
+# A label within functions and their tables, and any other that the assembler keeps to itself. On Linux objects have the names
+# of constants that a linker may merge.
+NUMBERED = {
+    "linux": r"\.L(?:BB|JTI|pcrel_hi)\d+(?:_\d+)?\b",
+    "apple": r"(?<![\w.\"$])L(?:BB|CPI|JTI)\d+_\d+\b",
+    "windows": r"\.L(?:BB|CPI|JTI|tmp)\d+(?:_\d+)?\b",
+}
 LABEL = {
     "linux": r"(\.L)(?=[A-Za-z_])",
     "apple": r"(?<![\w.\"$])([Ll])(?=[A-Z][A-Za-z_]*\d|_|tmp\d|loh\d)",
@@ -137,9 +145,30 @@ LABEL = {
 }
 
 
+def numbered(text, label):
+    """The text in which these labels are numbers, as in assembly that is written by hand: `jmp 3f` goes to the next 3, `jmp 3b` to
+    the last. A number is given to another label behind the last line that needs it."""
+    lines, span, at = text.split("\n"), {}, {}
+    for where, line in enumerate(lines):
+        for it in re.findall(label, line):
+            span[it] = (span.get(it, (where,))[0], where)
+            if line == f"{it}:":
+                at[it] = where
+    number, taken, free = {}, [], []
+    for it in span:
+        while taken and taken[0][0] < span[it][0]:
+            heapq.heappush(free, heapq.heappop(taken)[1])
+        number[it] = heapq.heappop(free) if free else len(taken) + 1
+        heapq.heappush(taken, (span[it][1], number[it]))
+    for where, line in enumerate(lines):
+        way = {it: "f" if at[it] > where else "b" if at[it] < where else "" for it in re.findall(label, line)}
+        lines[where] = re.sub(label, lambda it, way=way: f"{number[it[0]]}{way[it[0]]}", line)
+    return "\n".join(lines)
+
+
 def text_for(text, triple, exports, labels):
-    """The code of a text: without the names of the compiler's files, with labels that meet no others, and on Linux with call
-    frame information where debuggers and profilers look for it."""
+    """The code of a text: without the names of the compiler's files, with numbers for labels, or such as meet no others, with a
+    comma alone between operands, and on Linux with call frame information where debuggers and profilers look for it."""
     system = next(it for it in UNKNOWN if it in triple)
     mark = "_" if system == "apple" else ""
     text = re.sub(f"(?m)^(?:{UNKNOWN[system]})", "", text)
@@ -152,6 +181,8 @@ def text_for(text, triple, exports, labels):
     # The program is linked with what Windows' compilers bring for a stack of several pages, and the library with nothing.
     if re.search("inline-asm" if exports == "main" else "chkstk|inline-asm", text):
         give_up(f"{triple}: a stack of several pages, which is to be probed")
+    text = re.sub(r"(?m)^\.Lfunc_end\d+:\n(\t\.size\t.*), \.Lfunc_end\d+-", r"\1, .-", text)
+    text = re.sub(r"(?m)^\t[^\"\n]*$", lambda line: line[0].replace(", ", ","), numbered(text, NUMBERED[system]))
     return re.sub(
         rf"(?m)^(?!\t\.asci).*$", lambda line: re.sub(LABEL[system], rf"\g<1>{labels}", line[0]), text
     )

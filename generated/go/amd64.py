@@ -41,12 +41,13 @@ def target_of(it):
 
 def prepared(lines):
     """The text in which each change of a frame's offset is one of an instruction."""
-    changes = re.compile(r"\t(push|pop)q?\t|\t(sub|add)q\t\$-?\d+, %rsp$")
+    changes = re.compile(r"\t(push|pop)q?\t|\t(sub|add)q\t\$-?\d+, ?%rsp$")
+    other = {"sub": "add", "add": "sub"}
     leaves = re.compile(r"\t(retq?|jmpq?|ud2)\b")
     out, offset, leave, changed = [], 8, None, False
     for line in lines:
         new = None
-        line = {"\tsubq\t$128, %rsp": "\taddq\t$-128, %rsp", "\taddq\t$128, %rsp": "\tsubq\t$-128, %rsp"}.get(line, line)
+        line = re.sub(r"^\t(sub|add)q\t\$128(?=, ?%rsp$)", lambda it: f"\t{other[it[1]]}q\t$-128", line)
         if line.startswith("\t.cfi_startproc"):
             offset, leave = 8, None
         elif line.startswith("\t.cfi_endproc"):
