@@ -10,7 +10,8 @@ from pathlib import Path
 
 TOP = Path(__file__).resolve().parent.parent
 # What comes of the proved code, or of a build: nothing here is about it.
-MADE = re.compile(r"(rtp_wire\.h|calls\.go|layout\.mjs|\.wasm|\.s|\.S|\.so|\.prefix)$|(^|/)(out|target|__pycache__|wrong)/")
+BUILT = re.compile(r"(^|/)(out|target|__pycache__|wrong)/")
+MADE = re.compile(r"(rtp_wire\.h|calls\.go|layout\.mjs|\.wasm|\.s|\.S|\.so|\.prefix)$|" + BUILT.pattern)
 COMMON = ("bindings/c/rtp_wire.h", "bindings/c/rtp_wire_sanitized.h", "bindings/test", "captures")
 # What the examples are compared by.
 BESIDE = ("captures", *(f"bindings/test/{it}" for it in ("examples.sh", "sanitized.sh", "sfu_*.c", "by_hand.*")))
@@ -114,28 +115,32 @@ LANGUAGES = {
         r"^(?:FAIL: |---- )(\S+?)(?: stdout ----)?$|--> tests/all/../(\w+)\.rs:",
     ),
 }
+# What the tools are told: to ask no network, and to do one thing at a time.
+SETTINGS = dict(it.split("=") for it in """PYTHONDONTWRITEBYTECODE=1 CARGO_NET_OFFLINE=true CARGO_BUILD_JOBS=1
+CARGO_INCREMENTAL=1 RUST_BACKTRACE=0 GOPROXY=off GOTOOLCHAIN=local GOFLAGS= CGO_ENABLED=0""".split())
 # A test that goes on for longer, by the clock of a machine that may be busy, has seen the edit.
 SECONDS = 360
 
 
+def files_in(places, left_out):
+    """The files of these places: folders, or patterns of names; without those of this pattern."""
+    for place in places:
+        for file in (TOP / place).rglob("*") if (TOP / place).is_dir() else TOP.glob(place):
+            if file.is_file() and not left_out.search(str(file.relative_to(TOP))):
+                yield file
+
+
 def files_of(language):
     """What the edits of a language stand on."""
-    for place in (*LANGUAGES[language][1], *BESIDE):
-        for file in (TOP / place).rglob("*") if (TOP / place).is_dir() else TOP.glob(place):
-            if file.is_file() and not MADE.search(str(file.relative_to(TOP))):
-                yield file
+    return files_in((*LANGUAGES[language][1], *BESIDE), MADE)
 
 
 def copy_of(language, room):
     """Copies what the language is made of, without what was built."""
-    left_out = shutil.ignore_patterns("out", "target", "__pycache__", "wrong")
-    for place in (*LANGUAGES[language][1], *COMMON, "generated", "LICENSE-MIT", "LICENSE-APACHE", "NOTICE"):
-        if (TOP / place).is_dir():
-            shutil.copytree(TOP / place, room / place, ignore=left_out, dirs_exist_ok=True)
-        for file in () if (TOP / place).is_dir() else TOP.glob(place):
-            to = room / file.relative_to(TOP)
-            to.parent.mkdir(parents=True, exist_ok=True)
-            shutil.copy2(file, to)
+    for file in files_in((*LANGUAGES[language][1], *COMMON, "generated", "LICENSE-*", "NOTICE"), BUILT):
+        to = room / file.relative_to(TOP)
+        to.parent.mkdir(parents=True, exist_ok=True)
+        shutil.copy2(file, to)
 
 
 def prepare(language, room):
@@ -163,23 +168,15 @@ def run(command, room, edited="", test="", name=""):
     """
     environment = {
         **os.environ,
+        **SETTINGS,
         "PYTHONPATH": f"{room}/bindings/python/src:{room}/site",
-        "PYTHONDONTWRITEBYTECODE": "1",
         "PYTHON": python(),
         "EDITED": edited,
         "TEST": test,
         "PLANTED": name,
         "CARGO_TARGET_DIR": f"{room}/cargo",
-        "CARGO_NET_OFFLINE": "true",
-        "CARGO_BUILD_JOBS": "1",
-        "CARGO_INCREMENTAL": "1",
-        "RUST_BACKTRACE": "0",
         "GOCACHE": f"{TOP}/bindings/out/gocache",
         "GOTMPDIR": str(room),
-        "GOPROXY": "off",
-        "GOTOOLCHAIN": "local",
-        "GOFLAGS": "",
-        "CGO_ENABLED": "0",
     }
     how = {"stdin": subprocess.DEVNULL, "stdout": subprocess.PIPE, "stderr": subprocess.STDOUT, "errors": "replace"}
     begun = subprocess.Popen(["bash", "-c", command], cwd=room, env=environment, start_new_session=True, **how)

@@ -20,8 +20,17 @@ class Scratch:
         self.name, self.kept = name, tempfile.TemporaryDirectory()
         self.folder = Path(self.kept.name)
         self.top = self.folder / "a folder"
-        for script in scripts:
-            self.write(f".ci/{script}", (HERE / script).read_text(), (HERE / script).stat().st_mode)
+        self.copy(*(f".ci/{it}" for it in scripts))
+
+    def copy(self, *places):
+        """Makes files and folders what they are in the repository, without what was built, or removes them."""
+        self.remove(*places)
+        for place in places:
+            (self.top / place).parent.mkdir(parents=True, exist_ok=True)
+            if (TOP / place).is_dir():
+                shutil.copytree(TOP / place, self.top / place, ignore=shutil.ignore_patterns("out", "target"))
+            elif (TOP / place).exists():
+                shutil.copy2(TOP / place, self.top / place)
 
     def write(self, place, text="", mode=0o644):
         file = self.top / place
@@ -34,11 +43,22 @@ class Scratch:
         self.expect(f"the text to change in {place}", True, old in text)
         self.write(place, text.replace(old, new, 1), (self.top / place).stat().st_mode)
 
+    def add(self, place, text="\n"):
+        self.write(place, self.read(place) + text)
+
     def read(self, place):
-        return (self.top / place).read_text()
+        """What a file has: nothing where there is none."""
+        return (self.top / place).read_text() if (self.top / place).exists() else ""
 
     def command(self, name, text):
         self.write(f"../bin/{name}", text, 0o755)
+
+    def links(self, name, *commands):
+        """A folder of this name beside `top`, with links to these commands alone: for a path."""
+        (self.folder / name).mkdir()
+        for it in commands:
+            (self.folder / name / os.path.basename(it)).symlink_to(it)
+        return f"{self.folder}/{name}"
 
     def changed_before(self, seconds, *places):
         """Sets when these files were changed, since two changes can fall into one tick of the clock."""
@@ -62,9 +82,8 @@ class Scratch:
 
     def called(self):
         """What the stand-ins have written into the file CALLS since it was asked for last, by lines."""
-        file = self.folder / "calls"
-        calls = file.read_text().splitlines() if file.exists() else []
-        file.write_text("")
+        calls = self.read("../calls").splitlines()
+        self.write("../calls")
         return calls
 
     def says(self, what, wanted, *words, **variables):

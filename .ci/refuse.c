@@ -7,6 +7,9 @@
 #include <stdlib.h>
 #include <unistd.h>
 
+// The function of this name that this one stands in front of.
+#define BEHIND(name) ((__typeof__(&(name)))dlsym(RTLD_NEXT, #name))
+
 static long growths, held;
 
 static int is_refused(void)
@@ -20,31 +23,22 @@ static int is_refused(void)
 
 void *malloc(size_t size)
 {
-    static void *(*next)(size_t);
-    if (!next)
-        next = (void *(*)(size_t))dlsym(RTLD_NEXT, "malloc");
-    void *piece = is_refused() ? NULL : next(size);
+    void *piece = is_refused() ? NULL : BEHIND(malloc)(size);
     held += piece != NULL;
     return piece;
 }
 
 void *realloc(void *old, size_t size)
 {
-    static void *(*next)(void *, size_t);
-    if (!next)
-        next = (void *(*)(void *, size_t))dlsym(RTLD_NEXT, "realloc");
-    void *piece = is_refused() ? NULL : next(old, size);
+    void *piece = is_refused() ? NULL : BEHIND(realloc)(old, size);
     held += piece != NULL && old == NULL;
     return piece;
 }
 
 void free(void *old)
 {
-    static void (*next)(void *);
-    if (!next)
-        next = (void (*)(void *))dlsym(RTLD_NEXT, "free");
     held -= old != NULL;
-    next(old);
+    BEHIND(free)(old);
 }
 
 __attribute__((destructor)) static void report(void)
