@@ -146,8 +146,8 @@ LABEL = {
 
 
 def numbered(text, label):
-    """The text in which these labels are numbers, as in assembly that is written by hand: `jmp 3f` goes to the next 3, `jmp 3b` to
-    the last. A number is given to another label behind the last line that needs it."""
+    """The text in which these labels are numbers, as in assembly that is written by hand: `jmp 3f` goes to the next 3, and
+    `jmp 3b` to the last one. Behind the last line that needs a number it is given to another label."""
     lines, span, at = text.split("\n"), {}, {}
     for where, line in enumerate(lines):
         for it in re.findall(label, line):
