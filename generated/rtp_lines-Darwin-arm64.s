@@ -4,8 +4,8 @@
  * kit: rattle-kit-13f logic dac8208d650f15bf
  * proved for: x86_64-unknown-linux-gnu
  * compiled for: arm64-apple-macosx11.0.0
- * sources: d19c34b9372290b78d5cce4f694914e5050a5f70b7e5b68380e404512b97d062
- * text: edc1094b17c35d30ca2324675c2d0ac04ed4c0d1504cf9ad3041811b1f605831
+ * sources: 1a6a21b482ec4143a264c43946cd2424f9814ef25755fafd5289c1c8ec66f0a9
+ * text: 3ec5c68de6c658cb92ad85812636d3b202e43f918fa9d066e1874333202a1b7a
  * SPDX-License-Identifier: MIT OR Apache-2.0
  * Copyright (c) 2026 The rtp-wire developers (NOTICE)
  */

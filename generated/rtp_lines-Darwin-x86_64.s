@@ -4,8 +4,8 @@
  * kit: rattle-kit-13f logic dac8208d650f15bf
  * proved for: x86_64-unknown-linux-gnu
  * compiled for: x86_64-apple-macosx11.0.0
- * sources: d19c34b9372290b78d5cce4f694914e5050a5f70b7e5b68380e404512b97d062
- * text: c5710dbb58da6f928381c82af183dc184316eec0b0c72b50c73a73afbdbcc4ed
+ * sources: 1a6a21b482ec4143a264c43946cd2424f9814ef25755fafd5289c1c8ec66f0a9
+ * text: 357bfba1e2511062a09a9da370977ee2e8c77c8b7eef3af13a623f5970ad6850
  * SPDX-License-Identifier: MIT OR Apache-2.0
  * Copyright (c) 2026 The rtp-wire developers (NOTICE)
  */

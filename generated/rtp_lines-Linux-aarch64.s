@@ -4,8 +4,8 @@
  * kit: rattle-kit-13f logic dac8208d650f15bf
  * proved for: aarch64-unknown-linux-gnu
  * compiled for: aarch64-unknown-linux-gnu
- * sources: d19c34b9372290b78d5cce4f694914e5050a5f70b7e5b68380e404512b97d062
- * text: 30a4daa1f3f2205a5c3810903065fde1c7138b4436746a8b55edb4384fabd5df
+ * sources: 1a6a21b482ec4143a264c43946cd2424f9814ef25755fafd5289c1c8ec66f0a9
+ * text: c2af9a3de3306e0fbf83566d2d071258d0870895e9021ecf63b5030ab6c7b11d
  * SPDX-License-Identifier: MIT OR Apache-2.0
  * Copyright (c) 2026 The rtp-wire developers (NOTICE)
  */

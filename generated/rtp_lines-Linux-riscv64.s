@@ -4,8 +4,8 @@
  * kit: rattle-kit-13f logic dac8208d650f15bf
  * proved for: x86_64-unknown-linux-gnu
  * compiled for: riscv64-unknown-linux-gnu
- * sources: d19c34b9372290b78d5cce4f694914e5050a5f70b7e5b68380e404512b97d062
- * text: f5fb8d826fb793cd2787a491eb0b18338f9f1fa4f69e337016bba9700f358815
+ * sources: 1a6a21b482ec4143a264c43946cd2424f9814ef25755fafd5289c1c8ec66f0a9
+ * text: 4932eb47ea31224e0c4c5de366789e6f8f19ddc19ec246a9fe580ef19e6db201
  * SPDX-License-Identifier: MIT OR Apache-2.0
  * Copyright (c) 2026 The rtp-wire developers (NOTICE)
  */

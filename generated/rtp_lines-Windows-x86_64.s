@@ -4,8 +4,8 @@
  * kit: rattle-kit-13f logic dac8208d650f15bf
  * proved for: x86_64-unknown-linux-gnu
  * compiled for: x86_64-pc-windows-gnu
- * sources: d19c34b9372290b78d5cce4f694914e5050a5f70b7e5b68380e404512b97d062
- * text: 2dfa2516b252baee744c77e2393850677eafaa7e1a068136e3059d4698da5e8c
+ * sources: 1a6a21b482ec4143a264c43946cd2424f9814ef25755fafd5289c1c8ec66f0a9
+ * text: 441dd471087e6b614f2b1577367c1d977891a522f7a61705bd480be9f5354f0c
  * SPDX-License-Identifier: MIT OR Apache-2.0
  * Copyright (c) 2026 The rtp-wire developers (NOTICE)
  */

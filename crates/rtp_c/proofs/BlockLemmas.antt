@@ -1,5 +1,5 @@
 -- Causes against a change of the block of the packet in a buffer.
-use Rattle.rtp_c.proofs.Common.{◌≡◌, ℕ, ◌<◌, ◌≤◌, List, length, take, [], ◌∷◌, Option, None, Some, IfSome, refl, sym, ap, subst, ◌∙◌, arith, ExtensionsForm, Element, NotPut, put_status, short_buffer, ℤ, PacketParts, IsPacket, IsNoPacket-applies, no_packet-refused, one_packet, length-packet}
+use Rattle.rtp_c.proofs.Common.{◌≡◌, ℕ, ◌≤◌, List, length, take, [], ◌∷◌, Option, None, Some, IfSome, refl, sym, ap, subst, ◌∙◌, arith, ExtensionsForm, Element, NotPut, short_buffer, ℤ, PacketParts, IsPacket, IsNoPacket-applies, no_packet-refused, one_packet, length-packet}
 use Rattle.rtp_wire.specs.declared.packet.not_a_packet.NotAPacket.{NotAPacket}
 use Rattle.rtp_wire.specs.declared.packet.not_put.NotPut.TheVariants.{CutPacket, NotAPacket as NoPacket, ZeroId, LongData, OtherForm, LongId, OneByteOnly, LongBlock, NoRoom}
 use Rattle.rtp_wire.specs.declared.packet.block_not_put.BlockNotPut.{BlockNotPut}
@@ -7,70 +7,44 @@ use Rattle.rtp_wire.specs.declared.packet.block_not_put.BlockNotPut.TheVariants.
 use Rattle.rtp_wire.specs.declared.packet.rtp_packet_buf.RtpPacketBuf.{RtpPacketBuf}
 use Rattle.rtp_wire.specs.PacketBuf.{whole_of, len_of, bytes_of, parts_within, StaysWhole}
 use Rattle.rtp_wire.specs.PartsAt.{form_in, profile_in, parts_at}
-use Rattle.rtp_wire.specs.PutIntoPacket.{form_of_block, put_place, IsFirstNotPut}
+use Rattle.rtp_wire.specs.PutIntoPacket.{form_of_block, IsFirstNotPut}
 use Rattle.rtp_wire.specs.RemadeBlock.{RemakesBlock, form_with}
 use Rattle.rtp_wire.specs.ReplacedBlock.{without_block, with_block, KeepsFromBlock}
 use Rattle.rtp_wire.proofs.PacketBufLemmas.{is_packet, length-bytes}
 use Rattle.rtp_wire.proofs.RemadePacketLemmas.{kept-form}
-use Rattle.rtp_c.specs.ChangedBlock.{IsNoFront, KeepsInBuffer, TakesBlockOff, PutsBlock, IsBody, IsBlockFault, cut_packet, cut_word, long, no_packet, no_room}
+use Rattle.rtp_c.specs.ChangedBlock.{KeepsInBuffer, TakesBlockOff, PutsBlock, IsBody, IsBlockFault, cut_packet, cut_word, long, no_packet, no_room}
 
 -- a weaker fact of what is there
 IfSome-weaker : {A : Type 0} (option : Option A) (P Q : A → Type 0) → ((a : A) → P a → Q a) → IfSome option P → IfSome option Q
 IfSome-weaker None P Q weaker is = tt
 IfSome-weaker (Some a) P Q weaker is = weaker a is
 
-module _ (buf : List ℕ) (len : ℕ) (Keeps : NotPut → Type 0) where
-  module _ (zero : Keeps ZeroId → ⊥) (more : Keeps LongData → ⊥) (within : len ≤ length buf) where
-    none_before : (earlier : NotPut) → put_place earlier < 3 → KeepsInBuffer buf len Keeps earlier → ⊥
-    none_before CutPacket before fact = omega (arith, within, fact)
-    none_before ZeroId before fact = zero fact
-    none_before LongData before fact = more fact
-    none_before (NoPacket cause) before fact = omega (arith, before)
-    none_before OtherForm before fact = omega (arith, before)
-    none_before LongId before fact = omega (arith, before)
-    none_before OneByteOnly before fact = omega (arith, before)
-    none_before LongBlock before fact = omega (arith, before)
-    none_before (NoRoom needed) before fact = omega (arith, before)
+module _ (buf : List ℕ) (len : ℕ) (Keeps : NotPut → Type 0) (parts : PacketParts) (is : IsPacket (take len buf) parts) (within : len ≤ length buf) (cut : Keeps CutPacket → ⊥) (never : (cause : NotAPacket) → Keeps (NoPacket cause) → ⊥) where
+  pub to-buffer : (cause : NotPut) → Keeps cause → KeepsInBuffer buf len Keeps cause
+  to-buffer CutPacket fact = absurd (cut fact)
+  to-buffer ZeroId fact = fact
+  to-buffer LongData fact = fact
+  to-buffer (NoPacket cause) fact = absurd (never cause fact)
+  to-buffer OtherForm fact = fact
+  to-buffer LongId fact = fact
+  to-buffer OneByteOnly fact = fact
+  to-buffer LongBlock fact = fact
+  to-buffer (NoRoom needed) fact = fact
 
-  -- the buffer doesn't begin with a packet
-  pub first-front : (len ≤ length buf → Keeps ZeroId → ⊥) → (len ≤ length buf → Keeps LongData → ⊥) → (cause : NotPut) → IsNoFront buf len cause → IsFirstNotPut (KeepsInBuffer buf len Keeps) cause
-  first-front zero more CutPacket short = record { applies = short; none_before = λ earlier before fact. omega (arith, before) }
-  first-front zero more ZeroId none = absurd none
-  first-front zero more LongData none = absurd none
-  first-front zero more (NoPacket cause) fact = record { applies = fact.1; none_before = none_before (zero fact.0) (more fact.0) fact.0 }
-  first-front zero more OtherForm none = absurd none
-  first-front zero more LongId none = absurd none
-  first-front zero more OneByteOnly none = absurd none
-  first-front zero more LongBlock none = absurd none
-  first-front zero more (NoRoom needed) none = absurd none
+  pub from-buffer : (cause : NotPut) → KeepsInBuffer buf len Keeps cause → Keeps cause
+  from-buffer CutPacket fact = absurd (omega (arith, within, fact))
+  from-buffer ZeroId fact = fact
+  from-buffer LongData fact = fact
+  from-buffer (NoPacket cause) fact = absurd (no_packet-refused (take len buf) parts (IsNoPacket-applies (take len buf) cause fact.applies) is)
+  from-buffer OtherForm fact = fact
+  from-buffer LongId fact = fact
+  from-buffer OneByteOnly fact = fact
+  from-buffer LongBlock fact = fact
+  from-buffer (NoRoom needed) fact = fact
 
-  -- it does
-  module _ (parts : PacketParts) (is : IsPacket (take len buf) parts) (within : len ≤ length buf) (cut : Keeps CutPacket → ⊥) (never : (cause : NotAPacket) → Keeps (NoPacket cause) → ⊥) where
-    pub to-buffer : (cause : NotPut) → Keeps cause → KeepsInBuffer buf len Keeps cause
-    to-buffer CutPacket fact = absurd (cut fact)
-    to-buffer ZeroId fact = fact
-    to-buffer LongData fact = fact
-    to-buffer (NoPacket cause) fact = absurd (never cause fact)
-    to-buffer OtherForm fact = fact
-    to-buffer LongId fact = fact
-    to-buffer OneByteOnly fact = fact
-    to-buffer LongBlock fact = fact
-    to-buffer (NoRoom needed) fact = fact
-
-    pub from-buffer : (cause : NotPut) → KeepsInBuffer buf len Keeps cause → Keeps cause
-    from-buffer CutPacket fact = absurd (omega (arith, within, fact))
-    from-buffer ZeroId fact = fact
-    from-buffer LongData fact = fact
-    from-buffer (NoPacket cause) fact = absurd (no_packet-refused (take len buf) parts (IsNoPacket-applies (take len buf) cause fact.applies) is)
-    from-buffer OtherForm fact = fact
-    from-buffer LongId fact = fact
-    from-buffer OneByteOnly fact = fact
-    from-buffer LongBlock fact = fact
-    from-buffer (NoRoom needed) fact = fact
-
-    pub first-in_buffer : (cause : NotPut) → IsFirstNotPut Keeps cause → IsFirstNotPut (KeepsInBuffer buf len Keeps) cause
-    first-in_buffer cause first =
-        record { applies = to-buffer cause first.applies; none_before = λ earlier before fact. first.none_before earlier before (from-buffer earlier fact) }
+  pub first-in_buffer : (cause : NotPut) → IsFirstNotPut Keeps cause → IsFirstNotPut (KeepsInBuffer buf len Keeps) cause
+  first-in_buffer cause first =
+      record { applies = to-buffer cause first.applies; none_before = λ earlier before fact. first.none_before earlier before (from-buffer earlier fact) }
 
 -- what is known of a packet in a buffer, of the bytes and the length that were passed
 module _ (packet : RtpPacketBuf) (buf : List ℕ) (len : ℕ) (buf-is : (whole_of packet).now ≡ buf) (len-is : len_of packet ≡ len) where
@@ -124,9 +98,6 @@ module _ (packet : RtpPacketBuf) (buf : List ℕ) (len : ℕ) (buf-is : (whole_o
 
 -- a packet that was changed in its buffer
 module _ (old new : RtpPacketBuf) (buf bytes : List ℕ) (len new_len : ℕ) (buf-is : (whole_of old).now ≡ buf) (len-is : len_of old ≡ len) (bytes-is : (whole_of new).now ≡ bytes) (new_len-is : len_of new ≡ new_len) where
-  pub within-room : new_len ≤ length bytes
-  within-room = omega (arith, new.room, ap (λ (b : List ℕ). length b) bytes-is, new_len-is)
-
   becomes : (Change : PacketParts → PacketParts) → parts_within new ≡ Change (parts_within old) → IsPacket (take new_len bytes) (Change (parts_within old))
   becomes Change is = subst (IsPacket (take new_len bytes)) is (is_packet-in new bytes new_len bytes-is new_len-is)
 
@@ -197,15 +168,3 @@ module _ (packet : RtpPacketBuf) (buf body : List ℕ) (len : ℕ) (buf-is : (wh
           ap (λ (p : PacketParts). length p.payload) (parts-is packet buf len buf-is len-is parts is),
         ),
       )
-
--- and where the buffer doesn't begin with a packet
-pub fault-front : (buf body : List ℕ) (len : ℕ) (cause : NotPut) → len ≤ length buf → IsBody body → IsNoFront buf len cause → IsBlockFault buf len body (put_status cause)
-fault-front buf body len CutPacket within is-body short = cut_packet short refl
-fault-front buf body len ZeroId within is-body none = absurd none
-fault-front buf body len LongData within is-body none = absurd none
-fault-front buf body len (NoPacket cause) within is-body fact = no_packet within is-body (record { cause = cause; is_first = fact.1; status_is = refl })
-fault-front buf body len OtherForm within is-body none = absurd none
-fault-front buf body len LongId within is-body none = absurd none
-fault-front buf body len OneByteOnly within is-body none = absurd none
-fault-front buf body len LongBlock within is-body none = absurd none
-fault-front buf body len (NoRoom needed) within is-body none = absurd none

@@ -1,5 +1,5 @@
 -- A packet that is changed where it lies.
-use Rattle.rtp_c.proofs.Common.{◌≡◌, ℕ, ◌<◌, List, Bool, Option, None, ℤ, w32, to_z, of_z, ap, ◌∙◌, subst, slice_index, RtpPacketMut, Fields, PacketParts, IsPacket, with_header_fields, ExtensionsForm, ChangesBlock, parts_in, BecomesPacket, ok, one_packet, IsPacket-in}
+use Rattle.rtp_c.proofs.Common.{◌≡◌, ℕ, ℤ, w32, to_z, of_z, ok, ◌<◌, List, ap, ◌∙◌, subst, slice_index, RtpPacketMut, PacketParts, IsPacket, ExtensionsForm, ChangesBlock, parts_in, BecomesPacket, one_packet, IsPacket-in}
 use Rattle.rtp_wire.specs.PartsAt.{parts_at}
 
 -- the parts of a packet in a buffer
@@ -22,22 +22,6 @@ BecomesPacket-changed Change was parts old new bytes is same change fits ends =
       changes = subst (λ (q : PacketParts). ChangesBlock Change q (parts_in new)) (parts-in was parts old is same) change;
     }
 
-unfoldable all_fields : Option Bool → Option ℕ → Option ℕ → Option ℕ → Option ℕ → Fields
-all_fields marker payload_type number timestamp ssrc = record { marker = marker; payload_type = payload_type; sequence_number = number; timestamp = timestamp; ssrc = ssrc }
-
--- no field is given
-abbrev pub no_fields : Fields
-no_fields = record { marker = None; payload_type = None; sequence_number = None; timestamp = None; ssrc = None }
-
-pub no_fields-each : (fields : Fields)
-    → (fields.marker ≡ None) × ((fields.payload_type ≡ None) × ((fields.sequence_number ≡ None) × ((fields.timestamp ≡ None) × (fields.ssrc ≡ None)))) → fields ≡ no_fields
-unfolding all_fields
-no_fields-each fields each =
-    let same : all_fields fields.marker fields.payload_type fields.sequence_number fields.timestamp fields.ssrc ≡ all_fields None None None None None = cc in
-    same
-
--- the status of a call that sets these fields is passed on
-pub set-passed_on : (status : ℤ) (given fields : Fields) (bytes : List ℕ) (parts : PacketParts) → given ≡ fields → (status ≡ ok) × IsPacket bytes (with_header_fields given parts)
-    → (to_z w32 (of_z w32 status) ≡ ok) × IsPacket bytes (with_header_fields fields parts)
-set-passed_on status given fields bytes parts same done =
-    (ap (λ (z : ℤ). to_z w32 (of_z w32 z)) done.0, subst (λ (f : Fields). IsPacket bytes (with_header_fields f parts)) same done.1)
+-- the status of a call that sets fields is passed on
+pub set-passed_on : {P : Type 0} (status : ℤ) → (status ≡ ok) × P → (to_z w32 (of_z w32 status) ≡ ok) × P
+set-passed_on status done = (ap (λ (z : ℤ). to_z w32 (of_z w32 z)) done.0, done.1)

@@ -76,15 +76,14 @@ pub one_in : (view : Layers) (a : vla.Allocation) → IsGivenLayers view a → a
 one_in view a is = one_given view a (allocation_in view) is (given_in view is.few_streams (few_of_given view a is))
 
 -- the header with the layers among its values
-pub given_with : (view : HeaderView) (layers : Layers) (header : RtpHeader) (without values : ExtensionValues) (allocation : vla.Allocation)
-    → IsGivenHeader view (with_values header without) → AreCarriedLayers layers allocation
-    → values ≡ record without { video_layers_allocation = Some allocation } → IsGivenWithLayers view layers (with_values header values)
-given_with view layers header without values allocation is_given carried values_are = record {
+pub given_with : (view : HeaderView) (layers : Layers) (header : RtpHeader) (without values : ExtensionValues) → IsGivenHeader view (with_values header without)
+    → (a : vla.Allocation) × AreCarriedLayers layers a × (values ≡ record without { video_layers_allocation = Some a }) → IsGivenWithLayers view layers (with_values header values)
+given_with view layers header without values is_given found = record {
   without = with_values header without;
   is_given = is_given;
-  allocation = allocation;
-  are_carried = carried;
-  header_is = ap (with_values header) values_are;
+  allocation = found.0;
+  are_carried = found.1;
+  header_is = ap (with_values header) found.2;
 }
 
 -- its fields are those that a header can have

@@ -1,6 +1,6 @@
 -- The values that lie in C's struct are those that are given, where each of them is one.
 use Rattle.std.proofs.Common.{◌≡◌, ◌≢◌, ℕ, ◌+◌, ◌-◌, ◌<◌, ◌≤◌, eqb, List, ◌∷◌, length, take, get_or, replicate, All, Option, Some, None, IfSome, refl, sym, ap, ◌∙◌, subst, inl, inr, arith, length-append, take_at}
-use Rattle.std.proofs.lemmas.Bool.{cases_eq, cases_lt, lt-ltb, le-ltb, ne_eqb, eq-eqb}
+use Rattle.std.proofs.lemmas.Bool.{cases_eq, lt-ltb, ne_eqb, eq-eqb}
 use Rattle.std.proofs.lemmas.List.{get_or_append_left, take_all, length-replicate}
 use Rattle.std.specs.Prelude.{IsUtf8}
 use Rattle.std.specs.Option.{option_map}
@@ -17,15 +17,7 @@ use Rattle.rtp_c.specs.Told.{degrees_of}
 use Rattle.rtp_c.specs.Given.{given, IsGiven, IsTextIn, IsIdIn, text_in, turn_of, CanBeGiven, AreGivenValues}
 use Rattle.rtp_c.proofs.GivenLemmas.{IsFirstZero, zero-no_id_byte, zero-after}
 
--- a value that is there is given, where it is one
-IsGiven-given : {A : Type 0} (has : ℕ) (IsIt : A → Type 0) (value : A) → (0 < has → IsIt value) → IsGiven has IsIt (given has value)
-IsGiven-given has IsIt value is =
-    elim (cases_lt 0 has) [
-      | inl there ↦ rw (lt-ltb 0 has there) (there, is there)
-      | inr not_there ↦ rw (le-ltb 0 has not_there) (omega (arith, not_there))
-    ]
-
--- and where it is given it is one
+-- a value that is given is one where it is there
 given-one : {A : Type 0} (has : ℕ) (IsIt : A → Type 0) (value : Option A) → IsGiven has IsIt value → 0 < has → (one : A) × IsIt one
 given-one has IsIt None is there = absurd (omega (arith, is, there))
 given-one has IsIt (Some value) is there = (value, is.1)

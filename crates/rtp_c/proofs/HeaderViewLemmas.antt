@@ -1,15 +1,29 @@
 -- What C is told of a packet: there is a place for each of its sources, and of values and layers that were read apart each stands in its place.
-use Rattle.std.proofs.Common.{◌≡◌, ℕ, ◌≤◌, List, length, Bool, true, false, Option, Some, None, is_some, IfSome, unwrap_or, ap, sym, ◌∙◌, arith}
+use Rattle.std.proofs.Common.{◌≡◌, ℕ, ◌≤◌, List, length, Bool, true, false, Option, Some, None, is_some, IfSome, unwrap_or, refl, ap, sym, ◌∙◌, arith}
 use Rattle.std.proofs.lemmas.Bool.{false≢true}
 use Rattle.rtp_base.specs.Flag.{bit}
 use Rattle.rtp_vla.specs.Allocation.{Allocation, nothing_sent}
 use Rattle.rtp_values.specs.declared.value.values.ExtensionValues.{ExtensionValues}
 use Rattle.rtp_ext.specs.BlockValues.{ShowsApart}
+use Rattle.rtp_wire.specs.Header.{header_of}
 use Rattle.rtp_wire.specs.Packet.{PacketParts, IsPacket}
+use Rattle.rtp_wire.specs.PacketElements.{HasValues}
 use Rattle.rtp_c.specs.declared.layers.Layers.{Layers}
 use Rattle.rtp_c.specs.declared.values.ValuesView.{ValuesView}
+use Rattle.rtp_c.specs.HeaderView.{BeginsWithHeader}
 use Rattle.rtp_c.specs.LayersView.{IsViewOfLayers}
+use Rattle.rtp_c.specs.StoredMap.{numbered_slots}
 use Rattle.rtp_c.specs.ValuesView.{IsViewOfValues}
+use Rattle.rtp_c.proofs.NumberedLemmas.{HasKinds-numbered}
+
+-- a packet without a block of another form begins with its header, of these values
+pub begins_with : (numbers bytes : List ℕ) (parts : PacketParts) (values : ExtensionValues) → IsPacket bytes parts → parts.other_block ≡ None
+    → HasValues (numbered_slots numbers) parts.block values → BeginsWithHeader numbers bytes (header_of parts values)
+begins_with numbers bytes parts values is known has = record {
+  slots = numbered_slots numbers;
+  has_kinds = HasKinds-numbered numbers;
+  is_wire = record { parts = parts; is_packet = is; no_other = known; is_header = record { fields_are = refl; values_are = has } };
+}
 
 pub few_sources : (bytes : List ℕ) (parts : PacketParts) → IsPacket bytes parts → length parts.sources ≤ 15
 few_sources bytes parts is = omega (arith, is.fixed_is.first_is.few)

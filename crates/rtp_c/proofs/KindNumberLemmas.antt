@@ -175,23 +175,13 @@ number_with : List NumberedKind → List ℕ → ℕ
 number_with [] uri = 0
 number_with (kind ∷ kinds) uri = if are_same (uri_of kind) uri then number_of kind else number_with kinds uri
 
+all_by_uri : all_pass (λ number kind. nat_eq (number_with every_kind (uri_of (Known kind))) number) 0 numbered_kinds ≡ true
+unfolding all_pass every_kind are_same number_with
+all_by_uri = refl
+
 number_by_uri : (kind : NumberedKind) → number_with every_kind (uri_of kind) ≡ number_of kind
 unfolding every_kind are_same number_with
-number_by_uri (Known AbsoluteSendTime) = refl
-number_by_uri (Known AbsoluteCaptureTime) = refl
-number_by_uri (Known AudioLevel) = refl
-number_by_uri (Known TransmissionTimeOffset) = refl
-number_by_uri (Known VideoOrientation) = refl
-number_by_uri (Known TransportSequenceNumber) = refl
-number_by_uri (Known PlayoutDelay) = refl
-number_by_uri (Known VideoContentType) = refl
-number_by_uri (Known VideoTiming) = refl
-number_by_uri (Known RtpStreamId) = refl
-number_by_uri (Known RepairedRtpStreamId) = refl
-number_by_uri (Known RtpMid) = refl
-number_by_uri (Known FrameMarking) = refl
-number_by_uri (Known ColorSpace) = refl
-number_by_uri (Known VideoLayersAllocation) = refl
+number_by_uri (Known kind) = eqb-true _ (kind_number kind) (numbered_passes _ all_by_uri (kind_number kind) kind (number_of_kind kind))
 number_by_uri (Bare MixerLevels) = refl
 number_by_uri (Bare TransportNumber2) = refl
 number_by_uri (Bare DependencyDescriptor) = refl

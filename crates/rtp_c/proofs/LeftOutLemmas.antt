@@ -4,8 +4,7 @@ use Rattle.std.specs.Int.{bit_at}
 use Rattle.std.proofs.lemmas.Bool.{cases_lt, cases_eq}
 use Rattle.std.proofs.lemmas.Nat.Bits.{bit_at-zero, bit_at-lt, bit_at_or}
 use Rattle.rtp_values.specs.declared.known_kind.KnownKind.{KnownKind}
-use Rattle.rtp_values.specs.KindSet.{place_of, has}
-use Rattle.rtp_values.proofs.KindSetLemmas.{one_place}
+use Rattle.rtp_values.specs.KindSet.{has}
 use Rattle.rtp_c.specs.KindNumbers.{kind_number}
 use Rattle.std.specs.Prelude.{if◌then◌else◌}
 use Rattle.rtp_c.specs.Given.{given, is_nonzero}
@@ -82,27 +81,6 @@ bits-end flags bits are = record {
     | inr high ↦ are.above place high
   ];
 }
-
--- ---- a kind put into a set
-
--- two kinds are one or not
-same_or_other : (a b : KnownKind) → (a ≡ b) ⊎ (a ≢ b)
-same_or_other a b = elim (cases_eq (place_of a) (place_of b)) [
-  | inl same ↦ inl (one_place a b same)
-  | inr other ↦ inr (λ same. other (ap place_of same))
-]
-
-pub inserted : (kind : KnownKind) (old new : List Bool) (holds : Bool) → holds ≡ true → has new kind ≡ true
-    → ((other : KnownKind) → other ≢ kind → has new other ≡ has old other)
-    → (k : KnownKind) → (has new k ≡ true) ↔ ((has old k ≡ true) ⊎ ((k ≡ kind) × (holds ≡ true)))
-inserted kind old new holds is this others k =
-    elim (same_or_other k kind) [
-      | inl same ↦ (λ _. inr (same, is), λ _. ap (has new) same ∙ this)
-      | inr other ↦ (
-        λ set. inl (sym (others k other) ∙ set),
-        λ before. elim before [ inl set ↦ others k other ∙ set | inr put ↦ absurd (other put.0) ],
-      )
-    ]
 
 -- ---- kinds put into the set of what is left out
 

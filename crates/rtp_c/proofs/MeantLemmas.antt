@@ -1,7 +1,11 @@
 -- What the ids of a map mean by their numbers, and the new ids of these.
-use Rattle.rtp_c.proofs.Common.{◌≡◌, ◌≢◌, ℕ, zero, suc, ◌≤◌, ◌<◌, ◌+◌, List, [], ◌∷◌, length, length-set, drop, set, get_or, true, Option, None, Some, inl, inr, ◌⊎◌, arith, refl, sym, ap, ◌∙◌, subst, nat_le, option_map, cases_lt, leb-true, get_or_past, get_or-set_same, get_or-set_other, get_or-map, extension_of_kind, Extension, KnownKind, one_kind, extension_at, IsNewId, CarriesExtensions, new_id, id_in_byte, ids_in_bytes, kind_number, kind_numbered, numbered_kinds, IsNamed, IsFirstNumber, Means, IsNumberAt, IsIdOf, IsLowestOf, AreNewIdsOf, CarryKinds, numbered_slots}
-use Rattle.rtp_c.proofs.KindNumberLemmas.{number≢0, number_of_kind, all_pass, numbered_passes}
+use Rattle.rtp_c.proofs.Common.{◌≡◌, ◌≢◌, ℕ, zero, suc, ◌≤◌, ◌<◌, ◌+◌, List, [], ◌∷◌, length, length-set, drop, set, get_or, Option, None, Some, inl, inr, ◌⊎◌, arith, refl, sym, ap, ◌∙◌, subst, option_map, cases_lt, get_or_past, get_or-set_same, get_or-set_other, get_or-map, extension_of_kind, Extension, KnownKind, one_kind, extension_at, IsNewId, CarriesExtensions, new_id, id_in_byte, ids_in_bytes, kind_number, kind_numbered, IsNamed, IsFirstNumber, Means, IsNumberAt, IsIdOf, IsLowestOf, AreNewIdsOf, CarryKinds, numbered_slots, take, take_all, length-drop}
+use Rattle.rtp_c.proofs.KindNumberLemmas.{number_of_kind, kind_low}
 use Rattle.rtp_c.proofs.NumberedLemmas.{HasKinds-numbered, after_first, numbered_kind, extension_numbered}
+
+-- the numbers of the ids from 1 on
+pub rest_is : (numbers : List ℕ) → length numbers ≡ 256 → take 255 (drop 1 numbers) ≡ drop 1 numbers
+rest_is numbers long = take_all 255 (drop 1 numbers) (omega (arith, long, length-drop 1 numbers))
 
 not_zero : IsNamed 0 → ⊥
 not_zero (inl kind) = omega (arith, kind.0)
@@ -134,14 +138,8 @@ AreNewIdsOf-all from to bytes passed all long have = record { meant = meant; oth
 
 -- ---- and these carry the kinds
 
-all_low : all_pass (λ number kind. nat_le (kind_number kind) 15) 0 numbered_kinds ≡ true
-unfolding all_pass
-all_low = refl
-
 named_kind : (kind : KnownKind) → IsNamed (kind_number kind)
-named_kind kind =
-    let low = leb-true (kind_number kind) 15 (numbered_passes _ all_low (kind_number kind) kind (number_of_kind kind)) in
-    inl (omega (arith, number≢0 kind), omega (arith, low))
+named_kind kind = let low = kind_low (kind_number kind) kind (number_of_kind kind) in inl (low.0, omega (arith, low.1))
 
 -- the number of a kind stands where its extension does
 means_kind : (numbers : List ℕ) (id : ℕ) (kind : KnownKind) → extension_at (numbered_slots numbers) id ≡ Some (extension_of_kind kind)

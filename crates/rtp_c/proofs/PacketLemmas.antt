@@ -1,5 +1,5 @@
 -- Where the parts of a packet lie in its bytes.
-use Rattle.rtp_c.proofs.Common.{◌≡◌, ℕ, ◌+◌, ◌-◌, ◌*◌, ◌≤◌, List, [], ◌++◌, length, take, drop, Bool, true, false, Option, Some, None, refl, sym, ap, ◌∙◌, append_assoc, append-nil, length-append, take_at, drop_at, arith, concat, take-append-drop, ExtensionsForm, PacketParts, IsPacket, IsAnnouncedBlock, block_len, header_len_of, length-packet, slice_at, body_of_any}
+use Rattle.rtp_c.proofs.Common.{◌≡◌, ℕ, ◌+◌, ◌-◌, List, [], ◌++◌, length, take, drop, Bool, true, false, Option, Some, None, refl, sym, ap, ◌∙◌, append_assoc, append-nil, length-append, take_at, drop_at, arith, concat, take-append-drop, ExtensionsForm, PacketParts, IsPacket, IsAnnouncedBlock, header_len_of, length-packet, slice_at, body_of_any}
 
 -- bytes between others
 pub middle : (bytes before it after : List ℕ) (offset len : ℕ) → bytes ≡ before ++ (it ++ after) → length before ≡ offset → length it ≡ len → slice_at bytes offset len ≡ it
@@ -65,13 +65,3 @@ payload-at bytes parts packet =
     let in_order : bytes ≡ (is.front ++ body) ++ (parts.payload ++ []) =
     is.in_order ∙ sym (append_assoc is.front body parts.payload) ∙ ap (λ (xs : List ℕ). is.front ++ body ++ xs) (sym (append-nil parts.payload)) in
     middle bytes (is.front ++ body) parts.payload [] (header_len_of parts) _ in_order (omega (arith, front_len bytes parts packet is, length-append is.front body)) refl
-
--- the body is within the header
-pub body-within : (parts : PacketParts) → length (body_of_any parts.block parts.other_block) ≤ header_len_of parts
-body-within parts = within parts.block parts.other_block (length parts.sources)
-  where
-    within : (block : Option (ExtensionsForm × List ℕ)) (other : Option (ℕ × List ℕ)) (n : ℕ)
-        → length (body_of_any block other) ≤ 12 + 4 * n + block_len block + block_len other
-    within None None n = omega arith
-    within (Some block) None n = omega arith
-    within block (Some other) n = omega arith

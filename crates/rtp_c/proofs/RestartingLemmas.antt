@@ -1,16 +1,9 @@
 -- A receiver in the memory of C whose sender may start again: what it says of a packet, and that it always holds some set.
-use Rattle.rtp_c.proofs.Common.{◌≡◌, ℕ, ℤ, false, inl, inr, refl, sym, subst, arith, cases_eq, ring_bits, Numbers, IsNothing, Bounds, IsRestartingVerdict, epoch_after, StoredRestarting}
+use Rattle.rtp_c.proofs.Common.{◌≡◌, ℕ, ℤ, inl, inr, sym, subst, arith, cases_eq, ring_bits, Numbers, Bounds, IsRestartingVerdict, epoch_after, StoredRestarting}
 use Rattle.rtp_receive.specs.RestartingState.{RestartingReceiver, bounds_of, Leads, Grows, RowLeads, RowGrows}
 use Rattle.rtp_receive.specs.declared.restarting_verdict.RestartingVerdict.{RestartingVerdict}
 use Rattle.rtp_c.specs.StoredRestarting.{bounds_in, HoldsIn, IsTold, IsAnsweredIn}
-use Rattle.rtp_c.proofs.StoredWideLemmas.{HoldsWindow-some}
-
-none : Numbers
-none = λ n. false
-
-nothing : IsNothing none
-unfolding none
-nothing n = refl
+use Rattle.rtp_c.proofs.StoredWideLemmas.{HoldsWindow-some, none, nothing}
 
 pub holds_some : (stored : StoredRestarting) → (taken : Numbers) × HoldsIn stored taken
 holds_some stored = elim (cases_eq stored.started 0) [

@@ -1,5 +1,5 @@
--- The statuses are different numbers.
-use Rattle.rtp_c.proofs.Common.{◌≡◌, CutFixedPart, OtherVersion, CutSources, CutBlockHeader, CutBlock, ok, none, bad_field, short_buffer, cause_status}
+-- The statuses are different numbers, and stay when they are passed on.
+use Rattle.rtp_c.proofs.Common.{◌≡◌, ℤ, w32, to_z, of_z, FitsSigned, to_z-of_z, sym, subst, CutFixedPart, OtherVersion, CutSources, CutBlockHeader, CutBlock, ok, none, bad_field, short_buffer, cause_status}
 use Rattle.rtp_wire.specs.declared.packet.not_a_packet.NotAPacket.{NotAPacket}
 use Rattle.rtp_c.specs.Status.{long_block, long_id, rtcp}
 
@@ -11,6 +11,12 @@ bad_field≢ok same = cc
 
 pub short_buffer≢ok : short_buffer ≡ ok → ⊥
 short_buffer≢ok same = cc
+
+pub short_buffer≢bad_field : short_buffer ≡ bad_field → ⊥
+short_buffer≢bad_field same = cc
+
+pub none≢bad_field : none ≡ bad_field → ⊥
+none≢bad_field same = cc
 
 pub long_block≢ok : long_block ≡ ok → ⊥
 long_block≢ok same = cc
@@ -34,3 +40,7 @@ rtcp≢cause OtherVersion same = cc
 rtcp≢cause CutSources same = cc
 rtcp≢cause CutBlockHeader same = cc
 rtcp≢cause CutBlock same = cc
+
+-- what holds of a status holds of it as it is passed on
+pub passed_on : (status : ℤ) → FitsSigned w32 status → (Holds : ℤ → Type 0) → Holds status → Holds (to_z w32 (of_z w32 status))
+passed_on status fits Holds holds = subst Holds (sym (to_z-of_z w32 status fits)) holds

@@ -1,9 +1,7 @@
 -- A window in words that the caller has: what it accepts, what it keeps once a number is taken, and that it always keeps some set.
-use Rattle.rtp_c.proofs.Common.{◌≡◌, ◌≢◌, ℕ, ◌+◌, ◌-◌, ◌*◌, ◌<◌, ◌⊎◌, ◌↔◌, IsTrue, nat_eq, ℤ, to_z, of_z, w32, Bool, true, false, ◌||◌, List, [], ◌∷◌, length, get_or, map, inl, inr, refl, sym, ap, ◌∙◌, subst, arith, eq-eqb, ne_eqb, or_right, false≢true, cases_lt, cases_eq, get_or-map-range_with_len, range_with_len, Numbers, WindowState, IsGreatest, KeepsOf, AcceptsOf, only, including, AcceptsOf-low, KeepsOf-first, KeepsOf-shown, IsNothing, IsFreshOf, HoldsWindow, HoldsStored}
+use Rattle.rtp_c.proofs.Common.{◌≡◌, ◌≢◌, ℕ, ◌+◌, ◌-◌, ◌*◌, ◌<◌, ◌⊎◌, ◌↔◌, IsTrue, nat_eq, Bool, true, false, ◌||◌, List, [], ◌∷◌, length, get_or, map, inl, inr, refl, sym, ap, ◌∙◌, subst, arith, eq-eqb, ne_eqb, or_right, false≢true, cases_lt, cases_eq, get_or-map-range_with_len, range_with_len, Numbers, WindowState, IsGreatest, KeepsOf, AcceptsOf, only, including, AcceptsOf-low, KeepsOf-first, KeepsOf-shown, IsNothing, IsFreshOf, HoldsWindow, HoldsStored}
 use Rattle.rtp_base.specs.Ring.{ring_size, ring_bit, ring_bits, ring_window}
 use Rattle.rtp_base.proofs.RingLemmas.{ring_bits-near}
-use Rattle.rtp_c.specs.declared.wide_receiver.StoredWideReceiver.{StoredWideReceiver}
-use Rattle.rtp_c.specs.StoredWideReceiver.{IsReceivedAs}
 use Rattle.rtp_base.proofs.BitmapLemmas.{or-none}
 
 -- a set with a greatest number is not empty
@@ -155,11 +153,11 @@ kept_there made joined at here set words highest keeps =
     subst (λ (ws : List ℕ). KeepsOf (ring_size ws) (ring_window ws here) set) (sym words)
     (subst (λ (h : ℕ). KeepsOf (ring_size made) (ring_window made h) set) (sym highest) keeps)
 
--- ---- the status of another call
+-- ---- the empty set
 
-pub IsReceivedAs-passed_on : (count : ℕ) (taken : Numbers) (number : ℕ) (status : ℤ) (written : ℕ) (after : StoredWideReceiver) (words : List ℕ)
-    → IsReceivedAs count taken number status written after words → IsReceivedAs count taken number (to_z w32 (of_z w32 status)) written after words
-IsReceivedAs-passed_on count taken number status written after words received = elim received [
-  | inl is ↦ inl (ap (λ (z : ℤ). to_z w32 (of_z w32 z)) is.0, is.1, is.2)
-  | inr is ↦ inr (ap (λ (z : ℤ). to_z w32 (of_z w32 z)) is.0, is.1)
-]
+pub none : Numbers
+none = λ n. false
+
+pub nothing : IsNothing none
+unfolding none
+nothing n = refl

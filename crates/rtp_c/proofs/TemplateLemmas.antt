@@ -1,5 +1,5 @@
 -- The places of a template as C keeps them.
-use Rattle.rtp_c.proofs.Common.{ℤ, w32, to_z, of_z, inl, inr, get_or_past, cases_lt}
+use Rattle.rtp_c.proofs.Common.{ℤ, w32, to_z, of_z, FitsSigned, to_z-of_z, inl, inr, get_or_past, cases_lt}
 use Rattle.std.proofs.Common.{replicate, get_or-set_other, ◌≢◌, Option, Some, ◌≡◌, ℕ, zero, suc, ◌+◌, ◌<◌, ◌≤◌, slice_get, length-take, List, [], ◌∷◌, ◌++◌, length, take, get_or, set, refl, sym, ap, subst, ◌∙◌, arith}
 use Rattle.std.proofs.lemmas.List.{take_more, take_more_set, get_or-take, get_or-replicate, length-replicate}
 use Rattle.std.proofs.lemmas.Option.{slice_get-get_or}
@@ -16,9 +16,9 @@ use Rattle.rtp_wire.specs.declared.packet.rtp_packet.RtpPacket.{RtpPacket}
 use Rattle.rtp_wire.specs.Packet.{PacketParts, header_len_of}
 use Rattle.rtp_wire.specs.PartsOf.{parts_of, datagram_of}
 use Rattle.rtp_c.specs.RoutedStatus.{not_routed_status}
-use Rattle.rtp_c.specs.Status.{ok, bad_field, long_id}
+use Rattle.rtp_c.specs.Status.{ok}
 use Rattle.rtp_c.specs.StoredTemplate.{slots_at, AreZeros}
-use Rattle.rtp_c.proofs.PutLemmas.{status_is, status≢ok}
+use Rattle.rtp_c.proofs.PutLemmas.{put_status≢ok}
 
 pub slots_at-length : (starts lens : List ℕ) → length starts ≡ length lens → length (slots_at starts lens) ≡ length starts
 slots_at-length [] lens same = refl
@@ -89,19 +89,18 @@ group-of old was ids were news given form allowed len n buf slots places old_is 
     (subst (λ (k : ℕ). IsGroupHeader was (new_id were) given allowed (take k buf) slots) len_is
     (subst (λ (ss : List Slot). IsGroupHeader was (new_id were) given allowed (take n buf) ss) slots_are is)))))
 
--- no cause has the status of success
-pub not_routed≢ok : (result : ℤ) (cause : NotRouted) → result ≡ not_routed_status cause → to_z w32 (of_z w32 result) ≡ ok → ⊥
-not_routed≢ok result ManyElements is is_ok = let no : bad_field ≡ ok = sym (ap (λ (z : ℤ). to_z w32 (of_z w32 z)) is) ∙ is_ok in cc
-not_routed≢ok result RepeatedId is is_ok = let no : bad_field ≡ ok = sym (ap (λ (z : ℤ). to_z w32 (of_z w32 z)) is) ∙ is_ok in cc
-not_routed≢ok result LongId is is_ok = let no : long_id ≡ ok = sym (ap (λ (z : ℤ). to_z w32 (of_z w32 z)) is) ∙ is_ok in cc
-not_routed≢ok result (NotPut cause) is is_ok = status≢ok result cause is is_ok
+-- the status of a cause, which isn't that of success
+pub not_routed-is : (result : ℤ) (cause : NotRouted) → FitsSigned w32 result → result ≡ not_routed_status cause → to_z w32 (of_z w32 result) ≡ not_routed_status cause
+not_routed-is result cause fits is = to_z-of_z w32 result fits ∙ is
 
--- the status of a cause
-pub not_routed-is : (result : ℤ) (cause : NotRouted) → result ≡ not_routed_status cause → to_z w32 (of_z w32 result) ≡ not_routed_status cause
-not_routed-is result ManyElements is = ap (λ (z : ℤ). to_z w32 (of_z w32 z)) is
-not_routed-is result RepeatedId is = ap (λ (z : ℤ). to_z w32 (of_z w32 z)) is
-not_routed-is result LongId is = ap (λ (z : ℤ). to_z w32 (of_z w32 z)) is
-not_routed-is result (NotPut cause) is = status_is result cause is
+pub not_routed≢ok : (result : ℤ) (cause : NotRouted) → FitsSigned w32 result → result ≡ not_routed_status cause → to_z w32 (of_z w32 result) ≡ ok → ⊥
+not_routed≢ok result cause fits is is_ok = never cause (sym (not_routed-is result cause fits is) ∙ is_ok)
+  where
+    never : (cause : NotRouted) → not_routed_status cause ≡ ok → ⊥
+    never ManyElements same = cc
+    never RepeatedId same = cc
+    never LongId same = cc
+    never (NotPut cause) same = put_status≢ok cause same
 
 -- what keeps a packet's header from a group
 pub kept-of : (old was : List ℕ) (ids were : List (Option ℕ)) (news given : List Element) (form allowed : Option ExtensionsForm) (room : ℕ) (cause : NotRouted)

@@ -11,7 +11,7 @@ use Rattle.rtp_c.specs.HeaderView.{IsHeaderTold}
 use Rattle.rtp_c.specs.PacketView.{IsUnpaddedLen, block_number}
 use Rattle.rtp_c.specs.Status.{rtcp, IsCauseStatus}
 use Rattle.rtp_c.specs.WholePacket.{IsWhole, IsWholeRead}
-use Rattle.rtp_c.proofs.PacketLemmas.{body-at, payload-at, body-within}
+use Rattle.rtp_c.proofs.PacketLemmas.{body-at, payload-at}
 use Rattle.rtp_c.proofs.StatusLemmas.{rtcp≢ok, rtcp≢cause}
 
 -- where its header is told, and where its parts lie

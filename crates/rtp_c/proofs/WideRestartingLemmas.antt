@@ -1,5 +1,5 @@
 -- A receiver in the memory of C whose sender may start again, with a window of another size: what it holds, and what it says of a packet.
-use Rattle.std.proofs.Common.{◌≡◌, ℕ, suc, ◌+◌, ◌%◌, ◌^◌, ◌<◌, ◌≤◌, ◌↔◌, ◌==◌, if◌then◌else◌, ℤ, List, length, false, inl, inr, refl, sym, ap, ◌∙◌, subst, arith, w32, to_z, of_z}
+use Rattle.std.proofs.Common.{◌≡◌, ℕ, suc, ◌+◌, ◌%◌, ◌^◌, ◌<◌, ◌≤◌, ◌↔◌, ◌==◌, if◌then◌else◌, ℤ, List, length, false, inl, inr, refl, sym, ap, ◌∙◌, subst, arith}
 use Rattle.std.specs.Prelude.{Option, Some, None}
 use Rattle.std.proofs.lemmas.Bool.{cases_eq, eq-eqb, ne_eqb}
 use Rattle.rtp_base.specs.Ring.{ring_size, ring_bits}
@@ -10,20 +10,13 @@ use Rattle.rtp_receive.proofs.RestartingLemmas.{near_number, Begins-from, some_n
 use Rattle.rtp_receive.specs.Restarting.{Bounds, IsOfStream, IsOutside, BeginsAt, announced, epoch_after}
 use Rattle.rtp_receive.specs.RestartingState.{Leads, Grows}
 use Rattle.rtp_receive.specs.declared.restarting_verdict.RestartingVerdict.{RestartingVerdict}
-use Rattle.rtp_receive.specs.declared.restarting_verdict.RestartingVerdict.TheVariants.{Taken, Restarted, Refused}
+use Rattle.rtp_receive.specs.declared.restarting_verdict.RestartingVerdict.TheVariants.{Refused}
 use Rattle.rtp_c.specs.Status.{ok, restarted}
 use Rattle.rtp_c.specs.StoredRestarting.{IsTold}
 use Rattle.rtp_c.specs.declared.wide_restarting.StoredWideRestarting.{StoredWideRestarting}
 use Rattle.rtp_c.specs.StoredWideReceiver.{HoldsIn}
 use Rattle.rtp_c.specs.StoredWideRestarting.{bounds_with, HoldsWith, epoch_in, IsAnsweredWith}
-use Rattle.rtp_c.proofs.StoredWideLemmas.{kept, some, HoldsWindow-some}
-
-pub none : Numbers
-none = λ n. false
-
-pub nothing : IsNothing none
-unfolding none
-nothing n = refl
+use Rattle.rtp_c.proofs.StoredWideLemmas.{kept, some, HoldsWindow-some, none, nothing}
 
 pub holds_some : (stored : StoredWideRestarting) (words : List ℕ) → 0 < length words → (taken : Numbers) × HoldsWith stored words taken
 holds_some stored words words-some = elim (cases_eq stored.started 0) [
@@ -101,20 +94,3 @@ answered_first old new old_words words taken highest low first status written le
           (λ leads. absurd (some_not_none first ((row after k few).0 leads).0), λ parts. absurd (announced_first highest first parts.0))
           ));
     }
-
--- ---- the status of another call
-
-pub IsTold-passed_on : (verdict : RestartingVerdict) (status : ℤ) (written : ℕ) → IsTold verdict status written → IsTold verdict (to_z w32 (of_z w32 status)) written
-IsTold-passed_on (Taken n) status written told = (ap (λ (z : ℤ). to_z w32 (of_z w32 z)) told.0, told.1)
-IsTold-passed_on (Restarted n) status written told = (ap (λ (z : ℤ). to_z w32 (of_z w32 z)) told.0, told.1)
-IsTold-passed_on Refused status written told = ap (λ (z : ℤ). to_z w32 (of_z w32 z)) told
-
-pub IsAnsweredWith-passed_on : (old : StoredWideRestarting) (old_words : List ℕ) (taken : Numbers) (low : ℕ) (status : ℤ) (written : ℕ) (new : StoredWideRestarting) (words : List ℕ)
-    → IsAnsweredWith old old_words taken low status written new words → IsAnsweredWith old old_words taken low (to_z w32 (of_z w32 status)) written new words
-IsAnsweredWith-passed_on old old_words taken low status written new words answered = record {
-  verdict = answered.verdict;
-  judged = answered.judged;
-  told = IsTold-passed_on answered.verdict status written answered.told;
-  epoch = answered.epoch;
-  row = answered.row;
-}

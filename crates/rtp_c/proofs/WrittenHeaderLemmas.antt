@@ -15,6 +15,7 @@ use Rattle.rtp_c.specs.Given.{AreGivenFields, AreGivenValues, IsGivenHeader}
 use Rattle.rtp_c.specs.WrittenElements.{LieIn, elements_in}
 use Rattle.rtp_c.specs.Status.{ok, short_buffer, bad_field}
 use Rattle.rtp_c.specs.WrittenHeader.{IsToBeWritten, IsWrittenHeader, IsTooLong, WritesHeader, CanBeWrittenWith, IsWrittenWith, IsTooLongWith}
+use Rattle.rtp_c.proofs.StatusLemmas.{bad_field≢ok, short_buffer≢ok, short_buffer≢bad_field}
 use Rattle.rtp_c.proofs.WritingLemmas.{passed_on}
 
 -- headers of the same fields are written as the same bytes
@@ -128,41 +129,32 @@ IsGivenHeader-with view header values fields are = record {
 
 -- ---- what writing the header comes to
 
-ok_is_not_short : ok ≡ short_buffer → ⊥
-ok_is_not_short same = cc
-
-ok_is_not_bad : ok ≡ bad_field → ⊥
-ok_is_not_bad same = cc
-
-short_is_not_bad : short_buffer ≡ bad_field → ⊥
-short_is_not_bad same = cc
-
 module _ {numbers : List ℕ} {IsGiven : RtpHeader → Type 0} {old : List ℕ} {old_len : ℕ} where
   pub WritesHeader-written : {new : List ℕ} {len : ℕ} → IsWrittenHeader numbers IsGiven old new len → WritesHeader numbers IsGiven old new old_len len ok
   WritesHeader-written {new} {len} is = record {
     written = λ _. is;
     within = λ _. omega (arith, is.len_is, ap length is.written, length-append (wire_bytes is.slots is.header) (drop len old));
-    short = λ same. absurd (ok_is_not_short same);
-    is_bad = (λ same. absurd (ok_is_not_bad same), λ none. absurd (none is.header is.is_given.is_given));
+    short = λ same. absurd (short_buffer≢ok (sym same));
+    is_bad = (λ same. absurd (bad_field≢ok (sym same)), λ none. absurd (none is.header is.is_given.is_given));
     statuses = inl refl;
     unchanged = λ not. absurd (not refl);
   }
 
   pub WritesHeader-short : IsTooLong numbers IsGiven (length old) → WritesHeader numbers IsGiven old old old_len old_len short_buffer
   WritesHeader-short too = record {
-    written = λ same. absurd (ok_is_not_short (sym same));
-    within = λ same. absurd (ok_is_not_short (sym same));
+    written = λ same. absurd (short_buffer≢ok same);
+    within = λ same. absurd (short_buffer≢ok same);
     short = λ _. too;
-    is_bad = (λ same. absurd (short_is_not_bad same), λ none. absurd (none too.header too.is_given.is_given));
+    is_bad = (λ same. absurd (short_buffer≢bad_field same), λ none. absurd (none too.header too.is_given.is_given));
     statuses = inr (inl refl);
     unchanged = λ _. (refl, refl);
   }
 
   pub WritesHeader-bad : ((header : RtpHeader) → IsGiven header → ⊥) → WritesHeader numbers IsGiven old old old_len old_len bad_field
   WritesHeader-bad none = record {
-    written = λ same. absurd (ok_is_not_bad (sym same));
-    within = λ same. absurd (ok_is_not_bad (sym same));
-    short = λ same. absurd (short_is_not_bad (sym same));
+    written = λ same. absurd (bad_field≢ok same);
+    within = λ same. absurd (bad_field≢ok same);
+    short = λ same. absurd (short_buffer≢bad_field (sym same));
     is_bad = (λ _. none, λ _. refl);
     statuses = inr (inr refl);
     unchanged = λ _. (refl, refl);

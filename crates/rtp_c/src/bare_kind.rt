@@ -22,17 +22,11 @@ pub enum BareKind {
 }
 
 impl BareKind {
-    // The number by which C names the kind.
+    // The number by which C names the kind: the kinds stand in the order of their numbers.
     pub fn number(self) -> u8
         ensures { result ≡ bare_number self }
     {
-        match self {
-            BareKind::MixerLevels => 16,
-            BareKind::TransportNumber2 => 17,
-            BareKind::DependencyDescriptor => 18,
-            BareKind::Ntp64 => 19,
-            BareKind::Ntp56 => 20,
-        }
+        self as u8 + 16
     }
 
     // The kind of this number.

@@ -42,6 +42,15 @@ pub struct FieldsView {
     pub has_marker: u8,
 }
 
+// No field.
+pub(super) const NO_FIELDS: Fields = Fields {
+    marker: None,
+    payload_type: None,
+    sequence_number: None,
+    timestamp: None,
+    ssrc: None,
+};
+
 // The fields that are given.
 pub(super) fn given_fields(view: &FieldsView) -> Fields
     ensures { result ≡ fields_given view.now }
@@ -105,7 +114,7 @@ pub extern "C" fn rtpw_set_marker(datagram: &mut [u8], marker: bool) -> i32
 {
     let fields = Fields {
         marker: Some(marker),
-        ..Fields::default()
+        ..NO_FIELDS
     };
     set(datagram, &fields)
 }
@@ -128,7 +137,7 @@ pub extern "C" fn rtpw_set_payload_type(datagram: &mut [u8], payload_type: u8) -
     }
     let fields = Fields {
         payload_type: Some(Pt::from(payload_type)),
-        ..Fields::default()
+        ..NO_FIELDS
     };
     set(datagram, &fields)
 }
@@ -146,7 +155,7 @@ pub extern "C" fn rtpw_set_sequence_number(datagram: &mut [u8], number: u16) -> 
 {
     let fields = Fields {
         sequence_number: Some(number),
-        ..Fields::default()
+        ..NO_FIELDS
     };
     set(datagram, &fields)
 }
@@ -164,7 +173,7 @@ pub extern "C" fn rtpw_set_timestamp(datagram: &mut [u8], timestamp: u32) -> i32
 {
     let fields = Fields {
         timestamp: Some(timestamp),
-        ..Fields::default()
+        ..NO_FIELDS
     };
     set(datagram, &fields)
 }
@@ -182,7 +191,7 @@ pub extern "C" fn rtpw_set_ssrc(datagram: &mut [u8], ssrc: u32) -> i32
 {
     let fields = Fields {
         ssrc: Some(Ssrc::from(ssrc)),
-        ..Fields::default()
+        ..NO_FIELDS
     };
     set(datagram, &fields)
 }
@@ -226,8 +235,7 @@ pub extern "C" fn rtpw_set_csrc(datagram: &mut [u8], index: usize, source: u32) 
     match layout_of(datagram) {
         Err(status) => status,
         Ok((header_len, form)) => {
-            let mut packet = RtpPacketMut::new(datagram, header_len, form);
-            if packet.set_csrc(index, source) {
+            if RtpPacketMut::new(datagram, header_len, form).set_csrc(index, source) {
                 OK
             } else {
                 NONE
@@ -257,8 +265,7 @@ pub extern "C" fn rtpw_set_element(datagram: &mut [u8], id: u8, data: &[u8]) -> 
     match layout_of(datagram) {
         Err(status) => status,
         Ok((header_len, form)) => {
-            let mut packet = RtpPacketMut::new(datagram, header_len, form);
-            if packet.set_element(id, data) {
+            if RtpPacketMut::new(datagram, header_len, form).set_element(id, data) {
                 OK
             } else {
                 NONE

@@ -31,7 +31,8 @@ pub struct Datagram {
     pub is_rtcp: u8,
 }
 
-/// The same with a whole header and its values: `rtpw_datagram_header` in C, 248 bytes.
+/// A datagram in a buffer, and what is told of its whole header and of its values:
+/// `rtpw_datagram_header` in C, 248 bytes.
 #[repr(C)]
 #[derive(Clone, Copy)]
 pub struct DatagramHeader {
@@ -47,7 +48,8 @@ pub struct DatagramHeader {
     pub is_rtcp: u8,
 }
 
-/// The same with a whole packet: `rtpw_whole_datagram` in C, 280 bytes.
+/// A datagram in a buffer, and what is told of the whole packet: `rtpw_whole_datagram` in C, 280
+/// bytes.
 #[repr(C)]
 #[derive(Clone, Copy)]
 pub struct WholeDatagram {

@@ -2,8 +2,10 @@
 
 ghost use Rattle.std.specs.Prelude.{◌≡◌, length, IfSome, IfNone};
 ghost use Rattle.rtp_wire.specs.declared.header.rtp_header.RtpHeader.{RtpHeader as Header};
-ghost use Rattle.rtp_c.specs.Given.{is_nonzero, AreGivenFields};
+ghost use Rattle.rtp_wire.specs.Written.{with_values};
+ghost use Rattle.rtp_c.specs.Given.{is_nonzero, AreGivenFields, IsGivenHeader};
 
+use super::given_values::GivenValues;
 use super::header::HeaderView;
 use rtp_base::{Pt, Ssrc};
 use rtp_wire::GetFields;
@@ -40,7 +42,8 @@ impl<'a> GivenFields<'a> {
         Self::with_x(view, view.has_extension != 0)
     }
 
-    /// The same, where it is known whether X is set.
+    /// The fields of the struct, where it is known whether X is set; `None` where no header can have
+    /// them.
     #[inline(always)]
     pub fn with_x(view: &'a HeaderView, has_extension: bool) -> Option<Self>
         requires { has_extension ≡ is_nonzero view.now.has_extension }
@@ -55,6 +58,17 @@ impl<'a> GivenFields<'a> {
             has_extension,
         })
     }
+}
+
+// The fields and the values that C gives; `None` where no header can have them.
+#[inline(always)]
+pub fn given_header(view: &HeaderView) -> Option<(GivenFields<'_>, GivenValues<'_>)>
+    ensures found { IfSome result (λ given. IsGivenHeader view.now (with_values given.0 given.1)) }
+    ensures none { IfNone result ((header : Header) → IsGivenHeader view.now header → ⊥) }
+{
+    let values = GivenValues::of(&view.values)?;
+    let fields = GivenFields::of(view)?;
+    Some((fields, values))
 }
 
 // How many sources the struct counts, of the fifteen that it has room for.

@@ -95,7 +95,7 @@ fn has_few_layers(view: &Stream) -> bool
     view.count <= 4 && given_layers(view).iter().all(|layer| layer.rates <= 4)
 }
 
-// The same of each of the streams.
+// Whether each of the streams, and each of its layers that counts, has a count of at most four.
 #[inline(always)]
 fn have_few_layers(streams: &[Stream]) -> bool
     ensures { IsTrue result ↔ All HasFewLayers streams.now }

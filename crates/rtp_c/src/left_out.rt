@@ -12,9 +12,8 @@ ghost use Rattle.rtp_c.specs.GivenLayers.{IsGivenWithLayers};
 ghost use Rattle.rtp_c.specs.KindNumbers.{kind_number};
 ghost use Rattle.rtp_c.specs.LeftOut.{AreBitsOf, AreLeftOut, HasOffsetAlone, HasLayersFlag};
 
-use super::given_fields::GivenFields;
+use super::given_fields::given_header;
 use super::given_layers::with_given_layers;
-use super::given_values::GivenValues;
 use super::header::HeaderView;
 use super::kinds::StoredMap;
 use super::layers::Layers;
@@ -103,10 +102,7 @@ pub extern "C" fn rtpw_left_out(map: &StoredMap, header: &HeaderView, kinds: &mu
     ensures statuses { (result ≡ ok) ⊎ (result ≡ bad_field) }
     ensures unchanged { result ≢ ok → kinds.new ≡ kinds.old }
 {
-    let Some(values) = GivenValues::of(&header.values) else {
-        return BAD_FIELD;
-    };
-    let Some(fields) = GivenFields::of(header) else {
+    let Some((fields, values)) = given_header(header) else {
         return BAD_FIELD;
     };
     let mut left = values_left_out(&fields, &values, map);
@@ -143,10 +139,7 @@ pub extern "C" fn rtpw_left_out_layers(
     ensures statuses { (result ≡ ok) ⊎ (result ≡ bad_field) }
     ensures unchanged { result ≢ ok → kinds.new ≡ kinds.old }
 {
-    let Some(without) = GivenValues::of(&header.values) else {
-        return BAD_FIELD;
-    };
-    let Some(fields) = GivenFields::of(header) else {
+    let Some((fields, without)) = given_header(header) else {
         return BAD_FIELD;
     };
     let Some(values) = with_given_layers(&without, layers) else {

@@ -68,27 +68,11 @@ pub fn named(number: u8) -> Option<Option<KnownKind>>
     }
 }
 
-// The number of the kind.
+// The number of the kind: the kinds stand in the order of their numbers.
 pub fn number_of(kind: KnownKind) -> u8
     ensures { result ≡ kind_number kind }
 {
-    match kind {
-        KnownKind::AbsoluteSendTime => 1,
-        KnownKind::AbsoluteCaptureTime => 2,
-        KnownKind::AudioLevel => 3,
-        KnownKind::TransmissionTimeOffset => 4,
-        KnownKind::VideoOrientation => 5,
-        KnownKind::TransportSequenceNumber => 6,
-        KnownKind::PlayoutDelay => 7,
-        KnownKind::VideoContentType => 8,
-        KnownKind::VideoTiming => 9,
-        KnownKind::RtpStreamId => 10,
-        KnownKind::RepairedRtpStreamId => 11,
-        KnownKind::RtpMid => 12,
-        KnownKind::FrameMarking => 13,
-        KnownKind::ColorSpace => 14,
-        KnownKind::VideoLayersAllocation => 15,
-    }
+    kind as u8 + 1
 }
 
 // Whether each number is 0.

@@ -144,10 +144,7 @@ pub fn put_block<'a>(
         *number = 3;
         return None;
     };
-    *number = match form {
-        ExtensionsForm::OneByte => 1,
-        ExtensionsForm::TwoByte => 2,
-    };
+    *number = form as u8 + 1;
     Some((form, body))
 }
 

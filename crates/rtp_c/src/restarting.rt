@@ -89,6 +89,7 @@ fn store(receiver: &RestartingReceiver<2>, stored: &mut StoredRestarting)
 /// one of a new epoch. In both cases its extended number is written. `REFUSED`: it is a replay, or
 /// outside of the stream; the number isn't written.
 #[unsafe(no_mangle)]
+#[tactic(auto, using(crate::proofs::RestartingLemmas::holds_some))]
 pub extern "C" fn rtpw_restarting_receive(
     receiver: &mut StoredRestarting,
     sequence_number: u16,

@@ -14,7 +14,7 @@ ghost use Rattle.rtp_c.specs.SetFields.{fields_given, CanBeSet};
 ghost use Rattle.rtp_c.specs.Status.{ok};
 ghost use Rattle.rtp_c.specs.StoredTemplate.{slots_of, IsInRange};
 
-use super::changing::{FieldsView, given_fields};
+use super::changing::{FieldsView, NO_FIELDS, given_fields};
 use super::datagrams::slice_in;
 use super::given::given;
 use super::status::{BAD_FIELD, OK, SHORT_BUFFER, status_of};
@@ -125,28 +125,27 @@ fn set_given(buf: &mut [u8], form: Option<ExtensionsForm>, view: &FieldsView)
         IsPacket buf.new (with_header_fields (fields_given view.now) parts) }
     ensures fixed { ChangesOnly 1 12 buf.old buf.new }
 {
-    let none = Fields::default();
     let len = buf.len();
     let mut packet = RtpPacketMut::new(buf, len, form);
     packet.set_fields(&Fields {
         marker: given(view.has_marker, view.marker != 0),
-        ..none
+        ..NO_FIELDS
     });
     packet.set_fields(&Fields {
         payload_type: given(view.has_payload_type, Pt::from(view.payload_type)),
-        ..none
+        ..NO_FIELDS
     });
     packet.set_fields(&Fields {
         sequence_number: given(view.has_sequence_number, view.sequence_number),
-        ..none
+        ..NO_FIELDS
     });
     packet.set_fields(&Fields {
         timestamp: given(view.has_timestamp, view.timestamp),
-        ..none
+        ..NO_FIELDS
     });
     packet.set_fields(&Fields {
         ssrc: given(view.has_ssrc, Ssrc::from(view.ssrc)),
-        ..none
+        ..NO_FIELDS
     });
 }
 

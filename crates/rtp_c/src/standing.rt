@@ -22,11 +22,7 @@ const NO_WINDOW: u8 = 3;
 fn number_of(standing: Standing) -> u8
     ensures { result ≡ standing_number standing }
 {
-    match standing {
-        Standing::New => 0,
-        Standing::Taken => 1,
-        Standing::TooOld => 2,
-    }
+    standing as u8
 }
 
 /// What is known of the number: 0 where it may be taken, 1 where it is in the window and was taken,
@@ -39,7 +35,8 @@ pub extern "C" fn rtpw_receiver_standing_of(receiver: &StoredReceiver, number: u
     number_of(receiver_of(receiver).standing_of(SeqNo::from(number)))
 }
 
-/// The same with a window of these words, and 3 where they are none, or more than 512.
+/// What is known of the number where the window has these words: 0, 1 or 2, as
+/// [`rtpw_receiver_standing_of`] says, and 3 where they are none, or more than 512.
 #[unsafe(no_mangle)]
 pub extern "C" fn rtpw_wide_receiver_standing_of(
     receiver: &StoredWideReceiver,

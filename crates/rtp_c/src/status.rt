@@ -53,8 +53,8 @@ pub fn status_of(cause: NotAPacket) -> i32
     }
 }
 
-// The same, where a packet was to be changed or found where it lies. It stays out of line, since
-// few such buffers hold none, and a call on a packet then does nothing for it.
+// The status of this cause, where a packet was to be changed or found where it lies. It stays out of
+// line, since few such buffers hold none, and a call on a packet then does nothing for it.
 #[cold]
 #[inline(never)]
 pub fn refusal_status(cause: NotAPacket) -> i32

@@ -115,7 +115,7 @@ pub fn ended_mid(mid: Mid) -> [u8; 17]
     bytes
 }
 
-// The same of a stream id.
+// The text of a stream id, and then zeros, of which there is at least one.
 #[inline(always)]
 pub fn ended_rid(rid: Rid) -> [u8; 9]
     ensures { result ≡ ended_text 8 (before_padding rid) }

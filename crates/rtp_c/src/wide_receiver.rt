@@ -112,7 +112,8 @@ fn receive_number(
     OK
 }
 
-// The same, out of line: what calls it stays short for the usual number.
+// Takes the number where it may be taken, and then writes it, out of line: what calls it stays short
+// for the usual number.
 #[inline(never)]
 fn receive_other(
     receiver: &mut StoredWideReceiver,

@@ -201,6 +201,7 @@ fn receive_outside(
 /// the number is written nor the words. `BAD_FIELD` where the words are none or more than 512, and
 /// then nothing is written.
 #[unsafe(no_mangle)]
+#[tactic(auto, using(crate::proofs::WideRestartingLemmas::holds_some))]
 pub extern "C" fn rtpw_wide_restarting_receive(
     receiver: &mut StoredWideRestarting,
     words: &mut [u64],

@@ -95,7 +95,8 @@ pub extern "C" fn rtpw_write_with(
 /// 4.1.2); 0 allows any, and then the two do the same. The one-byte form carries ids 1 to 14 with 1
 /// to 16 bytes of data, the two-byte form ids 1 to 255 with 0 to 255 bytes.
 ///
-/// The same statuses; `BAD_FIELD` also where the form is another number, or can't carry an element.
+/// The statuses are those of [`rtpw_write_with`]; `BAD_FIELD` also where the form is another number,
+/// or can't carry an element.
 #[unsafe(no_mangle)]
 pub extern "C" fn rtpw_write_with_form(
     header: &HeaderView,

@@ -7,9 +7,8 @@ ghost use Rattle.rtp_c.specs.Status.{ok, short_buffer, bad_field};
 ghost use Rattle.rtp_c.specs.GivenLayers.{IsGivenWithLayers};
 ghost use Rattle.rtp_c.specs.WrittenHeader.{IsLengthOf, IsWrittenHeader, IsTooLong};
 
-use super::given_fields::GivenFields;
+use super::given_fields::given_header;
 use super::given_layers::with_given_layers;
-use super::given_values::GivenValues;
 use super::header::HeaderView;
 use super::kinds::StoredMap;
 use super::layers::Layers;
@@ -32,10 +31,7 @@ pub extern "C" fn rtpw_wire_len_layers(
     ensures statuses { (result ≡ ok) ⊎ (result ≡ bad_field) }
     ensures unchanged { result ≢ ok → len.new ≡ len.old }
 {
-    let Some(without) = GivenValues::of(&header.values) else {
-        return BAD_FIELD;
-    };
-    let Some(fields) = GivenFields::of(header) else {
+    let Some((fields, without)) = given_header(header) else {
         return BAD_FIELD;
     };
     let Some(values) = with_given_layers(&without, layers) else {
@@ -50,8 +46,8 @@ pub extern "C" fn rtpw_wire_len_layers(
 /// So what `rtpw_parse_layers` read is written again. `has_layers` isn't looked at, and of the
 /// layers those that count alone.
 ///
-/// The same statuses; `BAD_FIELD` also where a count of the layers is above 4, or no element can
-/// carry them: they can't be written, or take more than 255 bytes.
+/// The statuses are those of `rtpw_write`; `BAD_FIELD` also where a count of the layers is above 4, or
+/// no element can carry them: they can't be written, or take more than 255 bytes.
 #[unsafe(no_mangle)]
 pub extern "C" fn rtpw_write_layers(
     map: &StoredMap,
@@ -70,10 +66,7 @@ pub extern "C" fn rtpw_write_layers(
     ensures statuses { (result ≡ ok) ⊎ ((result ≡ short_buffer) ⊎ (result ≡ bad_field)) }
     ensures unchanged { result ≢ ok → (buf.new ≡ buf.old) × (len.new ≡ len.old) }
 {
-    let Some(without) = GivenValues::of(&header.values) else {
-        return BAD_FIELD;
-    };
-    let Some(fields) = GivenFields::of(header) else {
+    let Some((fields, without)) = given_header(header) else {
         return BAD_FIELD;
     };
     let Some(values) = with_given_layers(&without, layers) else {

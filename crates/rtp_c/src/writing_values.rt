@@ -6,7 +6,7 @@ ghost use Rattle.rtp_c.specs.Status.{ok, short_buffer, bad_field};
 ghost use Rattle.rtp_c.specs.Given.{is_nonzero, AreGivenValues, IsGivenHeader};
 ghost use Rattle.rtp_c.specs.WrittenHeader.{IsLengthOf, IsWrittenHeader, IsTooLong, WritesHeader};
 
-use super::given_fields::GivenFields;
+use super::given_fields::{GivenFields, given_header};
 use super::given_values::GivenValues;
 use super::header::HeaderView;
 use super::kinds::StoredMap;
@@ -23,10 +23,7 @@ pub extern "C" fn rtpw_wire_len(map: &StoredMap, header: &HeaderView, len: &mut 
     ensures statuses { (result ≡ ok) ⊎ (result ≡ bad_field) }
     ensures unchanged { result ≢ ok → len.new ≡ len.old }
 {
-    let Some(values) = GivenValues::of(&header.values) else {
-        return BAD_FIELD;
-    };
-    let Some(fields) = GivenFields::of(header) else {
+    let Some((fields, values)) = given_header(header) else {
         return BAD_FIELD;
     };
     *len = values_wire_len(&fields, &values, map);
@@ -85,8 +82,8 @@ fn write_without_block(map: &StoredMap, header: &HeaderView, buf: &mut [u8], len
     write_with_x(map, header, false, buf, len, values)
 }
 
-// The same, where X is set, of the values that the header has. It stays out of line, so that a
-// value that is none is refused before a register is saved.
+// Writes the header as `rtpw_write` does, where X is set, with these values, which the header has. It
+// stays out of line, so that a value that is none is refused before a register is saved.
 #[inline(never)]
 fn write_with_block(
     map: &StoredMap,
@@ -103,7 +100,7 @@ fn write_with_block(
     write_with_x(map, header, true, buf, len, values)
 }
 
-// The same, where it is known whether X is set.
+// Writes the header as `rtpw_write` does, with these values, where it is known whether X is set.
 #[inline(always)]
 fn write_with_x(
     map: &StoredMap,

@@ -36,7 +36,7 @@ pub use Rattle.rtp_values.specs.declared.known_kind.KnownKind.{KnownKind}
 pub use Rattle.rtp_values.specs.declared.value.values.ExtensionValues.{ExtensionValues}
 pub use Rattle.rtp_vla.specs.Allocation.{Allocation, Means}
 pub use Rattle.rtp_ext.specs.BlockValues.{Carries, AreFields, last, none, AreValues, ReadElements, SaysValues}
-pub use Rattle.rtp_ext.specs.BodySurvey.{goes, others, HasRows, HasNarrowRows, IsSurvey, IsGathered, IsGatheredTo, IsSurveyedTo, IsRowFor, ChangesRow, ChangesRowTo}
+pub use Rattle.rtp_ext.specs.BodySurvey.{goes, others, other_form, start_around, end_around, StandInRows, HasRows, HasRowsFor, IsSurvey, IsGathered, IsGatheredTo, IsSurveyedTo, IsRowFor, ChangesRow, ChangesRowTo}
 pub use Rattle.rtp_ext.specs.ElementPlaces.{LiesLast, AreWhole, IsNextPlace, LiesAt, IsLastPlace, IsLastOrNone, IsPassed, IsLeft}
 pub use Rattle.rtp_ext.specs.ElementReading.{BeginsWithNoElement, BeginsWithElement, elements_left, without_padding}
 pub use Rattle.rtp_ext.specs.ElementWriting.{CanCarry, items_bytes, element_header, element_or_nothing, IsCarried}
@@ -50,7 +50,7 @@ pub use Rattle.rtp_ext.specs.LastAllocation.{IsLastAllocation, last_is, none_is,
 pub use Rattle.rtp_ext.specs.MapSlots.{IsMapped, mapped_ids, updated, Puts, Swaps, items_at, inserted, RiseAbove}
 pub use Rattle.rtp_ext.specs.Memory.{IsAllocation, HasAllocation, ReadUntilRefused, IsStopped}
 pub use Rattle.rtp_ext.specs.NewIds.{IsNewId, id_in_byte, byte_of_id, AreNewBytes, new_id, AreNewIds, CarriesExtensions, ids_in_bytes, IsRenamedId, AreRenamedIds, Renames}
-pub use Rattle.rtp_ext.specs.PutElement.{has_id, without, put_element, row_to, IsSole}
+pub use Rattle.rtp_ext.specs.PutElement.{has_id, without, put_among, put_element, rewritten, row_to, IsSole}
 pub use Rattle.rtp_ext.specs.WrittenBlock.{needs_two, form_of, written_elements, image_values, fields_of_items, mapped_fields, TakesAtMost17Each, HasFewData}
 pub use Rattle.rtp_ext.specs.declared.form.ExtensionsForm.{ExtensionsForm}
 pub use Rattle.rtp_ext.specs.declared.form.ExtensionsForm.TheVariants.{OneByte, TwoByte}

@@ -47,21 +47,19 @@ pub mod RenamesLemmas
 mod PaddedPieceLemmas
 mod RenumberingLemmas
 pub mod RenumberedValuesLemmas
--- An element that is set where it lies, or put into a body that is made anew.
+-- An element that is set where it lies, or a body that is made anew.
 mod SetValuesLemmas
 mod SurveyLemmas
 mod LeftLemmas
 pub mod GatheredLemmas
-mod RowLemmas
+pub mod PutLemmas
+pub mod AnewLemmas
 mod AroundLemmas
+mod RowLemmas
 mod BetweenLemmas
 mod MovedElementLemmas
 mod RowFormLemmas
 pub mod NarrowLemmas
 mod RowLengthLemmas
-pub mod InRowLemmas
-mod WidenAroundLemmas
-pub mod PutLemmas
-pub mod PutLengthLemmas
-pub mod AnewLemmas
-pub mod SameFormLemmas
+mod ChangedRowsLemmas
+pub mod RewrittenLemmas

@@ -1,5 +1,5 @@
 -- The ids that elements have under another map, and what a form can carry of them.
-use Rattle.rtp_ext.proofs.Common.{◌≡◌, ℕ, zero, suc, ◌≤◌, ◌<◌, List, [], ◌∷◌, length, Bool, true, ◌&&◌, Option, Some, None, IfSome, All, ◌+◌, get_or, set, map, drop, length-set, nat_le, ◌↔◌, inl, inr, IsTrue, arith, refl, sym, ap, ◌∙◌, subst, AllByRecursion, filter_map, list_all, and_parts, leb-true, le-leb, cases_lt, get_or-map, get_or_past, get_or-set_same, get_or-set_other, map-set, length-map, All-nil, All-cons, All-head, All-tail, Extension, one_kind, ExtensionsForm, OneByte, TwoByte, Element, IsElement, IsPiece, AreElements, CanRenumber, Slots, IsId, IsLowest, entry_at, extension_at, extension_of, HasNoIdAbove, AreNewBytes, new_id, IsNewId, AreNewIds, CarriesExtensions, id_in_byte, ids_in_bytes, byte_of_id, carries_id}
+use Rattle.rtp_ext.proofs.Common.{◌≡◌, ℕ, zero, suc, ◌≤◌, ◌<◌, List, [], ◌∷◌, length, Bool, true, ◌&&◌, Option, Some, None, IfSome, All, ◌+◌, get_or, set, map, length-set, nat_le, ◌↔◌, inl, inr, IsTrue, arith, refl, sym, ap, ◌∙◌, subst, AllByRecursion, filter_map, list_all, and_parts, leb-true, le-leb, cases_lt, get_or-map, get_or_past, get_or-set_same, get_or-set_other, map-set, length-map, All-nil, All-cons, All-head, All-tail, Extension, one_kind, ExtensionsForm, OneByte, TwoByte, Element, IsElement, IsPiece, AreElements, CanRenumber, Slots, IsId, IsLowest, entry_at, extension_at, extension_of, HasNoIdAbove, AreNewBytes, new_id, IsNewId, AreNewIds, CarriesExtensions, id_in_byte, ids_in_bytes, byte_of_id, carries_id}
 
 -- ---- what a form can carry
 

@@ -1,5 +1,5 @@
 -- An element in place of the last of its id.
-use Rattle.rtp_ext.proofs.Common.{◌≡◌, ◌≢◌, ℕ, ◌+◌, ◌-◌, ◌≤◌, Bool, true, false, not, ◌||◌, cond, List, [], ◌∷◌, ◌++◌, length, Option, Some, None, IfSome, IfNone, get_or, length-append, arith, refl, sym, ap, ◌∙◌, subst, filter, list_any, eq-eqb, ne_eqb, false≢true, filter-append, All-nil, All-cons, All-head, All-tail, overwritten, ExtensionsForm, Place, Survey, Element, AreElements, HasNone, SetsLast, IsLastPlace, LiesLast, IsSurvey, has_id, without, goes, put_element, IsSole}
+use Rattle.rtp_ext.proofs.Common.{◌≡◌, ◌≢◌, ℕ, ◌+◌, ◌-◌, ◌≤◌, Bool, true, false, not, ◌||◌, cond, List, [], ◌∷◌, ◌++◌, length, Option, Some, None, IfSome, IfNone, get_or, length-append, arith, refl, sym, ap, ◌∙◌, subst, filter, list_any, eq-eqb, ne_eqb, false≢true, filter-append, All-nil, All-cons, All-head, All-tail, overwritten, ExtensionsForm, Place, Survey, Element, AreElements, HasNone, SetsLast, IsLastPlace, LiesLast, IsSurvey, has_id, without, goes, put_among, put_element, IsSole}
 use Rattle.std.proofs.lemmas.List.Folds.{list_any_none}
 use Rattle.rtp_ext.proofs.GatheredLemmas.{or_true, goes-this, goes-zero, stays-other}
 use Rattle.rtp_ext.proofs.LastPlaceLemmas.{AreElements-same, HasLast-place, HasLast-only, SetsLast-at, IsLastPlace-lies}
@@ -56,33 +56,40 @@ any-around : (id : ℕ) (before after : List Element) (bytes : List ℕ) → lis
 any-around id [] after bytes = ap (λ (b : Bool). b || list_any (has_id id) after) (eq-eqb id id refl)
 any-around id (element ∷ before) after bytes = ap (λ (b : Bool). has_id id element || b) (any-around id before after bytes) ∙ or_true (has_id id element)
 
+pub put_among-none : (id : ℕ) (comes elements : List Element) → HasNone elements id → put_among id comes elements ≡ elements ++ comes
+put_among-none id comes [] none = refl
+put_among-none id comes (element ∷ elements) none =
+    ap (λ (b : Bool). cond b (cond (list_any (has_id id) elements) (put_among id comes elements) (comes ++ elements)) (element ∷ put_among id comes elements))
+    (ne_eqb element.0 id (All-head (λ (e : Element). e.0 ≢ id) element elements none))
+    ∙ ap (λ es. element ∷ es) (put_among-none id comes elements (All-tail (λ (e : Element). e.0 ≢ id) element elements none))
+
+pub put_among-last : (id : ℕ) (was : List ℕ) (comes before after : List Element) → HasNone after id
+    → put_among id comes (before ++ (id, was) ∷ after) ≡ without id before ++ (comes ++ after)
+put_among-last id was comes [] after none =
+    ap (λ (b : Bool). cond b (cond (list_any (has_id id) after) (put_among id comes after) (comes ++ after)) ((id, was) ∷ put_among id comes after)) (eq-eqb id id refl)
+    ∙ ap (λ (b : Bool). cond b (put_among id comes after) (comes ++ after)) (any-none id after none)
+put_among-last id was comes (element ∷ before) after none = by_test (put_among-last id was comes before after none) (has_id id element) refl
+  where
+    by_test : put_among id comes (before ++ (id, was) ∷ after) ≡ without id before ++ (comes ++ after) → (same : Bool) → has_id id element ≡ same
+        → put_among id comes (element ∷ before ++ (id, was) ∷ after) ≡ without id (element ∷ before) ++ (comes ++ after)
+    by_test others true is =
+        ap (λ (b : Bool). cond b (cond (list_any (has_id id) (before ++ (id, was) ∷ after)) (put_among id comes (before ++ (id, was) ∷ after)) (comes ++ (before ++ (id, was) ∷ after)))
+        (element ∷ put_among id comes (before ++ (id, was) ∷ after))) is
+        ∙ (ap (λ (b : Bool). cond b (put_among id comes (before ++ (id, was) ∷ after)) (comes ++ (before ++ (id, was) ∷ after))) (any-around id before after was)
+        ∙ (others
+        ∙ ap (λ (b : Bool). cond (not b) (element ∷ without id before) (without id before) ++ (comes ++ after)) (sym is)))
+    by_test others false is =
+        ap (λ (b : Bool). cond b (cond (list_any (has_id id) (before ++ (id, was) ∷ after)) (put_among id comes (before ++ (id, was) ∷ after)) (comes ++ (before ++ (id, was) ∷ after)))
+        (element ∷ put_among id comes (before ++ (id, was) ∷ after))) is
+        ∙ (ap (λ es. element ∷ es) others
+        ∙ ap (λ (b : Bool). cond (not b) (element ∷ without id before) (without id before) ++ (comes ++ after)) (sym is))
+
 pub put_element-none : (new : Element) (elements : List Element) → HasNone elements new.0 → put_element new elements ≡ elements ++ new ∷ []
-put_element-none new [] none = refl
-put_element-none new (element ∷ elements) none =
-    ap (λ (b : Bool). cond b (cond (list_any (has_id new.0) elements) (put_element new elements) (new ∷ elements)) (element ∷ put_element new elements))
-    (ne_eqb element.0 new.0 (All-head (λ (e : Element). e.0 ≢ new.0) element elements none))
-    ∙ ap (λ es. element ∷ es) (put_element-none new elements (All-tail (λ (e : Element). e.0 ≢ new.0) element elements none))
+put_element-none new elements none = put_among-none new.0 (new ∷ []) elements none
 
 pub put_element-last : (id : ℕ) (bytes was : List ℕ) (before after : List Element) → HasNone after id
     → put_element (id, bytes) (before ++ (id, was) ∷ after) ≡ without id before ++ (id, bytes) ∷ after
-put_element-last id bytes was [] after none =
-    ap (λ (b : Bool). cond b (cond (list_any (has_id id) after) (put_element (id, bytes) after) ((id, bytes) ∷ after)) ((id, was) ∷ put_element (id, bytes) after)) (eq-eqb id id refl)
-    ∙ ap (λ (b : Bool). cond b (put_element (id, bytes) after) ((id, bytes) ∷ after)) (any-none id after none)
-put_element-last id bytes was (element ∷ before) after none = by_test (put_element-last id bytes was before after none) (has_id id element) refl
-  where
-    by_test : put_element (id, bytes) (before ++ (id, was) ∷ after) ≡ without id before ++ (id, bytes) ∷ after → (same : Bool) → has_id id element ≡ same
-        → put_element (id, bytes) (element ∷ before ++ (id, was) ∷ after) ≡ without id (element ∷ before) ++ (id, bytes) ∷ after
-    by_test others true is =
-        ap (λ (b : Bool). cond b (cond (list_any (has_id id) (before ++ (id, was) ∷ after)) (put_element (id, bytes) (before ++ (id, was) ∷ after)) ((id, bytes) ∷ (before ++ (id, was) ∷ after)))
-        (element ∷ put_element (id, bytes) (before ++ (id, was) ∷ after))) is
-        ∙ (ap (λ (b : Bool). cond b (put_element (id, bytes) (before ++ (id, was) ∷ after)) ((id, bytes) ∷ (before ++ (id, was) ∷ after))) (any-around id before after was)
-        ∙ (others
-        ∙ ap (λ (b : Bool). cond (not b) (element ∷ without id before) (without id before) ++ (id, bytes) ∷ after) (sym is)))
-    by_test others false is =
-        ap (λ (b : Bool). cond b (cond (list_any (has_id id) (before ++ (id, was) ∷ after)) (put_element (id, bytes) (before ++ (id, was) ∷ after)) ((id, bytes) ∷ (before ++ (id, was) ∷ after)))
-        (element ∷ put_element (id, bytes) (before ++ (id, was) ∷ after))) is
-        ∙ (ap (λ es. element ∷ es) others
-        ∙ ap (λ (b : Bool). cond (not b) (element ∷ without id before) (without id before) ++ (id, bytes) ∷ after) (sym is))
+put_element-last id bytes was before after none = put_among-last id was ((id, bytes) ∷ []) before after none
 
 -- ---- a body whose one element of the id has as many bytes
 

@@ -1,5 +1,5 @@
 -- Elements that stand in a row already, before the last one of an id and after it.
-use Rattle.rtp_ext.proofs.Common.{◌≡◌, ℕ, ◌+◌, ◌-◌, ◌≤◌, Bool, true, false, not, cond, List, [], ◌∷◌, ◌++◌, length, take, drop, Option, Some, None, IfSome, IfNone, append_assoc, length-append, length-drop, length-take-le, arith, refl, sym, ap, ◌∙◌, subst, slice_range, flat_map, filter_map, take_at, drop_at, take-append-le, drop-append-le, take-take, drop-take, take_all, drop_all, append-nil, filter-append, ExtensionsForm, Place, Survey, Element, AreElements, element_bytes, elements_bytes, piece_bytes, LiesLast, AreWhole, IsLastOrNone, IsSurvey, HasRows, goes, others}
+use Rattle.rtp_ext.proofs.Common.{◌≡◌, ℕ, ◌+◌, ◌-◌, ◌≤◌, ◌==◌, Bool, true, false, not, cond, List, [], ◌∷◌, ◌++◌, length, take, drop, Option, Some, None, append_assoc, length-append, length-drop, length-take-le, arith, refl, sym, ap, ◌∙◌, subst, slice_range, flat_map, filter_map, take_at, drop_at, take-append-le, drop-append-le, take-take, drop-take, take_all, drop_all, append-nil, filter-append, ExtensionsForm, Place, Survey, Element, AreElements, element_bytes, elements_bytes, piece_bytes, LiesLast, AreWhole, IsLastOrNone, IsSurvey, HasRows, goes, others, start_around, end_around}
 use Rattle.rtp_ext.proofs.PlaceLemmas.{length-element, length-header-some, length-lies}
 use Rattle.rtp_ext.proofs.PieceLemmas.{AreWhole-nil, AreWhole-append, AreWhole-element, AreElements-after}
 use Rattle.rtp_ext.proofs.LastPlaceLemmas.{AreElements-same}
@@ -137,29 +137,33 @@ rows_of_last form id bytes elements place whole id_is is row =
     }
 
 rows_read : (form : ExtensionsForm) (id : ℕ) (bytes : List ℕ) (elements : List Element) (last : Option Place) (start end : ℕ) → AreWhole form bytes elements
-    → IsLastOrNone form id bytes elements last → IfSome last (λ place. (start ≡ place.start) × (end ≡ place.end))
-    → IfNone last ((start ≡ length bytes) × (end ≡ length bytes)) → length (elements_bytes form (others id elements)) + (end - start) ≡ length bytes
-    → AreRows form id bytes start end
-rows_read form id bytes elements None start end whole is some none row =
-    let none_has : length (elements_bytes form (others id elements)) ≡ length bytes = let a = none.0 in let b = none.1 in omega arith in
-    subst (λ (s : ℕ). AreRows form id bytes s end) (sym none.0) (subst (λ (e : ℕ). AreRows form id bytes (length bytes) e) (sym none.1)
-    (rows_of_none form id bytes elements whole none_has))
-rows_read form id bytes elements (Some place) start end whole is some none row =
-    subst (λ (s : ℕ). AreRows form id bytes s end) (sym some.0) (subst (λ (e : ℕ). AreRows form id bytes place.start e) (sym some.1)
-    (rows_of_last form id bytes elements place whole is.0 is.1 (let a = some.0 in let b = some.1 in omega arith)))
+    → IsLastOrNone form id bytes elements last → start ≡ start_around id (length bytes) last → end ≡ end_around id (length bytes) last
+    → length (elements_bytes form (others id elements)) + (end - start) ≡ length bytes → AreRows form id bytes start end
+rows_read form id bytes elements None start end whole is start_is end_is row =
+    subst (λ (s : ℕ). AreRows form id bytes s end) (sym start_is) (subst (λ (e : ℕ). AreRows form id bytes (length bytes) e) (sym end_is)
+    (rows_of_none form id bytes elements whole (omega arith)))
+rows_read form id bytes elements (Some place) start end whole is start_is end_is row = by_test (id == 0) start_is end_is
+  where
+    by_test : (b : Bool) → start ≡ cond b (length bytes) place.start → end ≡ cond b (length bytes) place.end → AreRows form id bytes start end
+    by_test true start_is end_is =
+        subst (λ (s : ℕ). AreRows form id bytes s end) (sym start_is) (subst (λ (e : ℕ). AreRows form id bytes (length bytes) e) (sym end_is)
+        (rows_of_none form id bytes elements whole (omega arith)))
+    by_test false start_is end_is =
+        subst (λ (s : ℕ). AreRows form id bytes s end) (sym start_is) (subst (λ (e : ℕ). AreRows form id bytes place.start e) (sym end_is)
+        (rows_of_last form id bytes elements place whole is.0 is.1 (omega arith)))
 
 -- ---- a body at the front of a slice
 
 pub HasRows-already : (form : ExtensionsForm) (id : ℕ) (body : List ℕ) (body_len : ℕ) (survey : Survey) (start end : ℕ) → body_len ≤ length body
-    → IsSurvey form (take body_len body) id survey → IfSome survey.last (λ place. (start ≡ place.start) × (end ≡ place.end))
-    → IfNone survey.last ((start ≡ survey.end) × (end ≡ survey.end)) → survey.others_len + (end - start) ≡ survey.end
+    → IsSurvey form (take body_len body) id survey → start ≡ start_around id survey.end survey.last → end ≡ end_around id survey.end survey.last
+    → survey.others_len + (end - start) ≡ survey.end
     → HasRows form id body body start end body_len start (survey.end - end)
-HasRows-already form id body body_len survey start end within is some none row =
+HasRows-already form id body body_len survey start end within is start_is end_is row =
     let read : List ℕ = is.read.passed in
     let long : survey.end ≡ length is.read.passed = is.read.at_is in
     let rows = rows_read form id is.read.passed is.elements survey.last start end (read_whole form (take body_len body) id survey is)
-    (subst (λ es. IsLastOrNone form id is.read.passed es survey.last) is.all_read is.read.last_is) some
-    (subst (λ (n : ℕ). IfNone survey.last ((start ≡ n) × (end ≡ n))) long none) (omega (arith, is.others_are)) in
+    (subst (λ es. IsLastOrNone form id is.read.passed es survey.last) is.all_read is.read.last_is)
+    (subst (λ (n : ℕ). start ≡ start_around id n survey.last) long start_is) (subst (λ (n : ℕ). end ≡ end_around id n survey.last) long end_is) (omega (arith, is.others_are)) in
     let order = rows.order in
     let end_within = rows.within in
     let read_few = read_within form (take body_len body) id survey is in
@@ -182,11 +186,13 @@ HasRows-already form id body body_len survey start end within is some none row =
       are_after = subst (λ b. AreElements form b rows.after) (sym rest)
           (subst (AreElements form (drop end is.read.passed ++ is.read.left)) (append-nil rows.after)
           (AreElements-after form (drop end is.read.passed) is.read.left rows.after [] rows.rest_whole is.none_left));
-      front_is = front ∙ rows.front_is;
-      after_is = part ∙ rows.rest_is;
-      front_len = omega (arith, ap length rows.front_is, length-take-le start is.read.passed (omega arith));
-      count_is = omega (arith, ap length rows.rest_is, ap length part, length-drop end is.read.passed);
+      rows = record {
+        front_is = front ∙ rows.front_is;
+        after_is = part ∙ rows.rest_is;
+        front_len = omega (arith, ap length rows.front_is, length-take-le start is.read.passed (omega arith));
+        count_is = omega (arith, ap length rows.rest_is, ap length part, length-drop end is.read.passed);
+        order = omega arith;
+        within = omega arith;
+      };
       length_is = refl;
-      front_within = omega arith;
-      after_within = omega arith;
     }

@@ -1,7 +1,6 @@
 -- How long the elements of a body are in a row, in the form that they have or in the other one.
 use Rattle.std.proofs.Common.{◌≡◌, ◌≢◌, ℕ, ◌+◌, ◌-◌, ◌*◌, ◌≤◌, Bool, true, false, not, cond, List, [], ◌∷◌, ◌++◌, length, take, drop, replicate, append_assoc, length-append, arith, refl, sym, ap, ◌∙◌, subst}
 use Rattle.std.specs.List.{AllByRecursion}
-use Rattle.std.proofs.lemmas.Bool.{ne_eqb}
 use Rattle.std.proofs.lemmas.List.{append-nil, drop_at, take_at, drop-drop, length-replicate}
 use Rattle.rtp_ext.specs.declared.form.ExtensionsForm.{ExtensionsForm}
 use Rattle.rtp_ext.specs.declared.form.ExtensionsForm.TheVariants.{OneByte, TwoByte}
@@ -12,22 +11,20 @@ use Rattle.rtp_ext.specs.ElementWriting.{element_header}
 use Rattle.rtp_ext.specs.ElementsInARow.{IsWritable}
 use Rattle.rtp_ext.specs.ElementPlaces.{IsNextPlace}
 use Rattle.rtp_ext.specs.BodySurvey.{IsRowLengthTo}
-use Rattle.rtp_ext.specs.PutElement.{has_id, without}
 use Rattle.rtp_ext.proofs.ElementLemmasOfBodies.{AreElements-only}
 use Rattle.rtp_ext.proofs.PieceLemmas.{AllByRecursion-append, AreElements-none}
 use Rattle.rtp_ext.proofs.PlaceLemmas.{length-element, element_bytes-split}
 use Rattle.rtp_ext.specs.BodySurvey.{goes, others}
-use Rattle.rtp_ext.proofs.GatheredLemmas.{others-gone, others-other, row-other}
+use Rattle.rtp_ext.proofs.GatheredLemmas.{others-gone, others-other, row-other, stays-other}
 use Rattle.rtp_ext.proofs.RenumberingLemmas.{elements_left-next}
 
--- one of those that are kept is kept
-kept_of : (P : Element → Type 0) (element : Element) (xs ys : List Element) → element.0 ≢ 0 → AllByRecursion P (without 0 (xs ++ element ∷ ys)) → P element
-kept_of P element [] ys above all =
-    (subst (λ (b : Bool). AllByRecursion P (cond (not b) (element ∷ without 0 ys) (without 0 ys))) (ne_eqb element.0 0 above) all).0
-kept_of P element (x ∷ xs) ys above all = by_test (has_id 0 x) (kept_of P element xs ys above) all
+-- one of those that stay stays
+kept_of : (P : Element → Type 0) (id : ℕ) (element : Element) (xs ys : List Element) → goes id element ≡ false → AllByRecursion P (others id (xs ++ element ∷ ys)) → P element
+kept_of P id element [] ys stays all = (subst (λ (b : Bool). AllByRecursion P (cond (not b) (element ∷ others id ys) (others id ys))) stays all).0
+kept_of P id element (x ∷ xs) ys stays all = by_test (goes id x) (kept_of P id element xs ys stays) all
   where
-    by_test : (b : Bool) → (AllByRecursion P (without 0 (xs ++ element ∷ ys)) → P element)
-        → AllByRecursion P (cond (not b) (x ∷ without 0 (xs ++ element ∷ ys)) (without 0 (xs ++ element ∷ ys))) → P element
+    by_test : (b : Bool) → (AllByRecursion P (others id (xs ++ element ∷ ys)) → P element)
+        → AllByRecursion P (cond (not b) (x ∷ others id (xs ++ element ∷ ys)) (others id (xs ++ element ∷ ys))) → P element
     by_test true kept rest = kept rest
     by_test false kept rest = kept rest.1
 
@@ -133,13 +130,13 @@ module _ (form new_form : ExtensionsForm) (id : ℕ) (body : List ℕ) (at len :
       ∙ ap (take (place.end - place.data_start)) (sym (drop-drop (place.data_start - at) at body) ∙ ap (drop (place.data_start - at)) split ∙ drop_at front (next.bytes ++ next.after) (place.data_start - at) long)
       ∙ take_at next.bytes next.after (place.end - place.data_start) (sym count)
 
-  pub not-carried : (elements : List Element) → place.id ≢ 0 → (IsWritable new_form (place.id, content) → ⊥) → AreElements form body elements
-      → AllByRecursion (IsWritable new_form) (without 0 elements) → ⊥
+  pub not-carried : (elements : List Element) → place.id ≢ id → place.id ≢ 0 → (IsWritable new_form (place.id, content) → ⊥) → AreElements form body elements
+      → AllByRecursion (IsWritable new_form) (others id elements) → ⊥
   unfolding element
-  not-carried elements above unwritable are all =
+  not-carried elements other above unwritable are all =
       unwritable (subst (λ (xs : List ℕ). IsWritable new_form (place.id, xs)) (sym content-is)
-      (kept_of (IsWritable new_form) (place.id, next.bytes) was.passed (elements_left form next.after) above
-      (subst (λ (es : List Element). AllByRecursion (IsWritable new_form) (without 0 es)) (AreElements-only form body elements are ∙ elements_next) all)))
+      (kept_of (IsWritable new_form) id (place.id, next.bytes) was.passed (elements_left form next.after) (stays-other id (place.id, next.bytes) other above)
+      (subst (λ (es : List Element). AllByRecursion (IsWritable new_form) (others id es)) (AreElements-only form body elements are ∙ elements_next) all)))
 
 -- where reading ends
 module _ (form new_form : ExtensionsForm) (id : ℕ) (body : List ℕ) (at len : ℕ) (was : IsRowLengthTo form new_form id body at len) (none : BeginsWithNoElement form (drop at body))

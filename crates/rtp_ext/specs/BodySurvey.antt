@@ -1,5 +1,5 @@
 -- What a body has of an id, and its elements in a row: what the functions that make a body anew promise each other.
-use Rattle.std.specs.Prelude.{◌≡◌, ℕ, ◌+◌, ◌-◌, ◌*◌, ◌≤◌, List, [], ◌∷◌, ◌++◌, length, take, drop, slice_range, Bool, not, ◌||◌, Option, IfSome, IfNone}
+use Rattle.std.specs.Prelude.{◌≡◌, ℕ, ◌+◌, ◌-◌, ◌*◌, ◌≤◌, List, [], ◌++◌, length, take, drop, slice_range, Bool, not, ◌||◌, ◌==◌, if◌then◌else◌, Option, Some, None, IfSome, IfNone}
 use Rattle.std.specs.List.{filter, AllByRecursion}
 use Rattle.rtp_ext.specs.declared.form.ExtensionsForm.{ExtensionsForm}
 use Rattle.rtp_ext.specs.declared.form.ExtensionsForm.TheVariants.{OneByte, TwoByte}
@@ -19,6 +19,21 @@ goes id element = has_id id element || has_id 0 element
 -- the elements of other ids, in order, and none of the id 0
 abbrev pub others : ℕ → List Element → List Element
 others id elements = filter (λ element. not (goes id element)) elements
+
+-- the other one of the two forms
+abbrev pub other_form : ExtensionsForm → ExtensionsForm
+other_form OneByte = TwoByte
+other_form TwoByte = OneByte
+
+-- where the bytes before the last element of the id end; where none is to be left out for what comes, as for the id 0, all elements are before it, up to where the last of them ends
+abbrev pub start_around : ℕ → ℕ → Option Place → ℕ
+start_around id end None = end
+start_around id end (Some place) = if id == 0 then end else place.start
+
+-- where those after it begin
+abbrev pub end_around : ℕ → ℕ → Option Place → ℕ
+end_around id end None = end
+end_around id end (Some place) = if id == 0 then end else place.end
 
 -- the place of the last element of the id, how many elements have it or the id 0, how many bytes the others take, and where the last of all ends
 pub record IsSurvey (form : ExtensionsForm) (body : List ℕ) (id : ℕ) (survey : Survey) : Type 0 where
@@ -105,33 +120,34 @@ pub record IsRowLengthTo (form new_form : ExtensionsForm) (id : ℕ) (body : Lis
   pub small : len ≤ 2 * at
   pub within : at ≤ length body
 
--- of the bytes before an offset, and between two further ones, the elements of other ids, but those of the id 0, stand in a row at the front, and from the first of these offsets on
+-- elements of a form stand in a row of so many bytes at the front, and others in a row of so many bytes from an offset on
+pub record StandInRows (form : ExtensionsForm) (before after : List Element) (body : List ℕ) (front at count : ℕ) : Type 0 where
+  pub front_is : take front body ≡ elements_bytes form before
+  pub after_is : slice_range body at (at + count) ≡ elements_bytes form after
+  pub front_len : front ≡ length (elements_bytes form before)
+  pub count_is : count ≡ length (elements_bytes form after)
+  pub order : front ≤ at
+  pub within : at + count ≤ length body
+
+-- of the bytes before an offset, and between two further ones, the elements of other ids, but those of the id 0, stand in rows: those before it at the front, the others from the first of these offsets on
 pub record HasRows (form : ExtensionsForm) (id : ℕ) (old new : List ℕ) (start end body_len front count : ℕ) : Type 0 where
   pub before : List Element
   pub after : List Element
   pub are_before : AreElements form (take start old) before
   pub are_after : AreElements form (slice_range old end body_len) after
-  pub front_is : take front new ≡ elements_bytes form (others id before)
-  pub after_is : slice_range new end (end + count) ≡ elements_bytes form (others id after)
-  pub front_len : front ≡ length (elements_bytes form (others id before))
-  pub count_is : count ≡ length (elements_bytes form (others id after))
+  pub rows : StandInRows form (others id before) (others id after) new front end count
   pub length_is : length new ≡ length old
-  pub front_within : front ≤ start
-  pub after_within : end + count ≤ body_len
 
--- elements of the one-byte form stand in a row at the front, and others from an offset on, none of the id 0, and there is room for them in the two-byte form with an element between them
-pub record HasNarrowRows (body : List ℕ) (front at count : ℕ) (element : Element) : Type 0 where
+-- elements stand in two rows, none of the id 0; another form can carry each, and there is room for them in that
+pub record HasRowsFor (form new_form : ExtensionsForm) (body : List ℕ) (front at count : ℕ) : Type 0 where
   pub before : List Element
   pub after : List Element
-  pub are_before : AllByRecursion (IsWritable OneByte) before
-  pub are_after : AllByRecursion (IsWritable OneByte) after
-  pub front_is : take front body ≡ elements_bytes OneByte before
-  pub after_is : slice_range body at (at + count) ≡ elements_bytes OneByte after
-  pub front_len : front ≡ length (elements_bytes OneByte before)
-  pub count_is : count ≡ length (elements_bytes OneByte after)
-  pub order : front ≤ at
-  pub within : at + count ≤ length body
-  pub fits : length (elements_bytes TwoByte (before ++ element ∷ after)) ≤ length body
+  pub are_before : AllByRecursion (IsWritable form) before
+  pub are_after : AllByRecursion (IsWritable form) after
+  pub before_carried : AllByRecursion (IsWritable new_form) before
+  pub after_carried : AllByRecursion (IsWritable new_form) after
+  pub rows : StandInRows form before after body front at count
+  pub fits : length (elements_bytes new_form (before ++ after)) ≤ length body
 
 -- a body is its elements without those of the id 0, in a row of so many bytes, and zeros
 pub record IsCompacted (form : ExtensionsForm) (old new : List ℕ) (len : ℕ) : Type 0 where

@@ -3,10 +3,11 @@
 -- The element takes the place of the last one of its id, and those of the id before that go; where there is none of the id it comes last. All others stay, in order, but those of the id 0, which is padding's and no extension's: where such an element of the one-byte form has length bits, a receiver that reads as 4.2 says ends there. The form stays where it serves; a body that is made anew is its elements in a row, and zeros. What stands where reading ends, an element that is cut short or what follows the id 15, is no element, and goes where the body is made anew.
 use Rattle.std.specs.Prelude.{◌≡◌, ℕ, ◌-◌, ◌==◌, if◌then◌else◌, List, [], ◌∷◌, ◌++◌, length, replicate, Bool, not, Option, Some, None}
 use Rattle.std.specs.List.{filter, list_any}
+use Rattle.std.specs.Borrow.{Bor}
 use Rattle.rtp_ext.specs.declared.form.ExtensionsForm.{ExtensionsForm}
 use Rattle.rtp_ext.specs.declared.form.ExtensionsForm.TheVariants.{OneByte, TwoByte}
 use Rattle.rtp_ext.specs.Elements.{Element, elements_bytes}
-use Rattle.rtp_ext.specs.ElementsInARow.{serves_one_byte}
+use Rattle.rtp_ext.specs.ElementsInARow.{serves_one_byte, elements_added}
 use Rattle.rtp_ext.specs.ElementsInPlace.{HasNone}
 
 -- whether an element has the id
@@ -17,13 +18,21 @@ has_id id element = element.0 == id
 abbrev pub without : ℕ → List Element → List Element
 without id elements = filter (λ element. not (has_id id element)) elements
 
+-- the elements with those that come, one or none, in place of the last one of the id, and without those of the id before it; they come last where there is none of the id
+abbrev pub put_among : ℕ → List Element → List Element → List Element
+put_among id comes [] = comes
+put_among id comes (element ∷ elements) =
+    if has_id id element
+    then (if list_any (has_id id) elements then put_among id comes elements else comes ++ elements)
+    else element ∷ put_among id comes elements
+
 -- the elements with this one in place of the last of its id, and without those of the id before it; it comes last where there is none
 abbrev pub put_element : Element → List Element → List Element
-put_element new [] = new ∷ []
-put_element new (element ∷ elements) =
-    if has_id new.0 element
-    then (if list_any (has_id new.0) elements then put_element new elements else new ∷ elements)
-    else element ∷ put_element new elements
+put_element new elements = put_among new.0 (new ∷ []) elements
+
+-- the elements of a body once it is rewritten: those of the id 0 go, and those of the id that goes, and the one that comes, if one does, is put in place of the last one that goes; where the id that goes is 0, no others go, and what comes is last
+abbrev pub rewritten : ℕ → Option (ℕ × Bor (List ℕ)) → List Element → List Element
+rewritten goes comes elements = put_among goes (elements_added comes) (without 0 elements)
 
 -- the form that a block of this form, or none, needs for the element: the two-byte form where it has that, or the one-byte form can't carry the element
 abbrev pub needed_form : Option ExtensionsForm → Element → ExtensionsForm

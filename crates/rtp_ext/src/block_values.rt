@@ -41,7 +41,8 @@ pub fn read_values<K: Kinds, V: SetValues>(
     }
 }
 
-// The same. It is inlined, so that each form has a loop of its own.
+// Reads the elements of a body of one form into the values, up to an allocation for which memory is
+// refused. It is inlined, so that each form has a loop of its own.
 #[inline(always)]
 fn read_in<K: Kinds, V: SetValues>(
     exts: &K,
@@ -164,7 +165,8 @@ pub fn read_apart<K: Kinds, V: SetValues, L: SetLayers>(
     }
 }
 
-// The same. It is inlined, so that each form has a loop of its own.
+// Reads the elements of a body of one form into the values, and its layer allocation apart, and
+// returns whether there is one. It is inlined, so that each form has a loop of its own.
 #[inline(always)]
 fn read_apart_in<K: Kinds, V: SetValues, L: SetLayers>(
     exts: &K,
@@ -225,7 +227,8 @@ fn read_into<L: SetLayers>(bytes: &[u8], layers: &mut L) -> bool
     read_long(bytes, layers)
 }
 
-// The same. It is a call, since few blocks have an allocation, and the other kinds need the registers.
+// Reads the layer allocation that bytes mean which aren't too few for one. It is a call, since few
+// blocks have an allocation, and the other kinds need the registers.
 #[inline(never)]
 fn read_long<L: SetLayers>(bytes: &[u8], layers: &mut L) -> bool
     ensures found { OnTrue result ((a : Allocation) × Means bytes.now a × L.shows layers.new a) }

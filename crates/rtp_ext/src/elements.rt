@@ -197,7 +197,7 @@ fn skip_zeros(bytes: &[u8]) -> &[u8]
     rest
 }
 
-// The same, as far as the zeros fill words of 16 bytes.
+// The bytes after the words of 16 zeros at their front, in which more padding may be left.
 fn skip_zero_words(bytes: &[u8]) -> &[u8]
     ensures { without_padding result.now ≡ without_padding bytes.now }
 {

@@ -19,8 +19,9 @@ fn gather(form: ExtensionsForm, body: &mut [u8], id: u8) -> usize
     }
 }
 
-// The same of all elements but those of the id 0.
-pub(super) fn gather_all(form: ExtensionsForm, body: &mut [u8]) -> usize
+// Puts all elements but those of the id 0 in a row at the front, in order, and returns how many
+// bytes they take.
+fn gather_all(form: ExtensionsForm, body: &mut [u8]) -> usize
     ensures { IsGathered form 0 body.old body.new result }
 {
     match form {
@@ -74,9 +75,10 @@ pub(super) fn gather_around(
 }
 
 /// Makes a body anew without the elements of the id 0, which is padding's (RFC 8285, 4.2 and 4.3):
-/// the others in a row, and zeros to its end. Returns how many bytes the row takes. It is compiled
-/// anew for each `COPY`, as [`put_anew`](super::put_anew) is.
-pub fn compact_body<const COPY: usize>(form: ExtensionsForm, body: &mut [u8]) -> usize
+/// the others in a row, and zeros to its end. Returns how many bytes the row takes. It stays out of
+/// line, so that the walk over the elements has the registers for itself.
+#[inline(never)]
+pub fn compact_body(form: ExtensionsForm, body: &mut [u8]) -> usize
     ensures { IsCompacted form body.old body.new result }
 {
     let len = gather_all(form, body);

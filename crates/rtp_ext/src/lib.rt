@@ -9,6 +9,7 @@ mod element_data;
 mod element_list;
 mod elements;
 mod form;
+mod form_change;
 mod gathering;
 mod iter;
 mod kinds;
@@ -17,15 +18,13 @@ mod known_ids;
 mod left_out;
 mod map;
 mod mapped_ids;
-mod new_body;
 mod new_ids;
 mod place;
 mod raw_writing;
 mod renamed_ids;
-mod row_in_form;
+mod rewriting;
 mod slots;
 mod survey;
-mod two_byte_rows;
 
 pub use block_elements::{values_len, values_len_at_most, write_values};
 pub use block_form::values_form;
@@ -40,11 +39,10 @@ pub use kinds::Kinds;
 pub use known_ids::{KnownIds, KnownItems};
 pub use left_out::values_left_out;
 pub use map::{ExtensionMap, MAX_ID};
-pub use new_body::{put_anew, put_len};
 pub use new_ids::NewIds;
 pub use place::{Place, can_renumber, last_place, next_place, remove_element, renumber};
-pub use raw_writing::{put_elements, write_elements};
-pub use row_in_form::{remade_len, remake_body};
+pub use raw_writing::{put_element, put_elements, write_elements};
+pub use rewriting::{rewrite_body, rewritten_len};
 pub use rtp_values::{
     AbsCaptureTime, CarriedLayers, ElementValues, Extension, ExtensionValues, KindSet, KnownKind,
     Uri, ValueKinds, VideoOrientation, VideoTiming, WithLayers, standard,

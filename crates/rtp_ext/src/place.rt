@@ -77,7 +77,8 @@ pub fn next_place(form: ExtensionsForm, body: &[u8], at: usize) -> Option<Place>
     Some(place_before(form, body.len(), after.len(), id, data.len()))
 }
 
-// The same, by trying the front first where that takes fewer steps.
+// The place of the first element from the offset on, and `None` where reading ends before one. The
+// front is tried first, before any padding is passed over, where that takes fewer steps.
 #[inline(always)]
 pub(super) fn next_place_by(
     form: ExtensionsForm,
@@ -178,7 +179,8 @@ fn change_ids(form: ExtensionsForm, body: &mut [u8], change: IdChange<'_>) -> bo
     }
 }
 
-// The same. It is inlined, so that each form has a loop of its own.
+// Gives each element of a body of one form its new id, or makes it padding, and returns whether one
+// has become padding. It is inlined, so that each form has a loop of its own.
 #[inline(always)]
 fn change_ids_in(form: ExtensionsForm, body: &mut [u8], change: IdChange<'_>) -> bool
     requires { CanChangeIds form (ids_of change) body.old }

@@ -76,14 +76,12 @@ pub(super) fn clear_after(buf: &mut [u8], len: usize)
     }
 }
 
-// Puts an element at the offset, and returns the offset after it.
-pub(super) fn put_element(
-    buf: &mut [u8],
-    at: usize,
-    form: ExtensionsForm,
-    id: u8,
-    bytes: &[u8],
-) -> usize
+/// Puts an element at the offset, and returns the offset after it; all other bytes stay as they were
+/// (RFC 8285, 4.2 and 4.3).
+///
+/// Requires a form that can carry the element, and room for it from the offset on.
+#[inline(always)]
+pub fn put_element(buf: &mut [u8], at: usize, form: ExtensionsForm, id: u8, bytes: &[u8]) -> usize
     requires room { at + length (element_bytes form (id, bytes.now)) ≤ length buf.old }
     requires writable { IsWritable form (id, bytes.now) }
     ensures written { buf.new ≡ overwritten buf.old at (element_bytes form (id, bytes.now)) }

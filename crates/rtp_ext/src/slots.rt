@@ -129,7 +129,8 @@ impl Slot {
         };
     }
 
-    // The same slot.
+    // A copy of the slot. Only the text of an unknown extension takes memory, and where that is
+    // refused nothing is returned.
     pub(super) fn clone(&self, alloc: Global) -> Result<Self, AllocError>
         ensures same { IfOk result (λ copy. copy ≡ self.now) }
         ensures known { ((ext : Extension) → spec.extension_of self.now ≡ Some ext → IsKnown ext) →

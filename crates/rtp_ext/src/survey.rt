@@ -3,7 +3,7 @@
 ghost use Rattle.std.specs.Prelude.{◌≡◌, ℕ, ◌+◌, ◌-◌, ◌^◌, ◌<◌, ◌≤◌, length, drop, Option, Some, IfSome, IfNone};
 ghost use Rattle.rtp_ext.specs.ElementReading.{BeginsWithNoElement};
 ghost use Rattle.rtp_ext.specs.ElementPlaces.{IsLeft};
-ghost use Rattle.rtp_ext.specs.BodySurvey.{IsSurvey, IsSurveyedTo};
+ghost use Rattle.rtp_ext.specs.BodySurvey.{IsSurvey, IsSurveyedTo, start_around, end_around};
 
 use super::ExtensionsForm;
 use super::elements::next_element;
@@ -24,17 +24,17 @@ pub struct Survey {
 }
 
 impl Survey {
-    // Where the bytes before the last element of the id end, and those after it begin. Without one
-    // all elements are before it.
-    pub(super) fn around(&self) -> (usize, usize)
-        ensures some { IfSome self.now.last
-            (λ place. (result.0 ≡ place.start) × (result.1 ≡ place.end)) }
-        ensures none { IfNone self.now.last ((result.0 ≡ self.now.end)
-            × (result.1 ≡ self.now.end)) }
+    // Where the bytes before what goes last end, and those after it begin: before and after the
+    // last element of the id. With the id 0, or without such an element, all elements are before
+    // it.
+    #[inline(always)]
+    pub(super) fn around(&self, goes: u8) -> (usize, usize)
+        ensures start { result.0 ≡ start_around goes self.now.end self.now.last }
+        ensures end { result.1 ≡ end_around goes self.now.end self.now.last }
     {
         match self.last {
-            Some(place) => (place.start, place.end),
-            None => (self.end, self.end),
+            Some(place) if goes != 0 => (place.start, place.end),
+            _ => (self.end, self.end),
         }
     }
 }
@@ -47,8 +47,8 @@ pub fn survey_of(form: ExtensionsForm, body: &[u8], id: u8) -> Survey
     survey_by(form, body, id, true)
 }
 
-// The same. Trying the front first takes fewer steps where elements are counted, and more where
-// only the last place is asked for, which has a tighter loop.
+// What a body has of an id, by trying the front first or not. Trying it takes fewer steps where
+// elements are counted, and more where only the last place is asked for, which has a tighter loop.
 #[inline(always)]
 pub(super) fn survey_by(form: ExtensionsForm, body: &[u8], id: u8, front_first: bool) -> Survey
     ensures { IsSurvey form body.now id result }
@@ -132,7 +132,7 @@ impl Walk<'_> {
     }
 }
 
-// The same. It is inlined, so that each form has loops of its own.
+// What a body of one form has of an id. It is inlined, so that each form has loops of its own.
 #[inline(always)]
 fn survey_in(form: ExtensionsForm, body: &[u8], id: u8, front_first: bool) -> Survey
     ensures { IsSurvey form body.now id result }

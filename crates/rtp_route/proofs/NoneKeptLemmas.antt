@@ -8,8 +8,7 @@ use Rattle.rtp_ext.specs.ElementsInPlace.{HasNone, renumbered}
 use Rattle.rtp_ext.specs.PutElement.{without}
 use Rattle.rtp_ext.specs.ElementsInARow.{IsWritable}
 use Rattle.rtp_ext.specs.WrittenBlock.{whole_words}
-use Rattle.rtp_ext.proofs.AnewLemmas.{AreElements-each}
-use Rattle.rtp_ext.proofs.InRowLemmas.{writable_without}
+use Rattle.rtp_ext.proofs.AnewLemmas.{AreElements-each, writable_without}
 use Rattle.rtp_ext.proofs.NarrowLemmas.{wide_each}
 use Rattle.rtp_wire.specs.declared.packet.fields.Fields.{Fields}
 use Rattle.rtp_wire.specs.declared.packet.not_put.NotPut.{NotPut}

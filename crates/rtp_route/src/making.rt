@@ -52,7 +52,8 @@ fn make_by_calls<L: ElementList>(
     Ok(len)
 }
 
-// The same of a table.
+// Makes a group's header by the calls for one packet, as `make_by_calls` does, where a table holds
+// the group.
 #[cold]
 #[inline(never)]
 fn make_by_calls_of<G: GroupTable>(

@@ -3,8 +3,6 @@
 ghost use Rattle.std.specs.Prelude.{◌≡◌, ◌+◌, ◌%◌, ◌<◌, ◌≤◌, ◌∷◌, ◌++◌, ℕ, List, [], length, take, drop, replicate, All, IfSome, IfNone};
 ghost use Rattle.std.specs.Bool.{OnTrue};
 ghost use Rattle.rtp_base.specs.Overwriting.{overwritten};
-ghost use Rattle.rtp_ext.specs.declared.form.ExtensionsForm.TheVariants.{OneByte};
-ghost use Rattle.rtp_ext.specs.ElementWriting.{element_header};
 ghost use Rattle.rtp_ext.specs.Elements.{Element, AreElements, element_bytes, elements_bytes};
 ghost use Rattle.rtp_ext.specs.ElementsInARow.{IsWritable};
 ghost use Rattle.rtp_ext.specs.ElementsInPlace.{HasNone};
@@ -16,22 +14,8 @@ ghost use Rattle.rtp_route.specs.Walk.{no_slots, CanBePut, ArePlaced, AreWritten
 
 use super::slots::{MAX_ELEMENTS, Slot};
 use super::table::GroupTable;
-use rtp_base::{fill_word, put, put_few};
-use rtp_ext::{Elements, ExtensionsForm};
-
-// Puts the header of an element at the offset, and returns where its data begin.
-#[inline(always)]
-fn put_header(buf: &mut [u8], at: usize, form: ExtensionsForm, id: u8, len: u8) -> usize
-    requires room { at + 2 ≤ length buf.old }
-    requires fits { form ≡ OneByte → (id ≤ 14) × (1 ≤ len) × (len ≤ 16) }
-    ensures written { buf.new ≡ overwritten buf.old at (element_header form id len) }
-    ensures end { result ≡ at + length (element_header form id len) }
-{
-    match form {
-        ExtensionsForm::OneByte => put(buf, at, &[id * 16 + (len - 1)]),
-        ExtensionsForm::TwoByte => put(buf, at, &[id, len]),
-    }
-}
+use rtp_base::fill_word;
+use rtp_ext::{Elements, ExtensionsForm, put_element};
 
 // Writes an element behind the bytes before the offset, and returns where it ends; `None` where it
 // may have no room.
@@ -54,9 +38,7 @@ fn write_behind(
     if at + 2 + bytes.len() > buf.len() {
         return None;
     }
-    let data_at = put_header(buf, at, form, id, bytes.len() as u8);
-    put_few(buf, data_at, bytes);
-    Some(data_at + bytes.len())
+    Some(put_element(buf, at, form, id, bytes))
 }
 
 // Writes the group's element at the index, and keeps the place of its data.
@@ -139,7 +121,8 @@ fn is_carried(form: ExtensionsForm, id: u8, bytes: &[u8]) -> bool
     form.can_carry(id, bytes)
 }
 
-// The same, where that form carries what the block's own does: this one is looked at first.
+// Whether the form that the block gets carries the element, where that form carries all that the
+// block's own does: the own one is looked at first.
 #[inline(always)]
 fn carries(was: ExtensionsForm, form: ExtensionsForm, id: u8, bytes: &[u8]) -> bool
     requires { (element : Element) → IsWritable was element → IsWritable form element }
@@ -189,8 +172,9 @@ fn write_in_form<G: GroupTable>(
     Some(end)
 }
 
-// The same, by a loop of its own where both are the one-byte form, as they mostly are. It stays out of
-// line, so that the walk has the registers to itself.
+// Writes the elements of a block's body as `write_in_form` does, by a loop of its own where both forms
+// are the one-byte form, as they mostly are. It stays out of line, so that the walk has the registers
+// to itself.
 #[inline(never)]
 fn write_kept<G: GroupTable>(
     buf: &mut [u8],

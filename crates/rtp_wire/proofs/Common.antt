@@ -48,7 +48,7 @@ pub use Rattle.rtp_values.specs.declared.value.values.ExtensionValues.{Extension
 pub use Rattle.rtp_wire.specs.Block.{word_at, IsBlock, IsNoFormWord}
 pub use Rattle.rtp_wire.specs.ChangedPacket.{ChangesOnly, ChangesBlock, ChangesOnlyBody, HasUnpadded}
 pub use Rattle.rtp_wire.specs.GivenFields.{LieBetween, with_header_fields}
-pub use Rattle.rtp_wire.specs.GrowingPacket.{with_extension_bit, resized, IsFormOfBody, IsPlan, MakesAnew}
+pub use Rattle.rtp_wire.specs.GrowingPacket.{with_extension_bit, resized}
 pub use Rattle.rtp_wire.specs.Header.{IsExtensionPart, header_of, IsHeaderOf, IsWire, default_header}
 pub use Rattle.rtp_wire.specs.InPlace.{RemovesElement, RemovesPadding, RenumbersElements, SetsElement, SetsFields}
 pub use Rattle.rtp_wire.specs.NotAHeader.{sources_end, HasNoHeader, IsNoPacket, cut_fixed, other_version, cut_sources, cut_block, cut_words, HasUnknownForm, no_packet, unknown_form, cut_header}
@@ -64,6 +64,7 @@ pub use Rattle.rtp_wire.specs.PutIntoPacket.{form_of_block, body_of_block, compa
 pub use Rattle.rtp_wire.specs.RefusedMemory.{BlockHasAllocation, AreValuesStopped}
 pub use Rattle.rtp_wire.specs.Retransmission.{KeepsBlockHeader, IsPacketWith, HasLongPadding, HasPayload, HasHighId, KeepsFromSending, KeepsFromRestoring, IsBlockUnder, IsRetransmissionOf, IsOriginalOf, IsRestored, Becomes, Sends, Restores}
 pub use Rattle.rtp_wire.specs.RetransmissionParts.{IsLaidOut, HasNoLayout, IsChangedHeader}
+pub use Rattle.rtp_wire.specs.RewrittenBlock.{IsFormOfBody, IsPlan}
 pub use Rattle.rtp_wire.specs.Runs.{AreVerdicts, AreVerdictsBySource}
 pub use Rattle.rtp_wire.specs.Sending.{IsOfSource, packet_ids_of, AreSent, Arrives}
 pub use Rattle.rtp_wire.specs.Written.{fixed_bytes, source_bytes, header_bytes, extension_bytes, wire_bytes, carried_image, with_values, image_of}

@@ -30,9 +30,10 @@ pub mod ResizedLemmas
 mod GrowthLemmas
 mod PutPlanLemmas
 mod SetInPlaceLemmas
-mod PutElementLemmas
 mod SplicedLemmas
 mod ReplacedLemmas
+mod RewrittenLemmas
+mod PutElementLemmas
 mod RemadeLemmas
 pub mod RemadePacketLemmas
 pub mod CompactLemmas

@@ -1,39 +1,42 @@
 -- What is known of a packet into which an element is put, and of what it becomes.
-use Rattle.std.proofs.Common.{◌≡◌, ℕ, ◌+◌, ◌-◌, ◌*◌, ◌%◌, ◌<◌, ◌≤◌, Bool, true, false, List, length, drop, max, Option, Some, None, inl, inr, refl, sym, ap, subst, ◌∙◌, arith, length-take, []}
-use Rattle.std.specs.Prelude.{slice_index, slice_range, option_map, unwrap_or, if◌then◌else◌, ◌↔◌, IsTrue}
+use Rattle.std.proofs.Common.{◌≡◌, ℕ, ◌+◌, ◌-◌, ◌*◌, ◌%◌, ◌<◌, ◌≤◌, Bool, true, false, List, length, drop, Option, Some, None, refl, sym, ap, subst, ◌∙◌, arith, length-take, []}
+use Rattle.std.specs.Prelude.{is_some, slice_index, slice_range, option_map, if◌then◌else◌, ◌↔◌, IsTrue}
 use Rattle.std.specs.Option.{option_eq}
 use Rattle.std.specs.Borrow.{Bor}
-use Rattle.std.proofs.lemmas.Bool.{false≢true, cases_lt}
+use Rattle.std.proofs.lemmas.Bool.{false≢true}
 use denote.Enum.Bare.{sameb}
 use Rattle.rtp_ext.specs.contracts.form.ExtensionsForm.{the_type}
 use Rattle.std.proofs.lemmas.List.{get_or-drop}
 use Rattle.std.proofs.lemmas.Option.{none-some, same_Some}
 use Rattle.rtp_ext.specs.declared.form.ExtensionsForm.{ExtensionsForm}
 use Rattle.rtp_ext.specs.declared.form.ExtensionsForm.TheVariants.{OneByte, TwoByte}
-use Rattle.rtp_ext.specs.Elements.{Element, AreElements, elements_bytes, ended}
+use Rattle.rtp_ext.specs.Elements.{Element, AreElements, ended}
 use Rattle.rtp_ext.specs.declared.survey.Survey.{Survey}
 use Rattle.rtp_ext.specs.BodySurvey.{IsSurvey}
 use Rattle.rtp_ext.specs.WrittenBlock.{whole_words}
 use Rattle.rtp_ext.specs.ElementsInARow.{IsWritable, serves_one_byte}
 use Rattle.rtp_ext.specs.PutElement.{needed_form, allowed_form}
-use Rattle.rtp_ext.proofs.RawWritingLemmas.{IsWritable-short}
 use Rattle.rtp_ext.proofs.LastPlaceLemmas.{AreElements-same}
 use Rattle.rtp_wire.specs.declared.packet.rtp_packet.RtpPacket.{RtpPacket}
 use Rattle.rtp_wire.specs.declared.packet.not_put.NotPut.{NotPut}
-use Rattle.rtp_wire.specs.declared.packet.not_put.NotPut.TheVariants.{CutPacket, NotAPacket, ZeroId, LongData, OtherForm, LongId, OneByteOnly, LongBlock, NoRoom}
+use Rattle.rtp_wire.specs.declared.packet.not_put.NotPut.TheVariants.{OtherForm, LongId, OneByteOnly}
 use Rattle.rtp_wire.specs.Block.{word_at}
 use Rattle.rtp_wire.specs.NotAHeader.{sources_end}
-use Rattle.rtp_wire.specs.PartsAt.{has_block, header_end}
+use Rattle.rtp_wire.specs.PartsAt.{has_block, header_end, parts_at}
 use Rattle.rtp_wire.specs.PartsOf.{parts_of}
 use Rattle.rtp_wire.proofs.BlockLemmas.{word_at-cells}
 use Rattle.rtp_wire.proofs.HeaderFound.{HasHeader-packet}
-use Rattle.rtp_wire.proofs.PacketLemmas.{one_packet, no_packet}
-use Rattle.rtp_wire.proofs.PartsLemmas.{block-header, no_other_form}
+use Rattle.rtp_wire.proofs.PacketLemmas.{one_packet}
+use Rattle.rtp_wire.proofs.PartsLemmas.{block-header, no_other_form, some_there, IsPacket-found}
 use Rattle.rtp_wire.specs.Packet.{PacketParts, IsPacket}
 use Rattle.rtp_wire.specs.PacketElements.{AreElementsOf}
-use Rattle.rtp_wire.specs.PutIntoPacket.{IsGrowth, form_of_block, body_of_block, elements_with, IsLongId, AppliesToPacket, IsFirstNotPut, put_place}
-use Rattle.rtp_wire.specs.GrowingPacket.{IsFormOfBody}
-use Rattle.rtp_wire.proofs.ResizedLemmas.{whole-announced}
+use Rattle.rtp_wire.specs.PutIntoPacket.{form_of_block, body_of_block, IsLongId, IsFirstNotPut, put_place}
+use Rattle.rtp_wire.specs.RewrittenBlock.{IsFormOfBody, IsPlan, StopsForm}
+use Rattle.rtp_wire.specs.declared.packet.rewriting.Plan.{Plan}
+use Rattle.std.specs.List.{AllByRecursion}
+use Rattle.rtp_ext.specs.PutElement.{without}
+use Rattle.rtp_ext.proofs.AnewLemmas.{writable_without, AreElements-each}
+use Rattle.rtp_ext.proofs.NarrowLemmas.{wide_each}
 use Rattle.rtp_ext.proofs.ServingFormLemmas.{IsWritable-one}
 
 -- the elements of a block are those of its body, and there are none without one
@@ -56,40 +59,6 @@ words-whole n whole is = omega (arith, is)
 pub whole-words : (n : ℕ) → (whole_words n % 4 ≡ 0) × (n ≤ whole_words n)
 whole-words n = (omega arith, omega arith)
 
-module _ (bytes : List ℕ) (element : Element) (allowed : Option ExtensionsForm) (growth : IsGrowth bytes element allowed) where
-  pub elements-fit : length (elements_bytes growth.form (elements_with element growth.elements)) ≤ growth.body_len
-  elements-fit =
-      let n : ℕ = length (elements_bytes growth.form (elements_with element growth.elements)) in
-      let w = whole-words n in
-      omega (arith, growth.body_len_is, w.1)
-
-  pub body-fits : length (body_of_block growth.parts.block) ≤ growth.body_len
-  body-fits =
-      let n : ℕ = whole_words (length (elements_bytes growth.form (elements_with element growth.elements))) in
-      let is : growth.body_len ≡ max (length (body_of_block growth.parts.block)) n = growth.body_len_is in
-      omega (arith, is)
-
-  pub body-whole : growth.body_len % 4 ≡ 0
-  body-whole =
-      let n : ℕ = whole_words (length (elements_bytes growth.form (elements_with element growth.elements))) in
-      let is : growth.body_len ≡ max (length (body_of_block growth.parts.block)) n = growth.body_len_is in
-      let here : n % 4 ≡ 0 = (whole-words (length (elements_bytes growth.form (elements_with element growth.elements)))).0 in
-      let was : length (body_of_block growth.parts.block) % 4 ≡ 0 = whole-announced growth.parts.has_extension growth.parts.block growth.parts.other_block growth.is_packet.part growth.is_packet.part_is in
-      omega (arith, is, here, was)
-
-  -- how many bytes the body gets, as it is reckoned
-  pub body_len-reckoned : (n whole : ℕ) → n ≡ length (elements_bytes growth.form (elements_with element growth.elements)) → n ≤ whole → whole < n + 4 → whole % 4 ≡ 0
-      → max whole (length (body_of_block growth.parts.block)) ≡ growth.body_len
-  body_len-reckoned n whole n-is low high multiple =
-      let words : whole ≡ whole_words (length (elements_bytes growth.form (elements_with element growth.elements))) = omega arith in
-      omega (arith, growth.body_len_is, words)
-
-  -- the elements of the body, whatever they are called
-  pub same-elements : (new_form form : ExtensionsForm) (elements : List Element) → IsFormOfBody growth.parts.block new_form form → AreElements form (body_of_block growth.parts.block) elements
-      → elements ≡ growth.elements
-  same-elements new_form form elements was are =
-      AreElements-same form (body_of_block growth.parts.block) elements growth.elements are (body-elements growth.parts.block growth.elements new_form form was growth.are_elements)
-
 -- ---- what is found in a packet
 
 elements-nothing : (form : ExtensionsForm) (elements : List Element) → AreElements form [] elements → elements ≡ []
@@ -101,16 +70,19 @@ pub block-elements : (block : Option (ExtensionsForm × List ℕ)) (elements : L
 block-elements None elements new_form form is are = elements-nothing form elements are
 block-elements (Some block) elements new_form form is are = subst (λ (f : ExtensionsForm). AreElements f block.1 elements) is are
 
--- the block that a packet lends, or an empty body
-pub block-found : (block : Option (ExtensionsForm × Bor (List ℕ))) (was : Option (ExtensionsForm × List ℕ)) (default found : ExtensionsForm × Bor (List ℕ))
-    → option_map (λ b. (b.0, b.1.now)) block ≡ was → default.1.now ≡ [] → found ≡ unwrap_or block default
-    → (found.1.now ≡ body_of_block was) × IsFormOfBody was default.0 found.0
-block-found None was default found was-is none found-is =
-    let P : Option (ExtensionsForm × List ℕ) → Type 0 = λ w. (found.1.now ≡ body_of_block w) × IsFormOfBody w default.0 found.0 in
-    subst P was-is (ap (λ (b : ExtensionsForm × Bor (List ℕ)). b.1.now) found-is ∙ none, ap (λ (b : ExtensionsForm × Bor (List ℕ)). b.0) found-is)
-block-found (Some block) was default found was-is none found-is =
-    let P : Option (ExtensionsForm × List ℕ) → Type 0 = λ w. (found.1.now ≡ body_of_block w) × IsFormOfBody w default.0 found.0 in
-    subst P was-is (ap (λ (b : ExtensionsForm × Bor (List ℕ)). b.1.now) found-is, ap (λ (b : ExtensionsForm × Bor (List ℕ)). b.0) found-is)
+-- what is found of the block that a packet lends, or of none: its form, how many bytes its body has, and what that has of an id
+abbrev pub IsFound : Option (ExtensionsForm × List ℕ) → ExtensionsForm → ℕ → ExtensionsForm × ℕ × Survey → Type 0
+IsFound block new_form id found = (found.1 ≡ length (body_of_block block)) × IsFormOfBody block new_form found.0 × IsSurvey found.0 (body_of_block block) id found.2
+
+pub found-some : (block : Option (ExtensionsForm × Bor (List ℕ))) (was : Option (ExtensionsForm × List ℕ)) (new_form : ExtensionsForm) (id : ℕ) (form : ExtensionsForm) (body : Bor (List ℕ)) (survey : Survey)
+    → option_map (λ b. (b.0, b.1.now)) block ≡ was → block ≡ Some (form, body) → IsSurvey form body.now id survey → IsFound was new_form id (form, length body.now, survey)
+found-some block was new_form id form body survey was-is is surveyed =
+    subst (λ (w : Option (ExtensionsForm × List ℕ)). IsFound w new_form id (form, length body.now, survey)) (sym (ap (option_map (λ b. (b.0, b.1.now))) is) ∙ was-is) (refl, refl, surveyed)
+
+pub found-none : (block : Option (ExtensionsForm × Bor (List ℕ))) (was : Option (ExtensionsForm × List ℕ)) (new_form : ExtensionsForm) (id : ℕ) (survey : Survey)
+    → option_map (λ b. (b.0, b.1.now)) block ≡ was → block ≡ None → IsSurvey new_form [] id survey → IsFound was new_form id (new_form, 0, survey)
+found-none block was new_form id survey was-is is surveyed =
+    subst (λ (w : Option (ExtensionsForm × List ℕ)). IsFound w new_form id (new_form, 0, survey)) (sym (ap (option_map (λ b. (b.0, b.1.now))) is) ∙ was-is) (refl, refl, surveyed)
 
 -- a body has at most 65,535 words
 short-part : (form : Option ExtensionsForm) (body : List ℕ) (n : ℕ) → length body ≤ n → length (body_of_block (option_map (λ f. (f, body)) form)) ≤ n
@@ -136,39 +108,9 @@ short-body packet =
     subst (λ (block : Option (ExtensionsForm × List ℕ)). length (body_of_block block) ≤ 262140) (block-header bytes packet.header_len packet.form (HasHeader-packet packet))
     (short-part packet.form (slice_range bytes (sources_end bytes + 4) packet.header_len) 262140 long)
 
--- what the packet becomes
-abbrev pub new-growth : (bytes : List ℕ) (element : Element) (allowed : Option ExtensionsForm) (parts : PacketParts) (elements : List Element) (form new_form : ExtensionsForm)
-    → IsPacket bytes parts → parts.other_block ≡ None → IsFormOfBody parts.block new_form form → AreElements form (body_of_block parts.block) elements
-    → allowed_form allowed (needed_form (form_of_block parts.block) element) ≡ Some new_form → IsGrowth bytes element allowed
-new-growth bytes element allowed parts elements form new_form is no_other was are form-is =
-    let body_len : ℕ = max (length (body_of_block parts.block)) (whole_words (length (elements_bytes new_form (elements_with element elements)))) in
-    record {
-      parts = parts;
-      elements = elements;
-      form = new_form;
-      body_len = body_len;
-      len = 12 + 4 * length parts.sources + (4 + body_len) + length parts.payload;
-      is_packet = is;
-      no_other = no_other;
-      are_elements = block-elements parts.block elements new_form form was are;
-      form_is = form-is;
-      body_len_is = refl;
-      len_is = refl;
-    }
-
--- the same as it is found step by step
-module _ (bytes : List ℕ) (element : Element) (allowed : Option ExtensionsForm) (packet : RtpPacket) (block : Option (ExtensionsForm × Bor (List ℕ))) (default found : ExtensionsForm × Bor (List ℕ))
-    (survey : Survey) (form : Option ExtensionsForm)
-    (is : IsPacket bytes (parts_of packet)) (no_other : (parts_of packet).other_block ≡ None) (block-is : option_map (λ b. (b.0, b.1.now)) block ≡ (parts_of packet).block) (none : default.1.now ≡ []) (found-is : found ≡ unwrap_or block default)
-    (surveyed : IsSurvey found.0 found.1.now element.0 survey) (form-is : form ≡ option_map (λ b. b.0) (parts_of packet).block) (allows : allowed_form allowed (needed_form form element) ≡ Some default.0) where
-  pub here : (found.1.now ≡ body_of_block (parts_of packet).block) × IsFormOfBody (parts_of packet).block default.0 found.0
-  here = block-found block (parts_of packet).block default found block-is none found-is
-
-  abbrev pub found-growth : IsGrowth bytes element allowed
-  found-growth =
-      new-growth bytes element allowed (parts_of packet) surveyed.elements found.0 default.0 is no_other here.1
-      (subst (λ (b : List ℕ). AreElements found.0 b surveyed.elements) here.0 surveyed.are_elements)
-      (ap (λ (f : Option ExtensionsForm). allowed_form allowed (needed_form f element)) (sym form-is) ∙ allows)
+-- the plan is that of the parts of the packet, whatever they are called
+pub plan-of : (bytes : List ℕ) (parts : PacketParts) (goes : ℕ) (plan : Plan) → IsPacket bytes parts → IsPlan bytes (parts_at bytes) goes plan → IsPlan bytes parts goes plan
+plan-of bytes parts goes plan is planned = subst (λ (p : PacketParts). IsPlan bytes p goes plan) (one_packet bytes parts is) planned
 
 -- a test whether a form is found
 pub form-tested : (found : Option ExtensionsForm) (form : ExtensionsForm) (test : Bool) → test ≡ option_eq (sameb the_type) found (Some form) → IsTrue test ↔ (found ≡ Some form)
@@ -230,59 +172,52 @@ short_id None id short long = long
 short_id (Some TwoByte) id short long = long
 short_id (Some OneByte) id short long = omega (arith, short, long)
 
--- ---- the causes
+-- and each of the elements that the block has
+never-narrowed : (allowed : Option ExtensionsForm) → allowed_form allowed TwoByte ≡ Some OneByte → ⊥
+never-narrowed None is = cc
+never-narrowed (Some OneByte) is = cc
+never-narrowed (Some TwoByte) is = cc
 
--- of those of a packet none applies before the form that is allowed is looked at
-pub none_before_form : (bytes : List ℕ) (element : Element) (allowed : Option ExtensionsForm) (parts : PacketParts) → IsPacket bytes parts → parts.other_block ≡ None → 1 ≤ element.0
-    → length element.1 ≤ 255 → (cause : NotPut) → put_place cause < 5 → AppliesToPacket bytes element allowed cause → ⊥
-none_before_form bytes element allowed parts is none some short CutPacket before fact = fact
-none_before_form bytes element allowed parts is none some short (NotAPacket cause) before fact = no_packet bytes cause parts fact.applies is
-none_before_form bytes element allowed parts is none some short ZeroId before fact = omega arith
-none_before_form bytes element allowed parts is none some short LongData before fact = omega arith
-none_before_form bytes element allowed parts is none some short OtherForm before fact = no_other_form bytes parts is none fact
-none_before_form bytes element allowed parts is none some short LongId before fact = omega arith
-none_before_form bytes element allowed parts is none some short OneByteOnly before fact = omega arith
-none_before_form bytes element allowed parts is none some short LongBlock before fact = omega arith
-none_before_form bytes element allowed parts is none some short (NoRoom needed) before fact = fact
+pub carried-with : (block : Option (ExtensionsForm × List ℕ)) (elements : List Element) (element : Element) (allowed : Option ExtensionsForm) (form : ExtensionsForm) → AreElementsOf block elements
+    → allowed_form allowed (needed_form (form_of_block block) element) ≡ Some form → AllByRecursion (IsWritable form) (without 0 elements)
+carried-with None elements element allowed form are is = subst (λ (es : List Element). AllByRecursion (IsWritable form) (without 0 es)) (sym are) tt
+carried-with (Some (OneByte, body)) elements element allowed OneByte are is = writable_without OneByte elements (AreElements-each OneByte body elements are)
+carried-with (Some (OneByte, body)) elements element allowed TwoByte are is = wide_each (without 0 elements) (writable_without OneByte elements (AreElements-each OneByte body elements are))
+carried-with (Some (TwoByte, body)) elements element allowed TwoByte are is = writable_without TwoByte elements (AreElements-each TwoByte body elements are)
+carried-with (Some (TwoByte, body)) elements element allowed OneByte are is = absurd (never-narrowed allowed is)
 
-none_earlier : (bytes : List ℕ) (element : Element) (allowed : Option ExtensionsForm) (growth : IsGrowth bytes element allowed) → IsWritable growth.form element
-    → (cause : NotPut) → put_place cause < 5 → AppliesToPacket bytes element allowed cause → ⊥
-none_earlier bytes element allowed growth writable cause before fact =
-    none_before_form bytes element allowed growth.parts growth.is_packet growth.no_other writable.0 (IsWritable-short growth.form element writable) cause before fact
+-- ---- why no form serves
 
--- nor before its block is found to be too long
-pub none_of_packet : (bytes : List ℕ) (element : Element) (allowed : Option ExtensionsForm) (growth : IsGrowth bytes element allowed) → IsWritable growth.form element
-    → (cause : NotPut) → put_place cause < 7 → AppliesToPacket bytes element allowed cause → ⊥
-none_of_packet bytes element allowed growth writable LongId before fact = no_long_id (form_of_block growth.parts.block) allowed element growth.form growth.form_is fact
-none_of_packet bytes element allowed growth writable OneByteOnly before fact =
-    let same : growth.parts ≡ fact.0 = sym (one_packet bytes growth.parts growth.is_packet) ∙ one_packet bytes fact.0 fact.1 in
-    none-some growth.form (sym fact.2 ∙ ap (λ (parts : PacketParts). allowed_form allowed (needed_form (form_of_block parts.block) element)) (sym same) ∙ growth.form_is)
-none_of_packet bytes element allowed growth writable LongBlock before fact = omega arith
-none_of_packet bytes element allowed growth writable (NoRoom needed) before fact = fact
-none_of_packet bytes element allowed growth writable CutPacket before fact = fact
-none_of_packet bytes element allowed growth writable (NotAPacket cause) before fact = none_earlier bytes element allowed growth writable (NotAPacket cause) (omega arith) fact
-none_of_packet bytes element allowed growth writable ZeroId before fact = none_earlier bytes element allowed growth writable ZeroId (omega arith) fact
-none_of_packet bytes element allowed growth writable LongData before fact = none_earlier bytes element allowed growth writable LongData (omega arith) fact
-none_of_packet bytes element allowed growth writable OtherForm before fact = none_earlier bytes element allowed growth writable OtherForm (omega arith) fact
+module _ (bytes : List ℕ) (element : Element) (allowed : Option ExtensionsForm) (parts : PacketParts) (is : IsPacket bytes parts) (none : parts.other_block ≡ None)
+    (not : allowed_form allowed (needed_form (form_of_block parts.block) element) ≡ None) where
+  none_before_ids : (cause : NotPut) → put_place cause < 5 → StopsForm bytes element allowed cause → ⊥
+  none_before_ids OtherForm before fact = no_other_form bytes parts is none fact
+  none_before_ids LongId before fact = omega arith
+  none_before_ids OneByteOnly before fact = omega arith
+  none_before_ids cause before fact = fact
 
--- nor before the form is found not to be allowed, where the id is short
-none_before_only : (bytes : List ℕ) (element : Element) (allowed : Option ExtensionsForm) (parts : PacketParts) → IsPacket bytes parts → parts.other_block ≡ None → 1 ≤ element.0
-    → length element.1 ≤ 255 → element.0 ≤ 14 → (cause : NotPut) → put_place cause < 6 → AppliesToPacket bytes element allowed cause → ⊥
-none_before_only bytes element allowed parts is none some short low LongId before fact = short_id allowed element.0 low fact
-none_before_only bytes element allowed parts is none some short low cause before fact = none_before_form bytes element allowed parts is none some short cause (omega arith) fact
+  none_before_only : element.0 ≤ 14 → (cause : NotPut) → put_place cause < 6 → StopsForm bytes element allowed cause → ⊥
+  none_before_only low LongId before fact = short_id allowed element.0 low fact
+  none_before_only low cause before fact = none_before_ids cause (omega arith) fact
 
--- and where no form serves that is allowed, this is the first cause that applies
-pub first-not_allowed : (bytes : List ℕ) (element : Element) (allowed : Option ExtensionsForm) (parts : PacketParts) → IsPacket bytes parts → parts.other_block ≡ None → 1 ≤ element.0
-    → length element.1 ≤ 255 → allowed_form allowed (needed_form (form_of_block parts.block) element) ≡ None → (cause : NotPut) → (14 < element.0 → cause ≡ LongId)
-    → (element.0 ≤ 14 → cause ≡ OneByteOnly) → IsFirstNotPut (AppliesToPacket bytes element allowed) cause
-first-not_allowed bytes element allowed parts is none some short not cause long other =
-    elim (cases_lt 14 element.0) [
-      | inl high ↦ subst (IsFirstNotPut (AppliesToPacket bytes element allowed)) (sym (long high)) (record {
-        applies = long_id allowed (needed_form (form_of_block parts.block) element) element.0 not high;
-        none_before = none_before_form bytes element allowed parts is none some short;
-      })
-      | inr low ↦ subst (IsFirstNotPut (AppliesToPacket bytes element allowed)) (sym (other low)) (record {
-        applies = (parts, is, not);
-        none_before = none_before_only bytes element allowed parts is none some short low;
-      })
-    ]
+  pub first-long_id : 14 < element.0 → IsFirstNotPut (StopsForm bytes element allowed) LongId
+  first-long_id high = record { applies = long_id allowed (needed_form (form_of_block parts.block) element) element.0 not high; none_before = none_before_ids }
+
+  pub first-only : element.0 ≤ 14 → IsFirstNotPut (StopsForm bytes element allowed) OneByteOnly
+  first-only low = record { applies = (parts, is, not); none_before = none_before_only low }
+
+-- a block of another profile has none of the two forms, and this is looked at first
+pub first-other_form : (packet : RtpPacket) (element : Element) (allowed : Option ExtensionsForm) → is_some (parts_of packet).other_block ≡ true
+    → IsFirstNotPut (StopsForm packet.datagram.now element allowed) OtherForm
+first-other_form packet element allowed some =
+    let other = some_there (parts_of packet).other_block some in
+    record {
+      applies = record { parts = parts_of packet; is_packet = IsPacket-found packet; other = other.0; other_is = other.1 };
+      none_before = none_before_other;
+    }
+  where
+    none_before_other : (cause : NotPut) → put_place cause < 4 → StopsForm packet.datagram.now element allowed cause → ⊥
+    none_before_other OtherForm before fact = omega arith
+    none_before_other LongId before fact = omega arith
+    none_before_other OneByteOnly before fact = omega arith
+    none_before_other cause before fact = fact

@@ -60,5 +60,6 @@ pub mod Runs
 -- What functions inside promise each other.
 pub mod WrittenInForm
 pub mod PartsAt
+pub mod RewrittenBlock
 pub mod GrowingPacket
 pub mod RetransmissionParts

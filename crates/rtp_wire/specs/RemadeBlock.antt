@@ -74,18 +74,6 @@ IsInOther (Some OneByte) OneByte = ⊥
 IsInOther (Some TwoByte) TwoByte = ⊥
 IsInOther None form = ⊥
 
--- the cause keeps a packet from its block made anew, in a buffer of so many bytes
-abbrev pub StopsRemaking : List ℕ → ℕ → ExtensionsForm → List Element → NotPut → Type 0
-StopsRemaking bytes room form added CutPacket = ⊥
-StopsRemaking bytes room form added ZeroId = ⊥
-StopsRemaking bytes room form added LongData = ⊥
-StopsRemaking bytes room form added (NotAPacket cause) = ⊥
-StopsRemaking bytes room form added OtherForm = ⊥
-StopsRemaking bytes room form added LongId = HasLongIds bytes form
-StopsRemaking bytes room form added OneByteOnly = HasUncarried bytes form
-StopsRemaking bytes room form added LongBlock = IsTooLong bytes form added
-StopsRemaking bytes room form added (NoRoom needed) = HasNoRoom bytes room form added needed
-
 -- the cause keeps a block of this form from another one: a block of another profile has none of the two, and else only one of the other form is made anew
 abbrev pub KeepsFromForm : List ℕ → ℕ → Option ExtensionsForm → ExtensionsForm → NotPut → Type 0
 KeepsFromForm bytes room was form CutPacket = ⊥

@@ -142,7 +142,7 @@ fn verdict_on(receiver: &mut Receiver, packet_id: Option<(Ssrc, u16)>) -> Verdic
     }
 }
 
-// The same, by the receiver of the packet's source.
+// The verdict on a packet by the receiver of its source, whose SSRC it has.
 fn verdict_by_source(
     receivers: &mut Receivers,
     packet_id: Option<(Ssrc, u16)>,

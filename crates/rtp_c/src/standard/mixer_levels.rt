@@ -6,6 +6,7 @@ ghost use Rattle.rtp_c.specs.Status.{ok, bad_field, short_buffer};
 ghost use Rattle.rtp_c.specs.StandardData.{AreWritten, AreTooLong, AreNone};
 ghost use Rattle.rtp_c.specs.StandardLevels.{AreLevelsData};
 
+use super::putting::tell;
 use crate::status::{BAD_FIELD, OK, SHORT_BUFFER};
 use rtp_values::standard::{mixer_audio_level, write_mixer_audio_levels};
 
@@ -24,11 +25,7 @@ pub extern "C" fn rtpw_read_mixer_level(
     ensures statuses { (result ≡ ok) ⊎ (result ≡ bad_field) }
     ensures unchanged { result ≢ ok → level.new ≡ level.old }
 {
-    let Some(read) = mixer_audio_level(bytes, csrc_count, index) else {
-        return BAD_FIELD;
-    };
-    *level = read;
-    OK
+    tell(mixer_audio_level(bytes, csrc_count, index), level)
 }
 
 // How many CSRCs a packet has at most (RFC 3550, 5.1).

@@ -7,8 +7,7 @@ ghost use Rattle.rtp_values.specs.StandardTimes.{IsNearestTime};
 ghost use Rattle.rtp_c.specs.Status.{ok, bad_field, short_buffer};
 ghost use Rattle.rtp_c.specs.StandardData.{StandAtFront};
 
-use super::putting::put_data;
-use crate::status::{BAD_FIELD, OK};
+use super::putting::{put_data, tell};
 use rtp_values::standard::{extend_ntp_56, ntp_56_bytes, ntp_64_bytes, parse_ntp_56, parse_ntp_64};
 
 /// Reads an NTP timestamp of 64 bits (RFC 6051, 3.3). `OK`, or `BAD_FIELD` where there aren't eight
@@ -20,11 +19,7 @@ pub extern "C" fn rtpw_read_ntp_64(bytes: &[u8], time: &mut u64) -> i32
     ensures statuses { (result ≡ ok) ⊎ (result ≡ bad_field) }
     ensures unchanged { result ≢ ok → time.new ≡ time.old }
 {
-    let Some(read) = parse_ntp_64(bytes) else {
-        return BAD_FIELD;
-    };
-    *time = read;
-    OK
+    tell(parse_ntp_64(bytes), time)
 }
 
 /// Writes an NTP timestamp of 64 bits to the front of the buffer, and that it has eight bytes (RFC
@@ -50,11 +45,7 @@ pub extern "C" fn rtpw_read_ntp_56(bytes: &[u8], time: &mut u64) -> i32
     ensures statuses { (result ≡ ok) ⊎ (result ≡ bad_field) }
     ensures unchanged { result ≢ ok → time.new ≡ time.old }
 {
-    let Some(read) = parse_ntp_56(bytes) else {
-        return BAD_FIELD;
-    };
-    *time = read;
-    OK
+    tell(parse_ntp_56(bytes), time)
 }
 
 /// Writes the low 56 bits of an NTP timestamp to the front of the buffer, and that they have seven

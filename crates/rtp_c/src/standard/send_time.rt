@@ -7,8 +7,8 @@ ghost use Rattle.rtp_c.specs.Status.{ok, bad_field, short_buffer};
 ghost use Rattle.rtp_c.specs.StandardData.{AreWritten, AreTooLong, AreNone};
 ghost use Rattle.rtp_c.specs.StandardTimes.{AreSendTimeData};
 
-use super::putting::put_data;
-use crate::status::{BAD_FIELD, OK};
+use super::putting::{put_data, tell};
+use crate::status::BAD_FIELD;
 use rtp_values::standard::{extend_send_time, parse_send_time, send_time_bytes};
 
 /// Reads an absolute send time, in units of 2^-18 seconds modulo 64 seconds;
@@ -21,11 +21,7 @@ pub extern "C" fn rtpw_read_send_time(bytes: &[u8], units: &mut u32) -> i32
     ensures statuses { (result ≡ ok) ⊎ (result ≡ bad_field) }
     ensures unchanged { result ≢ ok → units.new ≡ units.old }
 {
-    let Some(read) = parse_send_time(bytes) else {
-        return BAD_FIELD;
-    };
-    *units = read;
-    OK
+    tell(parse_send_time(bytes), units)
 }
 
 /// Writes the three bytes of an absolute send time, in units of 2^-18 seconds, to the front of the

@@ -7,8 +7,8 @@ ghost use Rattle.rtp_c.specs.Status.{ok, bad_field, short_buffer};
 ghost use Rattle.rtp_c.specs.StandardData.{AreWritten, AreTooLong, AreNone};
 ghost use Rattle.rtp_c.specs.StandardOffset.{AreOffsetData};
 
-use super::putting::put_data;
-use crate::status::{BAD_FIELD, OK};
+use super::putting::{put_data, tell};
+use crate::status::BAD_FIELD;
 use rtp_values::standard::{parse_transmission_offset, transmission_offset_bytes};
 
 /// Reads a transmission time offset, in ticks of the stream's clock (RFC 5450, 3). `OK`, or
@@ -20,11 +20,7 @@ pub extern "C" fn rtpw_read_transmission_offset(bytes: &[u8], offset: &mut i32) 
     ensures statuses { (result ≡ ok) ⊎ (result ≡ bad_field) }
     ensures unchanged { result ≢ ok → offset.new ≡ offset.old }
 {
-    let Some(read) = parse_transmission_offset(bytes) else {
-        return BAD_FIELD;
-    };
-    *offset = read;
-    OK
+    tell(parse_transmission_offset(bytes), offset)
 }
 
 /// Writes the three bytes of a transmission time offset to the front of the buffer (RFC 5450, 3).

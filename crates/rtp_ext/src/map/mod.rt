@@ -180,7 +180,8 @@ impl ExtensionMap {
         }
     }
 
-    // The same of any extension: the first that is mapped to it, since the mapped ids rise.
+    // The lowest id that is mapped to any extension, known or not: the first that is found, since the
+    // mapped ids rise.
     fn lowest_unknown(&self, ext: &Extension) -> Option<u8>
         ensures found { IfSome result (spec.IsLowest self.now ext.now) }
         ensures valid { IfSome result spec.IsId }
@@ -239,7 +240,7 @@ impl ExtensionMap {
         exts
     }
 
-    /// The same map. Only the texts of unknown extensions take memory, and where that is refused
+    /// A copy of the map. Only the texts of unknown extensions take memory, and where that is refused
     /// nothing is returned.
     pub fn clone(&self, alloc: Global) -> Result<Self, AllocError>
         ensures same { IfOk result (λ copy. copy ≡ self.now) }

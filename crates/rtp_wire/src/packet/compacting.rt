@@ -34,7 +34,7 @@ pub fn compact(datagram: &mut [u8]) -> Result<usize, NotAPacket>
     compact_copy::<0>(datagram)
 }
 
-/// The same as [`compact`], compiled anew for each `COPY`, as
+/// Makes a packet as short as [`compact`] does, compiled anew for each `COPY`, as
 /// [`put_element_copy`](super::put_element_copy) is.
 pub fn compact_copy<const COPY: usize>(datagram: &mut [u8]) -> Result<usize, NotAPacket>
     ensures compacted { IfOk result (Compacts datagram.old datagram.new) }
@@ -52,7 +52,7 @@ pub fn compact_copy<const COPY: usize>(datagram: &mut [u8]) -> Result<usize, Not
     };
     let block_at = sources_end(datagram[0]);
     let body = &mut datagram[block_at + BLOCK_HEADER_LEN..payload_at];
-    let elements_len = compact_body::<COPY>(form, body);
+    let elements_len = compact_body(form, body);
     let body_len = in_words(elements_len);
     resize(datagram, len, block_at, payload_at, body_len);
     Ok(block_at + BLOCK_HEADER_LEN + body_len + (len - payload_at))

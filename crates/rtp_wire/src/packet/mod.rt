@@ -18,6 +18,7 @@ mod remaking_block;
 mod replacing_block;
 mod resizing;
 mod retransmission;
+mod rewriting;
 mod rtcp;
 mod rtp_packet;
 mod rtp_packet_buf;

@@ -6,8 +6,8 @@ ghost use Rattle.rtp_wire.specs.GrowingPacket.{with_extension, spliced, block_by
 ghost use Rattle.rtp_wire.specs.PartsAt.{profile_in};
 ghost use Rattle.rtp_wire.specs.ReplacedBlock.{without_block, with_block, KeepsFromBlock, IsFirstBlockNotPut};
 
-use super::putting::MAX_BODY_LEN;
 use super::resizing::{move_bytes, set_extension_bit};
+use super::rewriting::MAX_BODY_LEN;
 use super::rtp_packet::sources_end;
 use super::{BlockNotPut, RtpPacketBuf};
 use crate::header::BLOCK_HEADER_LEN;

@@ -51,6 +51,7 @@ pub(super) fn move_bytes(buf: &mut [u8], start: usize, end: usize, to: usize)
 
 // Gives the block that begins at an offset a body of so many bytes, which are those that stand there: moves
 // the payload behind it, and writes the number of its words.
+#[inline(always)]
 pub(super) fn resize(
     buf: &mut [u8],
     len: usize,

@@ -13,6 +13,3 @@ returns-in-Ok-clause-found c =
 
 pub returns-in-Ok-clause-only : goal.returns-in-Ok-clause-only
 returns-in-Ok-clause-only c parts is = c.header_len.ensures ∙ ap (λ (q : PacketParts). header_len_of q) (c.in-Ok.ensures.only parts is)
-
-pub returns-in-Err-clause-only : goal.returns-in-Err-clause-only
-returns-in-Err-clause-only c parts is = absurd (c.in-Err.ensures.only parts is)

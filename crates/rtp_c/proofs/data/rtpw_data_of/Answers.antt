@@ -1,21 +1,9 @@
-use Rattle.std.proofs.Common.{◌≡◌, Some, None, length, refl, sym, ◌∙◌}
+use Rattle.std.proofs.Common.{Some, None, length, refl, sym, ◌∙◌}
 use Rattle.rtp_c.specs.ElementData.{IsAskedFor}
-use Rattle.rtp_c.specs.Status.{ok, short_buffer, bad_field, none}
 use Rattle.rtp_c.proofs.ElementDataLemmas.{IsAskedFor-found, HasNoData-own, HasNoData-kind, AreTooLongData-short, AreWrittenData-written}
-use Rattle.rtp_c.proofs.data.rtpw_data_of.Goals as goal
+use Rattle.rtp_c.proofs.StatusLemmas.{bad_field≢ok, none≢bad_field, short_buffer≢bad_field}
 use Rattle.rtp_c.proofs.data.rtpw_data_of.Goals.{In_default-known, In-Some-known}
-
-pub returns-in_default-of-clause-bad_field : goal.returns-in_default-of-clause-bad_field
-returns-in_default-of-clause-bad_field c = (λ _ kind values asked. c.in_default-of.ensures.none values asked.are_given, λ _. refl)
-
-none_is_not : none ≡ bad_field → ⊥
-none_is_not same = cc
-
-short_is_not : short_buffer ≡ bad_field → ⊥
-short_is_not same = cc
-
-ok_is_not : ok ≡ bad_field → ⊥
-ok_is_not same = cc
+use Rattle.rtp_c.proofs.data.rtpw_data_of.Goals as goal
 
 own_asked : (c : In_default-known) → IsAskedFor c.args.kind c.args.values.now None c.in-Some-of.given
 own_asked c =
@@ -27,7 +15,7 @@ returns-in_default-known-clause-none c _ = HasNoData-own c.args.kind c.args.valu
 
 pub returns-in_default-known-clause-bad_field : goal.returns-in_default-known-clause-bad_field
 returns-in_default-known-clause-bad_field c =
-    (λ is. absurd (none_is_not is), λ nothing. absurd (nothing None c.in-Some-of.given (own_asked (goal.at.returns-in_default-known-clause-bad_field c).In_default-known)))
+    (λ is. absurd (none≢bad_field is), λ nothing. absurd (nothing None c.in-Some-of.given (own_asked (goal.at.returns-in_default-known-clause-bad_field c).In_default-known)))
 
 kind_asked : (c : In-Some-known) → IsAskedFor c.args.kind c.args.values.now (Some c.in-Some-known.kind) c.in-Some-of.given
 kind_asked c =
@@ -41,7 +29,7 @@ returns-in_default-data_len-clause-none c _ =
 
 pub returns-in_default-data_len-clause-bad_field : goal.returns-in_default-data_len-clause-bad_field
 returns-in_default-data_len-clause-bad_field c =
-    (λ is. absurd (none_is_not is), λ nothing. absurd (nothing (Some c.in-Some-known.kind) c.in-Some-of.given (kind_asked (goal.at.returns-in_default-data_len-clause-bad_field c).In-Some-known)))
+    (λ is. absurd (none≢bad_field is), λ nothing. absurd (nothing (Some c.in-Some-known.kind) c.in-Some-of.given (kind_asked (goal.at.returns-in_default-data_len-clause-bad_field c).In-Some-known)))
 
 pub returns-then-buf-data_len-clause-short : goal.returns-then-buf-data_len-clause-short
 returns-then-buf-data_len-clause-short c _ =
@@ -50,7 +38,7 @@ returns-then-buf-data_len-clause-short c _ =
 
 pub returns-then-buf-data_len-clause-bad_field : goal.returns-then-buf-data_len-clause-bad_field
 returns-then-buf-data_len-clause-bad_field c =
-    (λ is. absurd (short_is_not is), λ nothing. absurd (nothing (Some c.in-Some-known.kind) c.in-Some-of.given (kind_asked (goal.at.returns-then-buf-data_len-clause-bad_field c).In-Some-known)))
+    (λ is. absurd (short_buffer≢bad_field is), λ nothing. absurd (nothing (Some c.in-Some-known.kind) c.in-Some-of.given (kind_asked (goal.at.returns-then-buf-data_len-clause-bad_field c).In-Some-known)))
 
 pub returns-clause-written : goal.returns-clause-written
 returns-clause-written c _ =
@@ -60,4 +48,7 @@ returns-clause-written c _ =
 
 pub returns-clause-bad_field : goal.returns-clause-bad_field
 returns-clause-bad_field c =
-    (λ is. absurd (ok_is_not is), λ nothing. absurd (nothing (Some c.in-Some-known.kind) c.in-Some-of.given (kind_asked (goal.at.returns-clause-bad_field c).In-Some-known)))
+    (λ is. absurd (bad_field≢ok (sym is)), λ nothing. absurd (nothing (Some c.in-Some-known.kind) c.in-Some-of.given (kind_asked (goal.at.returns-clause-bad_field c).In-Some-known)))
+
+pub returns-in_default-of-clause-bad_field : goal.returns-in_default-of-clause-bad_field
+returns-in_default-of-clause-bad_field c = (λ _ kind values asked. c.in_default-of.ensures.none values asked.are_given, λ _. refl)

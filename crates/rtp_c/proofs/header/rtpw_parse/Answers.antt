@@ -1,6 +1,7 @@
-use Rattle.rtp_c.proofs.Common.{◌↔◌, ℕ, ℤ, List, sym, subst, inl, inr, rules, w32, FitsSigned, to_z-of_z, HasNoHeader, header_there, HeaderView, IsHeaderStatus}
+use Rattle.rtp_c.proofs.Common.{◌↔◌, ℕ, ℤ, List, inl, inr, rules, HasNoHeader, header_there, HeaderView, IsHeaderStatus}
 use Rattle.rtp_c.specs.HeaderView.{IsHeaderRead}
 use Rattle.rtp_c.proofs.HeaderStatusLemmas.{HasNoHeader-status}
+use Rattle.rtp_c.proofs.StatusLemmas.{passed_on}
 use Rattle.rtp_c.proofs.header.rtpw_parse.Goals as goal
 
 refused : (numbers bytes : List ℕ) (status : ℤ) (old new : HeaderView) → IsHeaderRead numbers bytes status old new → IsHeaderStatus bytes status ↔ HasNoHeader bytes
@@ -12,6 +13,5 @@ refused numbers bytes status old new (inr is) = (λ refusal. HasNoHeader-status 
 pub returns-clause-refused : goal.returns-clause-refused
 returns-clause-refused c =
     let call = c.read_header in
-    let fits : FitsSigned w32 call.result = search rules in
-    subst (λ (status : ℤ). IsHeaderStatus c.args.buf.now status ↔ HasNoHeader c.args.buf.now) (sym (to_z-of_z w32 call.result fits))
+    passed_on call.result (search rules) (λ (z : ℤ). IsHeaderStatus c.args.buf.now z ↔ HasNoHeader c.args.buf.now)
     (refused c.args.map.now.kind c.args.buf.now call.result c.args.header.now call.new.header call.ensures)

@@ -1,9 +1,7 @@
-use Rattle.std.proofs.Common.{refl, rules}
+use Rattle.std.proofs.Common.{rules}
 use Rattle.rtp_wire.specs.Header.{header_of}
 use Rattle.rtp_wire.specs.PartsOf.{parts_of}
-use Rattle.rtp_c.specs.StoredMap.{numbered_slots}
-use Rattle.rtp_c.proofs.NumberedLemmas.{HasKinds-numbered}
-use Rattle.rtp_c.proofs.HeaderViewLemmas.{few_sources}
+use Rattle.rtp_c.proofs.HeaderViewLemmas.{begins_with, few_sources}
 use Rattle.rtp_c.proofs.HeaderStatusLemmas.{HasNoHeader-status}
 use Rattle.rtp_c.proofs.header.rtpw_parse_layers.Goals as goal
 
@@ -16,16 +14,7 @@ returns-in-Ok-clause-found c _ =
     let parts = parts_of c.in-Ok.packet in
     record {
       header = header_of parts told.0;
-      begins = record {
-        slots = numbered_slots c.args.map.now.kind;
-        has_kinds = HasKinds-numbered c.args.map.now.kind;
-        is_wire = record {
-          parts = parts;
-          is_packet = c.in-Ok.ensures.found;
-          no_other = c.in-Ok.ensures.known;
-          is_header = record { fields_are = refl; values_are = told.1 };
-        };
-      };
+      begins = begins_with c.args.map.now.kind c.args.buf.now parts told.0 c.in-Ok.ensures.found c.in-Ok.ensures.known told.1;
       is_view = c.put_fields.ensures told.0 _ told.2;
       layers_are = told.3;
     }

@@ -36,21 +36,6 @@ renumbered_from was parts old new bytes table ids is same same_ids fits ends cha
     (if_some_weaker (parts_in old).block (λ _. ChangesBlock (λ form. ChangesIds form (new_id table)) (parts_in old) (parts_in new)) (λ _. BecomesPacket (λ form. ChangesIds form (new_id table)) parts bytes)
     (λ _ change. BecomesPacket-changed (λ form. ChangesIds form (new_id table)) was parts old new bytes is same change fits ends) changes))
 
-pub returns-in-Err-clause-renumbered : goal.returns-in-Err-clause-renumbered
-returns-in-Err-clause-renumbered c parts is ok = absurd (c.in-Err.ensures.only parts is)
-
-pub returns-in-Err-clause-without_block : goal.returns-in-Err-clause-without_block
-returns-in-Err-clause-without_block c parts is = absurd (c.in-Err.ensures.only parts is)
-
-pub returns-in-Err-clause-answer : goal.returns-in-Err-clause-answer
-returns-in-Err-clause-answer c parts elements is are = absurd (c.in-Err.ensures.only parts is)
-
-pub returns-in-Err-clause-otherwise : goal.returns-in-Err-clause-otherwise
-returns-in-Err-clause-otherwise c parts is not_ok = absurd (c.in-Err.ensures.only parts is)
-
-pub returns-in-Err-clause-values : goal.returns-in-Err-clause-values
-returns-in-Err-clause-values c parts from to values is are has ok = absurd (c.in-Err.ensures.only parts is)
-
 pub returns-then-renumber-clause-renumbered : goal.returns-then-renumber-clause-renumbered
 returns-then-renumber-clause-renumbered c parts is ok =
     renumbered_from c.args.datagram.now parts c.new-packet.result c.renumber.new.self _ c.from_ids.result (ids_in_bytes c.args.ids.now.id) is
@@ -81,9 +66,6 @@ returns-then-renumber-clause-values c parts from to values is are has ok =
           (subst (λ (q : PacketParts). HasValues from q.block values) (sym same) has);
     }
 
-pub returns-then-renumber-clause-cause : goal.returns-then-renumber-clause-cause
-returns-then-renumber-clause-cause c none = absurd (false≢true (c.in-Ok.ensures.refused.1 none))
-
 pub returns-else-renumber-clause-without_block : goal.returns-else-renumber-clause-without_block
 returns-else-renumber-clause-without_block c parts is =
     let packet = c.new-packet.result in
@@ -97,3 +79,12 @@ returns-else-renumber-clause-answer c parts elements is are =
     let same = parts-in c.args.datagram.now parts packet is c.new-packet.ensures.same_bytes in
     let answer = answer_of elements _ (parts_in packet) parts c.from_ids.result (ids_in_bytes c.args.ids.now.id) same c.from_ids.ensures (c.if-renumber.ensures.answer elements) are in
     (λ wrong. absurd (long_id≢ok wrong), λ has. absurd (false≢true (answer.1 has)))
+
+pub returns-in-Err-clause-without_block : goal.returns-in-Err-clause-without_block
+returns-in-Err-clause-without_block c parts is = absurd (c.in-Err.ensures.only parts is)
+
+pub returns-in-Err-clause-answer : goal.returns-in-Err-clause-answer
+returns-in-Err-clause-answer c parts elements is are = absurd (c.in-Err.ensures.only parts is)
+
+pub returns-in-Err-clause-otherwise : goal.returns-in-Err-clause-otherwise
+returns-in-Err-clause-otherwise c parts is not_ok = absurd (c.in-Err.ensures.only parts is)

@@ -1,7 +1,7 @@
-use Rattle.rtp_c.proofs.Common.{◌≡◌, ◌≢◌, ◌↔◌, ℤ, List, ℕ, sym, ◌∙◌, subst, inl, inr, rules, w32, FitsSigned, to_z-of_z, PacketParts, IsPacket, IsNoPacket, IsNoPacket-applies, no_packet-refused, one_packet, IsViewOf, IsPacketRead, ok}
+use Rattle.rtp_c.proofs.Common.{◌≡◌, ◌≢◌, ◌↔◌, ℤ, List, ℕ, sym, ◌∙◌, subst, inl, inr, rules, PacketParts, IsPacket, IsNoPacket, IsNoPacket-applies, no_packet-refused, one_packet, IsViewOf, IsPacketRead, ok}
 use Rattle.rtp_wire.proofs.PacketLemmas.{no_packet}
 use Rattle.rtp_c.specs.declared.packet.PacketView.{PacketView}
-use Rattle.rtp_c.proofs.StatusLemmas.{ok≢cause}
+use Rattle.rtp_c.proofs.StatusLemmas.{ok≢cause, passed_on}
 use Rattle.rtp_c.proofs.packet.rtpw_packet_parse.Goals as goal
 
 parts_told : (bytes : List ℕ) (status : ℤ) (old new : PacketView) (parts : PacketParts) → IsPacketRead bytes status old new → IsPacket bytes parts
@@ -17,13 +17,11 @@ refused bytes status old new (inr is) = (λ _. IsNoPacket-applies bytes is.0.cau
 pub returns-clause-parts : goal.returns-clause-parts
 returns-clause-parts c parts is =
     let call = c.read_packet in
-    let fits : FitsSigned w32 call.result = search rules in
-    subst (λ (status : ℤ). (status ≡ ok) × IsViewOf c.args.datagram.now parts call.new.packet) (sym (to_z-of_z w32 call.result fits))
+    passed_on call.result (search rules) (λ (z : ℤ). (z ≡ ok) × IsViewOf c.args.datagram.now parts call.new.packet)
     (parts_told c.args.datagram.now call.result c.args.packet.now call.new.packet parts call.ensures is)
 
 pub returns-clause-refused : goal.returns-clause-refused
 returns-clause-refused c =
     let call = c.read_packet in
-    let fits : FitsSigned w32 call.result = search rules in
-    subst (λ (status : ℤ). (status ≢ ok) ↔ IsNoPacket c.args.datagram.now) (sym (to_z-of_z w32 call.result fits))
+    passed_on call.result (search rules) (λ (z : ℤ). (z ≢ ok) ↔ IsNoPacket c.args.datagram.now)
     (refused c.args.datagram.now call.result c.args.packet.now call.new.packet call.ensures)

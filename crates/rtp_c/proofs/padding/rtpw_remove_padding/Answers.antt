@@ -8,12 +8,6 @@ has_unpadded : (q parts : PacketParts) (new bytes : List ℕ) (len : ℕ) → q 
 has_unpadded q parts new bytes len parts-is bytes-is has =
     subst (λ (b : List ℕ). HasUnpadded parts b len) bytes-is (subst (λ (p : PacketParts). HasUnpadded p new len) parts-is has)
 
-pub returns-in-Err-clause-too_long : goal.returns-in-Err-clause-too_long
-returns-in-Err-clause-too_long c parts is = absurd (c.in-Err.ensures.only parts is)
-
-pub returns-in-Err-clause-otherwise : goal.returns-in-Err-clause-otherwise
-returns-in-Err-clause-otherwise c parts is not_ok = absurd (c.in-Err.ensures.only parts is)
-
 pub returns-in_default-clause-too_long : goal.returns-in_default-clause-too_long
 returns-in_default-clause-too_long c parts is =
     let same = parts-in c.args.datagram.now parts c.new-packet.result is c.new-packet.ensures.same_bytes in (
@@ -33,6 +27,12 @@ returns-in-Some-clause-too_long c parts is =
       λ both. absurd (false≢true (sym (c.in-Some.ensures.refused.1
           (subst (λ (q : PacketParts). (q.has_padding ≡ true) × (length q.payload < padding_count q.payload)) same both)))),
     )
+
+pub returns-in-Err-clause-too_long : goal.returns-in-Err-clause-too_long
+returns-in-Err-clause-too_long c parts is = absurd (c.in-Err.ensures.only parts is)
+
+pub returns-in-Err-clause-otherwise : goal.returns-in-Err-clause-otherwise
+returns-in-Err-clause-otherwise c parts is not_ok = absurd (c.in-Err.ensures.only parts is)
 
 pub returns-in-Some-clause-cause : goal.returns-in-Some-clause-cause
 returns-in-Some-clause-cause c none = absurd (false≢true (c.in-Ok.ensures.refused.1 none))

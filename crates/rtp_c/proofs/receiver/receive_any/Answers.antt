@@ -1,4 +1,6 @@
-use Rattle.rtp_c.proofs.JudgingLemmas.{IsJudgedAs-passed_on}
+use Rattle.rtp_c.proofs.Common.{ℤ, rules}
+use Rattle.rtp_c.specs.Judging.{IsJudgedAs}
+use Rattle.rtp_c.proofs.StatusLemmas.{passed_on}
 use Rattle.rtp_c.proofs.receiver.receive_any.Goals as goal
 
 pub returns-clause-judged : goal.returns-clause-judged
@@ -7,5 +9,5 @@ returns-clause-judged c count taken holds =
     record {
       number = number;
       is_number = c.rtpw_receiver_number_of-extended.ensures.nearest count taken holds;
-      judged = IsJudgedAs-passed_on count taken number c.take.result c.take.new.written c.take.new.receiver (c.take.ensures.judged count taken holds);
+      judged = passed_on c.take.result (search rules) (λ (z : ℤ). IsJudgedAs count taken number z c.take.new.written c.take.new.receiver) (c.take.ensures.judged count taken holds);
     }

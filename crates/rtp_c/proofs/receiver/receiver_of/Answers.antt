@@ -1,12 +1,6 @@
-use Rattle.rtp_c.proofs.Common.{◌≡◌, Bool, true, false, ◌||◌, ◌/◌, refl, sym, ◌∙◌, subst, arith, Numbers, Keeps-shown, ReceiverState, Holds, IsNothing}
+use Rattle.rtp_c.proofs.Common.{◌≡◌, Bool, true, false, ◌||◌, ◌/◌, refl, sym, ◌∙◌, subst, arith, Keeps-shown, ReceiverState, Holds}
+use Rattle.rtp_c.proofs.StoredWideLemmas.{none, nothing}
 use Rattle.rtp_c.proofs.receiver.receiver_of.Goals as goal
-
-none : Numbers
-none = λ n. false
-
-nothing : IsNothing none
-unfolding none
-nothing n = refl
 
 or_true : (x : Bool) → (x || true) ≡ true
 or_true true = refl

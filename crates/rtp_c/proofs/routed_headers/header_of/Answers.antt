@@ -5,12 +5,6 @@ use Rattle.rtp_c.specs.RoutedHeaders.{payload}
 use Rattle.rtp_c.proofs.RoutedLemmas.{no-bytes, all-header}
 use Rattle.rtp_c.proofs.routed_headers.header_of.Goals as goal
 
-pub returns-in-Err-clause-whole : goal.returns-in-Err-clause-whole
-returns-in-Err-clause-whole c = (
-  λ wrong. absurd (false≢true wrong),
-  λ whole. absurd (c.in-Err.ensures.only whole.is_header.parts whole.is_header.is_packet),
-)
-
 pub returns-then-header_len-len-clause-whole : goal.returns-then-header_len-len-clause-whole
 returns-then-header_len-len-clause-whole c =
     let header = c.in-Ok.header in
@@ -44,3 +38,9 @@ returns-clause-whole c =
       },
       λ _. refl,
     )
+
+pub returns-in-Err-clause-whole : goal.returns-in-Err-clause-whole
+returns-in-Err-clause-whole c = (
+  λ wrong. absurd (false≢true wrong),
+  λ whole. absurd (c.in-Err.ensures.only whole.is_header.parts whole.is_header.is_packet),
+)

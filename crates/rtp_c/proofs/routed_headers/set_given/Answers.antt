@@ -1,22 +1,12 @@
 use Rattle.std.proofs.Common.{rules, not, nat_eq}
-use Rattle.rtp_c.proofs.Common.{◌≡◌, ℕ, Bool, Option, refl, ap, subst, sym, ◌∙◌, arith, Fields, with_header_fields}
+use Rattle.rtp_c.proofs.Common.{◌≡◌, ℕ, Bool, Option, refl, ap, ◌∙◌, arith, with_header_fields}
 use Rattle.rtp_wire.specs.Packet.{PacketParts}
 use Rattle.rtp_wire.proofs.BytesBetween.{ChangesOnly-then, in_fixed_part}
 use Rattle.rtp_route.proofs.ByCallsLemmas.{fields-in, only-in}
+use Rattle.rtp_route.specs.Calls.{no_fields}
 use Rattle.rtp_c.specs.Given.{is_nonzero, given}
 use Rattle.rtp_c.specs.SetFields.{fields_given}
-use Rattle.rtp_c.proofs.ChangeLemmas.{no_fields, no_fields-each}
 use Rattle.rtp_c.proofs.routed_headers.set_given.Goals as goal
-
--- a packet with each of these fields in turn has all of them
-each : (none : Fields) (marker : Option Bool) (pt number timestamp ssrc : Option ℕ) (parts : PacketParts) → none ≡ no_fields
-    → with_header_fields (record none { ssrc = ssrc }) (with_header_fields (record none { timestamp = timestamp }) (with_header_fields (record none { sequence_number = number })
-    (with_header_fields (record none { payload_type = pt }) (with_header_fields (record none { marker = marker }) parts))))
-    ≡ with_header_fields (record { marker = marker; payload_type = pt; sequence_number = number; timestamp = timestamp; ssrc = ssrc }) parts
-each none marker pt number timestamp ssrc parts is =
-    subst (λ (f : Fields). with_header_fields (record f { ssrc = ssrc }) (with_header_fields (record f { timestamp = timestamp }) (with_header_fields (record f { sequence_number = number })
-    (with_header_fields (record f { payload_type = pt }) (with_header_fields (record f { marker = marker }) parts))))
-    ≡ with_header_fields (record { marker = marker; payload_type = pt; sequence_number = number; timestamp = timestamp; ssrc = ssrc }) parts) (sym is) refl
 
 nonzero : (flag : ℕ) → not (nat_eq flag 0) ≡ is_nonzero flag
 nonzero flag = search rules
@@ -28,24 +18,20 @@ joined m marker p pt n number t timestamp s ssrc ms ps ns ts ss parts = rw (ms, 
 
 pub returns-clause-set : goal.returns-clause-set
 returns-clause-set c parts is =
-    let none = c.default-none.result in
-    let none_is = no_fields-each none c.default-none.ensures in
     let view = c.args.view.now in
     let marker_is : c.given.result ≡ given view.has_marker (is_nonzero view.marker) = c.given.ensures ∙ ap (given view.has_marker) (nonzero view.marker) in
     let pt_is : c.given-2.result ≡ given view.has_payload_type view.payload_type = c.given-2.ensures ∙ ap (given view.has_payload_type) c.from.ensures in
     let ssrc_is : c.given-5.result ≡ given view.has_ssrc view.ssrc = c.given-5.ensures ∙ ap (given view.has_ssrc) c.from-2.ensures in
     fields-in (fields_given view) c.new-packet.result c.set_fields-5.new.self c.args.buf.now _ parts (omega (arith, c.type_inv.buf 1)) c.new-packet.ensures.same_bytes (search rules) is
     (c.set_fields-5.ensures.parts
-    ∙ ap (with_header_fields (record none { ssrc = c.given-5.result })) (c.set_fields-4.ensures.parts
-    ∙ ap (with_header_fields (record none { timestamp = c.given-4.result })) (c.set_fields-3.ensures.parts
-    ∙ ap (with_header_fields (record none { sequence_number = c.given-3.result })) (c.set_fields-2.ensures.parts
-    ∙ ap (with_header_fields (record none { payload_type = c.given-2.result })) c.set_fields.ensures.parts)))
-    ∙ each none c.given.result c.given-2.result c.given-3.result c.given-4.result c.given-5.result _ none_is
+    ∙ ap (with_header_fields (record no_fields { ssrc = c.given-5.result })) (c.set_fields-4.ensures.parts
+    ∙ ap (with_header_fields (record no_fields { timestamp = c.given-4.result })) (c.set_fields-3.ensures.parts
+    ∙ ap (with_header_fields (record no_fields { sequence_number = c.given-3.result })) (c.set_fields-2.ensures.parts
+    ∙ ap (with_header_fields (record no_fields { payload_type = c.given-2.result })) c.set_fields.ensures.parts)))
     ∙ joined _ _ _ _ _ _ _ _ _ _ marker_is pt_is c.given-3.ensures c.given-4.ensures ssrc_is _)
 
 pub returns-clause-fixed : goal.returns-clause-fixed
 returns-clause-fixed c =
-    let none = c.default-none.result in
     only-in 1 12 c.new-packet.result.datagram.now c.set_fields-5.new.self.datagram.now _ _ c.new-packet.ensures.same_bytes (search rules)
     (ChangesOnly-then 1 12 1 12 _ c.set_fields-4.new.self.datagram.now _
     (ChangesOnly-then 1 12 1 12 _ c.set_fields-3.new.self.datagram.now _

@@ -12,7 +12,14 @@ use Rattle.rtp_c.specs.StoredTemplate.{slots_of}
 use Rattle.rtp_route.proofs.ByCallsLemmas.{alone_parts, header-is, header-alone, header_in-length}
 use Rattle.rtp_c.proofs.RoutedLemmas.{receivers-header, receivers-unpadded, length-slice, len-packet, len-again}
 use Rattle.rtp_c.proofs.routed_headers.write_at.Goals as goal
-use Rattle.rtp_c.proofs.routed_headers.write_at.Goals.{else-receiver-ne0-via-then-receiver-ne0+else-receiver-gt127, else-receiver-ne0-via-else-receiver-ne0}
+use Rattle.rtp_c.proofs.routed_headers.write_at.Goals.{In-Some, else-receiver-ne0-via-then-receiver-ne0+else-receiver-gt127, else-receiver-ne0-via-else-receiver-ne0}
+
+-- the fields can be set
+can_be_set : (c : In-Some) → CanBeSet c.args.receiver.now.fields
+can_be_set c = elim c.else-receiver-ne0.branch [
+  | else-receiver-ne0-via-then-receiver-ne0+else-receiver-gt127 w ↦ λ _. w.if-receiver-gt127.false
+  | else-receiver-ne0-via-else-receiver-ne0 w ↦ λ some. absurd (omega (arith, some, w.if-receiver-ne0.false))
+]
 
 pub returns-then-receiver-ne0-2-clause-written : goal.returns-then-receiver-ne0-2-clause-written
 returns-then-receiver-ne0-2-clause-written c =
@@ -20,11 +27,7 @@ returns-then-receiver-ne0-2-clause-written c =
     let header = calls.header_in c.args.header.now in
     let slots = slots_of c.args.slots.made.now in
     let bytes = c.args.bytes.now in
-    let can : CanBeSet receiver.fields =
-    elim c.else-receiver-ne0.branch [
-      | else-receiver-ne0-via-then-receiver-ne0+else-receiver-gt127 w ↦ λ _. w.if-receiver-gt127.false
-      | else-receiver-ne0-via-else-receiver-ne0 w ↦ λ some. absurd (omega (arith, some, w.if-receiver-ne0.false))
-    ] in
+    let can = can_be_set (goal.at.returns-then-receiver-ne0-2-clause-written c).In-Some in
     let some : 0 < receiver.is_retransmission = omega (arith, c.if-receiver-ne0-2.true) in
     let data_is : c.in-Some.own.now ≡ slice_at bytes receiver.data_at (total_of slots) = c.in-Some.ensures.found.1 ∙ ap (slice_at bytes receiver.data_at) c.requires.total in
     let is = c.in-Some-write_again.ensures.written in
@@ -45,11 +48,7 @@ pub returns-in_default-write_again-clause-refused : goal.returns-in_default-writ
 returns-in_default-write_again-clause-refused c =
     let receiver = c.args.receiver.now in
     let header = calls.header_in c.args.header.now in
-    let can : CanBeSet receiver.fields =
-    elim c.else-receiver-ne0.branch [
-      | else-receiver-ne0-via-then-receiver-ne0+else-receiver-gt127 w ↦ λ _. w.if-receiver-gt127.false
-      | else-receiver-ne0-via-else-receiver-ne0 w ↦ λ some. absurd (omega (arith, some, w.if-receiver-ne0.false))
-    ] in
+    let can = can_be_set (goal.at.returns-in_default-write_again-clause-refused c).In-Some in
     let some : 0 < receiver.is_retransmission = omega (arith, c.if-receiver-ne0-2.true) in
     let len = len-again header receiver some in
     let long = header_in-length c.args.header.now in
@@ -62,11 +61,7 @@ pub returns-then-len-buf-clause-refused : goal.returns-then-len-buf-clause-refus
 returns-then-len-buf-clause-refused c =
     let receiver = c.args.receiver.now in
     let header = calls.header_in c.args.header.now in
-    let can : CanBeSet receiver.fields =
-    elim c.else-receiver-ne0.branch [
-      | else-receiver-ne0-via-then-receiver-ne0+else-receiver-gt127 w ↦ λ _. w.if-receiver-gt127.false
-      | else-receiver-ne0-via-else-receiver-ne0 w ↦ λ some. absurd (omega (arith, some, w.if-receiver-ne0.false))
-    ] in
+    let can = can_be_set (goal.at.returns-then-len-buf-clause-refused c).In-Some in
     let len = len-packet header receiver (omega (arith, c.if-receiver-ne0-2.false)) in
     record {
       served = λ _. (refl, omega (arith, c.if-len-buf.true, c.requires.place, len, header_in-length c.args.header.now, c.header_len-len.ensures));
@@ -87,11 +82,7 @@ returns-clause-written c =
     let at = c.args.at in
     let len = c.header_len-len.result in
     let long = header_in-length c.args.header.now in
-    let can : CanBeSet receiver.fields =
-    elim c.else-receiver-ne0.branch [
-      | else-receiver-ne0-via-then-receiver-ne0+else-receiver-gt127 w ↦ λ _. w.if-receiver-gt127.false
-      | else-receiver-ne0-via-else-receiver-ne0 w ↦ λ some. absurd (omega (arith, some, w.if-receiver-ne0.false))
-    ] in
+    let can = can_be_set (goal.at.returns-clause-written c).In-Some in
     let none : receiver.is_retransmission ≡ 0 = omega (arith, c.if-receiver-ne0-2.false) in
     let copied : c.copy_header.new.buf ≡ header = c.copy_header.ensures ∙ header-is c.args.header.now c.header_bytes.result.now c.header_bytes.ensures.front c.header_bytes.ensures.alone in
     let alone : len_for header receiver ≡ length header = len-packet header receiver none in
@@ -144,10 +135,7 @@ set_given-requires c =
         form_is = c.form.ensures;
         len_is = omega arith;
       };
-      payload_type = elim c.else-receiver-ne0.branch [
-        | else-receiver-ne0-via-then-receiver-ne0+else-receiver-gt127 w ↦ λ _. w.if-receiver-gt127.false
-        | else-receiver-ne0-via-else-receiver-ne0 w ↦ λ some. absurd (omega (arith, some, w.if-receiver-ne0.false))
-      ];
+      payload_type = can_be_set (goal.at.set_given-requires c).In-Some;
     }
 
 pub fill_joined-requires : goal.fill_joined-requires

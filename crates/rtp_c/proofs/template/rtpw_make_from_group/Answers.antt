@@ -1,4 +1,4 @@
-use Rattle.rtp_c.proofs.Common.{◌≡◌, ℕ, List, length, sym, ap, subst, ◌∙◌, arith, refl, false≢true, All, ◌+◌, ◌≤◌}
+use Rattle.rtp_c.proofs.Common.{◌≡◌, ℕ, List, length, sym, ap, subst, ◌∙◌, arith, refl, false≢true, All, ◌+◌, ◌≤◌, rules}
 use Rattle.std.proofs.Common.{take, length-take}
 use Rattle.rtp_ext.specs.NewIds.{new_id}
 use Rattle.rtp_route.specs.declared.not_routed.NotRouted.{NotRouted}
@@ -20,12 +20,6 @@ kept-same one other old bytes room cause same same_bytes kept =
     subst (λ (b : List ℕ). KeepsFromRouting b no_fields (new_id (ids_in other)) (elements_in other) (form_of other.allowed) room cause) same_bytes
     (subst (λ (g : StoredGroup). KeepsFromRouting old no_fields (new_id (ids_in g)) (elements_in g) (form_of g.allowed) room cause) same kept)
 
-pub returns-in-Err-clause-refusal : goal.returns-in-Err-clause-refusal
-returns-in-Err-clause-refusal c is_group not_ok parts is = absurd (c.in-Err.ensures.only parts is)
-
-pub returns-in-Err-clause-refused : goal.returns-in-Err-clause-refused
-returns-in-Err-clause-refused c is_group parts is = absurd (c.in-Err.ensures.only parts is)
-
 pub store-requires-clause-short : goal.store-requires-clause-short
 store-requires-clause-short c =
     subst (λ (n : ℕ). All (λ (s : Slot). s.len ≤ 255) (take n c.make_from_table.new.slots)) (sym c.count.ensures)
@@ -45,9 +39,6 @@ returns-in-Ok-make_from_table-clause-in_range c is_ok =
       total_is = c.store.ensures.total ∙ ap total_of (sym c.store.ensures.slots);
     }
 
-pub returns-in-Ok-make_from_table-clause-cause : goal.returns-in-Ok-make_from_table-clause-cause
-returns-in-Ok-make_from_table-clause-cause c is_group none = absurd (false≢true (c.in-Ok.ensures.refused.1 none))
-
 pub returns-in-Ok-make_from_table-clause-refused : goal.returns-in-Ok-make_from_table-clause-refused
 returns-in-Ok-make_from_table-clause-refused c is_group parts is = (
   λ wrong. absurd (wrong refl),
@@ -56,10 +47,7 @@ returns-in-Ok-make_from_table-clause-refused c is_group parts is = (
 )
 
 pub returns-in-Err-make_from_table-clause-made : goal.returns-in-Err-make_from_table-clause-made
-returns-in-Err-make_from_table-clause-made c is_ok = absurd (not_routed≢ok c.not_routed_status.result c.in-Err-make_from_table.cause c.not_routed_status.ensures is_ok)
-
-pub returns-in-Err-make_from_table-clause-cause : goal.returns-in-Err-make_from_table-clause-cause
-returns-in-Err-make_from_table-clause-cause c is_group none = absurd (false≢true (c.in-Ok.ensures.refused.1 none))
+returns-in-Err-make_from_table-clause-made c is_ok = absurd (not_routed≢ok c.not_routed_status.result c.in-Err-make_from_table.cause (search rules) c.not_routed_status.ensures is_ok)
 
 pub returns-in-Err-make_from_table-clause-refusal : goal.returns-in-Err-make_from_table-clause-refusal
 returns-in-Err-make_from_table-clause-refusal c is_group not_ok parts is =
@@ -67,7 +55,7 @@ returns-in-Err-make_from_table-clause-refusal c is_group not_ok parts is =
       cause = c.in-Err-make_from_table.cause;
       applies = kept-same _ _ _ _ (length c.args.buf.now) c.in-Err-make_from_table.cause c.in-Some.ensures.same
           (header-of c.in-Ok.packet c.args.datagram.now parts c.in-Ok.ensures.bytes (c.in-Ok.ensures.only parts is)) c.in-Err-make_from_table.ensures.cause;
-      status_is = not_routed-is c.not_routed_status.result c.in-Err-make_from_table.cause c.not_routed_status.ensures;
+      status_is = not_routed-is c.not_routed_status.result c.in-Err-make_from_table.cause (search rules) c.not_routed_status.ensures;
     }
 
 pub returns-in-Err-make_from_table-clause-refused : goal.returns-in-Err-make_from_table-clause-refused
@@ -77,5 +65,17 @@ returns-in-Err-make_from_table-clause-refused c is_group parts is = (
     kept-same _ _ _ _ (length c.args.buf.now) c.in-Err-make_from_table.cause c.in-Some.ensures.same
         (header-of c.in-Ok.packet c.args.datagram.now parts c.in-Ok.ensures.bytes (c.in-Ok.ensures.only parts is)) c.in-Err-make_from_table.ensures.cause,
   ),
-  λ _ is_ok. not_routed≢ok c.not_routed_status.result c.in-Err-make_from_table.cause c.not_routed_status.ensures is_ok,
+  λ _ is_ok. not_routed≢ok c.not_routed_status.result c.in-Err-make_from_table.cause (search rules) c.not_routed_status.ensures is_ok,
 )
+
+pub returns-in-Err-clause-refusal : goal.returns-in-Err-clause-refusal
+returns-in-Err-clause-refusal c is_group not_ok parts is = absurd (c.in-Err.ensures.only parts is)
+
+pub returns-in-Err-clause-refused : goal.returns-in-Err-clause-refused
+returns-in-Err-clause-refused c is_group parts is = absurd (c.in-Err.ensures.only parts is)
+
+pub returns-in-Ok-make_from_table-clause-cause : goal.returns-in-Ok-make_from_table-clause-cause
+returns-in-Ok-make_from_table-clause-cause c is_group none = absurd (false≢true (c.in-Ok.ensures.refused.1 none))
+
+pub returns-in-Err-make_from_table-clause-cause : goal.returns-in-Err-make_from_table-clause-cause
+returns-in-Err-make_from_table-clause-cause c is_group none = absurd (false≢true (c.in-Ok.ensures.refused.1 none))

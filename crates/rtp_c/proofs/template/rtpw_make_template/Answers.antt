@@ -1,4 +1,4 @@
-use Rattle.rtp_c.proofs.Common.{ℕ, List, length, sym, ap, subst, ◌∙◌, arith, refl, false≢true, All, ◌+◌, ◌≤◌}
+use Rattle.rtp_c.proofs.Common.{ℕ, List, length, sym, ap, subst, ◌∙◌, arith, refl, false≢true, All, ◌+◌, ◌≤◌, rules}
 use Rattle.std.proofs.Common.{take, length-take}
 use Rattle.rtp_wire.specs.Packet.{header_len_of}
 use Rattle.rtp_route.specs.declared.slots.Slot.{Slot}
@@ -34,10 +34,7 @@ returns-in-Ok-make_template-clause-in_range c is_ok =
     }
 
 pub returns-in-Err-make_template-clause-made : goal.returns-in-Err-make_template-clause-made
-returns-in-Err-make_template-clause-made c form same is_ok = absurd (not_routed≢ok c.not_routed_status.result c.in-Err-make_template.cause c.not_routed_status.ensures is_ok)
-
-pub returns-in-Err-make_template-clause-cause : goal.returns-in-Err-make_template-clause-cause
-returns-in-Err-make_template-clause-cause c form named_is none = absurd (false≢true (c.in-Ok.ensures.refused.1 none))
+returns-in-Err-make_template-clause-made c form same is_ok = absurd (not_routed≢ok c.not_routed_status.result c.in-Err-make_template.cause (search rules) c.not_routed_status.ensures is_ok)
 
 pub returns-in-Err-make_template-clause-refusal : goal.returns-in-Err-make_template-clause-refusal
 returns-in-Err-make_template-clause-refusal c form named_is not_ok parts is =
@@ -47,7 +44,7 @@ returns-in-Err-make_template-clause-refusal c form named_is not_ok parts is =
           (header-of c.in-Ok.packet c.args.datagram.now parts c.in-Ok.ensures.bytes (c.in-Ok.ensures.only parts is)) c.from_ids-ids.ensures
           c.in-Some-new.ensures.elements
           (one_allowed c.in-Some.allowed form (c.in-Some.ensures.found ∙ sym named_is.form_is)) c.in-Err-make_template.ensures.cause;
-      status_is = not_routed-is c.not_routed_status.result c.in-Err-make_template.cause c.not_routed_status.ensures;
+      status_is = not_routed-is c.not_routed_status.result c.in-Err-make_template.cause (search rules) c.not_routed_status.ensures;
     }
 
 pub returns-in-Err-make_template-clause-refused : goal.returns-in-Err-make_template-clause-refused
@@ -59,7 +56,7 @@ returns-in-Err-make_template-clause-refused c form named_is parts is = (
         c.in-Some-new.ensures.elements
         (one_allowed c.in-Some.allowed form (c.in-Some.ensures.found ∙ sym named_is.form_is)) c.in-Err-make_template.ensures.cause,
   ),
-  λ _ is_ok. not_routed≢ok c.not_routed_status.result c.in-Err-make_template.cause c.not_routed_status.ensures is_ok,
+  λ _ is_ok. not_routed≢ok c.not_routed_status.result c.in-Err-make_template.cause (search rules) c.not_routed_status.ensures is_ok,
 )
 
 pub returns-in-Ok-make_template-clause-refused : goal.returns-in-Ok-make_template-clause-refused
@@ -82,11 +79,14 @@ returns-in-Ok-make_template-clause-bad_group c none =
       few = omega (arith, c.if-elements-gt-MAX_ELEMENTS.false);
     }))
 
-pub returns-in-Ok-make_template-clause-cause : goal.returns-in-Ok-make_template-clause-cause
-returns-in-Ok-make_template-clause-cause c form named_is none = absurd (false≢true (c.in-Ok.ensures.refused.1 none))
-
 pub returns-in-Err-clause-refusal : goal.returns-in-Err-clause-refusal
 returns-in-Err-clause-refusal c form named_is not_ok parts is = absurd (c.in-Err.ensures.only parts is)
 
 pub returns-in-Err-clause-refused : goal.returns-in-Err-clause-refused
 returns-in-Err-clause-refused c form named_is parts is = absurd (c.in-Err.ensures.only parts is)
+
+pub returns-in-Err-make_template-clause-cause : goal.returns-in-Err-make_template-clause-cause
+returns-in-Err-make_template-clause-cause c form named_is none = absurd (false≢true (c.in-Ok.ensures.refused.1 none))
+
+pub returns-in-Ok-make_template-clause-cause : goal.returns-in-Ok-make_template-clause-cause
+returns-in-Ok-make_template-clause-cause c form named_is none = absurd (false≢true (c.in-Ok.ensures.refused.1 none))

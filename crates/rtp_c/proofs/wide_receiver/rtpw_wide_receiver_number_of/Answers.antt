@@ -1,13 +1,6 @@
-use Rattle.rtp_c.proofs.Common.{◌/◌, false, refl, inl, inr, arith, Some, ring_size, ring_bits, Numbers, IsNothing}
-use Rattle.rtp_c.proofs.StoredWideLemmas.{kept, HoldsWindow-some}
+use Rattle.rtp_c.proofs.Common.{◌/◌, false, refl, inl, inr, arith, Some, ring_size, ring_bits}
+use Rattle.rtp_c.proofs.StoredWideLemmas.{kept, HoldsWindow-some, none, nothing}
 use Rattle.rtp_c.proofs.wide_receiver.rtpw_wide_receiver_number_of.Goals as goal
-
-none : Numbers
-none = λ n. false
-
-nothing : IsNothing none
-unfolding none
-nothing n = refl
 
 pub returns-then-receiver-eq0-clause-some : goal.returns-then-receiver-eq0-clause-some
 returns-then-receiver-eq0-clause-some c words some = (c.args.receiver.now.highest / 65536, none, inl (c.if-receiver-eq0.true, refl, nothing))

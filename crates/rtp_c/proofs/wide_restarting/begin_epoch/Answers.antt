@@ -1,7 +1,6 @@
 use Rattle.std.proofs.Common.{◌<◌, length, refl, inr, arith}
 use Rattle.rtp_base.specs.Window.{including}
-use Rattle.rtp_c.proofs.StoredWideLemmas.{first_bit, first-kept, kept_there, HoldsWindow-kept}
-use Rattle.rtp_c.proofs.WideRestartingLemmas.{none, nothing}
+use Rattle.rtp_c.proofs.StoredWideLemmas.{first_bit, first-kept, kept_there, HoldsWindow-kept, none, nothing}
 use Rattle.rtp_c.proofs.wide_restarting.begin_epoch.Goals as goal
 
 pub returns-clause-held : goal.returns-clause-held

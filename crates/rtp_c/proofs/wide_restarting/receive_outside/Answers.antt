@@ -1,11 +1,12 @@
-use Rattle.std.proofs.Common.{refl, ap, inr}
+use Rattle.std.proofs.Common.{ℤ, refl, ap, inr, rules}
 use Rattle.rtp_receive.specs.Restarting.{first_number}
 use Rattle.rtp_receive.specs.RestartingState.{Leads}
 use Rattle.rtp_receive.specs.declared.restarting_verdict.RestartingVerdict.TheVariants.{Refused}
 use Rattle.rtp_receive.proofs.RestartingLemmas.{Begins-to}
 use Rattle.rtp_c.specs.declared.wide_restarting.StoredWideRestarting.{StoredWideRestarting}
-use Rattle.rtp_c.specs.StoredWideRestarting.{bounds_with}
-use Rattle.rtp_c.proofs.WideRestartingLemmas.{answered_first, IsAnsweredWith-passed_on}
+use Rattle.rtp_c.specs.StoredWideRestarting.{bounds_with, IsAnsweredWith}
+use Rattle.rtp_c.proofs.StatusLemmas.{passed_on}
+use Rattle.rtp_c.proofs.WideRestartingLemmas.{answered_first}
 use Rattle.rtp_c.proofs.wide_restarting.receive_outside.Goals as goal
 
 pub returns-in-None-clause-answered : goal.returns-in-None-clause-answered
@@ -40,7 +41,7 @@ returns-in-Some-clause-answered c taken holds outside =
     let highest = c.highest_of-highest.result in
     let low = c.args.sequence_number in
     let top = c.highest_of-highest.ensures.highest c.args.words.now c.requires taken holds in
-    IsAnsweredWith-passed_on old c.args.words.now taken low c.begin_epoch.result c.begin_epoch.new.number new words
+    passed_on c.begin_epoch.result (search rules) (λ (z : ℤ). IsAnsweredWith old c.args.words.now taken low z c.begin_epoch.new.number new words)
     (answered_first old new c.args.words.now words taken highest low c.in-Some.first c.begin_epoch.result c.begin_epoch.new.number c.begin-first.new.self.len c.begin-first.new.self.next outside top
     c.highest_of-highest.ensures.empty (λ h is. (c.highest_of-highest.ensures.started h is).0) (c.in-Some.ensures.begins c.in-Some.first refl) c.in-Some.ensures.row
     c.begin_epoch.ensures.status c.begin_epoch.ensures.written c.begin_epoch.ensures.held

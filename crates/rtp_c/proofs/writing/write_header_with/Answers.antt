@@ -1,14 +1,8 @@
 use Rattle.rtp_c.proofs.Common.{rules, refl, length, true≢false, elements_in}
 use Rattle.rtp_wire.specs.WrittenWith.{no_block}
 use Rattle.rtp_c.proofs.WrittenHeaderLemmas.{AreNamed, CanBeWrittenWith-named, IsWrittenWith-named, IsTooLongWith-named, IsTooLongWith-not}
-use Rattle.rtp_c.proofs.writing.write_header_with.Goals as goal
 use Rattle.rtp_c.proofs.writing.write_header_with.Goals.{In-Some-new}
-
-pub returns-in_default-clause-short : goal.returns-in_default-clause-short
-returns-in_default-clause-short c = (λ is. search rules, λ too. absurd (c.in_default.ensures.none too.header too.is_given.fields))
-
-pub returns-in_default-clause-bad_field : goal.returns-in_default-clause-bad_field
-returns-in_default-clause-bad_field c = (λ _ header can. c.in_default.ensures.none header can.fields, λ _. refl)
+use Rattle.rtp_c.proofs.writing.write_header_with.Goals as goal
 
 -- what is given
 given : (c : In-Some-new) → AreNamed c.args.header.now c.args.bytes.now c.args.elements.now (elements_in c.in-Some-new.named.bytes.now c.in-Some-new.named.views.now) c.in-Some.fields
@@ -50,3 +44,9 @@ returns-in-Some-for_elements-clause-bad_field c = (
       (CanBeWrittenWith-named c.args.allowed c.args.header.now c.args.bytes.now c.args.elements.now _ c.in-Some.fields (given (goal.at.returns-in-Some-for_elements-clause-bad_field c).In-Some-new)
       (λ none. true≢false (c.in-Some-for_elements.ensures.refused.1 none)))),
 )
+
+pub returns-in_default-clause-short : goal.returns-in_default-clause-short
+returns-in_default-clause-short c = (λ is. search rules, λ too. absurd (c.in_default.ensures.none too.header too.is_given.fields))
+
+pub returns-in_default-clause-bad_field : goal.returns-in_default-clause-bad_field
+returns-in_default-clause-bad_field c = (λ _ header can. c.in_default.ensures.none header can.fields, λ _. refl)

@@ -1,28 +1,12 @@
-use Rattle.std.proofs.Common.{◌≡◌, refl}
 use Rattle.rtp_wire.specs.Written.{with_values}
-use Rattle.rtp_c.specs.Status.{ok, bad_field}
 use Rattle.rtp_c.specs.StoredMap.{numbered_slots}
 use Rattle.rtp_c.proofs.NumberedLemmas.{HasKinds-numbered}
-use Rattle.rtp_c.proofs.WrittenHeaderLemmas.{IsGivenHeader-with}
 use Rattle.rtp_c.proofs.writing_values.rtpw_wire_len.Goals as goal
 
 pub returns-clause-length : goal.returns-clause-length
 returns-clause-length c is_ok = record {
   slots = numbered_slots c.args.map.now.kind;
-  header = with_values c.in-Some-of.fields c.in-Some.values;
-  is_given = record { has_kinds = HasKinds-numbered c.args.map.now.kind; is_given = IsGivenHeader-with c.args.header.now c.in-Some-of.fields c.in-Some.values c.in-Some-of.ensures.found c.in-Some.ensures.found };
+  header = with_values c.in-Some.fields c.in-Some.values;
+  is_given = record { has_kinds = HasKinds-numbered c.args.map.now.kind; is_given = c.in-Some.ensures.found };
   len_is = c.values_wire_len.ensures.length;
 }
-
-pub returns-in_default-clause-bad_field : goal.returns-in_default-clause-bad_field
-returns-in_default-clause-bad_field c = (λ _ h is. c.in_default.ensures.none h.ext_vals is.values, λ _. refl)
-
-pub returns-in_default-of-clause-bad_field : goal.returns-in_default-of-clause-bad_field
-returns-in_default-of-clause-bad_field c = (λ _ h is. c.in_default-of.ensures.none h is.fields, λ _. refl)
-
-ok_is_not : ok ≡ bad_field → ⊥
-ok_is_not same = cc
-
-pub returns-clause-bad_field : goal.returns-clause-bad_field
-returns-clause-bad_field c =
-    (λ is. absurd (ok_is_not is), λ none. absurd (none _ (IsGivenHeader-with c.args.header.now c.in-Some-of.fields c.in-Some.values c.in-Some-of.ensures.found c.in-Some.ensures.found)))

@@ -4,7 +4,7 @@ use Rattle.rtp_ext.proofs.GatheredLemmas.{others-0}
 use Rattle.rtp_ext.proofs.gathering.compact_body.Goals as goal
 
 pub returns : goal.returns
-returns g c =
+returns c =
     let gathered = c.gather_all-len.ensures in
     let row = others-0 gathered.elements in
     let count = gathered.len_is ∙ ap (λ es. length (elements_bytes c.args.form es)) row in

@@ -1,10 +1,6 @@
-use Rattle.rtp_c.proofs.Common.{◌≡◌, ℕ, ◌+◌, List, length, length-drop, drop, take, arith, rules, take_all}
-use Rattle.rtp_c.proofs.MeantLemmas.{IsIdOf-found, IsIdOf-none}
+use Rattle.rtp_c.proofs.Common.{◌≡◌, ◌+◌, length, drop, take, arith, rules}
+use Rattle.rtp_c.proofs.MeantLemmas.{rest_is, IsIdOf-found, IsIdOf-none}
 use Rattle.rtp_c.proofs.kinds.StoredMap.id_of.Goals as goal
-
--- the numbers of the ids from 1 on
-rest_is : (numbers : List ℕ) → length numbers ≡ 256 → take 255 (drop 1 numbers) ≡ drop 1 numbers
-rest_is numbers long = take_all 255 (drop 1 numbers) (omega (arith, long, length-drop 1 numbers))
 
 pub returns-in-Some : goal.returns-in-Some
 returns-in-Some c =

@@ -20,21 +20,3 @@ loop-slot-preserved c =
             (omega (arith, many, c.loop-slot-test.true)) (c.has_kind.ensures.0 c.if-not-has_kind.true) (omega (arith, now)) (omega (arith, below))
       ],
     )
-
-pub returns-else-not-has_kind-clause-after : goal.returns-else-not-has_kind-clause-after
-returns-else-not-has_kind-clause-after c = c.loop-slot.invariant.0
-
-pub returns-else-not-has_kind-clause-within : goal.returns-else-not-has_kind-clause-within
-returns-else-not-has_kind-clause-within c = c.loop-slot.invariant.1
-
-pub returns-else-not-has_kind-clause-unmapped : goal.returns-else-not-has_kind-clause-unmapped
-returns-else-not-has_kind-clause-unmapped c = c.loop-slot.invariant.2
-
-pub returns-after-loop-slot-clause-after : goal.returns-after-loop-slot-clause-after
-returns-after-loop-slot-clause-after c = c.loop-slot.invariant.0
-
-pub returns-after-loop-slot-clause-within : goal.returns-after-loop-slot-clause-within
-returns-after-loop-slot-clause-within c = c.loop-slot.invariant.1
-
-pub returns-after-loop-slot-clause-unmapped : goal.returns-after-loop-slot-clause-unmapped
-returns-after-loop-slot-clause-unmapped c = c.loop-slot.invariant.2

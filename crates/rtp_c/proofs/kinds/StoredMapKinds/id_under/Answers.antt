@@ -1,10 +1,7 @@
-use Rattle.rtp_c.proofs.Common.{◌≡◌, ◌≢◌, ◌<◌, ◌+◌, ℕ, List, arith, ap, sym, refl, ◌∙◌, subst, length, length-drop, drop, take, get_or, rules, Some, option_map, take_all, extension_of_kind, extension_at, IsNewId, IsFirstNumber, numbered_slots}
+use Rattle.rtp_c.proofs.Common.{◌≡◌, ◌≢◌, ◌<◌, ◌+◌, ℕ, ap, sym, refl, ◌∙◌, subst, length, drop, take, get_or, rules, Some, option_map, extension_of_kind, extension_at, IsNewId, IsFirstNumber, numbered_slots}
 use Rattle.rtp_c.proofs.NumberedLemmas.{numbered-found, numbered-unmapped}
+use Rattle.rtp_c.proofs.MeantLemmas.{rest_is}
 use Rattle.rtp_c.proofs.kinds.StoredMapKinds.id_under.Goals as goal
-
--- the numbers of the ids from 1 on
-rest_is : (numbers : List ℕ) → length numbers ≡ 256 → take 255 (drop 1 numbers) ≡ drop 1 numbers
-rest_is numbers long = take_all 255 (drop 1 numbers) (omega (arith, long, length-drop 1 numbers))
 
 pub returns-in_err-index-clause-new : goal.returns-in_err-index-clause-new
 returns-in_err-index-clause-new c =

@@ -48,6 +48,3 @@ returns-then-slot-ge-ALL_SLOTS-clause-none c =
       | inl low ↦ omega (arith, last_end-low c.loop-slot.slots low, c.if-slot-slots.false)
       | inr past ↦ omega (arith, (last_end-within c.loop-slot.slots c.loop-slot.invariant.1).1, past.1)
     ])
-
-pub returns-then-slot-ge-ALL_SLOTS-clause-within : goal.returns-then-slot-ge-ALL_SLOTS-clause-within
-returns-then-slot-ge-ALL_SLOTS-clause-within c = c.loop-slot.invariant.2

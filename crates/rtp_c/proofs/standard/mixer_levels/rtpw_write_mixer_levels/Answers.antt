@@ -1,21 +1,16 @@
-use Rattle.rtp_c.proofs.Common.{◌≡◌, ◌≤◌, length, arith, refl, sym, ◌∙◌, map, unsigned_abs, List, ℤ, All, length-map, ok, short_buffer, bad_field}
+use Rattle.rtp_c.proofs.Common.{◌≤◌, length, arith, refl, sym, ◌∙◌, map, unsigned_abs, List, ℤ, All, length-map}
 use Rattle.rtp_values.specs.StandardLevels.{IsLevel}
 use Rattle.rtp_c.specs.StandardLevels.{AreLevelsData}
 use Rattle.rtp_c.proofs.StandardLemmas.{StandAtFront-put}
+use Rattle.rtp_c.proofs.StatusLemmas.{bad_field≢ok, short_buffer≢bad_field}
 use Rattle.rtp_c.proofs.standard.mixer_levels.rtpw_write_mixer_levels.Goals as goal
-
-short_is_not : short_buffer ≡ bad_field → ⊥
-short_is_not same = cc
-
-ok_is_not : ok ≡ bad_field → ⊥
-ok_is_not same = cc
 
 data_of : (levels : List ℤ) → length levels ≤ 15 → All IsLevel levels → AreLevelsData levels (map unsigned_abs levels)
 data_of levels few are = record { few = few; are_levels = are; bytes_are = refl }
 
 pub returns-then-are_levels-clause-bad_field : goal.returns-then-are_levels-clause-bad_field
 returns-then-are_levels-clause-bad_field c =
-    (λ is. absurd (short_is_not is), λ nothing. absurd (nothing (map unsigned_abs c.args.levels.now) (data_of c.args.levels.now (omega (arith, c.if-levels-gt-MOST_SOURCES.false)) (c.if-are_levels.ensures.0 refl))))
+    (λ is. absurd (short_buffer≢bad_field is), λ nothing. absurd (nothing (map unsigned_abs c.args.levels.now) (data_of c.args.levels.now (omega (arith, c.if-levels-gt-MOST_SOURCES.false)) (c.if-are_levels.ensures.0 refl))))
 
 pub returns-clause-written : goal.returns-clause-written
 returns-clause-written c _ = record {
@@ -28,4 +23,4 @@ returns-clause-written c _ = record {
 
 pub returns-clause-bad_field : goal.returns-clause-bad_field
 returns-clause-bad_field c =
-    (λ is. absurd (ok_is_not is), λ nothing. absurd (nothing (map unsigned_abs c.args.levels.now) (data_of c.args.levels.now (omega (arith, c.if-levels-gt-MOST_SOURCES.false)) c.in-Some.ensures.result.0)))
+    (λ is. absurd (bad_field≢ok (sym is)), λ nothing. absurd (nothing (map unsigned_abs c.args.levels.now) (data_of c.args.levels.now (omega (arith, c.if-levels-gt-MOST_SOURCES.false)) c.in-Some.ensures.result.0)))

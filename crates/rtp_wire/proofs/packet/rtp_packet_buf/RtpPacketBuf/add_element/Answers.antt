@@ -1,80 +1,95 @@
-use Rattle.std.proofs.Common.{◌≡◌, Option, Some, [], ◌∷◌, refl, sym, ap, subst, ◌∙◌, length}
-use Rattle.std.specs.Prelude.{is_some, IfSome}
+use Rattle.std.proofs.Common.{rules, ◌≡◌, ℕ, List, [], ◌∷◌, length, arith, Some, Option, sym, ap, ◌∙◌, subst}
+use Rattle.std.specs.Prelude.{IfSome}
 use Rattle.std.proofs.lemmas.Result.{IfOk-weaker}
 use Rattle.rtp_ext.specs.declared.form.ExtensionsForm.{ExtensionsForm}
-use Rattle.rtp_wire.specs.declared.packet.not_put.NotPut.TheVariants.{ZeroId, LongData, OtherForm}
+use Rattle.rtp_ext.specs.ElementsInARow.{IsWritable}
+use Rattle.rtp_ext.specs.Elements.{Element}
+use Rattle.rtp_wire.specs.NotAPacket.{IsFirstBy}
 use Rattle.rtp_wire.specs.Packet.{PacketParts, HasOtherForm}
 use Rattle.rtp_wire.specs.PacketBuf.{bytes_of, parts_within}
-use Rattle.rtp_wire.specs.PutIntoPacket.{form_of_block}
-use Rattle.rtp_wire.specs.RemadeBlock.{RemakesBlock, form_with}
-use Rattle.rtp_wire.proofs.RemadePacketLemmas.{cause-to, kept-form, other-form, no-other, to-adding, from-adding, first-not_allowed}
+use Rattle.rtp_wire.specs.PutIntoPacket.{form_of_block, put_place}
+use Rattle.rtp_wire.specs.RemadeBlock.{RemakesBlock, form_with, KeepsFromAdding}
+use Rattle.rtp_wire.specs.RewrittenBlock.{StopsForm, RewritesBlock}
+use Rattle.rtp_wire.proofs.PacketBufLemmas.{is_packet}
+use Rattle.rtp_wire.proofs.PartsLemmas.{no_other_form}
+use Rattle.rtp_wire.proofs.PutPlanLemmas.{IsWritable-allowed}
+use Rattle.rtp_wire.proofs.PutElementLemmas.{first-of_more, form-places, cause-to}
+use Rattle.rtp_wire.proofs.RemadeLemmas.{RemakesBlock-rewritten}
+use Rattle.rtp_wire.proofs.RemadePacketLemmas.{form-to_adding, adding-to_form, to-adding, from-adding}
 use Rattle.rtp_wire.proofs.packet.rtp_packet_buf.RtpPacketBuf.add_element.Goals as goal
-use Rattle.rtp_wire.proofs.packet.rtp_packet_buf.RtpPacketBuf.add_element.Goals.{Else-has_other_form, In-Some}
+use Rattle.rtp_wire.proofs.packet.rtp_packet_buf.RtpPacketBuf.add_element.Goals.{After-form_with, In_ok-form}
+
+-- ---- the form
+
+first-form : (c : After-form_with) (cause : _) → IsFirstBy put_place (StopsForm (bytes_of c.args.self.now) (c.args.id, c.args.data.now) c.args.allowed) cause
+    → IsFirstBy put_place
+    (KeepsFromAdding (bytes_of c.args.self.now) (length c.args.self.now.buf.now) (form_of_block (parts_within c.args.self.now).block) (c.args.id, c.args.data.now) c.args.allowed) cause
+first-form c cause first =
+    let element : Element = (c.args.id, c.args.data.now) in
+    first-of_more (StopsForm (bytes_of c.args.self.now) element c.args.allowed)
+    (KeepsFromAdding (bytes_of c.args.self.now) (length c.args.self.now.buf.now) (form_of_block (parts_within c.args.self.now).block) element c.args.allowed) 7
+    (form-to_adding c.args.self.now (length c.args.self.now.buf.now) element c.args.allowed) (form-places (bytes_of c.args.self.now) element c.args.allowed)
+    (adding-to_form c.args.self.now (length c.args.self.now.buf.now) element c.args.allowed c.in_ok-check_element.ensures.fits.0 c.in_ok-check_element.ensures.fits.1) cause first
+
+pub returns-in_err-form-clause-cause : goal.returns-in_err-form-clause-cause
+returns-in_err-form-clause-cause c =
+    let found =
+    first-form (goal.at.returns-in_err-form-clause-cause c).After-form_with c.in_err-form.field-0.0
+    (subst (λ (bytes : List ℕ). IsFirstBy put_place (StopsForm bytes (c.args.id, c.args.data.now) c.args.allowed) c.in_err-form.field-0.0) c.as_packet.ensures.bytes c.in_err-form.ensures.cause) in
+    search rules
+
+pub returns-in_err-form-clause-refused : goal.returns-in_err-form-clause-refused
+returns-in_err-form-clause-refused c =
+    let found =
+    first-form (goal.at.returns-in_err-form-clause-refused c).After-form_with c.in_err-form.field-0.0
+    (subst (λ (bytes : List ℕ). IsFirstBy put_place (StopsForm bytes (c.args.id, c.args.data.now) c.args.allowed) c.in_err-form.field-0.0) c.as_packet.ensures.bytes c.in_err-form.ensures.cause) in
+    (λ _. (c.in_err-form.field-0.0, found.applies), λ _. c.from_residual-in_err-form.ensures.0)
+
+-- ---- what is rewritten
+
+some : (c : In_ok-form) → form_with (form_of_block (parts_within c.args.self.now).block) (c.args.id, c.args.data.now) c.args.allowed ≡ Some c.in_ok-form.form
+some c =
+    ap (λ (p : PacketParts). form_with (form_of_block p.block) (c.args.id, c.args.data.now) c.args.allowed) (sym c.as_packet.ensures.parts) ∙ c.in_ok-form.ensures.form
+
+writable : (c : In_ok-form) → IsWritable c.in_ok-form.form (c.args.id, c.args.data.now)
+writable c =
+    IsWritable-allowed (form_of_block (parts_within c.args.self.now).block) c.args.allowed (c.args.id, c.args.data.now) c.in_ok-form.form c.in_ok-check_element.ensures.fits.0
+    (let fits = c.ranges.id.fits in omega arith) c.in_ok-check_element.ensures.fits.1 (some c)
 
 -- no block of another profile is there
-none : (c : Else-has_other_form) → HasOtherForm (bytes_of c.args.self.now) → ⊥
-none c = no-other c.args.self.now (ap (λ (p : PacketParts). is_some p.other_block) (sym c.as_packet.ensures.parts) ∙ sym c.has_other_form.ensures ∙ c.if-has_other_form.false)
-
--- the form that the block gets
-some : (c : In-Some) → form_with (form_of_block (parts_within c.args.self.now).block) (c.args.id, c.args.data.now) c.args.allowed ≡ Some c.in-Some.form
-some c = ap (λ (was : Option ExtensionsForm). form_with was (c.args.id, c.args.data.now) c.args.allowed) (sym (kept-form c.args.self.now)) ∙ sym c.form_to_put.ensures ∙ c.in-Some.is
-
-pub returns-then-id-eq0-clause-refused : goal.returns-then-id-eq0-clause-refused
-returns-then-id-eq0-clause-refused c = (λ _. (ZeroId, c.if-id-eq0.true), λ _. refl)
-
-pub returns-then-data-gt255-clause-refused : goal.returns-then-data-gt255-clause-refused
-returns-then-data-gt255-clause-refused c = (λ _. (LongData, c.if-data-gt255.true), λ _. refl)
-
-pub returns-then-has_other_form-clause-refused : goal.returns-then-has_other_form-clause-refused
-returns-then-has_other_form-clause-refused c = (
-  λ _. (OtherForm, other-form c.args.self.now (ap (λ (p : PacketParts). is_some p.other_block) (sym c.as_packet.ensures.parts) ∙ sym c.has_other_form.ensures ∙ c.if-has_other_form.true)),
-  λ _. refl,
-)
-
-pub returns-in_default-clause-cause : goal.returns-in_default-clause-cause
-returns-in_default-clause-cause c =
-    first-not_allowed c.args.self.now (length c.args.self.now.buf.now) (c.args.id, c.args.data.now) c.args.allowed c.if-id-eq0.false c.if-data-gt255.false
-    (none (goal.at.returns-in_default-clause-cause c).Else-has_other_form)
-    (ap (λ (was : Option ExtensionsForm). form_with was (c.args.id, c.args.data.now) c.args.allowed) (sym (kept-form c.args.self.now)) ∙ sym c.form_to_put.ensures ∙ c.in_default.is)
-    c.not_allowed.result c.not_allowed.ensures.long c.not_allowed.ensures.other
-
-pub returns-in_default-clause-refused : goal.returns-in_default-clause-refused
-returns-in_default-clause-refused c =
-    let first =
-    first-not_allowed c.args.self.now (length c.args.self.now.buf.now) (c.args.id, c.args.data.now) c.args.allowed c.if-id-eq0.false c.if-data-gt255.false
-    (none (goal.at.returns-in_default-clause-refused c).Else-has_other_form)
-    (ap (λ (was : Option ExtensionsForm). form_with was (c.args.id, c.args.data.now) c.args.allowed) (sym (kept-form c.args.self.now)) ∙ sym c.form_to_put.ensures ∙ c.in_default.is)
-    c.not_allowed.result c.not_allowed.ensures.long c.not_allowed.ensures.other in
-    (λ _. (c.not_allowed.result, first.applies), λ _. refl)
+none : (c : In_ok-form) → HasOtherForm (bytes_of c.args.self.now) → ⊥
+none c =
+    no_other_form (bytes_of c.args.self.now) (parts_within c.args.self.now) (is_packet c.args.self.now)
+    (ap (λ (p : PacketParts). p.other_block) (sym c.as_packet.ensures.parts) ∙ c.in_ok-form.ensures.no_other)
 
 pub returns-clause-added : goal.returns-clause-added
 returns-clause-added c =
-    let all = some (goal.at.returns-clause-added c).In-Some in
-    IfOk-weaker c.remake.result (λ _. RemakesBlock (bytes_of c.args.self.now) c.in-Some.form ((c.args.id, c.args.data.now) ∷ []) c.remake.new.self.buf.now c.remake.new.self.len)
+    let all = some (goal.at.returns-clause-added c).In_ok-form in
+    let element : Element = (c.args.id, c.args.data.now) in
+    IfOk-weaker c.rewrite.result (λ _. RewritesBlock (bytes_of c.args.self.now) c.in_ok-form.form 0 (element ∷ []) c.rewrite.new.self.buf.now c.rewrite.new.self.len)
     (λ _.
-    IfSome (form_with (form_of_block (parts_within c.args.self.now).block) (c.args.id, c.args.data.now) c.args.allowed)
-    (λ form. RemakesBlock (bytes_of c.args.self.now) form ((c.args.id, c.args.data.now) ∷ []) c.remake.new.self.buf.now c.remake.new.self.len))
+    IfSome (form_with (form_of_block (parts_within c.args.self.now).block) element c.args.allowed)
+    (λ form. RemakesBlock (bytes_of c.args.self.now) form (element ∷ []) c.rewrite.new.self.buf.now c.rewrite.new.self.len))
     (λ _ made.
-    subst (λ (f : Option ExtensionsForm). IfSome f (λ form. RemakesBlock (bytes_of c.args.self.now) form ((c.args.id, c.args.data.now) ∷ []) c.remake.new.self.buf.now c.remake.new.self.len)) (sym all) made)
-    c.remake.ensures.remade
+    subst (λ (f : Option ExtensionsForm). IfSome f (λ form. RemakesBlock (bytes_of c.args.self.now) form (element ∷ []) c.rewrite.new.self.buf.now c.rewrite.new.self.len)) (sym all)
+    (RemakesBlock-rewritten (bytes_of c.args.self.now) c.in_ok-form.form (element ∷ []) c.rewrite.new.self.buf.now c.rewrite.new.self.len made))
+    c.rewrite.ensures.rewritten
 
 pub returns-clause-cause : goal.returns-clause-cause
 returns-clause-cause c =
-    let all = some (goal.at.returns-clause-cause c).In-Some in
-    cause-to _ _ (to-adding c.args.self.now (length c.args.self.now.buf.now) (c.args.id, c.args.data.now) c.args.allowed c.in-Some.form all)
-    (from-adding c.args.self.now (length c.args.self.now.buf.now) (c.args.id, c.args.data.now) c.args.allowed c.in-Some.form all c.if-id-eq0.false c.if-data-gt255.false
-    (none (goal.at.returns-clause-cause c).Else-has_other_form)) c.remake.result c.remake.ensures.cause
+    let at = (goal.at.returns-clause-cause c).In_ok-form in
+    let element : Element = (c.args.id, c.args.data.now) in
+    cause-to _ _
+    (to-adding c.args.self.now (length c.args.self.now.buf.now) element c.args.allowed c.in_ok-check_element.ensures.fits.0 c.in_ok-check_element.ensures.fits.1 c.in_ok-form.form (some at) (writable at))
+    (from-adding c.args.self.now (length c.args.self.now.buf.now) element c.args.allowed c.in_ok-check_element.ensures.fits.0 c.in_ok-check_element.ensures.fits.1 c.in_ok-form.form (some at) (writable at) (none at))
+    c.rewrite.result c.rewrite.ensures.cause
 
 pub returns-clause-refused : goal.returns-clause-refused
 returns-clause-refused c =
-    let all = some (goal.at.returns-clause-refused c).In-Some in (
-      λ wrong.
-          let fact = c.remake.ensures.refused.0 wrong in
-          (fact.0, to-adding c.args.self.now (length c.args.self.now.buf.now) (c.args.id, c.args.data.now) c.args.allowed c.in-Some.form all fact.0 fact.1),
-      λ fact.
-          c.remake.ensures.refused.1 (
-            fact.0,
-            from-adding c.args.self.now (length c.args.self.now.buf.now) (c.args.id, c.args.data.now) c.args.allowed c.in-Some.form all c.if-id-eq0.false c.if-data-gt255.false
-                (none (goal.at.returns-clause-refused c).Else-has_other_form) fact.0 fact.1,
-          ),
-    )
+    let at = (goal.at.returns-clause-refused c).In_ok-form in
+    let element : Element = (c.args.id, c.args.data.now) in
+    let to =
+    to-adding c.args.self.now (length c.args.self.now.buf.now) element c.args.allowed c.in_ok-check_element.ensures.fits.0 c.in_ok-check_element.ensures.fits.1 c.in_ok-form.form (some at) (writable at) in
+    let from =
+    from-adding c.args.self.now (length c.args.self.now.buf.now) element c.args.allowed c.in_ok-check_element.ensures.fits.0 c.in_ok-check_element.ensures.fits.1 c.in_ok-form.form (some at) (writable at) (none at) in
+    (λ wrong. let fact = c.rewrite.ensures.refused.0 wrong in (fact.0, to fact.0 fact.1), λ fact. c.rewrite.ensures.refused.1 (fact.0, from fact.0 fact.1))

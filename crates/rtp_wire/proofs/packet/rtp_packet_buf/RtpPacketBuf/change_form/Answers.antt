@@ -1,4 +1,4 @@
-use Rattle.std.proofs.Common.{refl, sym, ap, subst, ◌∙◌, length}
+use Rattle.std.proofs.Common.{refl, sym, ap, subst, ◌∙◌, length, []}
 use Rattle.std.specs.Prelude.{is_some}
 use Rattle.std.proofs.lemmas.Bool.{false≢true}
 use Rattle.rtp_ext.specs.declared.form.ExtensionsForm.{ExtensionsForm}
@@ -7,8 +7,12 @@ use Rattle.rtp_wire.specs.declared.packet.not_put.NotPut.TheVariants.{OtherForm}
 use Rattle.rtp_wire.specs.Packet.{PacketParts, HasOtherForm}
 use Rattle.rtp_wire.specs.PacketBuf.{bytes_of, parts_within}
 use Rattle.rtp_wire.specs.PutIntoPacket.{form_of_block}
-use Rattle.rtp_wire.specs.RemadeBlock.{IsInOther}
-use Rattle.rtp_wire.proofs.RemadePacketLemmas.{cause-to, kept-form, other-form, no-other, to-form, from-form, none-form}
+use Rattle.rtp_wire.specs.RemadeBlock.{IsInOther, RemakesBlock}
+use Rattle.std.proofs.lemmas.Result.{IfOk-weaker}
+use Rattle.rtp_wire.specs.RewrittenBlock.{RewritesBlock}
+use Rattle.rtp_wire.proofs.PutElementLemmas.{cause-to}
+use Rattle.rtp_wire.proofs.RemadeLemmas.{RemakesBlock-rewritten}
+use Rattle.rtp_wire.proofs.RemadePacketLemmas.{kept-form, other-form, no-other, to-form, from-form, none-form}
 use Rattle.rtp_wire.proofs.packet.rtp_packet_buf.RtpPacketBuf.change_form.Goals as goal
 use Rattle.rtp_wire.proofs.packet.rtp_packet_buf.RtpPacketBuf.change_form.Goals.{Else-has_other_form}
 
@@ -38,6 +42,13 @@ returns-then-not-is_in_other-clause-refused c = (
       (none (goal.at.returns-then-not-is_in_other-clause-refused c).Else-has_other_form) fact.0 fact.1),
 )
 
+pub returns-clause-changed : goal.returns-clause-changed
+returns-clause-changed c =
+    IfOk-weaker c.rewrite.result (λ _. RewritesBlock (bytes_of c.args.self.now) c.args.form 0 [] c.rewrite.new.self.buf.now c.rewrite.new.self.len)
+    (λ _. IsInOther (form_of_block (parts_within c.args.self.now).block) c.args.form → RemakesBlock (bytes_of c.args.self.now) c.args.form [] c.rewrite.new.self.buf.now c.rewrite.new.self.len)
+    (λ _ made _. RemakesBlock-rewritten (bytes_of c.args.self.now) c.args.form [] c.rewrite.new.self.buf.now c.rewrite.new.self.len made)
+    c.rewrite.ensures.rewritten
+
 pub returns-clause-same : goal.returns-clause-same
 returns-clause-same c = λ other.
     absurd (other (subst (λ (was : Option ExtensionsForm). IsInOther was c.args.form) (kept-form c.args.self.now) (c.is_in_other.ensures.0 c.if-not-is_in_other.false)))
@@ -48,16 +59,16 @@ returns-clause-cause c =
     cause-to _ _
     (to-form (bytes_of c.args.self.now) (length c.args.self.now.buf.now) (form_of_block (parts_within c.args.self.now).block) c.args.form is)
     (from-form (bytes_of c.args.self.now) (length c.args.self.now.buf.now) (form_of_block (parts_within c.args.self.now).block) c.args.form
-    (none (goal.at.returns-clause-cause c).Else-has_other_form)) c.remake.result c.remake.ensures.cause
+    (none (goal.at.returns-clause-cause c).Else-has_other_form)) c.rewrite.result c.rewrite.ensures.cause
 
 pub returns-clause-refused : goal.returns-clause-refused
 returns-clause-refused c =
     let is = subst (λ (was : Option ExtensionsForm). IsInOther was c.args.form) (kept-form c.args.self.now) (c.is_in_other.ensures.0 c.if-not-is_in_other.false) in (
       λ wrong.
-          let fact = c.remake.ensures.refused.0 wrong in
+          let fact = c.rewrite.ensures.refused.0 wrong in
           (fact.0, to-form (bytes_of c.args.self.now) (length c.args.self.now.buf.now) (form_of_block (parts_within c.args.self.now).block) c.args.form is fact.0 fact.1),
       λ fact.
-          c.remake.ensures.refused.1 (
+          c.rewrite.ensures.refused.1 (
             fact.0,
             from-form (bytes_of c.args.self.now) (length c.args.self.now.buf.now) (form_of_block (parts_within c.args.self.now).block) c.args.form
                 (none (goal.at.returns-clause-refused c).Else-has_other_form) fact.0 fact.1,

@@ -1,7 +1,0 @@
-use Rattle.rtp_ext.proofs.RowLemmas.{HasRows-already}
-use Rattle.rtp_ext.proofs.new_body.put_in_rows.Goals as goal
-
-pub returns-then-survey-end : goal.returns-then-survey-end
-returns-then-survey-end c =
-    HasRows-already c.args.form c.args.id c.args.body.now c.args.body_len c.args.survey.now c.args.start c.args.end
-    c.requires.within c.requires.survey c.requires.some c.requires.none c.if-survey-end.true
