@@ -16,11 +16,7 @@ pub mod MemoryLemmas
 -- What each id is mapped to.
 mod MapLemmas
 pub mod ListingLemmas
-mod MappedIdLemmas
-mod RisingIdLemmas
-mod PaddedIdLemmas
-mod UpdatedIdLemmas
-mod RemovedIdLemmas
+pub mod WalkLemmas
 mod ReplacedLemmas
 mod ExchangedLemmas
 mod CopiedLemmas

@@ -1,17 +1,13 @@
 //! The known extensions of a map by their ids.
 
-ghost use Rattle.std.specs.Prelude.{◌≡◌, ◌≢◌, ◌+◌, ◌-◌, ◌<◌, ◌≤◌, ◌∷◌, [], length, drop, replicate, Some, None, IfSome, IfNone, slice_set};
+ghost use Rattle.std.specs.Prelude.{◌≡◌, ◌≢◌, ◌-◌, ◌≤◌, ◌∷◌, [], take, drop, replicate, None, IfSome, IfNone, slice_set};
 ghost use Rattle.std.specs.Option.{option_map};
 ghost use Rattle.std.specs.List.{list_any, swap};
 ghost use Rattle.rtp_values.specs.KnownKind.{extension_of_kind};
-ghost use Rattle.rtp_ext.specs.ExtensionMap.{IsId, IsLowest, IsUnmapped, extension_at, items_from, mapped_count};
+ghost use Rattle.rtp_ext.specs.ExtensionMap.{IsId, IsLowest, IsUnmapped, HasNoIdAbove, extension_at, items_from};
 ghost use Rattle.rtp_ext.specs.KindsById.{slots_of, entry_of_kind, is_layers, has_long_data};
-ghost use Rattle.rtp_ext.specs.MapSlots.{items_at, mapped_ids};
-ghost use Rattle.rtp_ext.specs.NewIds.{Renames};
 
 use super::map::MAX_ID;
-use super::mapped_ids::MappedIds;
-use super::renamed_ids::renamed;
 use rtp_values::KnownKind;
 use std::marker::Model;
 
@@ -24,8 +20,6 @@ pub(super) const IDS: usize = MAX_ID as usize + 1;
 pub(super) struct KindsById {
     // What each id is mapped to, the id 0 to nothing.
     kinds: [Option<KnownKind>; IDS],
-    // The mapped ids, so that a walk goes over these alone.
-    mapped: MappedIds,
     // How many ids are mapped to the layer allocation, the one kind that may have more than 16
     // bytes of data.
     layers: u16,
@@ -34,8 +28,7 @@ pub(super) struct KindsById {
 impl Model for KindsById {
     ghost use Rattle.std.specs.Prelude.{◌≡◌, List, Option, None, length, slice_index_or};
     ghost use Rattle.rtp_values.specs.declared.known_kind.KnownKind.{KnownKind};
-    ghost use Rattle.rtp_ext.specs.KindsById.{slots_of, layers_count};
-    ghost use Rattle.rtp_ext.specs.MapSlots.{mapped_ids};
+    ghost use Rattle.rtp_ext.specs.KindsById.{layers_count};
     ghost use Rattle.rtp_ext.specs.declared.kinds_by_id.TheConstants.{IDS};
     ghost use Rattle.std.proofs.Common.{sym};
 
@@ -45,19 +38,16 @@ impl Model for KindsById {
 
     ghost invariant = { λ table. (length table.kinds ≡ IDS)
         × (slice_index_or table.kinds 0 None ≡ None)
-        × (table.mapped ≡ mapped_ids (slots_of table.kinds))
         × (table.layers ≡ layers_count table.kinds) };
 
     ghost inverse = { λ kinds. record {
       kinds = kinds;
-      mapped = mapped_ids (slots_of kinds);
       layers = layers_count kinds;
     } };
 
     ghost inverse_ok = { λ table known i. record {
       kinds = table.kinds;
-      mapped = sym known.2 i;
-      layers = sym known.3 i;
+      layers = sym known.2 i;
     } };
 }
 
@@ -68,17 +58,8 @@ impl KindsById {
     {
         KindsById {
             kinds: [None; IDS],
-            mapped: MappedIds::none(),
             layers: 0,
         }
-    }
-
-    // How many ids are mapped.
-    pub(super) fn len(&self) -> usize
-        ensures count { result ≡ mapped_count (slots_of self.now) }
-        ensures few { result ≤ MAX_ID }
-    {
-        self.mapped.as_slice().len()
     }
 
     // The kind that the id is mapped to, and `None` where there is none, as always for 0.
@@ -100,7 +81,6 @@ impl KindsById {
         }
         let old = self.kinds[usize::from(id)];
         self.kinds[usize::from(id)] = kind;
-        self.mapped.update(id, old.is_some(), kind.is_some());
         self.layers += u16::from(is_layers(kind));
         self.layers -= u16::from(is_layers(old));
     }
@@ -111,59 +91,46 @@ impl KindsById {
         requires apart { from ≢ to }
         ensures { slots_of self.new ≡ swap (slots_of self.old) (from - 1) (to - 1) }
     {
-        let here = self.kinds[usize::from(from)];
-        let there = self.kinds[usize::from(to)];
-        self.kinds[usize::from(from)] = there;
-        self.kinds[usize::from(to)] = here;
-        self.mapped.update(from, here.is_some(), there.is_some());
-        self.mapped.update(to, there.is_some(), here.is_some());
+        self.kinds.swap(usize::from(from), usize::from(to));
     }
 
-    // The lowest id that is mapped to the kind: the first, since the mapped ids rise.
-    pub(super) fn lowest_id(&self, kind: KnownKind) -> Option<u8>
-        ensures found { IfSome result (IsLowest (slots_of self.now) (extension_of_kind kind)) }
-        ensures valid { IfSome result IsId }
-        ensures none { IfNone result (IsUnmapped (slots_of self.now) (extension_of_kind kind)) }
+    // The next id of a walk over those up to `end`, behind the one that it came to, and its kind.
+    #[inline(always)]
+    pub(super) fn next(&self, at: &mut usize, end: usize) -> Option<(u8, KnownKind)>
+        requires { end ≤ MAX_ID }
+        ensures some { IfSome result
+            (λ item. items_from at.old (drop at.old (take end (slots_of self.now)))
+            ≡ (item.0, extension_of_kind item.1)
+            ∷ items_from at.new (drop at.new (take end (slots_of self.now)))) }
+        ensures none { IfNone result
+            (items_from at.old (drop at.old (take end (slots_of self.now))) ≡ []) }
     {
-        let mut place = 0;
-        while let Some((id, found)) = self.item(place) {
-            if found == kind {
-                return Some(id);
+        for index in *at..end {
+            let id = index as u8 + 1;
+            if let Some(kind) = self.get(id) {
+                *at = index + 1;
+                return Some((id, kind));
             }
-            place += 1;
         }
         None
     }
 
-    // Puts `lowest` at the index of each id that is mapped to the first kind, and 0 at that of each
-    // id that is mapped to the second.
-    pub(super) fn rename(&self, from: KnownKind, to: KnownKind, lowest: u8, ids: &mut [u8; 256])
-        requires { from ≢ to }
-        ensures { Renames (slots_of self.now) (extension_of_kind from)
-            (extension_of_kind to) lowest ids.old ids.new }
+    // The lowest id that is mapped to the kind, where none above `end` is mapped: the first, since the
+    // ids rise.
+    pub(super) fn lowest_id(&self, kind: KnownKind, end: usize) -> Option<u8>
+        requires within { end ≤ MAX_ID }
+        requires none_above { HasNoIdAbove end (slots_of self.now) }
+        ensures found { IfSome result (IsLowest (slots_of self.now) (extension_of_kind kind)) }
+        ensures valid { IfSome result IsId }
+        ensures none { IfNone result (IsUnmapped (slots_of self.now) (extension_of_kind kind)) }
     {
-        let mut place = 0;
-        while let Some((id, kind)) = self.item(place) {
-            let index = usize::from(id);
-            ids[index] = renamed(Some(kind), from, to, lowest, ids[index]);
-            place += 1;
+        let mut at = 0;
+        while let Some((id, found)) = self.next(&mut at, end) {
+            if found == kind {
+                return Some(id);
+            }
         }
-    }
-
-    // The id at this place among the mapped ids, which rise, and its kind.
-    #[inline(always)]
-    pub(super) fn item(&self, place: usize) -> Option<(u8, KnownKind)>
-        ensures some { IfSome result
-            (λ item. items_at (slots_of self.now) (drop place (mapped_ids (slots_of self.now)))
-            ≡ (item.0, extension_of_kind item.1) ∷ items_at (slots_of self.now)
-            (drop (place + 1) (mapped_ids (slots_of self.now)))) }
-        ensures none { IfNone result
-            (items_at (slots_of self.now) (drop place (mapped_ids (slots_of self.now))) ≡ []) }
-        ensures within { IfSome result (λ _. place < MAX_ID) }
-    {
-        let id = *self.mapped.as_slice().get(place)?;
-        // Each listed id is mapped.
-        Some((id, self.kinds[usize::from(id)].unwrap()))
+        None
     }
 
     // Whether a mapped kind may have more than 16 bytes of data.

@@ -1,23 +1,21 @@
 //! A map as the kinds of its ids, by which elements are read and written.
 
-ghost use Rattle.std.specs.Prelude.{true, false};
-
 use super::ExtensionMap;
 use crate::kinds::Kinds;
 use crate::{MAX_ID_ONE_BYTE_FORM, slots};
 use rtp_values::KnownKind;
 
 impl Kinds for ExtensionMap {
-    ghost use Rattle.std.specs.Prelude.{drop, refl};
+    ghost use Rattle.std.specs.Prelude.{drop, take, refl};
+    ghost use Rattle.rtp_ext.specs.ExtensionMap.{items_from};
     ghost use Rattle.rtp_ext.specs.KindsById.{known_slots};
-    ghost use Rattle.rtp_ext.specs.MapSlots.{items_at, mapped_ids};
 
     ghost slots = { λ map. map };
 
     ghost known = { λ map. known_slots map };
 
-    ghost left = { λ map at end. items_at (known_slots map)
-        (drop at (mapped_ids (known_slots map))) };
+    // A walk ends at the highest mapped id.
+    ghost left = { λ map at end. items_from at (drop at (take end (known_slots map))) };
 
     #[inline(always)]
     fn get(&self, id: u8) -> Option<KnownKind> {
@@ -26,26 +24,23 @@ impl Kinds for ExtensionMap {
 
     #[inline(always)]
     fn walk_end(&self) -> usize {
-        self.kinds.len()
+        usize::from(self.last)
     }
 
     #[inline(always)]
-    fn next(&self, at: &mut usize, _end: &mut usize) -> Option<(u8, KnownKind)> {
-        let item = self.kinds.item(*at)?;
-        *at += 1;
-        Some(item)
+    fn next(&self, at: &mut usize, end: &mut usize) -> Option<(u8, KnownKind)> {
+        self.kinds.next(at, *end)
     }
 
     // An unknown extension too may have an id above 14.
     #[inline(always)]
-    #[tactic(auto, using(crate::proofs::KnownItemsLemmas::long_split, crate::proofs::RisingIdLemmas::mapped_rise))]
     fn has_long(&self, _end: usize) -> bool {
-        self.mapped.has_above(MAX_ID_ONE_BYTE_FORM) || self.kinds.has_layers()
+        self.last > MAX_ID_ONE_BYTE_FORM || self.kinds.has_layers()
     }
 
     #[inline(always)]
-    fn at_most(&self, _end: usize) -> usize {
-        self.kinds.len()
+    fn at_most(&self, end: usize) -> usize {
+        end
     }
 
     fn id_under(&self, other: &Self, id: u8) -> Option<u8> {
@@ -59,10 +54,6 @@ impl Kinds for ExtensionMap {
             ids[usize::from(id)] = other.lowest_id(ext).unwrap_or(0);
         }
         ids
-    }
-
-    fn rename(&self, from: KnownKind, to: KnownKind, lowest: u8, ids: &mut [u8; 256]) {
-        self.kinds.rename(from, to, lowest, ids);
     }
 
     ghost known_is = { λ map. refl };
