@@ -50,8 +50,9 @@ class Scratch:
         """What a file has: nothing where there is none."""
         return (self.top / place).read_text() if (self.top / place).exists() else ""
 
-    def command(self, name, text):
-        self.write(f"../bin/{name}", text, 0o755)
+    def command(self, name, text="", folder="../bin"):
+        """A stand-in in bash, or in what this says."""
+        self.write(f"{folder}/{name}", text if text.startswith("#!") else f"#!/bin/bash\n{text}", 0o755)
 
     def links(self, name, *commands):
         """A folder of this name beside `top`, with links to these commands alone: for a path."""
