@@ -83,7 +83,7 @@ class Scratch:
 
     def called(self):
         """What the stand-ins have written into the file CALLS since it was asked for last, by lines."""
-        calls = self.read("../calls").splitlines()
+        calls = [it.strip() for it in self.read("../calls").splitlines()]
         self.write("../calls")
         return calls
 
