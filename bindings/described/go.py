@@ -46,7 +46,8 @@ def repeated(api: Api) -> Function:
     """The call of next_element for one element after the other, as many as there is room for: it tells how many there were."""
     once = next(it for it in api.functions if it.short == "next_element")
     *given, element = once.parameters
-    return Function(once.name + "s", "size_t", (*given, replace(element, name="elements", count="count"), Parameter("count", "size_t")))
+    elements = replace(element, name="elements", marks={**element.marks, "COUNT": ("count",)})
+    return Function(once.name + "s", "size_t", (*given, elements, Parameter("count", "size_t", {}, False, False)))
 
 
 def structs_of(api: Api) -> List[Struct]:

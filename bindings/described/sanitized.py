@@ -1,119 +1,193 @@
-"""What is made of the description for sanitizers: what each call reads and writes, with the rules of sanitized.h.in
-that no mark says."""
+"""What is made of the description for sanitizers: what each call reads and writes, as its marks say, and where these
+don't the rows of sanitized.h.in."""
 
 import re
-from pathlib import Path
+from textwrap import indent
 
-from .header import SIZES, Api, Function, Parameter, Struct, laid_out
+from .header import SIZES, Api, Field, Function, Parameter, Struct, laid_out, template
 
 
-def reads(it: Struct, f) -> str:
+def all_of(fields, does: str):
+    """What reads or writes these fields: those that lie side by side at once."""
+    lines = []
+    while fields:
+        run = [it for i, it in enumerate(fields) if it.at == fields[0].at + sum(before.size for before in fields[:i])]
+        size = sum(it.size for it in run) if run[1:] else f"sizeof it->{run[0].name}"
+        others = f" /* up to {run[-1].name} */" if run[1:] else ""
+        lines.append(f"rtpw_sanitizer_{does}(&it->{run[0].name}, {size});{others}")
+        fields = fields[len(run):]
+    return lines
+
+
+def is_number(it: Field) -> bool:
+    return it.is_plain and it.type != "char" and not it.counted and not it.part
+
+
+def reads(it: Field) -> str:
     """What reads a field that is no plain number."""
-    at = f"it->{f.name}"
-    if f.counted and f.type in SIZES:
-        return f"rtpw_sanitizer_reads({at}, sizeof *{at} * rtpw_sanitizer_least(it->{f.counted}, {f.count}));"
-    if f.counted:
-        return (f"for (i = 0; i < rtpw_sanitizer_least(it->{f.counted}, {f.count}); i++) "
-                f"{{ rtpw_sanitizer_{f.type[5:]}(&{at}[i]); }}")
-    return f"rtpw_sanitizer_text({at}, sizeof {at});" if f.type == "char" else f"rtpw_sanitizer_{f.type[5:]}(&{at});"
+    at = f"it->{it.name}"
+    if it.part:
+        return f"rtpw_sanitizer_reads({at} + {it.part[0]}, {it.part[1]});"
+    if it.type == "char":
+        return f"rtpw_sanitizer_text({at}, sizeof {at});"
+    if not it.counted:
+        return f"rtpw_sanitizer_{it.short_type}(&{at});"
+    least = f"rtpw_sanitizer_least(it->{it.counted}, {it.count})"
+    if it.is_plain:
+        return f"rtpw_sanitizer_reads({at}, sizeof *{at} * {least});"
+    return for_each(least, f"rtpw_sanitizer_{it.short_type}(&{at}[i]);")
 
 
-def struct_of(it: Struct) -> str:
+def block(start: str, done: str) -> str:
+    line = f"{start} {{ {done} }}"
+    return line if len(line) < 112 and "\n" not in done else f"{start} {{\n{indent(done, '    ')}\n}}"
+
+
+def for_each(count: str, done: str) -> str:
+    return block(f"for (size_t i = 0; i < {count}; i++)", done)
+
+
+def function_of(name: str, it: Struct, lines) -> str:
+    return f"static inline void rtpw_sanitizer_{name}(const {it.name} *it) {{\n{indent(chr(10).join(lines), '    ')}\n}}"
+
+
+def reading(it: Struct) -> str:
     """What reads the fields of a struct that count: those side by side at once, flags before what they tell of, and
     counts before what they count."""
-    tells = {name: [f for f in it.fields if f.told == name] for name in {f.told for f in it.fields} - {None}}
-    lines = [f"static inline void rtpw_sanitizer_{it.short}(const {it.name} *it) {{"]
-    if any(f.counted and f.type not in SIZES for f in it.fields):
-        lines.append("    size_t i;")
-    lines.append("    RTPW_SANITIZER_ROOM(it, sizeof *it);")
+    def put(flag):
+        fields = [f for f in it.fields if f.told == flag and not f.is_out]
+        lines = all_of([f for f in fields if is_number(f)], "reads")
+        lines += [reads(f) for f in fields if not is_number(f)]
+        flags = [f for f in fields if any(other.told == f.name for other in it.fields)]
+        return lines + [block(f"if (it->{f.name})", "\n".join(put(f.name))) for f in flags]
 
-    def put(fields, indent):
-        # of a flag that tells of nothing nothing is looked at
-        fields = [f for f in fields if not f.name.startswith("has_") or f.name in tells]
-        plain = [f for f in fields if f.type in SIZES and f.type != "char" and not f.counted]
-        while plain:
-            run = [f for i, f in enumerate(plain) if f.at == plain[0].at + sum(it.size for it in plain[:i])]
-            others = f" /* up to {run[-1].name} */" if run[1:] else ""
-            size = sum(f.size for f in run) if others else f"sizeof it->{run[0].name}"
-            lines.append(f"{indent}rtpw_sanitizer_reads(&it->{run[0].name}, {size});{others}")
-            plain = plain[len(run):]
-        lines.extend(indent + reads(it, f) for f in fields if f.type not in SIZES or f.type == "char" or f.counted)
-        for f in (f for f in fields if f.name in tells):
-            lines.append(f"{indent}if (it->{f.name}) {{")
-            put(tells[f.name], indent + "    ")
-            lines.append(indent + "}")
-
-    put([f for f in it.fields if not f.told], "    ")
-    return "\n".join([*lines, "}"])
+    return function_of(it.short, it, ["RTPW_SANITIZER_ROOM(it, sizeof *it);", *put(None)])
 
 
-def size_of(p: Parameter) -> str:
+def writing(it: Struct) -> str:
+    """What has been written of one of several structs: its status, and the fields that go by it."""
+    fields = [f for f in it.fields if f.is_out]
+    lines = all_of([f for f in fields if f.written_if], "wrote")
+    ok = "\n".join(all_of([f for f in fields if not f.written_if], "wrote"))
+    return function_of(f"wrote_{it.short}", it, lines + [block("if (it->status == RTPW_OK)", ok)] * bool(ok))
+
+
+def place_of(p: Parameter):
+    """Where the parameter is looked at, and how many bytes."""
+    if p.part:
+        at = p.name if p.is_plain else f"({'const ' if p.is_const else ''}uint8_t *){p.name}"
+        return at if p.part[0] == "0" else f"{at} + {p.part[0]}", p.part[1]
+    return p.name, room_of(p)
+
+
+def room_of(p: Parameter) -> str:
     of_one = f"sizeof *{p.name}"
     return of_one if not p.count else p.count if SIZES.get(p.type) == 1 else f"{p.count} * {of_one}"
 
 
-def tested(p: Parameter) -> str:
-    """What the marks say is tested of a parameter before the call."""
-    if p.mark == "out":
-        return f"RTPW_SANITIZER_ROOM({p.name}, {size_of(p)});"
-    if p.count or p.type in SIZES:
-        return f"rtpw_sanitizer_reads({p.name}, {size_of(p)});"
-    return f"rtpw_sanitizer_{p.type[5:]}({p.name});"
+def looked_at(it: Function, p: Parameter) -> str:
+    """What is read of a parameter."""
+    if p.each:
+        of = f"{p.each}[i]"
+        if p.packet:
+            is_there = f"rtpw_sanitizer_has_datagram({p.name}, {p.count}, {of}.at, {of}.len)"
+            done = block(f"if ({is_there})", f"rtpw_sanitizer_packet_{p.packet}({p.name} + {of}.at, {of}.len);")
+        else:
+            done = f"rtpw_sanitizer_part({p.name}, {p.count}, {of}.data_at, {of}.data_len);"
+        return for_each(next(other.count for other in it.parameters if other.name == p.each), done)
+    if p.packet:
+        return f"rtpw_sanitizer_packet_{p.packet}({p.name}, {p.count});"
+    if p.part or p.is_plain:
+        return f"rtpw_sanitizer_reads({', '.join(place_of(p))});"
+    one = f"rtpw_sanitizer_{p.short_type}({f'&{p.name}[i]' if p.count else p.name});"
+    return for_each(p.count, one) if p.count else one
 
 
-def written(it: Function, p: Parameter) -> str:
-    """And what has been written after it."""
-    fills = p.mark == "out" and p.count and any(other.name == "len" and other.mark == "out" for other in it.parameters)
-    return where(it, f"rtpw_sanitizer_wrote({p.name}, {'*len' if fills else size_of(p)});", p.written_if)
+def tested(it: Function, p: Parameter):
+    """What is tested of a parameter before the call, each with whether that goes by other parameters."""
+    if p is it.grown:
+        elements = f"\nrtpw_sanitizer_packet_{p.packet}(buf, before.len);" if p.packet != "header_len" else ""
+        return [(False, f"rtpw_sanitizer_before before = rtpw_sanitizer_front(buf, size, len);{elements}")]
+    room = (False, f"RTPW_SANITIZER_ROOM({p.name}, {room_of(p)});")
+    if p.mark == "out" or p.mark == "inout" and p.part and not (p.packet or p.read_if):
+        return [room]
+    done = looked_at(it, p)
+    if p.read_if:
+        return [room, (True, block(f"if ({p.read_if})", done))]
+    tests_room = not p.each and (p.packet or not p.part and (p.is_plain or not p.count))
+    return [room] * (not tests_room) + [(bool(p.each), done)]
+
+
+def written(api: Api, it: Function, p: Parameter):
+    """What has been written after it."""
+    at, size = place_of(p)
+    if p is it.grown:
+        return "rtpw_sanitizer_rebuilt(status, buf, len, before);"
+    if p.packet == "block":
+        done = f"rtpw_sanitizer_wrote_block({p.name}, {p.count});"
+    elif p.count and not p.is_plain and any(f.is_out for f in api.struct[p.type].fields):
+        done = for_each(p.count, f"rtpw_sanitizer_wrote_{p.short_type}(&{p.name}[i]);")
+    elif p.mark == "out" and p.count and any(other.name == "len" and other.mark == "out" for other in it.parameters):
+        done = f"rtpw_sanitizer_wrote({at}, *len);"
+    else:
+        done = f"rtpw_sanitizer_wrote({at}, {size});"
+    return where(it, done, p.written_if)
 
 
 def where(it: Function, done: str, statuses=()) -> str:
-    if it.result != "int32_t":
+    """What is done at these statuses, unless it asks for the status itself."""
+    if not it.has_status or re.search(r"\bstatus\b", done.replace(".status", "")):
         return done
-    return f"if ({' || '.join(f'status == {name}' for name in statuses or ['RTPW_OK'])}) {{ {done} }}"
+    return block(f"if ({' || '.join(f'status == {name}' for name in statuses or ['RTPW_OK'])})", done)
 
 
-def call_of(it: Function, rows) -> str:
-    ruled = {name: row for row in rows if it.short in row[0] for name in row[1]}
-    before, after, done = [], [], []
-    for p in filter(lambda p: p.is_pointer, it.parameters):
-        row = ruled.get(p.name)
-        if row is None:
-            before.append(tested(p))
-        elif row not in done:
-            done.append(row)
-            before.append(row[2].replace("HEADER_LEN", "(void)rtpw_sanitizer_header_len(datagram, len);"))
-        if p.mark in ("out", "inout") and (row is None or row[3] is None):
-            after.append((bool(p.count), written(it, p)))
-    ends = [row[3] if re.search(r"\bstatus\b", row[3]) else where(it, row[3]) for row in done if row[3]]
-    ends = [text for _, text in sorted(after, key=lambda row: row[0])] + ends
+def around(api: Api, it: Function, rows):
+    """What is done before a call and after it: what goes by other parameters behind these, and last what rows say."""
+    rows = [row for row in rows if it.short in row[0]]
+    by_row = [{name for row in rows if row[i] for name in row[1]} for i in (2, 3)]
+    pointers = [p for p in it.pointers if not it.grown or p.name != "len"]
+    before = [row for p in pointers if p.name not in by_row[0] for row in tested(it, p)]
+    after = [(bool(p.count), written(api, it, p))
+             for p in pointers if p.mark in ("out", "inout") and p.name not in by_row[1]]
+    before, after = ([text for _, text in sorted(done, key=lambda row: row[0])] for done in (before, after))
+    return before + [row[2] for row in rows if row[2]], after + [where(it, row[3]) for row in rows if row[3]]
+
+
+def call_of(api: Api, it: Function, rows) -> str:
+    before, after = around(api, it, rows)
     given = ", ".join(f"{p.c}{'' if p.is_pointer else ' '}{p.name}".replace(" ", "~") for p in it.parameters)
     call = f"rtpw_{it.short}({', '.join(p.name for p in it.parameters)});"
-    has_status = it.result != "void"
-    checked = "RTPW_CHECKED " if it.result == "int32_t" else ""
-    lines = [laid_out(f"{checked}static inline {it.result} rtpw_sanitized_{it.short}({given}) {{")]
-    lines += [f"    {it.result} status;"] if has_status else []
-    lines += [f"    {text}" for text in before]
-    lines += [f"    {'status = ' if has_status else ''}{call}"] + [f"    {text}" for text in ends]
-    lines += ["    return status;"] if has_status else []
-    return "\n".join([*lines, "}", f"#define {it.name} rtpw_sanitized_{it.short}"])
+    has_result = it.result != "void"
+    checked = "RTPW_CHECKED " if it.has_status else ""
+    start = laid_out(f"{checked}static inline {it.result} rtpw_sanitized_{it.short}({given})~{{", others=8)
+    body = [f"{it.result} status;"] * has_result + before + [f"{'status = ' * has_result}{call}"] + after
+    body = indent("\n".join(body + ["return status;"] * has_result), "    ")
+    return "\n".join([start, body, "}", f"#define {it.name} rtpw_sanitized_{it.short}"])
+
+
+def rows_of(rules: str):
+    """The rows: calls, parameters, what is done before these, and after them; "" is what the marks say."""
+    for line in re.sub(r"^#.*\n|\n   (?= )", "", rules, flags=re.M).splitlines():
+        calls, names, rest = line.split(";", 2)
+        before, _, after = f"{rest} ".partition(" | ")
+        yield calls.split(), names.split(), before.strip(), after.strip()
+
+
+def structs_for(api: Api, wanted: str) -> str:
+    """The functions that read and write structs, of those that are wanted, those within others before these."""
+    made = []
+    for it in reversed(api.structs):
+        for name, of in ((f"wrote_{it.short}", writing), (it.short, reading)):
+            if f"rtpw_sanitizer_{name}(" in wanted:
+                made.insert(0, of(it))
+                wanted += made[0]
+    return "\n\n".join(made)
 
 
 def files(api: Api):
-    text = Path(__file__).with_name("sanitized.h.in").read_text("utf-8")
-    start, rules, end = re.split(r"@CALLS\n|@END\n", text)
-    rows = []
-    for line in (line for line in rules.splitlines() if not line.startswith("#")):
-        calls, names, rest = line.split(";", 2)
-        before, bar, after = (it.strip() for it in rest.partition(" | "))
-        rows.append((tuple(calls.split()), tuple(names.split()), before, after if bar else None))
-    calls = "\n".join(call_of(it, rows) for it in api.functions if any(p.is_pointer for p in it.parameters))
-    wanted, made = start + calls, []
-    by_hand = set(re.findall(r"static inline [^(]*rtpw_sanitizer_(\w+)\(", start))
-    for it in reversed(api.structs):  # those within others come before these
-        if f"rtpw_sanitizer_{it.short}(" in wanted and it.short not in by_hand:
-            made.insert(0, struct_of(it))
-            wanted += made[0]
-    text = start.replace("@STRUCTS@", "\n\n".join(made)) + calls + "\n" + end
+    start, rules, end = re.split(r"@CALLS\n|@END\n", template("sanitized.h.in"))
+    rows = list(rows_of(rules))
+    calls = "\n".join(call_of(api, it, rows) for it in api.functions if it.pointers)
+    text = start.replace("@STRUCTS@", structs_for(api, start + calls)) + calls + "\n" + end
     said = "/* Made by bindings/described/make of rtp_wire.h and bindings/described/sanitized.h.in. */\n"
     return {"bindings/c/rtp_wire_sanitized.h": said + text}
