@@ -1,8 +1,9 @@
-"""What is made of the description for Go: the structs, the statuses, and the functions, as those of Go's assembler text.
+"""What is made of the description for Go: the structs, the statuses, and the functions: as those of Go's assembler text, and
+over these with types of Go.
 
-A function `rtpw_NAME` is text_NAME of the assembler text (generated/go/make), of which one repeats a call, and in a program with a race detector
-it tells that what is read and what is written: a struct, all of an array, of a packet its header where that is read
-or changed, and the whole of it where its payload may move."""
+A function `rtpw_NAME` is text_NAME of the assembler text (generated/go/make), of which one repeats a call, and in a
+program with a race detector it tells that what is read and what is written: a struct, all of an array, of a packet its
+header where that is read or changed, and the whole of it where its payload may move."""
 
 from dataclasses import replace
 from typing import List, Tuple
@@ -12,29 +13,44 @@ from .header import SIZES, Api, Function, Parameter, Struct
 MADE = "// Made by bindings/described/make of bindings/c/rtp_wire.h: do not edit.\n"
 TYPES = {it: it[:-2] for it in SIZES if it.endswith("_t")}
 TYPES.update({"bool": "bool", "char": "byte", "uint8_t": "byte", "size_t": "uintptr"})
-# In place of names that have a meaning in Go.
+# In place of names that have a meaning in Go, and what a word of a name is written as.
 PARAMETERS = {"map": "m", "len": "n"}
 KEYWORDS = {"map", "type", "range"}
-# Of these calls it takes more than the description to tell where bytes are read or written: what is told before them, and
-# after them.
+WORDS = {"id": "ID", "ids": "IDs", "csrc": "CSRC", "uri": "URI", "rtcp": "RTCP", "ntp": "NTP", "ok": "OK"}
+# The structs that have another name in Go than in C, and None of what two are.
+NAMES = {
+    "packet": "PacketFields", "element": "Place", "new_ids": "NewIDs", "values": "ReadValues", "reception": "ReceptionStatistics",
+    "whole_packet": "wholePacket", "wide_receiver": "wideState", "report": "ReceptionReport", "datagram": "datagram",
+    "datagram_header": "datagramHeader", "arrival": "arrival", "template": "template", "group": "PreparedGroup",
+    "routed_header": "routedHeader", "wide_restarting_receiver": None,
+}
+# Of these nil ends a call in Go's own code, whatever the library looks at.
+NOT_NIL = {"map", "new_ids", "header", "whole_packet", "layers", "receiver"}
+# What has a type of its own in Go, by its name in C.
+NUMBERS = {"form": "Form", "allowed": "Forms", "kind": "Kind"}
+# What a race detector is told of parameters where it takes more than the description to tell: before the call, or after it.
 BEFORE = {
-    "read_original": "reads(unsafe.Pointer(payload), least(n, 2))",
-    "packet_parse_many": "readsDatagrams(buf, size, datagrams, count)",
-    "parse_many": "readsDatagramHeaders(buf, size, datagrams, count)",
-    "receive_many": "writesReceivers(receivers, receiver_count, arrivals, count)",
+    ("receive_many", "receivers"): "writesReceivers(receivers, receiver_count, arrivals, count)",
+    ("read_original", "payload"): "reads(unsafe.Pointer(payload), least(n, 2))",
 }
 AFTER = {
-    "make_template": "writes(unsafe.Pointer(buf), uintptr(made.header_len))",
-    "make_from_group": "writes(unsafe.Pointer(buf), uintptr(made.header_len))",
-    "write_headers": "writes(unsafe.Pointer(buf), endOf(receivers, count))",
-    "pad": "writes(unsafe.Add(unsafe.Pointer(datagram), header_len), *count)",
-    "write_original": "writes(unsafe.Pointer(payload), 2)",
-    "next_elements": "writes(unsafe.Pointer(elements), found*unsafe.Sizeof(*elements))",
+    ("make_template", "buf"): "writes(unsafe.Pointer(buf), uintptr(made.header_len))",
+    ("make_from_group", "buf"): "writes(unsafe.Pointer(buf), uintptr(made.header_len))",
+    ("write_headers", "buf"): "writes(unsafe.Pointer(buf), endOf(receivers, count))",
+    ("pad", "count"): "writes(unsafe.Add(unsafe.Pointer(datagram), header_len), *count)",
+    ("next_elements", "elements"): "writes(unsafe.Pointer(elements), found*unsafe.Sizeof(*elements))",
 }
 # What Go's package doesn't call: it sets fields together, reads many headers by parse_many, and has others in another way.
 LEFT_OUT = {
-    "map_get", "map_remove", "read_many", "restarting_receive", "set_marker", "set_sequence_number", "set_ssrc", "set_timestamp", "write_with",
+    "map_get", "map_remove", "read_many", "restarting_receive", "set_marker", "set_sequence_number", "set_ssrc",
+    "set_timestamp", "write_with",
 }
+# Of these the status is looked at; of the others it is an error. The last ones are called as in C, which saves a call.
+TELL_STATUS = {
+    "read", "packet_parse", "parse", "parse_layers", "next_element", "make_from_group", "wide_restarting_receive",
+    "set_payload_type", "values_read",
+}
+AS_IN_C = {"make_template", "write_headers"}
 
 
 def functions_of(api: Api) -> List[Function]:
@@ -43,8 +59,9 @@ def functions_of(api: Api) -> List[Function]:
 
 
 def repeated(api: Api) -> Function:
-    """The call of next_element for one element after the other, as many as there is room for: it tells how many there were."""
-    once = next(it for it in api.functions if it.short == "next_element")
+    """The call of next_element for one element after the other, as many as there is room for: it tells how many there
+    were."""
+    once = api.function["rtpw_next_element"]
     *given, element = once.parameters
     elements = replace(element, name="elements", marks={**element.marks, "COUNT": ("count",)})
     return Function(once.name + "s", "size_t", (*given, elements, Parameter("count", "size_t", {}, False, False)))
@@ -67,6 +84,11 @@ def name_of(it: str) -> str:
     return PARAMETERS.get(it, it)
 
 
+def camel(name: str) -> str:
+    first, *others = name.split("_")
+    return first + "".join(WORDS.get(word, word.title()) for word in others)
+
+
 def text_of(it: Function) -> str:
     """The name of the function in Go's assembler text."""
     return "text_" + it.short
@@ -85,23 +107,27 @@ def places_of(it: Function) -> Tuple[List[Tuple[str, int]], int]:
 
 def told_of(it: Function) -> Tuple[List[str], List[str]]:
     """What a race detector is told before a call, and after one that succeeded."""
-    before = [BEFORE[it.short]] if it.short in BEFORE else []
-    after = [AFTER[it.short]] if it.short in AFTER else []
-    names = {p.name: p for p in it.parameters}
-    said = " ".join(before + after)
-    for p in (p for p in it.parameters if p.is_pointer and p.type != "size_t"):
-        at, room = f"unsafe.Pointer({name_of(p.name)})", name_of(p.count) if p.count else ""
-        if p.name == "datagram":
-            before.append(f"readsPacket(datagram, {room})")
-            after += [f"writesHeader(datagram, {room})"] if p.mark != "in" else []
-        elif p.name == "buf" and names.get("len", p).is_pointer and p.mark != "in":
-            before += [f"reads({at}, least(*n, {room}))"] if p.mark == "inout" else []
-            after += [f"writes({at}, *n)"] if "len" in names else []
-        elif f"({p.name}" in said.replace("unsafe.Pointer", "") and p.type in ("uint8_t", "rtpw_receiver", "rtpw_element") or p.name == "buf" and p.mark == "in":
+    before, after = ([told[it.short, p.name] for p in it.pointers if (it.short, p.name) in told] for told in (BEFORE, AFTER))
+    fills = any(p.name == "len" and p.is_pointer for p in it.parameters)
+    for p in it.pointers:
+        name, room = name_of(p.name), name_of(p.count) if p.count else ""
+        at = f"unsafe.Pointer({name})"
+        if p.type == "size_t" or (it.short, p.name) in {**BEFORE, **AFTER}:
             continue
+        if p is it.grown:
+            before.append(f"reads({at}, least(*n, {room}))")
+            after.append(f"writes({at}, *n)")
+        elif p.each and p.packet:
+            structs = next(other for other in it.parameters if other.name == p.each)
+            before.append(f"{camel('reads_' + structs.short_type)}s({name}, {room}, {structs.name}, {structs.count})")
+        elif p.name == "datagram":
+            before.append(f"readsPacket({name}, {room})")
+            after += [f"writesHeader({name}, {room})"] if p.mark != "in" else []
+        elif p.mark == "out" and p.type == "uint8_t":
+            after.append(f"writes({at}, {'*n' if fills else p.part[1]})")
         else:
             does = "reads" if p.mark == "in" else "writes"
-            before.append(f"{does}({at}, {room + '*' if room else ''}unsafe.Sizeof(*{name_of(p.name)}))")
+            before.append(f"{does}({at}, {room + '*' if room else ''}unsafe.Sizeof(*{name}))")
     return before, after
 
 
@@ -109,7 +135,8 @@ def struct_of(it: Struct) -> str:
     names = [field.name + "_" * (field.name in KEYWORDS) for field in it.fields]
     width = max(map(len, names))
     kinds = [(f"[{field.count}]" if field.count else "") + type_of(field.type) for field in it.fields]
-    return "\n".join([f"type {it.name} struct {{", *(f"\t{name:{width}} {kind}" for name, kind in zip(names, kinds)), "}", ""])
+    rows = [f"\t{name:{width}} {kind}" for name, kind in zip(names, kinds)]
+    return "\n".join([f"type {it.name} struct {{", *rows, "}", ""])
 
 
 def parameter_of(it: Parameter) -> str:
@@ -124,23 +151,121 @@ def function_of(it: Function) -> str:
     lines = ["//go:noescape", f"func {text_of(it)}({given}){result}", "", f"func {it.name}({given}){result} {{"]
     if before or after:
         lines += ["\tif racing {", *(f"\t\t{line}" for line in before)]
-        if after and it.result == "int32_t":
-            lines += [f"\t\tstatus := {call}", "\t\tif status == statusOK {", *(f"\t\t\t{line}" for line in after), "\t\t}", "\t\treturn status"]
+        if after and it.has_status:
+            lines += [f"\t\tstatus := {call}", "\t\tif status == statusOK {", *(f"\t\t\t{line}" for line in after)]
+            lines += ["\t\t}", "\t\treturn status"]
         elif after:
             lines += [f"\t\tfound := {call}", *(f"\t\t{line}" for line in after), "\t\treturn found"]
         lines.append("\t}")
     return "\n".join([*lines, f"\t{'return ' if result else ''}{call}", "}", ""])
 
 
+def go_type(name: str) -> str:
+    """What a type of C is in Go's package."""
+    short = name[len("rtpw_"):]
+    return type_of(name) if name in SIZES else NAMES.get(short, short.title().replace("_", "")) or name
+
+
+def first_of(kind: str) -> str:
+    """The function that tells where values of this type lie."""
+    return "first" if kind == "uint8_t" else camel(f"first_{type_of(kind).replace('rtpw_', '')}")
+
+
+def addresses(functions: List[Function]):
+    """What gives the addresses of structs and slices of Go as those of C."""
+    pointers = [p for it in functions for p in it.pointers if p.type != "size_t"]
+    for name in dict.fromkeys(p.type for p in pointers if not p.count and not p.is_plain and go_type(p.type) != p.type):
+        check = "\n\t_ = *it // nil ends here" * (name[len("rtpw_"):] in NOT_NIL)
+        yield f"func (it *{go_type(name)}) c() *{name} {{{check}\n\treturn (*{name})(unsafe.Pointer(it))\n}}\n"
+    for name in dict.fromkeys(p.type for p in pointers if p.count):
+        at = "&values[0]" if name in SIZES else f"(*{name})(unsafe.Pointer(&values[0]))"
+        yield f"func {first_of(name)}(values []{go_type(name)}) *{type_of(name)} {{\n\tif len(values) == 0 {{"
+        yield f"\t\treturn nil\n\t}}\n\treturn {at}\n}}\n"
+
+
+class Bound:
+    """A function with types of Go: slices, structs of the package, and what is written as what is returned."""
+
+    def __init__(self, it: Function):
+        self.it = it
+        self.tells = it.short in TELL_STATUS
+        buffer = [p.name for p in it.parameters if p.mark == "out" and p.name in ("buf", "len")]
+        others = [p for p in it.pointers if p.name not in buffer]
+        self.appends = it.short.startswith("write_") and len(buffer) == 2 and len(others) < 2 and not any(
+            p.count for p in others)
+        out = [p for p in it.pointers if p.mark == "out" and not p.count]
+        is_returned = len(out) == 1 and it.has_status and (out[0].is_plain or it.returns and not self.tells)
+        self.output = out[0] if is_returned and not self.appends else None
+
+    def kind_of(self, p: Parameter) -> str:
+        kind = {"size_t": "int", "uint8_t": NUMBERS.get(p.name, "byte" if p.count else "uint8")}.get(p.type) or type_of(p.type)
+        if not p.is_plain:
+            kind = go_type(p.type)
+        return f"{'[]' if p.count else '*' if p.is_pointer and p is not self.output else ''}{kind}"
+
+    def given(self) -> str:
+        given = ["data []byte"] if self.appends else []
+        for p in self.it.parameters:
+            if p is self.output or self.it.counted_by(p.name) or self.appends and p.name in ("buf", "len"):
+                continue
+            of_length = p.name == "len" and self.it.grown
+            given.append("length int" if of_length else f"{camel(name_of(p.name))} {self.kind_of(p)}")
+        return ", ".join(given)
+
+    def argument_of(self, p: Parameter) -> str:
+        name, of = camel(name_of(p.name)), self.it.counted_by(p.name)
+        if self.appends and p.name in ("buf", "size", "len"):
+            return {"buf": "&it.data[0]", "size": "uintptr(len(it.data))", "len": "&it.n"}[p.name]
+        if of:
+            return f"uintptr(len({camel(name_of(of.name))}))"
+        if p.count:
+            return f"{first_of(p.type)}({name})"
+        if p.is_plain and p.is_pointer:
+            return f"&{name}"
+        if p.is_plain:
+            kind = {"size_t": "uintptr", "uint8_t": "uint8"}.get(p.type)
+            return f"{kind}({name})" if p.type == "size_t" or p.name in NUMBERS and kind else name
+        return name + ".orNone()" * (p.c == "const rtpw_map *") + ".c()" * (go_type(p.type) != p.type)
+
+    def text(self) -> str:
+        it, call = self.it, f"{self.it.name}({', '.join(map(self.argument_of, self.it.parameters))})"
+        name, status = camel(it.short), "status" if self.tells else "errorOf(status)"
+        lines = [f"{p.name} = apart({p.name}, {p.may_overlap})" for p in it.parameters if p.may_overlap]
+        if self.appends:
+            name, result = name.replace("write", "append", 1), "([]byte, error)"
+            lines += ["var it written", f"status := {call}", "return it.after(data, status)"]
+        elif it.grown:
+            result = "([]byte, error)"
+            lines += ["n := uintptr(length)", f"status := {call}", "return upTo(buf, n, status)"]
+        elif self.output and self.output.name == "new_len":
+            result = "([]byte, error)"
+            lines += ["var newLen uintptr", f"status := {call}", "return upTo(datagram, newLen, status)"]
+        elif self.output:
+            out, kind = camel(name_of(self.output.name)), self.kind_of(self.output)
+            result = f"({kind}, {'int32' if self.tells else 'error'})"
+            of_c = "uintptr" if kind == "int" else kind
+            lines += [f"var {out} {of_c}", f"status := {call}", f"return {f'int({out})' if kind == 'int' else out}, {status}"]
+        elif it.has_status:
+            result = "int32" if self.tells else "error"
+            lines.append(f"return {call if self.tells else f'errorOf({call})'}")
+        else:
+            result = {"void": "", "size_t": "int"}.get(it.result) or TYPES.get(it.result, "")
+            lines.append(f"return int({call})" if result == "int" else f"{'return ' * bool(result)}{call}")
+        start = f"func {name}({self.given()}) {result}".rstrip() + " {"
+        return "\n".join([start, *(f"\t{line}" for line in lines), "}", ""])
+
+
 def statuses(api: Api) -> str:
     numbers = next(it for it in api.enums if "RTPW_OK" in it)
-    named = {"status" + "".join(word if word in ("OK", "ID", "RTCP") else word.title() for word in name.split("_")[1:]): number
-             for name, number in numbers.items()}
+    named = {camel(name.replace("RTPW", "status").lower()): number for name, number in numbers.items()}
     width = max(map(len, named))
     return "\n".join(["const (", *(f"\t{name:{width}} = {number}" for name, number in named.items()), ")", ""])
 
 
 def files(api: Api):
+    functions = [*functions_of(api), repeated(api)]
     text = [MADE, "package rtpwire\n", 'import "unsafe"\n', "// The statuses, the structs and the functions of rtp_wire.h.\n",
-            statuses(api), *map(struct_of, structs_of(api)), *map(function_of, [*functions_of(api), repeated(api)])]
+            statuses(api), *map(struct_of, structs_of(api)), *map(function_of, functions)]
+    text += ["// The functions with types of Go.\n", *addresses(functions), 
+             *(Bound(it).text() for it in functions if it.short not in AS_IN_C)]
     return {"bindings/go/calls.go": "\n".join(text)}

@@ -85,6 +85,11 @@ class Function(Named):
     pointers = property(lambda self: [it for it in self.parameters if it.is_pointer])
 
     @property
+    def returns(self) -> bool:
+        """Whether what it writes is what it is for."""
+        return bool(re.match("(read|next|last)_|.*_(receive|report)$", self.short)) and not self.short.startswith("write_")
+
+    @property
     def grown(self) -> Optional[Parameter]:
         """The buffer that has a packet of *len bytes at its front, which may get another length."""
         grows = any(it.name == "len" and it.mark == "inout" for it in self.parameters)

@@ -23,7 +23,7 @@ type PreparedGroup struct {
 // bytes of data, or two have one id; and [ErrBadID] where one has the id 0.
 func (g *Group) Prepare() (*PreparedGroup, error) {
 	prepared := new(PreparedGroup)
-	if err := prepared.prepare(g); err != nil {
+	if err := prepareGroup(g.ids(), g.Elements, g.Allowed, prepared); err != nil {
 		return nil, err
 	}
 	return prepared, nil
@@ -50,7 +50,7 @@ func (b *RouteBatch) RoutePrepared(datagram []byte, group *PreparedGroup, data, 
 	b.buf, b.written = nil, nil
 	status := b.own.makePrepared(datagram, group)
 	if status == statusOK {
-		status = writeHeaders(&b.own, data, b.given, buf)
+		status = b.own.writeAll(data, b.given, buf)
 	}
 	return b.ended(buf, status)
 }
