@@ -307,6 +307,12 @@ static inline void rtpw_sanitizer_element(const rtpw_element *it) {
     rtpw_sanitizer_reads(&it->id, sizeof it->id);
 }
 
+static inline void rtpw_sanitizer_element_but_data_at(const rtpw_element *it) {
+    RTPW_SANITIZER_ROOM(it, sizeof *it);
+    rtpw_sanitizer_reads(&it->data_len, sizeof it->data_len);
+    rtpw_sanitizer_reads(&it->id, sizeof it->id);
+}
+
 static inline void rtpw_sanitizer_map(const rtpw_map *it) {
     RTPW_SANITIZER_ROOM(it, sizeof *it);
     rtpw_sanitizer_reads(it->kind + 1, 255);
@@ -348,6 +354,13 @@ static inline void rtpw_sanitizer_header(const rtpw_header *it) {
     rtpw_sanitizer_reads(&it->sequence_number, 7); /* up to has_extension */
     rtpw_sanitizer_reads(it->csrc, sizeof *it->csrc * rtpw_sanitizer_least(it->csrc_count, 15));
     rtpw_sanitizer_values(&it->values);
+}
+
+static inline void rtpw_sanitizer_header_but_has_extension_values(const rtpw_header *it) {
+    RTPW_SANITIZER_ROOM(it, sizeof *it);
+    rtpw_sanitizer_reads(&it->timestamp, 8); /* up to ssrc */
+    rtpw_sanitizer_reads(&it->sequence_number, 6); /* up to has_padding */
+    rtpw_sanitizer_reads(it->csrc, sizeof *it->csrc * rtpw_sanitizer_least(it->csrc_count, 15));
 }
 
 static inline void rtpw_sanitizer_layer(const rtpw_layer *it) {
@@ -545,27 +558,10 @@ static inline void rtpw_sanitizer_set_fields(uint8_t *datagram, const rtpw_field
     if (fields->has_ssrc) { rtpw_sanitizer_wrote(datagram + 8, 4); }
 }
 
-/* A header without its values. */
-static inline void rtpw_sanitizer_fixed_part(const rtpw_header *header) {
-    RTPW_SANITIZER_ROOM(header, sizeof *header);
-    rtpw_sanitizer_reads(&header->timestamp, 8);       /* and ssrc */
-    rtpw_sanitizer_reads(&header->sequence_number, 6); /* and payload_type, csrc_count, marker, has_padding */
-    rtpw_sanitizer_reads(header->csrc, 4 * rtpw_sanitizer_least(header->csrc_count, 15));
-}
-
 /* Padding was written behind a header, and P set. */
 static inline void rtpw_sanitizer_wrote_padding(uint8_t *datagram, size_t header_len, size_t count) {
     rtpw_sanitizer_changed(datagram, 1);
     rtpw_sanitizer_wrote(datagram + header_len, count);
-}
-
-/* Elements of which the ids and the lengths of the data alone are looked at. */
-static inline void rtpw_sanitizer_shapes(const rtpw_element *elements, size_t count) {
-    RTPW_SANITIZER_ROOM(elements, count * sizeof *elements);
-    for (size_t i = 0; i < count; i++) {
-        rtpw_sanitizer_reads(&elements[i].data_len, sizeof elements[i].data_len);
-        rtpw_sanitizer_reads(&elements[i].id, sizeof elements[i].id);
-    }
 }
 
 /* The number that the payload of a retransmission begins with is read, and the length of its padding. */
@@ -587,22 +583,6 @@ static inline bool rtpw_sanitizer_has_datagram(const uint8_t *buf, size_t size, 
     bool is_there = at <= size && len <= size - at && len >= 2;
     if (is_there) { rtpw_sanitizer_reads(buf + at, 2); }
     return is_there;
-}
-
-/* The receivers that arrivals are for are read, and of those that took one it has been written. */
-static inline void rtpw_sanitizer_receivers_of(const rtpw_receiver *receivers, size_t receiver_count,
-                                               const rtpw_arrival *arrivals, size_t count) {
-    RTPW_SANITIZER_ROOM(receivers, receiver_count * sizeof *receivers);
-    for (size_t i = 0; i < count; i++) {
-        if (arrivals[i].receiver < receiver_count) { rtpw_sanitizer_receiver(&receivers[arrivals[i].receiver]); }
-    }
-}
-
-static inline void rtpw_sanitizer_wrote_receivers(const rtpw_receiver *receivers, const rtpw_arrival *arrivals,
-                                                  size_t count) {
-    for (size_t i = 0; i < count; i++) {
-        if (arrivals[i].status == RTPW_OK) { rtpw_sanitizer_wrote(&receivers[arrivals[i].receiver], sizeof *receivers); }
-    }
 }
 
 /* Whether the template is one is looked at: then the header is read. */
@@ -1035,6 +1015,7 @@ RTPW_CHECKED static inline int32_t rtpw_sanitized_left_out_layers(const rtpw_map
 RTPW_CHECKED static inline int32_t rtpw_sanitized_write_with(const rtpw_header *header, const uint8_t *data,
         size_t data_len, const rtpw_element *elements, size_t count, uint8_t *buf, size_t size, size_t *len) {
     int32_t status;
+    rtpw_sanitizer_header_but_has_extension_values(header);
     RTPW_SANITIZER_ROOM(data, data_len);
     RTPW_SANITIZER_ROOM(elements, count * sizeof *elements);
     for (size_t i = 0; i < count; i++) { rtpw_sanitizer_element(&elements[i]); }
@@ -1043,7 +1024,6 @@ RTPW_CHECKED static inline int32_t rtpw_sanitized_write_with(const rtpw_header *
     for (size_t i = 0; i < count; i++) {
         rtpw_sanitizer_part(data, data_len, elements[i].data_at, elements[i].data_len);
     }
-    rtpw_sanitizer_fixed_part(header);
     status = rtpw_write_with(header, data, data_len, elements, count, buf, size, len);
     if (status == RTPW_OK) { rtpw_sanitizer_wrote(len, sizeof *len); }
     if (status == RTPW_OK) { rtpw_sanitizer_wrote(buf, *len); }
@@ -1054,6 +1034,7 @@ RTPW_CHECKED static inline int32_t rtpw_sanitized_write_with_form(const rtpw_hea
         size_t data_len, const rtpw_element *elements, size_t count, uint8_t form, uint8_t *buf, size_t size,
         size_t *len) {
     int32_t status;
+    rtpw_sanitizer_header_but_has_extension_values(header);
     RTPW_SANITIZER_ROOM(data, data_len);
     RTPW_SANITIZER_ROOM(elements, count * sizeof *elements);
     for (size_t i = 0; i < count; i++) { rtpw_sanitizer_element(&elements[i]); }
@@ -1062,7 +1043,6 @@ RTPW_CHECKED static inline int32_t rtpw_sanitized_write_with_form(const rtpw_hea
     for (size_t i = 0; i < count; i++) {
         rtpw_sanitizer_part(data, data_len, elements[i].data_at, elements[i].data_len);
     }
-    rtpw_sanitizer_fixed_part(header);
     status = rtpw_write_with_form(header, data, data_len, elements, count, form, buf, size, len);
     if (status == RTPW_OK) { rtpw_sanitizer_wrote(len, sizeof *len); }
     if (status == RTPW_OK) { rtpw_sanitizer_wrote(buf, *len); }
@@ -1663,12 +1643,19 @@ static inline void rtpw_sanitized_parse_many(const uint8_t *buf, size_t size, co
 #define rtpw_parse_many rtpw_sanitized_parse_many
 static inline void rtpw_sanitized_receive_many(rtpw_receiver *receivers, size_t receiver_count,
         rtpw_arrival *arrivals, size_t count) {
+    RTPW_SANITIZER_ROOM(receivers, receiver_count * sizeof *receivers);
     RTPW_SANITIZER_ROOM(arrivals, count * sizeof *arrivals);
     for (size_t i = 0; i < count; i++) { rtpw_sanitizer_arrival(&arrivals[i]); }
-    rtpw_sanitizer_receivers_of(receivers, receiver_count, arrivals, count);
+    for (size_t i = 0; i < count; i++) {
+        if (arrivals[i].receiver < receiver_count) { rtpw_sanitizer_receiver(&receivers[arrivals[i].receiver]); }
+    }
     rtpw_receive_many(receivers, receiver_count, arrivals, count);
     for (size_t i = 0; i < count; i++) { rtpw_sanitizer_wrote_arrival(&arrivals[i]); }
-    rtpw_sanitizer_wrote_receivers(receivers, arrivals, count);
+    for (size_t i = 0; i < count; i++) {
+        if (arrivals[i].status == RTPW_OK) {
+            rtpw_sanitizer_wrote(&receivers[arrivals[i].receiver], sizeof *receivers);
+        }
+    }
 }
 #define rtpw_receive_many rtpw_sanitized_receive_many
 RTPW_CHECKED static inline int32_t rtpw_sanitized_make_template(const uint8_t *datagram, size_t len,
@@ -1695,8 +1682,9 @@ RTPW_CHECKED static inline int32_t rtpw_sanitized_prepare_group(const rtpw_new_i
         const rtpw_element *elements, size_t count, uint8_t allowed, rtpw_group *group) {
     int32_t status;
     rtpw_sanitizer_new_ids(ids);
+    RTPW_SANITIZER_ROOM(elements, count * sizeof *elements);
+    for (size_t i = 0; i < count; i++) { rtpw_sanitizer_element_but_data_at(&elements[i]); }
     RTPW_SANITIZER_ROOM(group, sizeof *group);
-    rtpw_sanitizer_shapes(elements, count);
     status = rtpw_prepare_group(ids, elements, count, allowed, group);
     if (status == RTPW_OK) { rtpw_sanitizer_wrote(group, sizeof *group); }
     return status;

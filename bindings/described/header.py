@@ -57,6 +57,7 @@ class Parameter(Marked):
     count = only("COUNT")  # of a pointer to several: the parameter that says how many; NULL is allowed with 0
     may_overlap = only("MAY_OVERLAP")
     packet, each, read_if = only("PACKET"), only("EACH"), only("READ_IF")
+    without = property(lambda self: self.marks.get("BUT", ()), doc="The fields that aren't looked at.")
 
     @property
     def mark(self) -> str:
@@ -83,6 +84,11 @@ class Function(Named):
 
     has_status = property(lambda self: self.result == "int32_t")
     pointers = property(lambda self: [it for it in self.parameters if it.is_pointer])
+    named = property(lambda self: {it.name: it for it in self.parameters})
+
+    def fills(self, p: Parameter) -> bool:
+        """Whether it is a buffer of which the first *len bytes are written."""
+        return p.mark == "out" and bool(p.count) and "len" in self.named and self.named["len"].mark == "out"
 
     @property
     def returns(self) -> bool:

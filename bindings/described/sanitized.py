@@ -7,7 +7,20 @@ from textwrap import indent
 from .header import SIZES, Api, Field, Function, Parameter, Struct, laid_out, template
 
 
-def all_of(fields, does: str):
+def block(start: str, *done: str) -> str:
+    line = f"{start} {{ {' '.join(done)} }}"
+    return line if len(line) < 112 and "\n" not in line else indented(start + " {", *done, "}")
+
+
+def indented(first: str, *lines: str) -> str:
+    return "\n".join([first, indent("\n".join(lines[:-1]), "    "), lines[-1]])
+
+
+def for_each(count: str, done: str) -> str:
+    return block(f"for (size_t i = 0; i < {count}; i++)", done)
+
+
+def side_by_side(fields, does: str):
     """What reads or writes these fields: those that lie side by side at once."""
     lines = []
     while fields:
@@ -38,46 +51,31 @@ def reads(it: Field) -> str:
     return for_each(least, f"rtpw_sanitizer_{it.short_type}(&{at}[i]);")
 
 
-def block(start: str, done: str) -> str:
-    line = f"{start} {{ {done} }}"
-    return line if len(line) < 112 and "\n" not in done else f"{start} {{\n{indent(done, '    ')}\n}}"
+def reader_of(it, without=()) -> str:
+    return f"rtpw_sanitizer_{it}" + f"_but_{'_'.join(without)}" * bool(without)
 
 
-def for_each(count: str, done: str) -> str:
-    return block(f"for (size_t i = 0; i < {count}; i++)", done)
-
-
-def function_of(name: str, it: Struct, lines) -> str:
-    return f"static inline void rtpw_sanitizer_{name}(const {it.name} *it) {{\n{indent(chr(10).join(lines), '    ')}\n}}"
-
-
-def reading(it: Struct) -> str:
+def reading(it: Struct, without=()) -> str:
     """What reads the fields of a struct that count: those side by side at once, flags before what they tell of, and
     counts before what they count."""
     def put(flag):
-        fields = [f for f in it.fields if f.told == flag and not f.is_out]
-        lines = all_of([f for f in fields if is_number(f)], "reads")
-        lines += [reads(f) for f in fields if not is_number(f)]
+        fields = [f for f in it.fields if f.told == flag and not f.is_out and f.name not in without]
         flags = [f for f in fields if any(other.told == f.name for other in it.fields)]
-        return lines + [block(f"if (it->{f.name})", "\n".join(put(f.name))) for f in flags]
+        lines = side_by_side([f for f in fields if is_number(f)], "reads")
+        lines += [reads(f) for f in fields if not is_number(f)]
+        return lines + [block(f"if (it->{f.name})", *put(f.name)) for f in flags]
 
-    return function_of(it.short, it, ["RTPW_SANITIZER_ROOM(it, sizeof *it);", *put(None)])
+    start = f"static inline void {reader_of(it.short, without)}(const {it.name} *it) {{"
+    return indented(start, "RTPW_SANITIZER_ROOM(it, sizeof *it);", *put(None), "}")
 
 
 def writing(it: Struct) -> str:
     """What has been written of one of several structs: its status, and the fields that go by it."""
     fields = [f for f in it.fields if f.is_out]
-    lines = all_of([f for f in fields if f.written_if], "wrote")
-    ok = "\n".join(all_of([f for f in fields if not f.written_if], "wrote"))
-    return function_of(f"wrote_{it.short}", it, lines + [block("if (it->status == RTPW_OK)", ok)] * bool(ok))
-
-
-def place_of(p: Parameter):
-    """Where the parameter is looked at, and how many bytes."""
-    if p.part:
-        at = p.name if p.is_plain else f"({'const ' if p.is_const else ''}uint8_t *){p.name}"
-        return at if p.part[0] == "0" else f"{at} + {p.part[0]}", p.part[1]
-    return p.name, room_of(p)
+    by_status = side_by_side([f for f in fields if not f.written_if], "wrote")
+    lines = side_by_side([f for f in fields if f.written_if], "wrote")
+    lines += [block("if (it->status == RTPW_OK)", *by_status)] if by_status else []
+    return indented(f"static inline void rtpw_sanitizer_wrote_{it.short}(const {it.name} *it) {{", *lines, "}")
 
 
 def room_of(p: Parameter) -> str:
@@ -85,22 +83,31 @@ def room_of(p: Parameter) -> str:
     return of_one if not p.count else p.count if SIZES.get(p.type) == 1 else f"{p.count} * {of_one}"
 
 
+def place_of(p: Parameter) -> str:
+    """Where the parameter is looked at, and how many bytes."""
+    if not p.part:
+        return f"{p.name}, {room_of(p)}"
+    at = p.name if p.is_plain else f"({'const ' if p.is_const else ''}uint8_t *){p.name}"
+    return f"{at if p.part[0] == '0' else f'{at} + {p.part[0]}'}, {p.part[1]}"
+
+
 def looked_at(it: Function, p: Parameter) -> str:
     """What is read of a parameter."""
-    if p.each:
-        of = f"{p.each}[i]"
-        if p.packet:
-            is_there = f"rtpw_sanitizer_has_datagram({p.name}, {p.count}, {of}.at, {of}.len)"
-            done = block(f"if ({is_there})", f"rtpw_sanitizer_packet_{p.packet}({p.name} + {of}.at, {of}.len);")
-        else:
-            done = f"rtpw_sanitizer_part({p.name}, {p.count}, {of}.data_at, {of}.data_len);"
-        return for_each(next(other.count for other in it.parameters if other.name == p.each), done)
-    if p.packet:
+    of, one = f"{p.each}[i]", reader_of(p.short_type, p.without)
+    if p.each and p.packet:
+        is_there = f"rtpw_sanitizer_has_datagram({p.name}, {p.count}, {of}.at, {of}.len)"
+        done = block(f"if ({is_there})", f"rtpw_sanitizer_packet_{p.packet}({p.name} + {of}.at, {of}.len);")
+    elif p.each and p.is_plain:
+        done = f"rtpw_sanitizer_part({p.name}, {p.count}, {of}.data_at, {of}.data_len);"
+    elif p.each:
+        done = block(f"if ({of}.{p.name[:-1]} < {p.count})", f"{one}(&{p.name}[{of}.{p.name[:-1]}]);")
+    elif p.packet:
         return f"rtpw_sanitizer_packet_{p.packet}({p.name}, {p.count});"
-    if p.part or p.is_plain:
-        return f"rtpw_sanitizer_reads({', '.join(place_of(p))});"
-    one = f"rtpw_sanitizer_{p.short_type}({f'&{p.name}[i]' if p.count else p.name});"
-    return for_each(p.count, one) if p.count else one
+    elif p.part or p.is_plain:
+        return f"rtpw_sanitizer_reads({place_of(p)});"
+    else:
+        return for_each(p.count, f"{one}(&{p.name}[i]);") if p.count else f"{one}({p.name});"
+    return for_each(it.named[p.each].count, done)
 
 
 def tested(it: Function, p: Parameter):
@@ -118,19 +125,20 @@ def tested(it: Function, p: Parameter):
     return [room] * (not tests_room) + [(bool(p.each), done)]
 
 
-def written(api: Api, it: Function, p: Parameter):
+def written(api: Api, it: Function, p: Parameter) -> str:
     """What has been written after it."""
-    at, size = place_of(p)
+    place = place_of(p)
     if p is it.grown:
         return "rtpw_sanitizer_rebuilt(status, buf, len, before);"
     if p.packet == "block":
         done = f"rtpw_sanitizer_wrote_block({p.name}, {p.count});"
+    elif p.each:
+        one = f"rtpw_sanitizer_wrote(&{p.name}[{p.each}[i].{p.name[:-1]}], sizeof *{p.name});"
+        done = for_each(it.named[p.each].count, block(f"if ({p.each}[i].status == RTPW_OK)", one))
     elif p.count and not p.is_plain and any(f.is_out for f in api.struct[p.type].fields):
         done = for_each(p.count, f"rtpw_sanitizer_wrote_{p.short_type}(&{p.name}[i]);")
-    elif p.mark == "out" and p.count and any(other.name == "len" and other.mark == "out" for other in it.parameters):
-        done = f"rtpw_sanitizer_wrote({at}, *len);"
     else:
-        done = f"rtpw_sanitizer_wrote({at}, {size});"
+        done = f"rtpw_sanitizer_wrote({f'{p.name}, *len' if it.fills(p) else place});"
     return where(it, done, p.written_if)
 
 
@@ -141,28 +149,22 @@ def where(it: Function, done: str, statuses=()) -> str:
     return block(f"if ({' || '.join(f'status == {name}' for name in statuses or ['RTPW_OK'])})", done)
 
 
-def around(api: Api, it: Function, rows):
-    """What is done before a call and after it: what goes by other parameters behind these, and last what rows say."""
-    rows = [row for row in rows if it.short in row[0]]
-    by_row = [{name for row in rows if row[i] for name in row[1]} for i in (2, 3)]
-    pointers = [p for p in it.pointers if not it.grown or p.name != "len"]
-    before = [row for p in pointers if p.name not in by_row[0] for row in tested(it, p)]
-    after = [(bool(p.count), written(api, it, p))
-             for p in pointers if p.mark in ("out", "inout") and p.name not in by_row[1]]
-    before, after = ([text for _, text in sorted(done, key=lambda row: row[0])] for done in (before, after))
-    return before + [row[2] for row in rows if row[2]], after + [where(it, row[3]) for row in rows if row[3]]
-
-
 def call_of(api: Api, it: Function, rows) -> str:
-    before, after = around(api, it, rows)
+    """The call, between what is done before it and after it: what goes by others behind these, and last what rows say."""
+    rows = [row for row in rows if it.short in row[0]]
+    pointers = [p for p in it.pointers if not it.grown or p.name != "len"]
+    left = [[p for p in pointers if not any(row[i] and p.name in row[1] for row in rows)] for i in (2, 3)]
+    before = sorted((row for p in left[0] for row in tested(it, p)), key=lambda row: row[0])
+    after = sorted((p for p in left[1] if not p.is_const), key=lambda p: (bool(p.count), bool(p.each)))
+    lines = [text for _, text in before] + [row[2] for row in rows if row[2]]
+    ends = [written(api, it, p) for p in after] + [where(it, row[3]) for row in rows if row[3]]
     given = ", ".join(f"{p.c}{'' if p.is_pointer else ' '}{p.name}".replace(" ", "~") for p in it.parameters)
     call = f"rtpw_{it.short}({', '.join(p.name for p in it.parameters)});"
-    has_result = it.result != "void"
+    if it.result != "void":
+        lines, call, ends = [f"{it.result} status;", *lines], f"status = {call}", [*ends, "return status;"]
     checked = "RTPW_CHECKED " if it.has_status else ""
     start = laid_out(f"{checked}static inline {it.result} rtpw_sanitized_{it.short}({given})~{{", others=8)
-    body = [f"{it.result} status;"] * has_result + before + [f"{'status = ' * has_result}{call}"] + after
-    body = indent("\n".join(body + ["return status;"] * has_result), "    ")
-    return "\n".join([start, body, "}", f"#define {it.name} rtpw_sanitized_{it.short}"])
+    return indented(start, *lines, call, *ends, "}") + f"\n#define {it.name} rtpw_sanitized_{it.short}"
 
 
 def rows_of(rules: str):
@@ -175,12 +177,13 @@ def rows_of(rules: str):
 
 def structs_for(api: Api, wanted: str) -> str:
     """The functions that read and write structs, of those that are wanted, those within others before these."""
-    made = []
+    made, partly = [], {(p.type, p.without) for it in api.functions for p in it.pointers if p.without}
     for it in reversed(api.structs):
-        for name, of in ((f"wrote_{it.short}", writing), (it.short, reading)):
-            if f"rtpw_sanitizer_{name}(" in wanted:
-                made.insert(0, of(it))
-                wanted += made[0]
+        several = [reading(it, without) for name, without in partly if name == it.name]
+        for text in (writing(it), *several, reading(it)):
+            if re.search(r"rtpw_sanitizer_\w+\(", text)[0] in wanted:
+                made.insert(0, text)
+                wanted += text
     return "\n\n".join(made)
 
 

@@ -132,7 +132,9 @@ extern "C" {
  *     RTPW_PART(at, size)      of it only these bytes are read, and of a packet and of what is written only these are
  *                              written; of a field that is an array: they alone are looked at
  *     RTPW_READ_IF(condition)  its bytes are read only where this holds
- *     RTPW_EACH(structs)       each of these structs names a part of it, by `at` and `len`, or `data_at` and `data_len`
+ *     RTPW_EACH(structs)       each of these structs names a part of it: by `at` and `len`, `data_at` and `data_len`, or
+ *                              of structs one, which is written too where the status beside that is RTPW_OK
+ *     RTPW_BUT(fields..)       of structs: all but these fields are looked at
  *     RTPW_KIND(uri, ..)       the URI of a kind of extension in SDP, and each field of rtpw_values that is of it
  *
  * RTPW_COUNT of an array in a struct: only so many of it are looked at. RTPW_OUT of a field: it is written, at the status
@@ -150,6 +152,7 @@ extern "C" {
 #define RTPW_PART(at, size)
 #define RTPW_READ_IF(condition)
 #define RTPW_EACH(structs)
+#define RTPW_BUT(...)
 #endif
 
 /* The version of this header file: as text, and as the number that rtpw_version returns of its library. One that ends
@@ -843,7 +846,7 @@ RTPW_CHECKED int32_t rtpw_left_out_layers(RTPW_READ_IF(header->has_extension) co
  * than the 262,140 bytes of a block, or one of the data_len bytes of `data`, whether an element has it or not, lies in
  * the `size` bytes of the buffer: the data of a packet are written into another buffer, or copied first;
  * RTPW_SHORT_BUFFER where the buffer alone is at fault. */
-RTPW_CHECKED int32_t rtpw_write_with(const rtpw_header *header,
+RTPW_CHECKED int32_t rtpw_write_with(RTPW_BUT(has_extension, values) const rtpw_header *header,
                                      RTPW_COUNT(data_len) RTPW_MAY_OVERLAP(buf) RTPW_EACH(elements) const uint8_t *data,
                                      size_t data_len, RTPW_COUNT(count) const rtpw_element *elements, size_t count,
                                      RTPW_OUT RTPW_COUNT(size) uint8_t *buf, size_t size, RTPW_OUT size_t *len);
@@ -851,7 +854,7 @@ RTPW_CHECKED int32_t rtpw_write_with(const rtpw_header *header,
 /* The same in one form alone, for a peer that hasn't agreed to both forms in one stream (RFC 8285, 4.1.2):
  * RTPW_ONE_BYTE_FORM or RTPW_TWO_BYTE_FORM; with 0, which is RTPW_NO_BLOCK, as rtpw_write_with. RTPW_BAD_FIELD
  * also where the form is another number or can't carry an element. */
-RTPW_CHECKED int32_t rtpw_write_with_form(const rtpw_header *header,
+RTPW_CHECKED int32_t rtpw_write_with_form(RTPW_BUT(has_extension, values) const rtpw_header *header,
                                           RTPW_COUNT(data_len) RTPW_MAY_OVERLAP(buf) RTPW_EACH(elements)
                                               const uint8_t *data, size_t data_len,
                                           RTPW_COUNT(count) const rtpw_element *elements, size_t count, uint8_t form,
@@ -1597,8 +1600,8 @@ typedef struct {
  * receiver has taken before, also in this call. One that is refused, or has no receiver, stops none after it. The
  * receivers and the arrivals are two arrays that don't overlap. As rtpw_receiver_receive it is for streams that aren't
  * authenticated, or whose packets are known to be authentic. */
-void rtpw_receive_many(RTPW_INOUT RTPW_COUNT(receiver_count) rtpw_receiver *receivers, size_t receiver_count,
-                       RTPW_INOUT RTPW_COUNT(count) rtpw_arrival *arrivals, size_t count);
+void rtpw_receive_many(RTPW_INOUT RTPW_COUNT(receiver_count) RTPW_EACH(arrivals) rtpw_receiver *receivers,
+                       size_t receiver_count, RTPW_INOUT RTPW_COUNT(count) rtpw_arrival *arrivals, size_t count);
 
 /* ---- One packet to all its receivers ---- */
 
@@ -1718,8 +1721,9 @@ typedef struct {
  *
  * RTPW_OK; RTPW_BAD_FIELD where `allowed` is none of the three, count is above 16, an element has more than 255 bytes of
  * data, or two have one id; or RTPW_BAD_ID where one has the id 0. Where it isn't RTPW_OK *group is as it was. */
-RTPW_CHECKED int32_t rtpw_prepare_group(const rtpw_new_ids *ids, RTPW_COUNT(count) const rtpw_element *elements,
-                                        size_t count, uint8_t allowed, RTPW_OUT rtpw_group *group);
+RTPW_CHECKED int32_t rtpw_prepare_group(const rtpw_new_ids *ids,
+                                        RTPW_COUNT(count) RTPW_BUT(data_at) const rtpw_element *elements, size_t count,
+                                        uint8_t allowed, RTPW_OUT rtpw_group *group);
 
 /* Makes the header that the packet gets for a group that was prepared, at the front of the buffer, and tells of it in
  * *made: byte for byte what rtpw_make_template makes with the new ids, the elements and the form of the group, where
