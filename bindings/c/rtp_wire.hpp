@@ -178,10 +178,10 @@ template <class Value> class [[nodiscard]] result {
 /* Why a number isn't accepted. */
 enum class standing : std::uint8_t { unseen = RTPW_NEW, taken = RTPW_TAKEN, too_old = RTPW_TOO_OLD };
 
-/* What a call writes in C is what is returned here: a struct, a number, or how many bytes the packet has then, are written
- * to the front of the buffer, or would be. Data and a body of which a byte lies in the buffer that is written are refused:
- * bad_field. Of a packet at the front of a buffer `len` becomes its new length. Of many what is told of each stands in its
- * struct, the status too: rtpw::status(it.status). */
+/* What a call of C writes is what is returned here: a struct, a number, or how many bytes the packet has then, are
+ * written to the front of the buffer, or would be. Data and a body of which a byte lies in the buffer that is written are
+ * refused: bad_field. Of a packet at the front of a buffer `len` becomes its new length. Of many what is told of each
+ * stands in its struct, the status too: rtpw::status(it.status). */
 
 inline std::uint32_t version() noexcept {
     return ::rtpw_version();
@@ -849,8 +849,8 @@ class own_uris {
     std::uint64_t table_ = 0;
 };
 
-/* The texts of values, where they are there. One that is set is refused, bad_field, where it is too long (16 characters,
- * or 8) or has a zero: then nothing changes. Its other characters are judged where it is written. */
+/* The texts of values, where they are there. One that is set is refused, bad_field, where it is too long (16
+ * characters, or 8) or has a zero: then nothing changes. Its other characters are judged where it is written. */
 namespace detail {
 template <std::size_t size> status set_text(char (&text)[size], std::uint8_t &has, std::string_view to) noexcept {
     if (to.size() >= size || to.find('\0') != std::string_view::npos) {

@@ -52,8 +52,8 @@ static inline size_t rtpw_sanitizer_least(size_t one, size_t other) {
 
 /* ---- Memory ---- */
 
-/* These bytes are the caller's to give, whatever they hold: they need not be set. Where they lie is a number here, since
- * gcc takes a const pointer for a promise to read. */
+/* These bytes are the caller's to give, whatever they hold: they need not be set. Where they lie is a number here,
+ * since gcc takes a const pointer for a promise to read. */
 #define RTPW_SANITIZER_ROOM(at, size) rtpw_sanitizer_room((uintptr_t)(at), size)
 static inline void rtpw_sanitizer_room(uintptr_t at, size_t size) {
 #ifdef RTPW_SANITIZER_ADDRESS
@@ -182,7 +182,8 @@ static inline void rtpw_sanitizer_packet_block(const uint8_t *datagram, size_t l
 
 /* The block's elements were changed where they lie. */
 static inline void rtpw_sanitizer_wrote_block(const uint8_t *datagram, size_t len) {
-    size_t header_len = rtpw_sanitizer_packet_header_len(datagram, len), at = rtpw_sanitizer_block_at(datagram, header_len);
+    size_t header_len = rtpw_sanitizer_packet_header_len(datagram, len);
+    size_t at = rtpw_sanitizer_block_at(datagram, header_len);
     if (at < header_len) { rtpw_sanitizer_wrote(datagram + at, header_len - at); }
 }
 

@@ -35,9 +35,8 @@ def argument_of(it: Function, p: Parameter, output) -> str:
 
 def wrapped(it: Function, members=(), start="inline ") -> str:
     """The function, of which these parameters are members of a class."""
-    output = next((p for p in it.pointers if p.mark == "out" and not p.count and p.name not in members), None)
-    given = [p for p in it.parameters if p is not output and p.name not in members and not it.counted_by(p.name)]
-    given.sort(key=lambda p: p.name in DEFAULTS)
+    output = next((p for p in it.outputs if p.name not in members), None)
+    given = sorted((p for p in it.given(output) if p.name not in members), key=lambda p: p.name in DEFAULTS)
     arguments = [MEMBERS[p.name] if p.name in members else argument_of(it, p, output) for p in it.parameters]
     call, kind = f"::{it.name}({', '.join(arguments)})", type_of(output.type if output else it.result)
     result = kind

@@ -1,5 +1,5 @@
-"""What is made of the description for Go: the structs, the statuses, and the functions: as those of Go's assembler text, and
-over these with types of Go.
+"""What is made of the description for Go: the structs, the statuses, and the functions: as those of Go's assembler text,
+and over these with types of Go.
 
 A function `rtpw_NAME` is text_NAME of the assembler text (generated/go/make), of which one repeats a call, and in a
 program with a race detector it tells that what is read and what is written: a struct, all of an array, of a packet its
@@ -19,16 +19,16 @@ KEYWORDS = {"map", "type", "range"}
 WORDS = {"id": "ID", "ids": "IDs", "csrc": "CSRC", "uri": "URI", "rtcp": "RTCP", "ntp": "NTP", "ok": "OK"}
 # The structs that have another name in Go than in C, and None of what two are.
 NAMES = {
-    "packet": "PacketFields", "element": "Place", "new_ids": "NewIDs", "values": "ReadValues", "reception": "ReceptionStatistics",
-    "whole_packet": "wholePacket", "wide_receiver": "wideState", "report": "ReceptionReport", "datagram": "datagram",
-    "datagram_header": "datagramHeader", "arrival": "arrival", "template": "template", "group": "PreparedGroup",
-    "routed_header": "routedHeader", "wide_restarting_receiver": None,
+    "packet": "PacketFields", "element": "Place", "new_ids": "NewIDs", "values": "ReadValues",
+    "reception": "ReceptionStatistics", "report": "ReceptionReport", "whole_packet": "wholePacket",
+    "wide_receiver": "wideState", "datagram": "datagram", "datagram_header": "datagramHeader", "arrival": "arrival",
+    "template": "template", "group": "PreparedGroup", "routed_header": "routedHeader", "wide_restarting_receiver": None,
 }
 # Of these nil ends a call in Go's own code, whatever the library looks at.
 NOT_NIL = {"map", "new_ids", "header", "whole_packet", "layers", "receiver"}
 # What has a type of its own in Go, by its name in C.
 NUMBERS = {"form": "Form", "allowed": "Forms", "kind": "Kind"}
-# What a race detector is told of parameters where it takes more than the description to tell: before the call, or after it.
+# What a race detector is told of parameters where it takes more than the description to tell: before a call, and after.
 BEFORE = {
     ("receive_many", "receivers"): "writesReceivers(receivers, receiver_count, arrivals, count)",
     ("read_original", "payload"): "reads(unsafe.Pointer(payload), least(n, 2))",
@@ -40,7 +40,7 @@ AFTER = {
     ("pad", "count"): "writes(unsafe.Add(unsafe.Pointer(datagram), header_len), *count)",
     ("next_elements", "elements"): "writes(unsafe.Pointer(elements), found*unsafe.Sizeof(*elements))",
 }
-# What Go's package doesn't call: it sets fields together, reads many headers by parse_many, and has others in another way.
+# What Go's package doesn't call: it sets fields together, reads many headers by parse_many, and has others elsewhere.
 LEFT_OUT = {
     "map_get", "map_remove", "read_many", "restarting_receive", "set_marker", "set_sequence_number", "set_ssrc",
     "set_timestamp", "write_with",
@@ -107,8 +107,8 @@ def places_of(it: Function) -> Tuple[List[Tuple[str, int]], int]:
 
 def told_of(it: Function) -> Tuple[List[str], List[str]]:
     """What a race detector is told before a call, and after one that succeeded."""
-    before, after = ([told[it.short, p.name] for p in it.pointers if (it.short, p.name) in told] for told in (BEFORE, AFTER))
-    fills = any(p.name == "len" and p.is_pointer for p in it.parameters)
+    before = [BEFORE[it.short, p.name] for p in it.pointers if (it.short, p.name) in BEFORE]
+    after = [AFTER[it.short, p.name] for p in it.pointers if (it.short, p.name) in AFTER]
     for p in it.pointers:
         name, room = name_of(p.name), name_of(p.count) if p.count else ""
         at = f"unsafe.Pointer({name})"
@@ -118,13 +118,13 @@ def told_of(it: Function) -> Tuple[List[str], List[str]]:
             before.append(f"reads({at}, least(*n, {room}))")
             after.append(f"writes({at}, *n)")
         elif p.each and p.packet:
-            structs = next(other for other in it.parameters if other.name == p.each)
-            before.append(f"{camel('reads_' + structs.short_type)}s({name}, {room}, {structs.name}, {structs.count})")
+            told = camel(f"reads_{it.named[p.each].short_type}s")
+            before.append(f"{told}({name}, {room}, {p.each}, {it.named[p.each].count})")
         elif p.name == "datagram":
             before.append(f"readsPacket({name}, {room})")
             after += [f"writesHeader({name}, {room})"] if p.mark != "in" else []
         elif p.mark == "out" and p.type == "uint8_t":
-            after.append(f"writes({at}, {'*n' if fills else p.part[1]})")
+            after.append(f"writes({at}, {'*n' if it.fills(p) else p.part[1]})")
         else:
             does = "reads" if p.mark == "in" else "writes"
             before.append(f"{does}({at}, {room + '*' if room else ''}unsafe.Sizeof(*{name}))")
@@ -187,29 +187,25 @@ class Bound:
     """A function with types of Go: slices, structs of the package, and what is written as what is returned."""
 
     def __init__(self, it: Function):
-        self.it = it
-        self.tells = it.short in TELL_STATUS
-        buffer = [p.name for p in it.parameters if p.mark == "out" and p.name in ("buf", "len")]
-        others = [p for p in it.pointers if p.name not in buffer]
-        self.appends = it.short.startswith("write_") and len(buffer) == 2 and len(others) < 2 and not any(
-            p.count for p in others)
-        out = [p for p in it.pointers if p.mark == "out" and not p.count]
+        self.it, self.tells, out = it, it.short in TELL_STATUS, it.outputs
+        fills = [p for p in it.pointers if it.fills(p) or p.name == "len"]
+        others = [p for p in it.pointers if p not in fills]
+        # The data of a value are appended to others.
+        is_of_one = not others[1:] and not any(p.count for p in others)
+        self.appends = it.short.startswith("write_") and len(fills) == 2 and is_of_one
         is_returned = len(out) == 1 and it.has_status and (out[0].is_plain or it.returns and not self.tells)
         self.output = out[0] if is_returned and not self.appends else None
 
     def kind_of(self, p: Parameter) -> str:
-        kind = {"size_t": "int", "uint8_t": NUMBERS.get(p.name, "byte" if p.count else "uint8")}.get(p.type) or type_of(p.type)
-        if not p.is_plain:
-            kind = go_type(p.type)
-        return f"{'[]' if p.count else '*' if p.is_pointer and p is not self.output else ''}{kind}"
+        own = {"size_t": "int", "uint8_t": NUMBERS.get(p.name, "byte" if p.count else "uint8")}
+        return ("[]" if p.count else "*" * (p.is_pointer and p is not self.output)) + own.get(p.type, go_type(p.type))
 
     def given(self) -> str:
         given = ["data []byte"] if self.appends else []
-        for p in self.it.parameters:
-            if p is self.output or self.it.counted_by(p.name) or self.appends and p.name in ("buf", "len"):
-                continue
-            of_length = p.name == "len" and self.it.grown
-            given.append("length int" if of_length else f"{camel(name_of(p.name))} {self.kind_of(p)}")
+        for p in self.it.given(self.output):
+            if not self.appends or p.name not in ("buf", "len"):
+                of_length = p.name == "len" and self.it.grown
+                given.append("length int" if of_length else f"{camel(name_of(p.name))} {self.kind_of(p)}")
         return ", ".join(given)
 
     def argument_of(self, p: Parameter) -> str:
@@ -220,36 +216,32 @@ class Bound:
             return f"uintptr(len({camel(name_of(of.name))}))"
         if p.count:
             return f"{first_of(p.type)}({name})"
-        if p.is_plain and p.is_pointer:
-            return f"&{name}"
         if p.is_plain:
-            kind = {"size_t": "uintptr", "uint8_t": "uint8"}.get(p.type)
-            return f"{kind}({name})" if p.type == "size_t" or p.name in NUMBERS and kind else name
+            own = "uintptr" if p.type == "size_t" else "uint8" if p.type == "uint8_t" and p.name in NUMBERS else ""
+            return f"&{name}" if p.is_pointer else f"{own}({name})" if own else name
         return name + ".orNone()" * (p.c == "const rtpw_map *") + ".c()" * (go_type(p.type) != p.type)
 
     def text(self) -> str:
         it, call = self.it, f"{self.it.name}({', '.join(map(self.argument_of, self.it.parameters))})"
-        name, status = camel(it.short), "status" if self.tells else "errorOf(status)"
+        name, result, status = camel(it.short), "([]byte, error)", "status" if self.tells else "errorOf(status)"
         lines = [f"{p.name} = apart({p.name}, {p.may_overlap})" for p in it.parameters if p.may_overlap]
         if self.appends:
-            name, result = name.replace("write", "append", 1), "([]byte, error)"
+            name = name.replace("write", "append", 1)
             lines += ["var it written", f"status := {call}", "return it.after(data, status)"]
         elif it.grown:
-            result = "([]byte, error)"
             lines += ["n := uintptr(length)", f"status := {call}", "return upTo(buf, n, status)"]
         elif self.output and self.output.name == "new_len":
-            result = "([]byte, error)"
             lines += ["var newLen uintptr", f"status := {call}", "return upTo(datagram, newLen, status)"]
         elif self.output:
             out, kind = camel(name_of(self.output.name)), self.kind_of(self.output)
             result = f"({kind}, {'int32' if self.tells else 'error'})"
-            of_c = "uintptr" if kind == "int" else kind
-            lines += [f"var {out} {of_c}", f"status := {call}", f"return {f'int({out})' if kind == 'int' else out}, {status}"]
+            lines += [f"var {out} {'uintptr' if kind == 'int' else kind}", f"status := {call}"]
+            lines.append(f"return {f'int({out})' if kind == 'int' else out}, {status}")
         elif it.has_status:
             result = "int32" if self.tells else "error"
             lines.append(f"return {call if self.tells else f'errorOf({call})'}")
         else:
-            result = {"void": "", "size_t": "int"}.get(it.result) or TYPES.get(it.result, "")
+            result = {"void": "", "size_t": "int", "uint8_t": "uint8"}.get(it.result, type_of(it.result))
             lines.append(f"return int({call})" if result == "int" else f"{'return ' * bool(result)}{call}")
         start = f"func {name}({self.given()}) {result}".rstrip() + " {"
         return "\n".join([start, *(f"\t{line}" for line in lines), "}", ""])
@@ -264,8 +256,9 @@ def statuses(api: Api) -> str:
 
 def files(api: Api):
     functions = [*functions_of(api), repeated(api)]
-    text = [MADE, "package rtpwire\n", 'import "unsafe"\n', "// The statuses, the structs and the functions of rtp_wire.h.\n",
-            statuses(api), *map(struct_of, structs_of(api)), *map(function_of, functions)]
-    text += ["// The functions with types of Go.\n", *addresses(functions), 
-             *(Bound(it).text() for it in functions if it.short not in AS_IN_C)]
+    text = [MADE, "package rtpwire\n", 'import "unsafe"\n']
+    text += ["// The statuses, the structs and the functions of rtp_wire.h.\n", statuses(api)]
+    text += [*map(struct_of, structs_of(api)), *map(function_of, functions)]
+    text += ["// The functions with types of Go.\n", *addresses(functions)]
+    text += [Bound(it).text() for it in functions if it.short not in AS_IN_C]
     return {"bindings/go/calls.go": "\n".join(text)}

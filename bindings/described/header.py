@@ -1,10 +1,9 @@
 """What rtp_wire.h says, as one description: it is read by pycparser, a parser of C, with the marks of its parameters.
 
     from described.header import read
-    api = read()                                     # of bindings/c/rtp_wire.h
-    for function in api.functions: ..                # in the order of the header file
-    api.function["rtpw_receive_many"].parameters[0]  # Parameter(name='receivers', type='rtpw_receiver', ..)
-    api.struct["rtpw_packet"].fields[0]              # Field(name='payload_at', type='size_t', count=None, at=0, size=8)
+    api = read()                              # of bindings/c/rtp_wire.h
+    api.function["rtpw_read"].parameters[0]   # Parameter(name='datagram', type='uint8_t', ..)
+    api.struct["rtpw_packet"].fields[0]       # Field(name='payload_at', type='size_t', .., count=None, at=0, size=8)
 
 Sizes and offsets are those of a machine with 64 bits, by the rules of its ABI: bindings/test/layout.c compares them
 with what compilers make. pycparser is Debian's python3-pycparser, from 2.21 on; `cc` is the preprocessor.
@@ -70,7 +69,10 @@ class Parameter(Marked):
         return f"{'const ' if self.is_const else ''}{self.type}{' *' if self.is_pointer else ''}"
 
 
+@dataclass(frozen=True)
 class Named:
+    name: str
+
     short = property(lambda self: self.name[len("rtpw_"):], doc="The name without rtpw_.")
 
 
@@ -78,13 +80,17 @@ class Named:
 class Function(Named):
     """A function; `result` is a type as a parameter has it, or "void". A status is told by "int32_t"."""
 
-    name: str
     result: str
     parameters: Tuple[Parameter, ...]
 
     has_status = property(lambda self: self.result == "int32_t")
-    pointers = property(lambda self: [it for it in self.parameters if it.is_pointer])
     named = property(lambda self: {it.name: it for it in self.parameters})
+    pointers = property(lambda self: [it for it in self.parameters if it.is_pointer])
+    outputs = property(lambda self: [it for it in self.pointers if it.mark == "out" and not it.count])
+
+    def given(self, output: Optional[Parameter]) -> List[Parameter]:
+        """What is given where what is written to this one is returned, and a pointer tells how many there are."""
+        return [it for it in self.parameters if it is not output and not self.counted_by(it.name)]
 
     def fills(self, p: Parameter) -> bool:
         """Whether it is a buffer of which the first *len bytes are written."""
@@ -93,7 +99,7 @@ class Function(Named):
     @property
     def returns(self) -> bool:
         """Whether what it writes is what it is for."""
-        return bool(re.match("(read|next|last)_|.*_(receive|report)$", self.short)) and not self.short.startswith("write_")
+        return bool(re.match("(read|next|last)_|(?!write_).*_(receive|report)$", self.short))
 
     @property
     def grown(self) -> Optional[Parameter]:
@@ -126,20 +132,9 @@ class Field(Marked):
 
 @dataclass(frozen=True)
 class Struct(Named):
-    name: str
     size: int
     align: int
     fields: Tuple[Field, ...]
-
-
-@dataclass(frozen=True)
-class Kind:
-    """A kind of header extension that has a URI, and the fields of rtpw_values that are of it, by their has_."""
-
-    name: str  # as "ABS_SEND_TIME"
-    number: int
-    uri: str
-    values: Tuple[str, ...]
 
 
 @dataclass
@@ -151,7 +146,6 @@ class Api:
     enums: List[Dict[str, int]] = field(default_factory=list)  # the constants of each enum
     constants: Dict[str, int] = field(default_factory=dict)  # of all enums, and then the macros that are numbers
     version: str = ""
-    kinds: List[Kind] = field(default_factory=list)
     texts: Dict[str, str] = field(default_factory=dict)  # of each status by its constant, and of none by ""
 
     function = property(lambda self: {it.name: it for it in self.functions})
@@ -180,8 +174,8 @@ def parser():
 
 
 def preprocessed(header: Path, text: str) -> str:
-    """The header file without the standard ones, which are stubs here, and with its marks as something that may stand in
-    a declaration of C11, and in that of a constant."""
+    """The header file without the standard ones, which are stubs here, and with its marks as something that may stand
+    in a declaration of C11; those of constants stay empty."""
     marks = text.partition("#ifndef RTPW_OUT\n")[2].partition("#endif")[0]
     with tempfile.TemporaryDirectory() as stubs:
         types = "".join(f"typedef int {it};\n" for it in SIZES if it != "char")
@@ -189,9 +183,8 @@ def preprocessed(header: Path, text: str) -> str:
             (Path(stubs) / f"{name}.h").write_text(types if name == "stddef" else "")
         options = ["-nostdinc", "-undef", "-P", f"-I{stubs}"]
         for name, given in re.findall(r"^#define (\w+)(\(.*\))?$", marks, re.M):
-            call = f"{name}({'__VA_ARGS__' if given else ''})"
-            stands_for = f"+{call}" if name == "RTPW_KIND" else f"_Alignas({call})"
-            options.append(f"-D{name}{'(...)' if given else ''}={stands_for}")
+            mark = f"_Alignas({name}({'__VA_ARGS__' if given else ''}))" if name != "RTPW_KIND" else ""
+            options.append(f"-D{name}{'(...)' if given else ''}={mark}")
         command = ["cc", "-std=c11", "-E", *options, str(header)]
         return subprocess.run(command, stdout=subprocess.PIPE, text=True, check=True).stdout
 
@@ -213,7 +206,8 @@ class Reader:
     """Adds what is declared to the description."""
 
     def __init__(self, pycparser, word: int):
-        self.ast, self.text, self.api = pycparser.c_ast, pycparser.c_generator.CGenerator(reduce_parentheses=True).visit, Api()
+        self.ast, self.api = pycparser.c_ast, Api()
+        self.text = pycparser.c_generator.CGenerator(reduce_parentheses=True).visit
         self.sizes = {name: (size, size) for name, size in {**SIZES, "size_t": word}.items()}
 
     def add(self, node) -> None:
@@ -221,25 +215,14 @@ class Reader:
         if isinstance(node, ast.Typedef) and isinstance(node.type.type, ast.Struct):
             api.structs.append(self.struct(node))
         elif isinstance(node, ast.Decl) and isinstance(node.type, ast.Enum):
-            self.enum(node.type.values.enumerators)
+            api.enums.append({it.name: int(it.value.value) for it in node.type.values.enumerators})
+            api.constants.update(api.enums[-1])
         elif isinstance(node, ast.Decl) and isinstance(node.type, ast.FuncDecl):
             api.functions.append(self.function(node))
         elif isinstance(node, ast.FuncDef) and node.decl.name == "rtpw_status_text":
             for case in node.body.block_items[0].stmt.block_items:
                 name = case.expr.name if isinstance(case, ast.Case) else ""
                 api.texts[name] = case.stmts[0].expr.value[1:-1]
-
-    def enum(self, rows) -> None:
-        numbers = {}
-        for it in rows:
-            marked = isinstance(it.value, self.ast.BinaryOp)
-            numbers[it.name] = int((it.value.left if marked else it.value).value)
-            if marked:
-                uri, *values = map(self.text, it.value.right.args.exprs)
-                name = it.name[len("RTPW_KIND_"):]
-                self.api.kinds.append(Kind(name, numbers[it.name], uri[1:-1], tuple(values)))
-        self.api.enums.append(numbers)
-        self.api.constants.update(numbers)
 
     def marks_of(self, node) -> Dict[str, Tuple[str, ...]]:
         calls = [it.alignment for it in node.align]

@@ -150,7 +150,7 @@ def where(it: Function, done: str, statuses=()) -> str:
 
 
 def call_of(api: Api, it: Function, rows) -> str:
-    """The call, between what is done before it and after it: what goes by others behind these, and last what rows say."""
+    """The call, and what is done before and after it: what goes by others behind these, and last what rows say."""
     rows = [row for row in rows if it.short in row[0]]
     pointers = [p for p in it.pointers if not it.grown or p.name != "len"]
     left = [[p for p in pointers if not any(row[i] and p.name in row[1] for row in rows)] for i in (2, 3)]

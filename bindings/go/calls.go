@@ -1817,7 +1817,7 @@ func lastElement(body []byte, form Form, id uint8) (Place, error) {
 	return element, errorOf(status)
 }
 
-func kindOfURI(uri []byte) byte {
+func kindOfURI(uri []byte) uint8 {
 	return rtpw_kind_of_uri(first(uri), uintptr(len(uri)))
 }
 
@@ -1831,7 +1831,7 @@ func mapSet(m *Map, id uint8, kind Kind) error {
 	return errorOf(rtpw_map_set(m.c(), id, uint8(kind)))
 }
 
-func idOf(m *Map, kind Kind) byte {
+func idOf(m *Map, kind Kind) uint8 {
 	return rtpw_id_of(m.orNone().c(), uint8(kind))
 }
 
@@ -2129,7 +2129,7 @@ func receiverReceive(receiver *Receiver, sequenceNumber uint16) (uint64, error) 
 	return number, errorOf(status)
 }
 
-func receiverStandingOf(receiver *Receiver, number uint64) byte {
+func receiverStandingOf(receiver *Receiver, number uint64) uint8 {
 	return rtpw_receiver_standing_of(receiver.c(), number)
 }
 
@@ -2155,7 +2155,7 @@ func wideReceiverReceive(receiver *wideState, words []uint64, sequenceNumber uin
 	return number, errorOf(status)
 }
 
-func wideReceiverStandingOf(receiver *wideState, words []uint64, number uint64) byte {
+func wideReceiverStandingOf(receiver *wideState, words []uint64, number uint64) uint8 {
 	return rtpw_wide_receiver_standing_of(receiver.c(), firstUint64(words), uintptr(len(words)), number)
 }
 
