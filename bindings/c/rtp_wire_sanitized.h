@@ -180,6 +180,12 @@ static inline void rtpw_sanitizer_packet_block(const uint8_t *datagram, size_t l
     }
 }
 
+/* The number that the payload of a retransmission begins with is read. */
+static inline void rtpw_sanitizer_packet_number(const uint8_t *datagram, size_t len) {
+    size_t at = rtpw_sanitizer_packet_header_len(datagram, len);
+    if (at < len) { rtpw_sanitizer_reads(datagram + at, rtpw_sanitizer_least(len - at, 2)); }
+}
+
 /* The block's elements were changed where they lie. */
 static inline void rtpw_sanitizer_wrote_block(const uint8_t *datagram, size_t len) {
     size_t header_len = rtpw_sanitizer_packet_header_len(datagram, len);
@@ -233,18 +239,14 @@ static inline void rtpw_sanitizer_forget(rtpw_sanitizer_before before) {
 }
 
 /* The block of a packet was made anew, or taken off, and the payload moved. */
-static inline void rtpw_sanitizer_rebuilt(int32_t status, uint8_t *buf, const size_t *len,
-                                          rtpw_sanitizer_before before) {
-    if (status == RTPW_OK) {
-        size_t size = before.len - before.header_len, to = *len - size, at = rtpw_sanitizer_block_at(buf, to);
-        rtpw_sanitizer_wrote(len, sizeof *len);
-        rtpw_sanitizer_changed(buf, 1); /* X */
-        rtpw_sanitizer_wrote(buf + at, to - at);
-        rtpw_sanitizer_moved(buf, to, size, before, 0);
-        /* What lies behind a packet that is shorter may be anything. */
-        if (*len < before.len) { rtpw_sanitizer_changed(buf + *len, before.len - *len); }
-    }
-    rtpw_sanitizer_forget(before);
+static inline void rtpw_sanitizer_rebuilt(uint8_t *buf, const size_t *len, rtpw_sanitizer_before before) {
+    size_t size = before.len - before.header_len, to = *len - size, at = rtpw_sanitizer_block_at(buf, to);
+    rtpw_sanitizer_wrote(len, sizeof *len);
+    rtpw_sanitizer_changed(buf, 1); /* X */
+    rtpw_sanitizer_wrote(buf + at, to - at);
+    rtpw_sanitizer_moved(buf, to, size, before, 0);
+    /* What lies behind a packet that is shorter may be anything. */
+    if (*len < before.len) { rtpw_sanitizer_changed(buf + *len, before.len - *len); }
 }
 
 /* The packet has another SSRC and payload type now, and P is clear; its ids were changed where they lie. */
@@ -258,29 +260,23 @@ static inline void rtpw_sanitizer_readdressed(uint8_t *buf, const size_t *len, u
 }
 
 /* The packet is a retransmission now: its payload begins with the number that it had, and it has another one. */
-static inline void rtpw_sanitizer_resent(int32_t status, uint8_t *buf, const size_t *len, uint8_t payload_type,
+static inline void rtpw_sanitizer_resent(uint8_t *buf, const size_t *len, uint8_t payload_type,
                                          rtpw_sanitizer_before before) {
-    if (status == RTPW_OK) {
-        rtpw_sanitizer_readdressed(buf, len, payload_type, before.header_len);
-        rtpw_sanitizer_moved(buf, before.header_len + 2, *len - before.header_len - 2, before, 0);
-        rtpw_sanitizer_changed(buf + before.header_len, 2);
+    rtpw_sanitizer_readdressed(buf, len, payload_type, before.header_len);
+    rtpw_sanitizer_moved(buf, before.header_len + 2, *len - before.header_len - 2, before, 0);
+    rtpw_sanitizer_changed(buf + before.header_len, 2);
 #ifdef RTPW_SANITIZER_MEMORY
-        __msan_copy_shadow(buf + before.header_len, buf + 2, 2);
+    __msan_copy_shadow(buf + before.header_len, buf + 2, 2);
 #endif
-        rtpw_sanitizer_wrote(buf + 2, 2);
-    }
-    rtpw_sanitizer_forget(before);
+    rtpw_sanitizer_wrote(buf + 2, 2);
 }
 
 /* The retransmission is the packet that it repeats: it has the number that the payload began with, which was read. */
-static inline void rtpw_sanitizer_restored(int32_t status, uint8_t *buf, const size_t *len, uint8_t payload_type,
+static inline void rtpw_sanitizer_restored(uint8_t *buf, const size_t *len, uint8_t payload_type,
                                            rtpw_sanitizer_before before) {
-    if (status == RTPW_OK) {
-        rtpw_sanitizer_readdressed(buf, len, payload_type, before.header_len);
-        rtpw_sanitizer_moved(buf, before.header_len, *len - before.header_len, before, 2);
-        rtpw_sanitizer_wrote(buf + 2, 2);
-    }
-    rtpw_sanitizer_forget(before);
+    rtpw_sanitizer_readdressed(buf, len, payload_type, before.header_len);
+    rtpw_sanitizer_moved(buf, before.header_len, *len - before.header_len, before, 2);
+    rtpw_sanitizer_wrote(buf + 2, 2);
 }
 
 /* ---- Structs: the fields that count; what fills a struct up, and what isn't looked at, need not be set ---- */
@@ -565,13 +561,6 @@ static inline void rtpw_sanitizer_wrote_padding(uint8_t *datagram, size_t header
     rtpw_sanitizer_wrote(datagram + header_len, count);
 }
 
-/* The number that the payload of a retransmission begins with is read, and the length of its padding. */
-static inline void rtpw_sanitizer_original(const uint8_t *buf, size_t len) {
-    size_t at = rtpw_sanitizer_packet_header_len(buf, len);
-    if (at < len) { rtpw_sanitizer_reads(buf + at, rtpw_sanitizer_least(len - at, 2)); }
-    rtpw_sanitizer_packet_padding(buf, len);
-}
-
 /* ---- Many at once ---- */
 
 /* The bytes that a struct names by their place are read, where they are within the data. */
@@ -750,7 +739,8 @@ RTPW_CHECKED static inline int32_t rtpw_sanitized_put_element(uint8_t *buf, size
     rtpw_sanitizer_packet_block(buf, before.len);
     rtpw_sanitizer_reads(data, data_len);
     status = rtpw_put_element(buf, size, len, id, data, data_len, allowed);
-    rtpw_sanitizer_rebuilt(status, buf, len, before);
+    if (status == RTPW_OK) { rtpw_sanitizer_rebuilt(buf, len, before); }
+    rtpw_sanitizer_forget(before);
     return status;
 }
 #define rtpw_put_element rtpw_sanitized_put_element
@@ -761,7 +751,8 @@ RTPW_CHECKED static inline int32_t rtpw_sanitized_add_element(uint8_t *buf, size
     rtpw_sanitizer_packet_block(buf, before.len);
     rtpw_sanitizer_reads(data, data_len);
     status = rtpw_add_element(buf, size, len, id, data, data_len, allowed);
-    rtpw_sanitizer_rebuilt(status, buf, len, before);
+    if (status == RTPW_OK) { rtpw_sanitizer_rebuilt(buf, len, before); }
+    rtpw_sanitizer_forget(before);
     return status;
 }
 #define rtpw_add_element rtpw_sanitized_add_element
@@ -770,7 +761,8 @@ RTPW_CHECKED static inline int32_t rtpw_sanitized_compact(uint8_t *buf, size_t s
     rtpw_sanitizer_before before = rtpw_sanitizer_front(buf, size, len);
     rtpw_sanitizer_packet_block(buf, before.len);
     status = rtpw_compact(buf, size, len);
-    rtpw_sanitizer_rebuilt(status, buf, len, before);
+    if (status == RTPW_OK) { rtpw_sanitizer_rebuilt(buf, len, before); }
+    rtpw_sanitizer_forget(before);
     return status;
 }
 #define rtpw_compact rtpw_sanitized_compact
@@ -780,7 +772,8 @@ RTPW_CHECKED static inline int32_t rtpw_sanitized_change_form(uint8_t *buf, size
     rtpw_sanitizer_before before = rtpw_sanitizer_front(buf, size, len);
     rtpw_sanitizer_packet_block(buf, before.len);
     status = rtpw_change_form(buf, size, len, form);
-    rtpw_sanitizer_rebuilt(status, buf, len, before);
+    if (status == RTPW_OK) { rtpw_sanitizer_rebuilt(buf, len, before); }
+    rtpw_sanitizer_forget(before);
     return status;
 }
 #define rtpw_change_form rtpw_sanitized_change_form
@@ -788,7 +781,8 @@ RTPW_CHECKED static inline int32_t rtpw_sanitized_remove_block(uint8_t *buf, siz
     int32_t status;
     rtpw_sanitizer_before before = rtpw_sanitizer_front(buf, size, len);
     status = rtpw_remove_block(buf, size, len);
-    rtpw_sanitizer_rebuilt(status, buf, len, before);
+    if (status == RTPW_OK) { rtpw_sanitizer_rebuilt(buf, len, before); }
+    rtpw_sanitizer_forget(before);
     return status;
 }
 #define rtpw_remove_block rtpw_sanitized_remove_block
@@ -798,7 +792,8 @@ RTPW_CHECKED static inline int32_t rtpw_sanitized_put_block(uint8_t *buf, size_t
     rtpw_sanitizer_before before = rtpw_sanitizer_front(buf, size, len);
     rtpw_sanitizer_reads(body, body_len);
     status = rtpw_put_block(buf, size, len, profile, body, body_len);
-    rtpw_sanitizer_rebuilt(status, buf, len, before);
+    if (status == RTPW_OK) { rtpw_sanitizer_rebuilt(buf, len, before); }
+    rtpw_sanitizer_forget(before);
     return status;
 }
 #define rtpw_put_block rtpw_sanitized_put_block
@@ -1409,10 +1404,11 @@ RTPW_CHECKED static inline int32_t rtpw_sanitized_to_retransmission(uint8_t *buf
     int32_t status;
     rtpw_sanitizer_before before = rtpw_sanitizer_front(buf, size, len);
     rtpw_sanitizer_packet_block(buf, before.len);
-    rtpw_sanitizer_new_ids(ids);
     rtpw_sanitizer_packet_padding(buf, before.len);
+    rtpw_sanitizer_new_ids(ids);
     status = rtpw_to_retransmission(buf, size, len, ssrc, payload_type, number, ids);
-    rtpw_sanitizer_resent(status, buf, len, payload_type, before);
+    if (status == RTPW_OK) { rtpw_sanitizer_resent(buf, len, payload_type, before); }
+    rtpw_sanitizer_forget(before);
     return status;
 }
 #define rtpw_to_retransmission rtpw_sanitized_to_retransmission
@@ -1421,10 +1417,12 @@ RTPW_CHECKED static inline int32_t rtpw_sanitized_from_retransmission(uint8_t *b
     int32_t status;
     rtpw_sanitizer_before before = rtpw_sanitizer_front(buf, size, len);
     rtpw_sanitizer_packet_block(buf, before.len);
+    rtpw_sanitizer_packet_padding(buf, before.len);
+    rtpw_sanitizer_packet_number(buf, before.len);
     rtpw_sanitizer_new_ids(ids);
-    rtpw_sanitizer_original(buf, before.len);
     status = rtpw_from_retransmission(buf, size, len, ssrc, payload_type, ids);
-    rtpw_sanitizer_restored(status, buf, len, payload_type, before);
+    if (status == RTPW_OK) { rtpw_sanitizer_restored(buf, len, payload_type, before); }
+    rtpw_sanitizer_forget(before);
     return status;
 }
 #define rtpw_from_retransmission rtpw_sanitized_from_retransmission

@@ -55,7 +55,8 @@ class Parameter(Marked):
 
     count = only("COUNT")  # of a pointer to several: the parameter that says how many; NULL is allowed with 0
     may_overlap = only("MAY_OVERLAP")
-    packet, each, read_if = only("PACKET"), only("EACH"), only("READ_IF")
+    each, read_if = only("EACH"), only("READ_IF")
+    packet = property(lambda self: self.marks.get("PACKET", ()), doc="What is looked at of a packet.")
     without = property(lambda self: self.marks.get("BUT", ()), doc="The fields that aren't looked at.")
 
     @property

@@ -91,18 +91,22 @@ def place_of(p: Parameter) -> str:
     return f"{at if p.part[0] == '0' else f'{at} + {p.part[0]}'}, {p.part[1]}"
 
 
+def packet_of(p: Parameter, at: str) -> str:
+    return "\n".join(f"rtpw_sanitizer_packet_{part}({at});" for part in p.packet)
+
+
 def looked_at(it: Function, p: Parameter) -> str:
     """What is read of a parameter."""
     of, one = f"{p.each}[i]", reader_of(p.short_type, p.without)
     if p.each and p.packet:
         is_there = f"rtpw_sanitizer_has_datagram({p.name}, {p.count}, {of}.at, {of}.len)"
-        done = block(f"if ({is_there})", f"rtpw_sanitizer_packet_{p.packet}({p.name} + {of}.at, {of}.len);")
+        done = block(f"if ({is_there})", packet_of(p, f"{p.name} + {of}.at, {of}.len"))
     elif p.each and p.is_plain:
         done = f"rtpw_sanitizer_part({p.name}, {p.count}, {of}.data_at, {of}.data_len);"
     elif p.each:
         done = block(f"if ({of}.{p.name[:-1]} < {p.count})", f"{one}(&{p.name}[{of}.{p.name[:-1]}]);")
     elif p.packet:
-        return f"rtpw_sanitizer_packet_{p.packet}({p.name}, {p.count});"
+        return packet_of(p, f"{p.name}, {p.count}")
     elif p.part or p.is_plain:
         return f"rtpw_sanitizer_reads({place_of(p)});"
     else:
@@ -113,8 +117,9 @@ def looked_at(it: Function, p: Parameter) -> str:
 def tested(it: Function, p: Parameter):
     """What is tested of a parameter before the call, each with whether that goes by other parameters."""
     if p is it.grown:
-        elements = f"\nrtpw_sanitizer_packet_{p.packet}(buf, before.len);" if p.packet != "header_len" else ""
-        return [(False, f"rtpw_sanitizer_before before = rtpw_sanitizer_front(buf, size, len);{elements}")]
+        lines = ["rtpw_sanitizer_before before = rtpw_sanitizer_front(buf, size, len);"]
+        lines += packet_of(p, "buf, before.len").splitlines() if p.packet != ("header_len",) else []
+        return [(False, line) for line in lines]
     room = (False, f"RTPW_SANITIZER_ROOM({p.name}, {room_of(p)});")
     if p.mark == "out" or p.mark == "inout" and p.part and not (p.packet or p.read_if):
         return [room]
@@ -127,10 +132,9 @@ def tested(it: Function, p: Parameter):
 
 def written(api: Api, it: Function, p: Parameter) -> str:
     """What has been written after it."""
-    place = place_of(p)
     if p is it.grown:
-        return "rtpw_sanitizer_rebuilt(status, buf, len, before);"
-    if p.packet == "block":
+        done = "rtpw_sanitizer_rebuilt(buf, len, before);"
+    elif "block" in p.packet:
         done = f"rtpw_sanitizer_wrote_block({p.name}, {p.count});"
     elif p.each:
         one = f"rtpw_sanitizer_wrote(&{p.name}[{p.each}[i].{p.name[:-1]}], sizeof *{p.name});"
@@ -138,7 +142,7 @@ def written(api: Api, it: Function, p: Parameter) -> str:
     elif p.count and not p.is_plain and any(f.is_out for f in api.struct[p.type].fields):
         done = for_each(p.count, f"rtpw_sanitizer_wrote_{p.short_type}(&{p.name}[i]);")
     else:
-        done = f"rtpw_sanitizer_wrote({f'{p.name}, *len' if it.fills(p) else place});"
+        done = f"rtpw_sanitizer_wrote({f'{p.name}, *len' if it.fills(p) else place_of(p)});"
     return where(it, done, p.written_if)
 
 
@@ -160,6 +164,7 @@ def call_of(api: Api, it: Function, rows) -> str:
     ends = [written(api, it, p) for p in after] + [where(it, row[3]) for row in rows if row[3]]
     given = ", ".join(f"{p.c}{'' if p.is_pointer else ' '}{p.name}".replace(" ", "~") for p in it.parameters)
     call = f"rtpw_{it.short}({', '.join(p.name for p in it.parameters)});"
+    ends += ["rtpw_sanitizer_forget(before);"] if it.grown else []
     if it.result != "void":
         lines, call, ends = [f"{it.result} status;", *lines], f"status = {call}", [*ends, "return status;"]
     checked = "RTPW_CHECKED " if it.has_status else ""

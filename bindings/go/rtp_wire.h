@@ -125,10 +125,11 @@ extern "C" {
  *     RTPW_TELLS(fields..)     of a field: these others of the struct are looked at only where it isn't 0, as the field
  *                              `x` is beside one that is named `has_x`
  *     RTPW_RANGE(low, high)    of a field: what is written, and what is taken where it is looked at
- *     RTPW_PACKET(part)        it holds a packet, of which is read how long its header is (header_len), and of `fields`
- *                              the fixed part, the first four bytes of the block and the length of the padding, of
- *                              `header` all of it, of `whole` that and the length of the padding, of `block` the
- *                              elements, which are what is written, and of `padding` its length
+ *     RTPW_PACKET(parts..)     it holds a packet, of which these are read: header_len, how long its header is, as
+ *                              always; `fields`, the fixed part, the first four bytes of the block and the length of
+ *                              the padding; `header`, all of it; `whole`, that and the length of the padding; `block`,
+ *                              the elements, which are what is written then; `padding`, its length; `number`, the two
+ *                              bytes that the payload begins with
  *     RTPW_PART(at, size)      of it only these bytes are read, and of a packet and of what is written only these are
  *                              written; of a field that is an array: they alone are looked at
  *     RTPW_READ_IF(condition)  its bytes are read only where this holds
@@ -148,7 +149,7 @@ extern "C" {
 #define RTPW_TELLS(...)
 #define RTPW_RANGE(low, high)
 #define RTPW_KIND(...)
-#define RTPW_PACKET(part)
+#define RTPW_PACKET(...)
 #define RTPW_PART(at, size)
 #define RTPW_READ_IF(condition)
 #define RTPW_EACH(structs)
@@ -1211,8 +1212,8 @@ void rtpw_new_ids_from_retransmission(const rtpw_map *map, RTPW_OUT rtpw_new_ids
  *         send_again(datagram, len);
  *     }
  */
-RTPW_CHECKED int32_t rtpw_to_retransmission(RTPW_INOUT RTPW_COUNT(size) RTPW_PACKET(block) uint8_t *buf, size_t size,
-                                            RTPW_INOUT size_t *len, uint32_t ssrc, uint8_t payload_type,
+RTPW_CHECKED int32_t rtpw_to_retransmission(RTPW_INOUT RTPW_COUNT(size) RTPW_PACKET(block, padding) uint8_t *buf,
+                                            size_t size, RTPW_INOUT size_t *len, uint32_t ssrc, uint8_t payload_type,
                                             uint16_t number, const rtpw_new_ids *ids);
 /* Makes the retransmission in the first *len bytes of the buffer the packet that it repeats: with this SSRC and
  * payload type, the original number, the elements under their new ids, and as payload what follows that number,
@@ -1223,9 +1224,9 @@ RTPW_CHECKED int32_t rtpw_to_retransmission(RTPW_INOUT RTPW_COUNT(size) RTPW_PAC
  * cause for which there is no packet; RTPW_BAD_FIELD where padding_fits is 0; RTPW_NONE where the payload without its
  * padding has fewer than the two bytes of a number; RTPW_LONG_ID where an element would get an id above 14 in the
  * one-byte form. Where it isn't RTPW_OK nothing changes. */
-RTPW_CHECKED int32_t rtpw_from_retransmission(RTPW_INOUT RTPW_COUNT(size) RTPW_PACKET(block) uint8_t *buf, size_t size,
-                                              RTPW_INOUT size_t *len, uint32_t ssrc, uint8_t payload_type,
-                                              const rtpw_new_ids *ids);
+RTPW_CHECKED int32_t rtpw_from_retransmission(RTPW_INOUT RTPW_COUNT(size) RTPW_PACKET(block, padding, number)
+                                                  uint8_t *buf, size_t size, RTPW_INOUT size_t *len, uint32_t ssrc,
+                                              uint8_t payload_type, const rtpw_new_ids *ids);
 
 /* ---- The numbers of a stream ---- */
 
