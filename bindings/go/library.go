@@ -63,25 +63,15 @@ func (g *Group) ids() *NewIDs {
 // read reads the packet, and says of none of RTP on a port that both share that it is of RTCP.
 func (p *Packet) read(datagram []byte, m *Map) error {
 	status := rtpw_read(first(datagram), uintptr(len(datagram)), m.orNone().c(), p.wholePacket.c())
-	if status != statusOK {
-		return errorOf(status)
+	if status == statusOK {
+		p.datagram = datagram
 	}
-	p.datagram = datagram
-	return nil
+	return errorOf(status)
 }
 
 // parse reads the packet, whatever it looks like.
 func (p *Packet) parse(datagram []byte, m *Map) error {
 	status := rtpw_read(first(datagram), uintptr(len(datagram)), m.orNone().c(), p.wholePacket.c())
-	if status != statusOK {
-		return p.parseOther(datagram, m, status)
-	}
-	p.datagram = datagram
-	return nil
-}
-
-// parseOther goes on where read refused the packet with this status: it may look like RTCP.
-func (p *Packet) parseOther(datagram []byte, m *Map, status int32) error {
 	if status == statusRTCP {
 		status = p.parseAlike(datagram, m)
 	}
@@ -245,10 +235,6 @@ func standingIn(r *rtpw_wide_restarting_receiver, words []uint64, number uint64)
 func (t *HeaderTemplate) make(datagram []byte, group *Group, data []byte) int32 {
 	return rtpw_make_template(first(datagram), uintptr(len(datagram)), group.ids().c(), first(data), uintptr(len(data)),
 		firstElement(group.Elements), uintptr(len(group.Elements)), uint8(group.Allowed), first(t.buf), uintptr(len(t.buf)), t.made.c())
-}
-
-func (t *HeaderTemplate) makeFrom(datagram []byte, group *PreparedGroup) int32 {
-	return makeFromGroup(group, datagram, t.buf, &t.made)
 }
 
 // writeAll writes the headers of receivers, whose data may lie in the buffer.

@@ -57,9 +57,9 @@ func (b *RouteBatch) RoutePrepared(datagram []byte, group *PreparedGroup, data, 
 
 // makePrepared makes the header, where the buffer is too short in one that isn't.
 func (t *HeaderTemplate) makePrepared(datagram []byte, group *PreparedGroup) int32 {
-	status := t.makeFrom(datagram, group)
+	status := makeFromGroup(group, datagram, t.buf, &t.made)
 	for status == statusShortBuffer && t.grow(datagram, int(group.count)) {
-		status = t.makeFrom(datagram, group)
+		status = makeFromGroup(group, datagram, t.buf, &t.made)
 	}
 	return status
 }
