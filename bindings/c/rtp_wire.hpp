@@ -628,7 +628,7 @@ inline status write_headers(const rtpw_template &made, bytes header, bytes data,
             receivers.data(), receivers.size(), buf.data(), buf.size()));
 }
 
-/* ---- A packet where it lies ---- */
+/* ---- Of C++ alone: the parts of a packet ---- */
 
 namespace detail {
 /* Both structs that tell a packet say where its parts lie. */
@@ -663,7 +663,7 @@ inline std::uint32_t csrc(bytes datagram, std::size_t index) noexcept {
     return std::uint32_t{it[0]} << 24 | std::uint32_t{it[1]} << 16 | std::uint32_t{it[2]} << 8 | it[3];
 }
 
-/* ---- The elements of a block ---- */
+/* ---- Of C++ alone: the elements of a block ---- */
 
 /* An element, and its data where they lie. */
 struct element {
@@ -746,7 +746,7 @@ std::optional<bytes> data_of_element(Bytes &&, const Packet &, std::uint8_t) = d
 template <class Bytes, class Packet, class = detail::gone<Bytes>>
 std::optional<std::string_view> token(Bytes &&, const Packet &, std::uint8_t) = delete;
 
-/* ---- The values of a block ---- */
+/* ---- Of C++ alone: URIs, maps and texts ---- */
 
 inline std::uint8_t kind_of_uri(std::string_view uri) noexcept {
     return ::rtpw_kind_of_uri(reinterpret_cast<const std::uint8_t *>(uri.data()), uri.size());
@@ -884,7 +884,7 @@ inline status set_repaired_rid(rtpw_values &values, std::string_view to) noexcep
     return detail::set_text(values.repaired_rid, values.has_repaired_rid, to);
 }
 
-/* ---- A header, written ---- */
+/* ---- Of C++ alone: a header, written ---- */
 
 /* A header with these values, all else 0: has_extension is set exactly where one of them is there. */
 inline rtpw_header header_with(const rtpw_values &values) noexcept {
@@ -914,7 +914,7 @@ result<std::size_t> write_with(const rtpw_header &, bytes, Element *, std::size_
 template <class Element, class = detail::derived<Element, const rtpw_element>>
 result<std::size_t> write_elements(bytes, Element *, std::size_t, std::uint8_t, buffer) = delete;
 
-/* ---- From one map to another ---- */
+/* ---- Of C++ alone: from one map to another ---- */
 
 /* Numbers of one's own that two own_uris gave are no common ones: of such maps their ids get none. */
 inline rtpw_new_ids new_ids_between(const uri_map &from, const uri_map &to) noexcept {
@@ -926,7 +926,7 @@ inline rtpw_new_ids new_ids_between(const uri_map &from, const uri_map &to) noex
     return new_ids_between(common, static_cast<const rtpw_map &>(to));
 }
 
-/* ---- The numbers of a stream ---- */
+/* ---- Of C++ alone: a window of any size ---- */
 
 /* A receiver with a window of 64 numbers for each of 1 to 512 words, made at a rollover count: 1 where nothing is
  * authenticated, so that a packet from before the first one has a number too, and with SRTP the one that was signalled,
