@@ -179,9 +179,9 @@ template <class Value> class [[nodiscard]] result {
 enum class standing : std::uint8_t { unseen = RTPW_NEW, taken = RTPW_TAKEN, too_old = RTPW_TOO_OLD };
 
 /* What a call of C writes is what is returned here: a struct, a number, or how many bytes the packet has then, are
- * written to the front of the buffer, or would be. Data and a body of which a byte lies in the buffer that is written are
- * refused: bad_field. Of a packet at the front of a buffer `len` becomes its new length. Of many what is told of each
- * stands in its struct, the status too: rtpw::status(it.status). */
+ * written to the front of the buffer, or would be. Data and a body of which a byte lies in the buffer that is written
+ * are refused: bad_field. Of a packet at the front of a buffer `len` becomes its new length. Of many what is told of
+ * each stands in its struct, the status too: rtpw::status(it.status). */
 
 inline std::uint32_t version() noexcept {
     return ::rtpw_version();

@@ -1,4 +1,4 @@
-"""What is made of the description for Go: the structs, the statuses, and the functions: as those of Go's assembler text,
+"""What is made of the description for Go: the structs, the statuses, and the functions, as those of Go's assembler text
 and over these with types of Go.
 
 A function `rtpw_NAME` is text_NAME of the assembler text (generated/go/make), of which one repeats a call, and in a
