@@ -187,7 +187,9 @@ def preprocessed(header: Path, text: str) -> str:
             mark = f"_Alignas({name}({'__VA_ARGS__' if given else ''}))" if name != "RTPW_KIND" else ""
             options.append(f"-D{name}{'(...)' if given else ''}={mark}")
         command = ["cc", "-std=c11", "-E", *options, str(header)]
-        return subprocess.run(command, stdout=subprocess.PIPE, text=True, check=True).stdout
+        made = subprocess.run(command, stdout=subprocess.PIPE, text=True, check=True).stdout
+    # The marks of a field stand behind its type: before it pycparser 2.21 takes the type for the field's name.
+    return re.sub(r"^ +(_Alignas\(.*\))\n( +\w+) ", r"\2 \1 ", made, flags=re.M)
 
 
 def read(header: Path = HEADER, word: int = 8) -> Api:

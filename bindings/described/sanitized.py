@@ -36,23 +36,21 @@ def is_number(it: Field) -> bool:
     return it.is_plain and it.type != "char" and not it.counted and not it.part
 
 
+def reader_of(it, without=()) -> str:
+    return f"rtpw_sanitizer_{it}" + f"_but_{'_'.join(without)}" * bool(without)
+
+
 def reads(it: Field) -> str:
     """What reads a field that is no plain number."""
-    at = f"it->{it.name}"
+    at, one = f"it->{it.name}", reader_of(it.short_type)
+    least = f"rtpw_sanitizer_least(it->{it.counted}, {it.count})"
     if it.part:
         return f"rtpw_sanitizer_reads({at} + {it.part[0]}, {it.part[1]});"
     if it.type == "char":
         return f"rtpw_sanitizer_text({at}, sizeof {at});"
-    if not it.counted:
-        return f"rtpw_sanitizer_{it.short_type}(&{at});"
-    least = f"rtpw_sanitizer_least(it->{it.counted}, {it.count})"
     if it.is_plain:
         return f"rtpw_sanitizer_reads({at}, sizeof *{at} * {least});"
-    return for_each(least, f"rtpw_sanitizer_{it.short_type}(&{at}[i]);")
-
-
-def reader_of(it, without=()) -> str:
-    return f"rtpw_sanitizer_{it}" + f"_but_{'_'.join(without)}" * bool(without)
+    return for_each(least, f"{one}(&{at}[i]);") if it.counted else f"{one}(&{at});"
 
 
 def reading(it: Struct, without=()) -> str:
