@@ -160,8 +160,9 @@ def laid_out(text: str, first: int = 0, others: int = 4) -> str:
 
 
 def template(name: str) -> str:
-    """A file of this folder, of which a part is made."""
-    return Path(__file__).with_name(name).read_text("utf-8")
+    """A file of this folder, of which a part is made; in place of a line @NAME@ stands the file of that name."""
+    text = Path(__file__).with_name(name).read_text("utf-8")
+    return re.sub(r"^@(\w+\.\w+\.in)@\n", lambda it: template(it[1]), text, flags=re.M)
 
 
 def parser():

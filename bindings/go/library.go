@@ -5,9 +5,9 @@ import (
 	"unsafe"
 )
 
-// This file and calls.go have all calls of the library, and with the race*.go beside them all that is unsafe. Structs of Go
-// that lie in memory as those of rtp_wire.h, which layout_test.go tests, are given to it by their addresses: none of them
-// holds a pointer of Go, the library keeps none, and an empty slice is given as nil.
+// This file and calls.go have all calls of the library, and with the race*.go beside them all that is unsafe. Structs of
+// Go that lie in memory as those of rtp_wire.h, which layout_test.go tests, are given to it by their addresses: none of
+// them holds a pointer of Go, the library keeps none, and an empty slice is given as nil.
 
 // apart is the data, copied where they overlap the buffer: what the library writes may overlap nothing that it reads.
 func apart(data, buf []byte) []byte {
@@ -219,7 +219,9 @@ func receiveRestarting(r *rtpw_wide_restarting_receiver, words []uint64, sequenc
 	return number, verdict
 }
 
-func receiveRestartingPacket(r *rtpw_wide_restarting_receiver, words []uint64, datagram []byte, m *Map, p *Packet) (uint64, Verdict, error) {
+func receiveRestartingPacket(
+	r *rtpw_wide_restarting_receiver, words []uint64, datagram []byte, m *Map, p *Packet,
+) (uint64, Verdict, error) {
 	if err := p.read(datagram, m); err != nil {
 		return 0, Refused, err
 	}
@@ -234,7 +236,8 @@ func standingIn(r *rtpw_wide_restarting_receiver, words []uint64, number uint64)
 
 func (t *HeaderTemplate) make(datagram []byte, group *Group, data []byte) int32 {
 	return rtpw_make_template(first(datagram), uintptr(len(datagram)), group.ids().c(), first(data), uintptr(len(data)),
-		firstElement(group.Elements), uintptr(len(group.Elements)), uint8(group.Allowed), first(t.buf), uintptr(len(t.buf)), t.made.c())
+		firstElement(group.Elements), uintptr(len(group.Elements)), uint8(group.Allowed), first(t.buf),
+		uintptr(len(t.buf)), t.made.c())
 }
 
 // writeAll writes the headers of receivers, whose data may lie in the buffer.
