@@ -50,8 +50,9 @@ class Scratch:
         """What a file has: nothing where there is none."""
         return (self.top / place).read_text() if (self.top / place).exists() else ""
 
-    def command(self, name, text):
-        self.write(f"../bin/{name}", text, 0o755)
+    def command(self, name, text="", folder="../bin"):
+        """A stand-in in bash, or in what this says."""
+        self.write(f"{folder}/{name}", text if text.startswith("#!") else f"#!/bin/bash\n{text}", 0o755)
 
     def links(self, name, *commands):
         """A folder of this name beside `top`, with links to these commands alone: for a path."""
@@ -82,7 +83,7 @@ class Scratch:
 
     def called(self):
         """What the stand-ins have written into the file CALLS since it was asked for last, by lines."""
-        calls = self.read("../calls").splitlines()
+        calls = [it.strip() for it in self.read("../calls").splitlines()]
         self.write("../calls")
         return calls
 

@@ -125,9 +125,21 @@ extern "C" {
  *     RTPW_TELLS(fields..)     of a field: these others of the struct are looked at only where it isn't 0, as the field
  *                              `x` is beside one that is named `has_x`
  *     RTPW_RANGE(low, high)    of a field: what is written, and what is taken where it is looked at
+ *     RTPW_PACKET(parts..)     it holds a packet, of which these are read: header_len, how long its header is, as
+ *                              always; `fields`, the fixed part, the first four bytes of the block and the length of
+ *                              the padding; `header`, all of it; `whole`, that and the length of the padding; `block`,
+ *                              the elements, which are what is written then; `padding`, its length; `number`, the two
+ *                              bytes that the payload begins with
+ *     RTPW_PART(at, size)      of it only these bytes are read, and of a packet and of what is written only these are
+ *                              written; of a field that is an array: they alone are looked at
+ *     RTPW_READ_IF(condition)  its bytes are read only where this holds
+ *     RTPW_EACH(structs)       each of these structs names a part of it: by `at` and `len`, `data_at` and `data_len`, or
+ *                              of structs one, which is written too where the status beside that is RTPW_OK
+ *     RTPW_BUT(fields..)       of structs: all but these fields are looked at
  *     RTPW_KIND(uri, ..)       the URI of a kind of extension in SDP, and each field of rtpw_values that is of it
  *
- * RTPW_COUNT of an array in a struct: only so many of it are looked at. */
+ * RTPW_COUNT of an array in a struct: only so many of it are looked at. RTPW_OUT of a field: it is written, at the status
+ * beside it that is RTPW_OK or by RTPW_WRITTEN_IF, and needs no value where the struct is read. */
 #ifndef RTPW_OUT
 #define RTPW_OUT
 #define RTPW_INOUT
@@ -137,6 +149,11 @@ extern "C" {
 #define RTPW_TELLS(...)
 #define RTPW_RANGE(low, high)
 #define RTPW_KIND(...)
+#define RTPW_PACKET(...)
+#define RTPW_PART(at, size)
+#define RTPW_READ_IF(condition)
+#define RTPW_EACH(structs)
+#define RTPW_BUT(...)
 #endif
 
 /* The version of this header file: as text, and as the number that rtpw_version returns of its library. One that ends
@@ -239,12 +256,12 @@ typedef struct {
  * would take a receiver report for RTP: as RTP that byte is M and a payload type of 64 to 95, which a stream
  * on such a port must not have; rtpw_read looks itself. False of fewer than two bytes; no other byte is looked at, and
  * two or three are enough, though no RTCP packet has fewer than four. */
-bool rtpw_is_rtcp(RTPW_COUNT(len) const uint8_t *datagram, size_t len);
+bool rtpw_is_rtcp(RTPW_COUNT(len) RTPW_PART(0, 2) RTPW_READ_IF(len >= 2) const uint8_t *datagram, size_t len);
 
 /* Reads the header of the packet in the buffer. RTPW_OK, or the first cause for which it holds none. A block of
  * another form than the two has a body, and no elements: none are found in it, and none can be put into it. With
  * Cryptex decrypt first: the contributing sources are encrypted too. */
-RTPW_CHECKED int32_t rtpw_packet_parse(RTPW_COUNT(len) const uint8_t *datagram, size_t len,
+RTPW_CHECKED int32_t rtpw_packet_parse(RTPW_COUNT(len) RTPW_PACKET(fields) const uint8_t *datagram, size_t len,
                                        RTPW_OUT rtpw_packet *packet);
 
 /* ---- A packet, changed where it lies ---- */
@@ -257,13 +274,16 @@ RTPW_CHECKED int32_t rtpw_packet_parse(RTPW_COUNT(len) const uint8_t *datagram, 
  * payload_at bytes are a packet without a payload, and what they become is, with the payload behind it, what
  * the whole packet would become. So a server copies and changes only the header for each receiver, and sends
  * it before the one payload (writev). */
-RTPW_CHECKED int32_t rtpw_set_marker(RTPW_INOUT RTPW_COUNT(len) uint8_t *datagram, size_t len, bool marker);
-RTPW_CHECKED int32_t rtpw_set_payload_type(RTPW_INOUT RTPW_COUNT(len) uint8_t *datagram, size_t len,
-                                           uint8_t payload_type);
-RTPW_CHECKED int32_t rtpw_set_sequence_number(RTPW_INOUT RTPW_COUNT(len) uint8_t *datagram, size_t len,
-                                              uint16_t number);
-RTPW_CHECKED int32_t rtpw_set_timestamp(RTPW_INOUT RTPW_COUNT(len) uint8_t *datagram, size_t len, uint32_t timestamp);
-RTPW_CHECKED int32_t rtpw_set_ssrc(RTPW_INOUT RTPW_COUNT(len) uint8_t *datagram, size_t len, uint32_t ssrc);
+RTPW_CHECKED int32_t rtpw_set_marker(RTPW_INOUT RTPW_COUNT(len) RTPW_PACKET(header_len) uint8_t *datagram, size_t len,
+                                     bool marker);
+RTPW_CHECKED int32_t rtpw_set_payload_type(RTPW_INOUT RTPW_COUNT(len) RTPW_PACKET(header_len) uint8_t *datagram,
+                                           size_t len, uint8_t payload_type);
+RTPW_CHECKED int32_t rtpw_set_sequence_number(RTPW_INOUT RTPW_COUNT(len) RTPW_PACKET(header_len) RTPW_PART(2, 2)
+                                                  uint8_t *datagram, size_t len, uint16_t number);
+RTPW_CHECKED int32_t rtpw_set_timestamp(RTPW_INOUT RTPW_COUNT(len) RTPW_PACKET(header_len) RTPW_PART(4, 4)
+                                            uint8_t *datagram, size_t len, uint32_t timestamp);
+RTPW_CHECKED int32_t rtpw_set_ssrc(RTPW_INOUT RTPW_COUNT(len) RTPW_PACKET(header_len) RTPW_PART(8, 4) uint8_t *datagram,
+                                   size_t len, uint32_t ssrc);
 
 /* Fields to be set together: each where its has_ isn't 0, and what stands beside one that is 0 isn't
  * looked at. 20 bytes. */
@@ -290,29 +310,32 @@ typedef struct {
  *     fields.ssrc = route->ssrc;
  *     int32_t status = rtpw_set_fields(datagram, len, &fields);
  */
-RTPW_CHECKED int32_t rtpw_set_fields(RTPW_INOUT RTPW_COUNT(len) uint8_t *datagram, size_t len,
+RTPW_CHECKED int32_t rtpw_set_fields(RTPW_INOUT RTPW_COUNT(len) RTPW_PACKET(header_len) uint8_t *datagram, size_t len,
                                      const rtpw_fields *fields);
 
 /* The contributing source at this place, counted from 0. RTPW_NONE where the list has no such place. */
-RTPW_CHECKED int32_t rtpw_set_csrc(RTPW_INOUT RTPW_COUNT(len) uint8_t *datagram, size_t len, size_t index,
-                                   uint32_t source);
+RTPW_CHECKED int32_t rtpw_set_csrc(RTPW_INOUT RTPW_COUNT(len) RTPW_PACKET(header_len)
+                                       RTPW_PART(RTPW_CSRC_AT + 4 * index, 4) uint8_t *datagram, size_t len,
+                                   size_t index, uint32_t source);
 
 /* Gives the last element of this id these data. RTPW_BAD_FIELD, before all else, where one of them lies in the
  * datagram; RTPW_NONE where the packet has no element of the id, or its last one has another number of bytes. Where
  * rtpw_id_of returned 0 don't call it: padding of the one-byte form that has length bits (RFC 8285, 4.2) is told, found,
  * set and removed as an element of the id 0, though none is put or written. */
-RTPW_CHECKED int32_t rtpw_set_element(RTPW_INOUT RTPW_COUNT(len) uint8_t *datagram, size_t len, uint8_t id,
-                                      RTPW_COUNT(data_len) RTPW_MAY_OVERLAP(datagram) const uint8_t *data,
+RTPW_CHECKED int32_t rtpw_set_element(RTPW_INOUT RTPW_COUNT(len) RTPW_PACKET(block) uint8_t *datagram, size_t len,
+                                      uint8_t id, RTPW_COUNT(data_len) RTPW_MAY_OVERLAP(datagram) const uint8_t *data,
                                       size_t data_len);
 /* Makes each element of this id padding. RTPW_NONE where the packet has none. */
-RTPW_CHECKED int32_t rtpw_remove_element(RTPW_INOUT RTPW_COUNT(len) uint8_t *datagram, size_t len, uint8_t id);
+RTPW_CHECKED int32_t rtpw_remove_element(RTPW_INOUT RTPW_COUNT(len) RTPW_PACKET(block) uint8_t *datagram, size_t len,
+                                         uint8_t id);
 
 /* Sets or clears P, and no other bit: the padding is the caller's to write (rtpw_pad), or to keep. */
-RTPW_CHECKED int32_t rtpw_set_padding(RTPW_INOUT RTPW_COUNT(len) uint8_t *datagram, size_t len, bool has_padding);
+RTPW_CHECKED int32_t rtpw_set_padding(RTPW_INOUT RTPW_COUNT(len) RTPW_PACKET(header_len) RTPW_PART(0, 1)
+                                          uint8_t *datagram, size_t len, bool has_padding);
 /* Takes the padding off: clears P, and writes how many bytes the packet then has, which are its first ones;
  * where P is clear, all of them. RTPW_BAD_FIELD where padding_fits is 0. With SRTP decrypt first. */
-RTPW_CHECKED int32_t rtpw_remove_padding(RTPW_INOUT RTPW_COUNT(len) uint8_t *datagram, size_t len,
-                                         RTPW_OUT size_t *new_len);
+RTPW_CHECKED int32_t rtpw_remove_padding(RTPW_INOUT RTPW_COUNT(len) RTPW_PACKET(padding) RTPW_PART(0, 1)
+                                             uint8_t *datagram, size_t len, RTPW_OUT size_t *new_len);
 
 /* ---- A packet that grows where it lies, and one that is made short ---- */
 
@@ -349,9 +372,10 @@ enum { RTPW_ANY_FORM = 0 };
  * else it has or needs a form that isn't allowed (RTPW_ONE_BYTE_FORM alone: it has RTPW_TWO_BYTE_FORM, or the element
  * has no data or more than 16 bytes of them); RTPW_LONG_BLOCK where it would have more than 65,535 words;
  * RTPW_SHORT_BUFFER. */
-RTPW_CHECKED int32_t rtpw_put_element(RTPW_INOUT RTPW_COUNT(size) uint8_t *buf, size_t size, RTPW_INOUT size_t *len,
-                                      uint8_t id, RTPW_COUNT(data_len) RTPW_MAY_OVERLAP(buf) const uint8_t *data,
-                                      size_t data_len, uint8_t allowed);
+RTPW_CHECKED int32_t rtpw_put_element(RTPW_INOUT RTPW_COUNT(size) RTPW_PACKET(block) uint8_t *buf, size_t size,
+                                      RTPW_INOUT size_t *len, uint8_t id,
+                                      RTPW_COUNT(data_len) RTPW_MAY_OVERLAP(buf) const uint8_t *data, size_t data_len,
+                                      uint8_t allowed);
 
 /* Puts an element behind all others, and those of its id stay: an id may have several, of which the last one counts
  * (rtpw_last_element). The id, the data, the forms that are allowed, the form that the block gets, the room that is
@@ -364,16 +388,18 @@ RTPW_CHECKED int32_t rtpw_put_element(RTPW_INOUT RTPW_COUNT(size) uint8_t *buf, 
  *     int32_t status = rtpw_add_element(bytes, sizeof bytes, &len, 1, &second, 1, RTPW_ANY_FORM);
  *     // the body of the block is 10 AA 10 BB
  */
-RTPW_CHECKED int32_t rtpw_add_element(RTPW_INOUT RTPW_COUNT(size) uint8_t *buf, size_t size, RTPW_INOUT size_t *len,
-                                      uint8_t id, RTPW_COUNT(data_len) RTPW_MAY_OVERLAP(buf) const uint8_t *data,
-                                      size_t data_len, uint8_t allowed);
+RTPW_CHECKED int32_t rtpw_add_element(RTPW_INOUT RTPW_COUNT(size) RTPW_PACKET(block) uint8_t *buf, size_t size,
+                                      RTPW_INOUT size_t *len, uint8_t id,
+                                      RTPW_COUNT(data_len) RTPW_MAY_OVERLAP(buf) const uint8_t *data, size_t data_len,
+                                      uint8_t allowed);
 
 /* Makes the packet as short as its elements allow: these stand in a row, without those of the id 0, which is padding's,
  * the body is filled up to whole words, and the payload moves to the front; what stands where reading ends goes. So
  * rtpw_remove_element and then this gives bytes back; what is then behind the packet, up to its old end, may be
  * anything. A block without elements becomes one of no words, and X stays set; a block of RTPW_OTHER_FORM stays as it
  * is. RTPW_OK; RTPW_BAD_FIELD where *len is past the buffer; or the first cause for which the bytes are no packet. */
-RTPW_CHECKED int32_t rtpw_compact(RTPW_INOUT RTPW_COUNT(size) uint8_t *buf, size_t size, RTPW_INOUT size_t *len);
+RTPW_CHECKED int32_t rtpw_compact(RTPW_INOUT RTPW_COUNT(size) RTPW_PACKET(block) uint8_t *buf, size_t size,
+                                  RTPW_INOUT size_t *len);
 
 /* Makes a block of the other form one of this form, RTPW_ONE_BYTE_FORM or RTPW_TWO_BYTE_FORM. Its elements stay, in
  * order, and all other parts of the packet too; the payload moves where the body has to grow, and a body never becomes
@@ -392,8 +418,8 @@ RTPW_CHECKED int32_t rtpw_compact(RTPW_INOUT RTPW_COUNT(size) uint8_t *buf, size
  * an element has an id above 14, which the one-byte form can't carry; RTPW_FORM_NOT_ALLOWED where none has, and one has
  * no data or more than 16 bytes of them, which it can't either; RTPW_LONG_BLOCK where the block would have more than
  * 65,535 words; RTPW_SHORT_BUFFER. */
-RTPW_CHECKED int32_t rtpw_change_form(RTPW_INOUT RTPW_COUNT(size) uint8_t *buf, size_t size, RTPW_INOUT size_t *len,
-                                      uint8_t form);
+RTPW_CHECKED int32_t rtpw_change_form(RTPW_INOUT RTPW_COUNT(size) RTPW_PACKET(block) uint8_t *buf, size_t size,
+                                      RTPW_INOUT size_t *len, uint8_t form);
 
 /* Takes the block off, of whatever form, and clears X: the payload moves to the end of the CSRC list. Without a block
  * nothing changes. What lies behind the packet's new end stays. So the block of no words goes that rtpw_remove_element
@@ -405,7 +431,8 @@ RTPW_CHECKED int32_t rtpw_change_form(RTPW_INOUT RTPW_COUNT(size) uint8_t *buf, 
  *     }
  *
  * RTPW_OK; RTPW_BAD_FIELD where *len is past the buffer; or the first cause for which the bytes are no packet. */
-RTPW_CHECKED int32_t rtpw_remove_block(RTPW_INOUT RTPW_COUNT(size) uint8_t *buf, size_t size, RTPW_INOUT size_t *len);
+RTPW_CHECKED int32_t rtpw_remove_block(RTPW_INOUT RTPW_COUNT(size) RTPW_PACKET(header_len) uint8_t *buf, size_t size,
+                                       RTPW_INOUT size_t *len);
 
 /* Gives the packet a block that begins with these 16 bits, which a profile defines (RFC 3550, 5.3.1), and has this
  * body, in place of the block that is there: X is set, and the payload moves. What the body holds isn't looked at: of
@@ -417,9 +444,9 @@ RTPW_CHECKED int32_t rtpw_remove_block(RTPW_INOUT RTPW_COUNT(size) uint8_t *buf,
  * RTPW_OK; RTPW_BAD_FIELD, before all else, where a byte of the body lies in the `size` bytes of the buffer, *len is
  * past the buffer, or the body is no whole number of words of four bytes; RTPW_LONG_BLOCK where it has more than 65,535
  * words; the first cause for which the bytes are no packet; RTPW_SHORT_BUFFER. */
-RTPW_CHECKED int32_t rtpw_put_block(RTPW_INOUT RTPW_COUNT(size) uint8_t *buf, size_t size, RTPW_INOUT size_t *len,
-                                    uint16_t profile, RTPW_COUNT(body_len) RTPW_MAY_OVERLAP(buf) const uint8_t *body,
-                                    size_t body_len);
+RTPW_CHECKED int32_t rtpw_put_block(RTPW_INOUT RTPW_COUNT(size) RTPW_PACKET(header_len) uint8_t *buf, size_t size,
+                                    RTPW_INOUT size_t *len, uint16_t profile,
+                                    RTPW_COUNT(body_len) RTPW_MAY_OVERLAP(buf) const uint8_t *body, size_t body_len);
 
 /* ---- The elements of a block ---- */
 
@@ -427,6 +454,7 @@ RTPW_CHECKED int32_t rtpw_put_block(RTPW_INOUT RTPW_COUNT(size) uint8_t *buf, si
 typedef struct {
     size_t data_at;  /* where its data begin */
     size_t data_len; /* 0 to 255 */
+    RTPW_OUT
     size_t end;      /* where its data end */
     uint8_t id;      /* 0 to 14 in the one-byte form, where 0 is padding's with length bits; 1 to 255 in the other */
 } rtpw_element;
@@ -520,6 +548,7 @@ enum {
  *     }
  */
 typedef struct {
+    RTPW_PART(1, 255)
     uint8_t kind[256];
 } rtpw_map;
 
@@ -541,11 +570,11 @@ RTPW_CHECKED int32_t rtpw_uri_of_kind(uint8_t kind, RTPW_OUT RTPW_COUNT(size) ui
                                       RTPW_OUT size_t *len);
 /* The id means the kind from now on. RTPW_OK, or RTPW_BAD_FIELD where the id is 0, or the kind is RTPW_KIND_NONE, which
  * rtpw_kind_of_uri returns of a URI that it doesn't know, or one of 21 to 127; then nothing changes. */
-RTPW_CHECKED int32_t rtpw_map_set(RTPW_INOUT rtpw_map *map, uint8_t id, uint8_t kind);
+RTPW_CHECKED int32_t rtpw_map_set(RTPW_INOUT RTPW_PART(id, 1) rtpw_map *map, uint8_t id, uint8_t kind);
 /* The id means nothing from now on: kind[id] becomes 0. */
-void rtpw_map_remove(RTPW_INOUT rtpw_map *map, uint8_t id);
+void rtpw_map_remove(RTPW_INOUT RTPW_PART(id, id != 0) rtpw_map *map, uint8_t id);
 /* The kind that the id means; RTPW_KIND_NONE where it means none. */
-uint8_t rtpw_map_get(const rtpw_map *map, uint8_t id);
+uint8_t rtpw_map_get(RTPW_PART(id, id != 0) const rtpw_map *map, uint8_t id);
 /* The lowest id that means the kind; 0 where none does, as for RTPW_KIND_NONE and 21 to 127. */
 uint8_t rtpw_id_of(const rtpw_map *map, uint8_t kind);
 /* The map of the usual ids, whatever it was: 1 audio level, 2 send time, 3 transport number, 4 mid, 10
@@ -608,6 +637,7 @@ typedef struct {
     uint8_t has_mid;
     uint8_t has_rid;
     uint8_t has_repaired_rid;
+    RTPW_OUT
     uint8_t has_layers; /* a layer allocation: rtpw_parse_layers tells it, and rtpw_write_layers writes it */
 } rtpw_values;
 
@@ -638,6 +668,7 @@ RTPW_CHECKED int32_t rtpw_data_of(uint8_t kind, const rtpw_values *values, RTPW_
 
 /* The header of a packet, with the values of its block. 224 bytes. */
 typedef struct {
+    RTPW_OUT
     size_t header_len;        /* of the header that was read: the payload begins there; nothing is written of it */
     uint32_t timestamp;       /* in ticks of the payload's clock */
     uint32_t ssrc;            /* the stream's source */
@@ -685,15 +716,15 @@ typedef struct {
  * it is, so read it, decrypt its payload, and read it again. With Cryptex decrypt first, as for rtpw_packet_parse.
  * Who sends the payload on without its padding clears P (rtpw_set_padding, clears_padding of rtpw_routed_header), or
  * the receiver takes the last bytes of the media for padding; with it the payload has len - header.header_len bytes. */
-RTPW_CHECKED int32_t rtpw_read(RTPW_COUNT(len) const uint8_t *datagram, size_t len, const rtpw_map *map,
-                               RTPW_OUT rtpw_whole_packet *packet);
+RTPW_CHECKED int32_t rtpw_read(RTPW_COUNT(len) RTPW_PACKET(whole) const uint8_t *datagram, size_t len,
+                               const rtpw_map *map, RTPW_OUT rtpw_whole_packet *packet);
 
 /* Reads the header alone that the bytes begin with, and the values of its block under the map, and on a port with RTCP
  * after rtpw_is_rtcp. Nothing after the header is looked at: where has_padding is 1 the payload that begins at
  * header_len ends with padding, which rtpw_read tells. RTPW_OK, or the first cause for which there is none, where
  * RTPW_UNKNOWN_FORM comes before RTPW_CUT_BLOCK: a receiver that takes such packets calls rtpw_read. */
-RTPW_CHECKED int32_t rtpw_parse(RTPW_COUNT(len) const uint8_t *datagram, size_t len, const rtpw_map *map,
-                                RTPW_OUT rtpw_header *header);
+RTPW_CHECKED int32_t rtpw_parse(RTPW_COUNT(len) RTPW_PACKET(header) const uint8_t *datagram, size_t len,
+                                const rtpw_map *map, RTPW_OUT rtpw_header *header);
 
 /* A spatial layer. 40 bytes. */
 typedef struct {
@@ -726,11 +757,12 @@ typedef struct {
 } rtpw_layers;
 
 /* As rtpw_parse, and the layer allocation where values.has_layers is 1; else *layers becomes all zeros. */
-RTPW_CHECKED int32_t rtpw_parse_layers(RTPW_COUNT(len) const uint8_t *datagram, size_t len, const rtpw_map *map,
-                                       RTPW_OUT rtpw_header *header, RTPW_OUT rtpw_layers *layers);
+RTPW_CHECKED int32_t rtpw_parse_layers(RTPW_COUNT(len) RTPW_PACKET(header) const uint8_t *datagram, size_t len,
+                                       const rtpw_map *map, RTPW_OUT rtpw_header *header, RTPW_OUT rtpw_layers *layers);
 
 /* How many bytes rtpw_write writes: a multiple of 4, 12 to 4,668. RTPW_OK; RTPW_BAD_FIELD as rtpw_write. */
-RTPW_CHECKED int32_t rtpw_wire_len(const rtpw_map *map, const rtpw_header *header, RTPW_OUT size_t *len);
+RTPW_CHECKED int32_t rtpw_wire_len(RTPW_READ_IF(header->has_extension) const rtpw_map *map, const rtpw_header *header,
+                                   RTPW_OUT size_t *len);
 
 /* Writes the header to the front of the buffer; bytes after it stay. Where has_extension isn't 0 there is
  * a block: by rising id an element for each mapped id whose value is there (its has_ isn't 0), in the
@@ -760,8 +792,8 @@ RTPW_CHECKED int32_t rtpw_wire_len(const rtpw_map *map, const rtpw_header *heade
  *         put_payload(packet + header_len, sizeof packet - header_len);
  *     }
  */
-RTPW_CHECKED int32_t rtpw_write(const rtpw_map *map, const rtpw_header *header, RTPW_OUT RTPW_COUNT(size) uint8_t *buf,
-                                size_t size, RTPW_OUT size_t *len);
+RTPW_CHECKED int32_t rtpw_write(RTPW_READ_IF(header->has_extension) const rtpw_map *map, const rtpw_header *header,
+                                RTPW_OUT RTPW_COUNT(size) uint8_t *buf, size_t size, RTPW_OUT size_t *len);
 
 /* As rtpw_wire_len and rtpw_write, with these layers, whatever has_layers holds: an element of them for each id
  * that means RTPW_KIND_LAYERS. So what rtpw_parse_layers read is written again. A stream is written without the
@@ -780,9 +812,10 @@ RTPW_CHECKED int32_t rtpw_write(const rtpw_map *map, const rtpw_header *header, 
  *     layers.streams[0].layers[0].kbps[0] = 300;
  *     status = rtpw_write_layers(&map, &header, &layers, packet, sizeof packet, &header_len);
  */
-RTPW_CHECKED int32_t rtpw_wire_len_layers(const rtpw_map *map, const rtpw_header *header, const rtpw_layers *layers,
-                                          RTPW_OUT size_t *len);
-RTPW_CHECKED int32_t rtpw_write_layers(const rtpw_map *map, const rtpw_header *header, const rtpw_layers *layers,
+RTPW_CHECKED int32_t rtpw_wire_len_layers(RTPW_READ_IF(header->has_extension) const rtpw_map *map,
+                                          const rtpw_header *header, const rtpw_layers *layers, RTPW_OUT size_t *len);
+RTPW_CHECKED int32_t rtpw_write_layers(RTPW_READ_IF(header->has_extension) const rtpw_map *map,
+                                       const rtpw_header *header, const rtpw_layers *layers,
                                        RTPW_OUT RTPW_COUNT(size) uint8_t *buf, size_t size, RTPW_OUT size_t *len);
 
 /* Which kinds rtpw_write leaves out, and rtpw_write_layers with these layers: those of which a value is there (a has_
@@ -797,8 +830,10 @@ RTPW_CHECKED int32_t rtpw_write_layers(const rtpw_map *map, const rtpw_header *h
  *         return complain(kinds); // has_extension isn't set, say, or the peer's map has no such kind
  *     }
  */
-RTPW_CHECKED int32_t rtpw_left_out(const rtpw_map *map, const rtpw_header *header, RTPW_OUT uint32_t *kinds);
-RTPW_CHECKED int32_t rtpw_left_out_layers(const rtpw_map *map, const rtpw_header *header, const rtpw_layers *layers,
+RTPW_CHECKED int32_t rtpw_left_out(RTPW_READ_IF(header->has_extension) const rtpw_map *map, const rtpw_header *header,
+                                   RTPW_OUT uint32_t *kinds);
+RTPW_CHECKED int32_t rtpw_left_out_layers(RTPW_READ_IF(header->has_extension) const rtpw_map *map,
+                                          const rtpw_header *header, const rtpw_layers *layers,
                                           RTPW_OUT uint32_t *kinds);
 
 /* As rtpw_write, with a block of these elements, whatever has_extension and the values hold. The data of each
@@ -812,28 +847,28 @@ RTPW_CHECKED int32_t rtpw_left_out_layers(const rtpw_map *map, const rtpw_header
  * than the 262,140 bytes of a block, or one of the data_len bytes of `data`, whether an element has it or not, lies in
  * the `size` bytes of the buffer: the data of a packet are written into another buffer, or copied first;
  * RTPW_SHORT_BUFFER where the buffer alone is at fault. */
-RTPW_CHECKED int32_t rtpw_write_with(const rtpw_header *header,
-                                     RTPW_COUNT(data_len) RTPW_MAY_OVERLAP(buf) const uint8_t *data, size_t data_len,
-                                     RTPW_COUNT(count) const rtpw_element *elements, size_t count,
+RTPW_CHECKED int32_t rtpw_write_with(RTPW_BUT(has_extension, values) const rtpw_header *header,
+                                     RTPW_COUNT(data_len) RTPW_MAY_OVERLAP(buf) RTPW_EACH(elements) const uint8_t *data,
+                                     size_t data_len, RTPW_COUNT(count) const rtpw_element *elements, size_t count,
                                      RTPW_OUT RTPW_COUNT(size) uint8_t *buf, size_t size, RTPW_OUT size_t *len);
 
 /* The same in one form alone, for a peer that hasn't agreed to both forms in one stream (RFC 8285, 4.1.2):
  * RTPW_ONE_BYTE_FORM or RTPW_TWO_BYTE_FORM; with 0, which is RTPW_NO_BLOCK, as rtpw_write_with. RTPW_BAD_FIELD
  * also where the form is another number or can't carry an element. */
-RTPW_CHECKED int32_t rtpw_write_with_form(const rtpw_header *header,
-                                          RTPW_COUNT(data_len) RTPW_MAY_OVERLAP(buf) const uint8_t *data,
-                                          size_t data_len, RTPW_COUNT(count) const rtpw_element *elements, size_t count,
-                                          uint8_t form, RTPW_OUT RTPW_COUNT(size) uint8_t *buf, size_t size,
-                                          RTPW_OUT size_t *len);
+RTPW_CHECKED int32_t rtpw_write_with_form(RTPW_BUT(has_extension, values) const rtpw_header *header,
+                                          RTPW_COUNT(data_len) RTPW_MAY_OVERLAP(buf) RTPW_EACH(elements)
+                                              const uint8_t *data, size_t data_len,
+                                          RTPW_COUNT(count) const rtpw_element *elements, size_t count, uint8_t form,
+                                          RTPW_OUT RTPW_COUNT(size) uint8_t *buf, size_t size, RTPW_OUT size_t *len);
 
 /* Writes elements, one after the other, as a block's body has them, to the front of the buffer; bytes
  * after them stay. RTPW_OK; RTPW_BAD_FIELD where the form is none of the two or can't carry one of them, data_at +
  * data_len of one is past the end of the data, or one of the data, as with rtpw_write_with, lies in the buffer;
  * RTPW_SHORT_BUFFER where the buffer alone is at fault. */
-RTPW_CHECKED int32_t rtpw_write_elements(RTPW_COUNT(data_len) RTPW_MAY_OVERLAP(buf) const uint8_t *data,
-                                         size_t data_len, RTPW_COUNT(count) const rtpw_element *elements, size_t count,
-                                         uint8_t form, RTPW_OUT RTPW_COUNT(size) uint8_t *buf, size_t size,
-                                         RTPW_OUT size_t *len);
+RTPW_CHECKED int32_t rtpw_write_elements(RTPW_COUNT(data_len) RTPW_MAY_OVERLAP(buf) RTPW_EACH(elements)
+                                             const uint8_t *data, size_t data_len,
+                                         RTPW_COUNT(count) const rtpw_element *elements, size_t count, uint8_t form,
+                                         RTPW_OUT RTPW_COUNT(size) uint8_t *buf, size_t size, RTPW_OUT size_t *len);
 
 /* ---- Values as the standards lay them out ---- */
 
@@ -870,8 +905,8 @@ RTPW_CHECKED int32_t rtpw_write_elements(RTPW_COUNT(data_len) RTPW_MAY_OVERLAP(b
  * seconds, modulo 64 seconds. Three bytes. RTPW_BAD_FIELD of any other number, and of one of 2^24 or more that is
  * written. rtpw_values has whole microseconds: who sends a time on as it came, or reckons with it, takes these calls.
  */
-RTPW_CHECKED int32_t rtpw_read_send_time(RTPW_COUNT(data_len) const uint8_t *data, size_t data_len,
-                                         RTPW_OUT uint32_t *units);
+RTPW_CHECKED int32_t rtpw_read_send_time(RTPW_COUNT(data_len) RTPW_READ_IF(data_len == 3) const uint8_t *data,
+                                         size_t data_len, RTPW_OUT uint32_t *units);
 RTPW_CHECKED int32_t rtpw_write_send_time(uint32_t units, RTPW_OUT RTPW_COUNT(size) uint8_t *buf, size_t size,
                                           RTPW_OUT size_t *len);
 /* The time, in units of 2^-32 seconds, whose low 38 bits are the low 24 of `units` and then 14 zeros, and that is
@@ -885,8 +920,8 @@ uint64_t rtpw_extend_send_time(uint64_t around, uint32_t units);
 /* The transmission time offset (RFC 5450, 3): how long after the time of its timestamp the packet was sent, in ticks of
  * the stream's clock, -8,388,608 to 8,388,607; another is RTPW_BAD_FIELD. Three bytes, with a sign.
  * rtpw_values has str0m's, four bytes without a sign, which only str0m takes: for any other peer take these calls. */
-RTPW_CHECKED int32_t rtpw_read_transmission_offset(RTPW_COUNT(data_len) const uint8_t *data, size_t data_len,
-                                                   RTPW_OUT int32_t *offset);
+RTPW_CHECKED int32_t rtpw_read_transmission_offset(RTPW_COUNT(data_len) RTPW_READ_IF(data_len == 3) const uint8_t *data,
+                                                   size_t data_len, RTPW_OUT int32_t *offset);
 RTPW_CHECKED int32_t rtpw_write_transmission_offset(int32_t offset, RTPW_OUT RTPW_COUNT(size) uint8_t *buf, size_t size,
                                                     RTPW_OUT size_t *len);
 
@@ -910,8 +945,8 @@ typedef struct {
 /* One byte without layers, whose low four bits aren't looked at as they are read; two with layers, and three with
  * tl0_pic_idx. RTPW_BAD_FIELD where there are none or more than three, and of a temporal_id above 7 that is written.
  * rtpw_values has str0m's number of four bytes, which is no RFC 9626 marking: for any other peer take these calls. */
-RTPW_CHECKED int32_t rtpw_read_frame_marking(RTPW_COUNT(data_len) const uint8_t *data, size_t data_len,
-                                             RTPW_OUT rtpw_frame_marking *marking);
+RTPW_CHECKED int32_t rtpw_read_frame_marking(RTPW_COUNT(data_len) RTPW_READ_IF(data_len <= 3) const uint8_t *data,
+                                             size_t data_len, RTPW_OUT rtpw_frame_marking *marking);
 RTPW_CHECKED int32_t rtpw_write_frame_marking(const rtpw_frame_marking *marking, RTPW_OUT RTPW_COUNT(size) uint8_t *buf,
                                               size_t size, RTPW_OUT size_t *len);
 
@@ -932,8 +967,8 @@ typedef struct {
 /* One byte; its high four bits aren't looked at, and are written as 0. RTPW_BAD_FIELD of any other number of bytes, and
  * of another turn or camera that is written.
  * rtpw_values has the turn alone, and writes zeros for camera and flip: whoever shows the picture takes these calls. */
-RTPW_CHECKED int32_t rtpw_read_orientation(RTPW_COUNT(data_len) const uint8_t *data, size_t data_len,
-                                           RTPW_OUT rtpw_orientation *orientation);
+RTPW_CHECKED int32_t rtpw_read_orientation(RTPW_COUNT(data_len) RTPW_READ_IF(data_len == 1) const uint8_t *data,
+                                           size_t data_len, RTPW_OUT rtpw_orientation *orientation);
 RTPW_CHECKED int32_t rtpw_write_orientation(const rtpw_orientation *orientation, RTPW_OUT RTPW_COUNT(size) uint8_t *buf,
                                             size_t size, RTPW_OUT size_t *len);
 
@@ -941,11 +976,11 @@ RTPW_CHECKED int32_t rtpw_write_orientation(const rtpw_orientation *orientation,
  * the text itself, to be compared with the SDP's byte by byte, and written as they are. The texts of rtpw_values have
  * an underscore for each other character than letters and digits, and are cut: for ids that the peer chose take the
  * data. */
-bool rtpw_is_token(RTPW_COUNT(data_len) const uint8_t *data, size_t data_len);
+bool rtpw_is_token(RTPW_COUNT(data_len) RTPW_READ_IF(data_len <= 255) const uint8_t *data, size_t data_len);
 /* Whether the data are 1 to 255 letters and digits of ASCII, as a stream id and a repaired one have to be where they
  * are sent (RFC 8852, 3). In SDP `a=rid` also allows - and _ (RFC 8851, 10): a stream whose id has one can't be told by
  * it, so choose one without. To compare what came with the SDP's text rtpw_is_token is enough. */
-bool rtpw_is_stream_id(RTPW_COUNT(data_len) const uint8_t *data, size_t data_len);
+bool rtpw_is_stream_id(RTPW_COUNT(data_len) RTPW_READ_IF(data_len <= 255) const uint8_t *data, size_t data_len);
 
 /* When a frame passed each step on its way, in milliseconds after its capture (WebRTC's video-timing). 14 bytes. */
 typedef struct {
@@ -963,8 +998,8 @@ typedef struct {
 /* 13 bytes, or 12 without flags; of any other number RTPW_BAD_FIELD. No field is out of range as it is written.
  * rtpw_values takes the first of 12 bytes for flags, and has neither network time (it writes zeros): where a peer sends
  * the older form, or a server fills these in, take these calls. */
-RTPW_CHECKED int32_t rtpw_read_timing(RTPW_COUNT(data_len) const uint8_t *data, size_t data_len,
-                                      RTPW_OUT rtpw_timing *timing);
+RTPW_CHECKED int32_t rtpw_read_timing(RTPW_COUNT(data_len) RTPW_READ_IF(data_len == 12 || data_len == 13)
+                                          const uint8_t *data, size_t data_len, RTPW_OUT rtpw_timing *timing);
 RTPW_CHECKED int32_t rtpw_write_timing(const rtpw_timing *timing, RTPW_OUT RTPW_COUNT(size) uint8_t *buf, size_t size,
                                        RTPW_OUT size_t *len);
 
@@ -983,7 +1018,8 @@ typedef struct {
 /* Two bytes, or four with a request; of any other number RTPW_BAD_FIELD, and as written of a request for more than
  * 32,767 packets. Each element that is read is written byte for byte. rtpw_values has the number alone, of the draft's
  * older URI, where feedback is on all packets: for feedback on request take these calls. */
-RTPW_CHECKED int32_t rtpw_read_transport_number(RTPW_COUNT(data_len) const uint8_t *data, size_t data_len,
+RTPW_CHECKED int32_t rtpw_read_transport_number(RTPW_COUNT(data_len) RTPW_READ_IF(data_len == 2 || data_len == 4)
+                                                    const uint8_t *data, size_t data_len,
                                                 RTPW_OUT rtpw_transport_number *number);
 RTPW_CHECKED int32_t rtpw_write_transport_number(const rtpw_transport_number *number,
                                                  RTPW_OUT RTPW_COUNT(size) uint8_t *buf, size_t size,
@@ -994,22 +1030,24 @@ RTPW_CHECKED int32_t rtpw_write_transport_number(const rtpw_transport_number *nu
  * at; what stands behind the last source's isn't either. RTPW_BAD_FIELD where the packet hasn't that source, or the
  * data no byte for it; a csrc_count above 15, which no packet has, and data of any length are taken. rtpw_values has
  * none of these. */
-RTPW_CHECKED int32_t rtpw_read_mixer_level(RTPW_COUNT(data_len) const uint8_t *data, size_t data_len, size_t csrc_count,
-                                           size_t index, RTPW_OUT int8_t *level);
+RTPW_CHECKED int32_t rtpw_read_mixer_level(RTPW_COUNT(data_len) RTPW_PART(index, 1)
+                                               RTPW_READ_IF(index < csrc_count && index < data_len) const uint8_t *data,
+                                           size_t data_len, size_t csrc_count, size_t index, RTPW_OUT int8_t *level);
 /* The levels of a packet's sources, in their order. RTPW_BAD_FIELD of more than 15, which no packet has, and of a level
  * above 0 or below -127. Of none the data are empty, which the two-byte form alone carries. */
-RTPW_CHECKED int32_t rtpw_write_mixer_levels(RTPW_COUNT(count) const int8_t *levels, size_t count,
-                                             RTPW_OUT RTPW_COUNT(size) uint8_t *buf, size_t size, RTPW_OUT size_t *len);
+RTPW_CHECKED int32_t rtpw_write_mixer_levels(RTPW_COUNT(count) RTPW_READ_IF(count <= 15) const int8_t *levels,
+                                             size_t count, RTPW_OUT RTPW_COUNT(size) uint8_t *buf, size_t size,
+                                             RTPW_OUT size_t *len);
 
 /* NTP timestamps (RFC 6051, 3.3), in units of 2^-32 seconds: of 64 bits in eight bytes, since 1900, and the low 56 of
  * them in seven. RTPW_BAD_FIELD of any other number of bytes; each time can be written, and of 56 the high eight bits
  * aren't looked at. rtpw_values has none of these: its capture_time is the value of another extension. */
-RTPW_CHECKED int32_t rtpw_read_ntp_64(RTPW_COUNT(data_len) const uint8_t *data, size_t data_len,
-                                      RTPW_OUT uint64_t *time);
+RTPW_CHECKED int32_t rtpw_read_ntp_64(RTPW_COUNT(data_len) RTPW_READ_IF(data_len == 8) const uint8_t *data,
+                                      size_t data_len, RTPW_OUT uint64_t *time);
 RTPW_CHECKED int32_t rtpw_write_ntp_64(uint64_t time, RTPW_OUT RTPW_COUNT(size) uint8_t *buf, size_t size,
                                        RTPW_OUT size_t *len);
-RTPW_CHECKED int32_t rtpw_read_ntp_56(RTPW_COUNT(data_len) const uint8_t *data, size_t data_len,
-                                      RTPW_OUT uint64_t *time);
+RTPW_CHECKED int32_t rtpw_read_ntp_56(RTPW_COUNT(data_len) RTPW_READ_IF(data_len == 7) const uint8_t *data,
+                                      size_t data_len, RTPW_OUT uint64_t *time);
 RTPW_CHECKED int32_t rtpw_write_ntp_56(uint64_t time, RTPW_OUT RTPW_COUNT(size) uint8_t *buf, size_t size,
                                        RTPW_OUT size_t *len);
 /* The timestamp of 64 bits that ends in the low 56 bits of `low` and is nearest to `around`, modulo 2^64; of two that
@@ -1071,8 +1109,8 @@ typedef struct {
  * passes over an element with a code point that H.273 reserves, as the primaries 0 or 3, or with HDR metadata beyond
  * 20,000 cd/m^2 (luminance_min beyond 5), or with a chromaticity above 1. rtpw_values has none: RTPW_KIND_COLOR_SPACE
  * can be mapped, and is neither read nor written with the values. */
-RTPW_CHECKED int32_t rtpw_read_color_space(RTPW_COUNT(data_len) const uint8_t *data, size_t data_len,
-                                           RTPW_OUT rtpw_color_space *space);
+RTPW_CHECKED int32_t rtpw_read_color_space(RTPW_COUNT(data_len) RTPW_READ_IF(data_len == 4 || data_len == 28)
+                                               const uint8_t *data, size_t data_len, RTPW_OUT rtpw_color_space *space);
 RTPW_CHECKED int32_t rtpw_write_color_space(const rtpw_color_space *space, RTPW_OUT RTPW_COUNT(size) uint8_t *buf,
                                             size_t size, RTPW_OUT size_t *len);
 
@@ -1088,20 +1126,23 @@ typedef struct {
 /* The first three bytes; RTPW_BAD_FIELD of fewer. What follows them needs the structure that the sender sent before,
  * and isn't looked at: hand it on as it is. Written are the three bytes alone, which are a whole descriptor;
  * RTPW_BAD_FIELD of a template_id above 63. rtpw_values has none of these. */
-RTPW_CHECKED int32_t rtpw_read_dependency_descriptor(RTPW_COUNT(data_len) const uint8_t *data, size_t data_len,
+RTPW_CHECKED int32_t rtpw_read_dependency_descriptor(RTPW_COUNT(data_len) RTPW_PART(0, 3) RTPW_READ_IF(data_len >= 3)
+                                                         const uint8_t *data, size_t data_len,
                                                      RTPW_OUT rtpw_dependency_descriptor *descriptor);
 RTPW_CHECKED int32_t rtpw_write_dependency_descriptor(const rtpw_dependency_descriptor *descriptor,
                                                       RTPW_OUT RTPW_COUNT(size) uint8_t *buf, size_t size,
                                                       RTPW_OUT size_t *len);
 /* Whether a descriptor brings a template dependency structure, as that of the first packet of a key frame does: the
  * first bit of its fourth byte is set, if it has one. */
-bool rtpw_has_structure(RTPW_COUNT(data_len) const uint8_t *data, size_t data_len);
+bool rtpw_has_structure(RTPW_COUNT(data_len) RTPW_PART(3, 1) RTPW_READ_IF(data_len > 3) const uint8_t *data,
+                        size_t data_len);
 
 /* ---- From one map to another ---- */
 
 /* id[i] is the id that elements of the id i get, and 0 where they get none; id[0] isn't looked at. As a
  * map it may be filled by hand, copied, stored and shared. */
 typedef struct {
+    RTPW_PART(1, 255)
     uint8_t id[256];
 } rtpw_new_ids;
 
@@ -1119,7 +1160,8 @@ void rtpw_new_ids_between(const rtpw_map *from, const rtpw_map *to, RTPW_OUT rtp
  * other byte changes. A packet without elements stays as it is. RTPW_OK; RTPW_LONG_ID where an element would
  * get an id above 14 in the one-byte form, which can't carry it; or the first cause for which the buffer holds
  * no packet. Where it isn't RTPW_OK nothing changes. */
-RTPW_CHECKED int32_t rtpw_renumber(RTPW_INOUT RTPW_COUNT(len) uint8_t *datagram, size_t len, const rtpw_new_ids *ids);
+RTPW_CHECKED int32_t rtpw_renumber(RTPW_INOUT RTPW_COUNT(len) RTPW_PACKET(block) uint8_t *datagram, size_t len,
+                                   const rtpw_new_ids *ids);
 
 /* ---- Padding and retransmissions ---- */
 
@@ -1131,14 +1173,18 @@ RTPW_CHECKED int32_t rtpw_renumber(RTPW_INOUT RTPW_COUNT(len) uint8_t *datagram,
  * RTPW_OK;
  * RTPW_BAD_FIELD where block_size is 0, whatever pad_len is; RTPW_SHORT_BUFFER where size is below header_len
  * and the padding. The packet then has header_len + *count bytes. */
-RTPW_CHECKED int32_t rtpw_pad(RTPW_INOUT RTPW_COUNT(size) uint8_t *datagram, size_t size, size_t header_len,
-                              uint8_t pad_len, size_t block_size, RTPW_OUT size_t *count);
+RTPW_CHECKED int32_t rtpw_pad(RTPW_INOUT RTPW_COUNT(size) RTPW_PART(0, 1)
+                                  RTPW_READ_IF(pad_len != 0 && header_len != 0 && size != 0) uint8_t *datagram,
+                              size_t size, size_t header_len, uint8_t pad_len, size_t block_size,
+                              RTPW_OUT size_t *count);
 
 /* The original sequence number that the payload of a retransmission packet begins with (RFC 4588, 4),
  * before the original payload: read, or the low 16 bits of it written. RTPW_OK, or RTPW_SHORT_BUFFER where
  * there are fewer than two bytes. */
-RTPW_CHECKED int32_t rtpw_read_original(RTPW_COUNT(len) const uint8_t *payload, size_t len, RTPW_OUT uint16_t *number);
-RTPW_CHECKED int32_t rtpw_write_original(RTPW_OUT RTPW_COUNT(size) uint8_t *payload, size_t size, uint64_t number);
+RTPW_CHECKED int32_t rtpw_read_original(RTPW_COUNT(len) RTPW_PART(0, 2) RTPW_READ_IF(len >= 2) const uint8_t *payload,
+                                        size_t len, RTPW_OUT uint16_t *number);
+RTPW_CHECKED int32_t rtpw_write_original(RTPW_OUT RTPW_COUNT(size) RTPW_PART(0, 2) uint8_t *payload, size_t size,
+                                         uint64_t number);
 
 /* The new ids of elements where packets become retransmissions, and on the way back (RFC 8852, 3). Where the
  * map has both RTPW_KIND_RID and RTPW_KIND_REPAIRED_RID, an id of the first becomes the lowest id of the
@@ -1166,8 +1212,8 @@ void rtpw_new_ids_from_retransmission(const rtpw_map *map, RTPW_OUT rtpw_new_ids
  *         send_again(datagram, len);
  *     }
  */
-RTPW_CHECKED int32_t rtpw_to_retransmission(RTPW_INOUT RTPW_COUNT(size) uint8_t *buf, size_t size,
-                                            RTPW_INOUT size_t *len, uint32_t ssrc, uint8_t payload_type,
+RTPW_CHECKED int32_t rtpw_to_retransmission(RTPW_INOUT RTPW_COUNT(size) RTPW_PACKET(block, padding) uint8_t *buf,
+                                            size_t size, RTPW_INOUT size_t *len, uint32_t ssrc, uint8_t payload_type,
                                             uint16_t number, const rtpw_new_ids *ids);
 /* Makes the retransmission in the first *len bytes of the buffer the packet that it repeats: with this SSRC and
  * payload type, the original number, the elements under their new ids, and as payload what follows that number,
@@ -1178,9 +1224,9 @@ RTPW_CHECKED int32_t rtpw_to_retransmission(RTPW_INOUT RTPW_COUNT(size) uint8_t 
  * cause for which there is no packet; RTPW_BAD_FIELD where padding_fits is 0; RTPW_NONE where the payload without its
  * padding has fewer than the two bytes of a number; RTPW_LONG_ID where an element would get an id above 14 in the
  * one-byte form. Where it isn't RTPW_OK nothing changes. */
-RTPW_CHECKED int32_t rtpw_from_retransmission(RTPW_INOUT RTPW_COUNT(size) uint8_t *buf, size_t size,
-                                              RTPW_INOUT size_t *len, uint32_t ssrc, uint8_t payload_type,
-                                              const rtpw_new_ids *ids);
+RTPW_CHECKED int32_t rtpw_from_retransmission(RTPW_INOUT RTPW_COUNT(size) RTPW_PACKET(block, padding, number)
+                                                  uint8_t *buf, size_t size, RTPW_INOUT size_t *len, uint32_t ssrc,
+                                              uint8_t payload_type, const rtpw_new_ids *ids);
 
 /* ---- The numbers of a stream ---- */
 
@@ -1280,17 +1326,21 @@ typedef struct {
 RTPW_CHECKED int32_t rtpw_wide_receiver_start(RTPW_OUT rtpw_wide_receiver *receiver, uint64_t rollover_count);
 uint64_t rtpw_wide_receiver_number_of(const rtpw_wide_receiver *receiver, uint16_t sequence_number);
 /* Less than 64 * count below the highest number taken, where rtpw_receiver_accepts says 128. */
-bool rtpw_wide_receiver_accepts(const rtpw_wide_receiver *receiver, RTPW_COUNT(count) const uint64_t *words,
+bool rtpw_wide_receiver_accepts(const rtpw_wide_receiver *receiver,
+                                RTPW_COUNT(count) RTPW_READ_IF(receiver->started && count <= 512) const uint64_t *words,
                                 size_t count, uint64_t number);
 /* RTPW_OK, and the number is recorded; or RTPW_REFUSED where it isn't accepted. */
 RTPW_CHECKED int32_t rtpw_wide_receiver_record(RTPW_INOUT rtpw_wide_receiver *receiver,
-                                               RTPW_INOUT RTPW_COUNT(count) uint64_t *words, size_t count,
-                                               uint64_t number);
+                                               RTPW_INOUT RTPW_COUNT(count)
+                                                   RTPW_READ_IF(receiver->started && count <= 512) uint64_t *words,
+                                               size_t count, uint64_t number);
 RTPW_CHECKED int32_t rtpw_wide_receiver_receive(RTPW_INOUT rtpw_wide_receiver *receiver,
-                                                RTPW_INOUT RTPW_COUNT(count) uint64_t *words, size_t count,
-                                                uint16_t sequence_number, RTPW_OUT uint64_t *number);
-uint8_t rtpw_wide_receiver_standing_of(const rtpw_wide_receiver *receiver, RTPW_COUNT(count) const uint64_t *words,
-                                       size_t count, uint64_t number);
+                                                RTPW_INOUT RTPW_COUNT(count)
+                                                    RTPW_READ_IF(receiver->started && count <= 512) uint64_t *words,
+                                                size_t count, uint16_t sequence_number, RTPW_OUT uint64_t *number);
+uint8_t rtpw_wide_receiver_standing_of(const rtpw_wide_receiver *receiver,
+                                       RTPW_COUNT(count) RTPW_READ_IF(receiver->started && count <= 512)
+                                           const uint64_t *words, size_t count, uint64_t number);
 
 /* The receive state of one stream that isn't authenticated and whose sender may start again under the same SSRC
  * (RFC 3550, appendix A.1). Not for SRTP: there a packet that isn't authentic must change nothing, and a sender
@@ -1444,10 +1494,11 @@ typedef struct {
  * is; RTPW_BAD_FIELD where count is 0 or above 512, and then nothing is written. Where started, bit n % 64 of words[n /
  * 64 % count] is whether the number n is taken. */
 RTPW_CHECKED int32_t rtpw_wide_restarting_receive(RTPW_INOUT RTPW_WRITTEN_IF(RTPW_OK, RTPW_RESTARTED, RTPW_REFUSED)
+                                                      RTPW_READ_IF(count != 0 && count <= 512)
                                                       rtpw_wide_restarting_receiver *receiver,
                                                   RTPW_INOUT RTPW_COUNT(count) RTPW_WRITTEN_IF(RTPW_OK, RTPW_RESTARTED)
-                                                      uint64_t *words,
-                                                  size_t count, uint16_t sequence_number,
+                                                      RTPW_READ_IF(count != 0 && count <= 512 && receiver->started)
+                                                      uint64_t *words, size_t count, uint16_t sequence_number,
                                                   RTPW_OUT RTPW_WRITTEN_IF(RTPW_OK, RTPW_RESTARTED) uint64_t *number);
 
 /* The number nearest to the previous one, modulo 2^64, that ends in these 8, 15, 16 or 32 bits. Where two
@@ -1491,7 +1542,9 @@ uint64_t rtpw_extend_u32(uint64_t previous, uint32_t number);
 typedef struct {
     size_t at;                /* given: where it begins in the buffer, in bytes */
     size_t len;               /* given: how many bytes it has */
+    RTPW_OUT
     rtpw_whole_packet packet; /* what rtpw_read writes of it, counted from its own first byte; else as it was */
+    RTPW_OUT RTPW_WRITTEN_IF(RTPW_ANY_STATUS)
     int32_t status;           /* what rtpw_read returns of it; RTPW_BAD_FIELD where it isn't within the buffer */
 } rtpw_whole_datagram;
 
@@ -1499,8 +1552,11 @@ typedef struct {
 typedef struct {
     size_t at;          /* given: where it begins in the buffer, in bytes */
     size_t len;         /* given: how many bytes it has */
+    RTPW_OUT
     rtpw_packet packet; /* what rtpw_packet_parse writes of it, counted from its own first byte; else as it was */
+    RTPW_OUT RTPW_WRITTEN_IF(RTPW_ANY_STATUS)
     int32_t status;     /* what rtpw_packet_parse returns of it; RTPW_BAD_FIELD where it isn't within the buffer */
+    RTPW_OUT RTPW_WRITTEN_IF(RTPW_ANY_STATUS)
     uint8_t is_rtcp;    /* what rtpw_is_rtcp returns of it: 0 or 1; 0 where it isn't within the buffer */
 } rtpw_datagram;
 
@@ -1508,9 +1564,12 @@ typedef struct {
 typedef struct {
     size_t at;
     size_t len;
+    RTPW_OUT
     rtpw_header header; /* what rtpw_parse writes of it; else as it was. The payload begins header.header_len bytes
                          * behind `at` */
+    RTPW_OUT RTPW_WRITTEN_IF(RTPW_ANY_STATUS)
     int32_t status;     /* what rtpw_parse returns of it; RTPW_BAD_FIELD where it isn't within the buffer */
+    RTPW_OUT RTPW_WRITTEN_IF(RTPW_ANY_STATUS)
     uint8_t is_rtcp;
 } rtpw_datagram_header;
 
@@ -1518,18 +1577,22 @@ typedef struct {
  * is cut. rtpw_packet_parse_many and rtpw_parse_many read RTCP too, as rtpw_packet_parse reads it: look at is_rtcp first
  * where it comes to the same port. Of packets with values take rtpw_read_many: rtpw_parse_many tells neither where the
  * padding begins nor a packet whose block is of another form. */
-void rtpw_read_many(RTPW_COUNT(size) const uint8_t *buf, size_t size, const rtpw_map *map,
+void rtpw_read_many(RTPW_COUNT(size) RTPW_PACKET(whole) RTPW_EACH(datagrams) const uint8_t *buf, size_t size,
+                    RTPW_READ_IF(count != 0) const rtpw_map *map,
                     RTPW_INOUT RTPW_COUNT(count) rtpw_whole_datagram *datagrams, size_t count);
-void rtpw_packet_parse_many(RTPW_COUNT(size) const uint8_t *buf, size_t size,
+void rtpw_packet_parse_many(RTPW_COUNT(size) RTPW_PACKET(fields) RTPW_EACH(datagrams) const uint8_t *buf, size_t size,
                             RTPW_INOUT RTPW_COUNT(count) rtpw_datagram *datagrams, size_t count);
-void rtpw_parse_many(RTPW_COUNT(size) const uint8_t *buf, size_t size, const rtpw_map *map,
+void rtpw_parse_many(RTPW_COUNT(size) RTPW_PACKET(header) RTPW_EACH(datagrams) const uint8_t *buf, size_t size,
+                     RTPW_READ_IF(count != 0) const rtpw_map *map,
                      RTPW_INOUT RTPW_COUNT(count) rtpw_datagram_header *datagrams, size_t count);
 
 /* A sequence number for one of several receivers. 24 bytes. */
 typedef struct {
     size_t receiver;          /* given: its place in the receivers */
+    RTPW_OUT
     uint64_t number;          /* what rtpw_receiver_receive writes: the extended sequence number; else as it was */
     uint16_t sequence_number; /* given */
+    RTPW_OUT RTPW_WRITTEN_IF(RTPW_ANY_STATUS)
     int32_t status;           /* what rtpw_receiver_receive returns: RTPW_OK or RTPW_REFUSED; RTPW_BAD_FIELD where there
                                * is no such receiver */
 } rtpw_arrival;
@@ -1538,8 +1601,8 @@ typedef struct {
  * receiver has taken before, also in this call. One that is refused, or has no receiver, stops none after it. The
  * receivers and the arrivals are two arrays that don't overlap. As rtpw_receiver_receive it is for streams that aren't
  * authenticated, or whose packets are known to be authentic. */
-void rtpw_receive_many(RTPW_INOUT RTPW_COUNT(receiver_count) rtpw_receiver *receivers, size_t receiver_count,
-                       RTPW_INOUT RTPW_COUNT(count) rtpw_arrival *arrivals, size_t count);
+void rtpw_receive_many(RTPW_INOUT RTPW_COUNT(receiver_count) RTPW_EACH(arrivals) rtpw_receiver *receivers,
+                       size_t receiver_count, RTPW_INOUT RTPW_COUNT(count) rtpw_arrival *arrivals, size_t count);
 
 /* ---- One packet to all its receivers ---- */
 
@@ -1624,8 +1687,9 @@ typedef struct {
  * for; and of the elements in turn, as rtpw_put_element, RTPW_BAD_ID, RTPW_BAD_FIELD of more than 255 bytes of data,
  * RTPW_UNKNOWN_FORM, RTPW_LONG_ID, RTPW_FORM_NOT_ALLOWED, RTPW_LONG_BLOCK or RTPW_SHORT_BUFFER. Where it isn't RTPW_OK
  * *made is as it was, but the buffer may hold anything; so may what lies behind the header where it is. */
-RTPW_CHECKED int32_t rtpw_make_template(RTPW_COUNT(len) const uint8_t *datagram, size_t len, const rtpw_new_ids *ids,
-                                        RTPW_COUNT(data_len) const uint8_t *data, size_t data_len,
+RTPW_CHECKED int32_t rtpw_make_template(RTPW_COUNT(len) RTPW_PACKET(header) const uint8_t *datagram, size_t len,
+                                        const rtpw_new_ids *ids,
+                                        RTPW_COUNT(data_len) RTPW_EACH(elements) const uint8_t *data, size_t data_len,
                                         RTPW_COUNT(count) const rtpw_element *elements, size_t count, uint8_t allowed,
                                         RTPW_OUT RTPW_COUNT(size) RTPW_WRITTEN_IF(RTPW_ANY_STATUS) uint8_t *buf,
                                         size_t size, RTPW_OUT rtpw_template *made);
@@ -1658,8 +1722,9 @@ typedef struct {
  *
  * RTPW_OK; RTPW_BAD_FIELD where `allowed` is none of the three, count is above 16, an element has more than 255 bytes of
  * data, or two have one id; or RTPW_BAD_ID where one has the id 0. Where it isn't RTPW_OK *group is as it was. */
-RTPW_CHECKED int32_t rtpw_prepare_group(const rtpw_new_ids *ids, RTPW_COUNT(count) const rtpw_element *elements,
-                                        size_t count, uint8_t allowed, RTPW_OUT rtpw_group *group);
+RTPW_CHECKED int32_t rtpw_prepare_group(const rtpw_new_ids *ids,
+                                        RTPW_COUNT(count) RTPW_BUT(data_at) const rtpw_element *elements, size_t count,
+                                        uint8_t allowed, RTPW_OUT rtpw_group *group);
 
 /* Makes the header that the packet gets for a group that was prepared, at the front of the buffer, and tells of it in
  * *made: byte for byte what rtpw_make_template makes with the new ids, the elements and the form of the group, where
@@ -1668,7 +1733,8 @@ RTPW_CHECKED int32_t rtpw_prepare_group(const rtpw_new_ids *ids, RTPW_COUNT(coun
  * RTPW_OK; RTPW_BAD_FIELD, before all else, where *group is none that rtpw_prepare_group makes; and then what
  * rtpw_make_template returns. Where it isn't RTPW_OK *made is as it was, but the buffer may hold anything; so may what
  * lies behind the header where it is. */
-RTPW_CHECKED int32_t rtpw_make_from_group(const rtpw_group *group, RTPW_COUNT(len) const uint8_t *datagram, size_t len,
+RTPW_CHECKED int32_t rtpw_make_from_group(const rtpw_group *group,
+                                          RTPW_COUNT(len) RTPW_PACKET(header) const uint8_t *datagram, size_t len,
                                           RTPW_OUT RTPW_COUNT(size) RTPW_WRITTEN_IF(RTPW_ANY_STATUS) uint8_t *buf,
                                           size_t size, RTPW_OUT rtpw_template *made);
 
@@ -1677,17 +1743,21 @@ typedef struct {
     size_t data_at;     /* given: where its data begin, in bytes from the first one of the data:
                          * made->data_total bytes, those of the group's elements one after another in their
                          * order */
+    RTPW_OUT RTPW_WRITTEN_IF(RTPW_ANY_STATUS)
     size_t at;          /* written: where its header begins in the buffer: behind that of the receiver before it */
     rtpw_fields fields; /* given: its fields, as rtpw_set_fields takes them; the others are the packet's */
     uint16_t original_number;  /* given, where it is a retransmission: the number that the receiver got the packet
                                 * with */
+    RTPW_TELLS(original_number)
     uint8_t is_retransmission; /* given: where it isn't 0, the header is that of a retransmission, with the original
                                 * number behind it */
     uint8_t clears_padding; /* given: where it isn't 0 P is clear, as it always is for a retransmission: for a payload
                              * that is sent without its padding */
+    RTPW_OUT RTPW_WRITTEN_IF(RTPW_ANY_STATUS)
     int32_t status;         /* written: RTPW_OK; RTPW_BAD_FIELD where there is a payload type above 127, or data_at +
                              * made->data_total is above the length of the data; RTPW_SHORT_BUFFER where its header,
                              * or the number behind it, would reach past the buffer */
+    RTPW_OUT RTPW_WRITTEN_IF(RTPW_ANY_STATUS)
     uint32_t len;           /* written: how many bytes its header has, with the number behind that of a retransmission;
                              * 0 where it isn't RTPW_OK */
 } rtpw_routed_header;

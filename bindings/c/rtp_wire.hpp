@@ -175,6 +175,14 @@ template <class Value> class [[nodiscard]] result {
     rtpw::status status_;
 };
 
+/* Why a number isn't accepted. */
+enum class standing : std::uint8_t { unseen = RTPW_NEW, taken = RTPW_TAKEN, too_old = RTPW_TOO_OLD };
+
+/* What a call of C writes is what is returned here: a struct, a number, or how many bytes the packet has then, are
+ * written to the front of the buffer, or would be. Data and a body of which a byte lies in the buffer that is written
+ * are refused: bad_field. Of a packet at the front of a buffer `len` becomes its new length. Of many what is told of
+ * each stands in its struct, the status too: rtpw::status(it.status). */
+
 inline std::uint32_t version() noexcept {
     return ::rtpw_version();
 }
@@ -184,56 +192,13 @@ inline std::uint32_t version() noexcept {
 inline bool is_rtcp(bytes datagram) noexcept {
     return ::rtpw_is_rtcp(datagram.data(), datagram.size());
 }
-
 inline result<rtpw_packet> packet_parse(bytes datagram) noexcept {
     return result<rtpw_packet>([&](rtpw_packet *it) {
         return ::rtpw_packet_parse(datagram.data(), datagram.size(), it);
     });
 }
 
-/* A packet of RTP, its values under the map, and where its parts lie. The status is rtcp of RTCP. */
-inline result<rtpw_whole_packet> read(bytes datagram, const rtpw_map &map) noexcept {
-    return result<rtpw_whole_packet>([&](rtpw_whole_packet *it) {
-        return ::rtpw_read(datagram.data(), datagram.size(), &map, it);
-    });
-}
-
-namespace detail {
-/* Both structs that tell a packet say where its parts lie. */
-inline std::size_t payload_at(const rtpw_packet &packet) noexcept {
-    return packet.payload_at;
-}
-inline std::size_t payload_at(const rtpw_whole_packet &packet) noexcept {
-    return packet.header.header_len;
-}
-template <class Packet> using told = decltype(payload_at(std::declval<const Packet &>()));
-} // namespace detail
-
-/* The parts of the datagram that was read: the payload with its padding and without, and the body of the block. Of what
- * read tells, the payload with its padding is the rest of the datagram, from header.header_len on. */
-inline bytes payload(bytes datagram, const rtpw_packet &packet) noexcept {
-    return datagram.subspan(packet.payload_at, packet.payload_len);
-}
-template <class Packet, class = detail::told<Packet>>
-bytes unpadded_payload(bytes datagram, const Packet &packet) noexcept {
-    return datagram.subspan(detail::payload_at(packet), packet.unpadded_len);
-}
-template <class Packet, class = detail::told<Packet>> bytes body(bytes datagram, const Packet &packet) noexcept {
-    return datagram.subspan(packet.body_at, packet.body_len);
-}
-template <class Bytes, class Packet, class = detail::gone<Bytes>> bytes payload(Bytes &&, const Packet &) = delete;
-template <class Bytes, class Packet, class = detail::gone<Bytes>>
-bytes unpadded_payload(Bytes &&, const Packet &) = delete;
-template <class Bytes, class Packet, class = detail::gone<Bytes>> bytes body(Bytes &&, const Packet &) = delete;
-/* The contributing source at a place below packet.csrc_count. */
-inline std::uint32_t csrc(bytes datagram, std::size_t index) noexcept {
-    const std::uint8_t *it = datagram.data() + RTPW_CSRC_AT + 4 * index;
-    return std::uint32_t{it[0]} << 24 | std::uint32_t{it[1]} << 16 | std::uint32_t{it[2]} << 8 | it[3];
-}
-
-/* ---- A packet, changed where it lies, one that grows, and one that is made short ---- */
-
-/* Data and a body of which a byte lies in the buffer that is written are refused: bad_field. Copy them first. */
+/* ---- A packet, changed where it lies ---- */
 
 inline status set_marker(buffer datagram, bool marker) noexcept {
     return status(::rtpw_set_marker(datagram.data(), datagram.size(), marker));
@@ -265,13 +230,14 @@ inline status remove_element(buffer datagram, std::uint8_t id) noexcept {
 inline status set_padding(buffer datagram, bool has_padding) noexcept {
     return status(::rtpw_set_padding(datagram.data(), datagram.size(), has_padding));
 }
-/* How many bytes the packet has without its padding. */
 inline result<std::size_t> remove_padding(buffer datagram) noexcept {
     return result<std::size_t>([&](std::size_t *it) {
         return ::rtpw_remove_padding(datagram.data(), datagram.size(), it);
     });
 }
-/* Of a packet of `len` bytes at the front of a buffer, which becomes its new length. */
+
+/* ---- A packet that grows where it lies, and one that is made short ---- */
+
 inline status put_element(buffer buf, std::size_t &len, std::uint8_t id, bytes data,
         std::uint8_t allowed = RTPW_ANY_FORM) noexcept {
     return status(::rtpw_put_element(buf.data(), buf.size(), &len, id, data.data(), data.size(), allowed));
@@ -306,101 +272,8 @@ inline result<rtpw_element> last_element(bytes body, std::uint8_t form, std::uin
     });
 }
 
-/* An element, and its data where they lie. */
-struct element {
-    std::uint8_t id;
-    bytes data;
-};
-
-/* The elements of a packet, for `for`; none where its block has another form, or it has none. */
-class elements {
-  public:
-    template <class Packet, class = detail::told<Packet>>
-    elements(bytes datagram, const Packet &packet) noexcept
-        : body_(body(datagram, packet)), form_(packet.block_form) {}
-    template <class Bytes, class Packet, class = detail::gone<Bytes>> elements(Bytes &&, const Packet &) = delete;
-
-    class iterator {
-      public:
-        using iterator_category = std::input_iterator_tag;
-        using value_type = element;
-        using difference_type = std::ptrdiff_t;
-        using pointer = const element *;
-        using reference = element;
-        element operator*() const noexcept {
-            return {at_->id, body_.subspan(at_->data_at, at_->data_len)};
-        }
-        iterator &operator++() noexcept {
-            at_ = next_element(body_, form_, at_->end);
-            return *this;
-        }
-        iterator operator++(int) noexcept {
-            const iterator before = *this;
-            ++*this;
-            return before;
-        }
-        /* There are more; only end() is compared with. */
-        bool operator!=(const iterator &) const noexcept {
-            return static_cast<bool>(at_);
-        }
-        bool operator==(const iterator &) const noexcept {
-            return !at_;
-        }
-
-      private:
-        friend class elements;
-        iterator(bytes body, std::uint8_t form) noexcept : body_(body), form_(form), at_(next_element(body, form, 0)) {}
-        bytes body_;
-        std::uint8_t form_;
-        result<rtpw_element> at_;
-    };
-    iterator begin() const noexcept {
-        return {body_, form_};
-    }
-    iterator end() const noexcept {
-        return {bytes(), RTPW_NO_BLOCK};
-    }
-
-  private:
-    bytes body_;
-    std::uint8_t form_;
-};
-
-/* The data of the last element of an id, which is the one that counts. */
-template <class Packet, class = detail::told<Packet>>
-std::optional<bytes> data_of_element(bytes datagram, const Packet &packet, std::uint8_t id) noexcept {
-    const auto it = last_element(body(datagram, packet), packet.block_form, id);
-    return it ? std::optional(body(datagram, packet).subspan(it->data_at, it->data_len)) : std::nullopt;
-}
-/* The text of that element as it lies, to be compared with the SDP's, where its data are a token. mid() and its like
- * have another text where they don't keep one of its characters, or its length. */
-template <class Packet, class = detail::told<Packet>>
-std::optional<std::string_view> token(bytes datagram, const Packet &packet, std::uint8_t id) noexcept {
-    const auto data = data_of_element(datagram, packet, id);
-    if (!data || !::rtpw_is_token(data->data(), data->size())) {
-        return std::nullopt;
-    }
-    return std::string_view(reinterpret_cast<const char *>(data->data()), data->size());
-}
-template <class Bytes, class Packet, class = detail::gone<Bytes>>
-std::optional<bytes> data_of_element(Bytes &&, const Packet &, std::uint8_t) = delete;
-template <class Bytes, class Packet, class = detail::gone<Bytes>>
-std::optional<std::string_view> token(Bytes &&, const Packet &, std::uint8_t) = delete;
-
 /* ---- The values of a block ---- */
 
-inline std::uint8_t kind_of_uri(std::string_view uri) noexcept {
-    return ::rtpw_kind_of_uri(reinterpret_cast<const std::uint8_t *>(uri.data()), uri.size());
-}
-/* The URI is written to the buffer, for which RTPW_URI_SIZE bytes are enough, and returned as it lies there. */
-inline result<std::string_view> uri_of_kind(std::uint8_t kind, buffer buf) noexcept {
-    return result<std::string_view>([&](std::string_view *it) {
-        std::size_t len = 0;
-        const std::int32_t status = ::rtpw_uri_of_kind(kind, buf.data(), buf.size(), &len);
-        *it = {reinterpret_cast<const char *>(buf.data()), len};
-        return status;
-    });
-}
 inline status map_set(rtpw_map &map, std::uint8_t id, std::uint8_t kind) noexcept {
     return status(::rtpw_map_set(&map, id, kind));
 }
@@ -418,95 +291,6 @@ inline rtpw_map map_standard() noexcept {
     ::rtpw_map_standard(&map);
     return map;
 }
-
-/* A map, and which own_uris gave the numbers of one's own in it: so those of two aren't taken for the same
- * (new_ids_between). */
-class uri_map : public rtpw_map {
-  public:
-    uri_map() noexcept : rtpw_map{} {}
-    explicit uri_map(const rtpw_map &map) noexcept : rtpw_map(map) {}
-
-  private:
-    friend class own_uris;
-    friend rtpw_new_ids new_ids_between(const uri_map &, const uri_map &) noexcept;
-    std::uint64_t table_ = 0;
-};
-
-/* Numbers of one's own for URIs that the library doesn't know, the same for the same URI in all maps that are made with
- * it: so the elements of an extension go on where both peers have it, whatever it is. Keep one for a call. It takes
- * memory, which may throw.
- *
- *     rtpw::own_uris uris;
- *     for (const auto &[id, uri] : offer.extmap) { // a=extmap:ID URI
- *         if (uris.set(publisher.map, id, uri) != rtpw::status::ok) { // an rtpw::uri_map
- *             return refuse(id);
- *         }
- *     }
- *     for (const std::string &uri : uris.unknown()) {
- *         log("no value is read of", uri); // or it is misspelled
- *     }
- */
-class own_uris {
-  public:
-    own_uris() noexcept = default;
-    own_uris(const own_uris &) = delete; // the URIs that come to a copy may be others
-    own_uris &operator=(const own_uris &) = delete;
-    own_uris(own_uris &&other) noexcept
-        : unknown_(std::exchange(other.unknown_, {})), table_(std::exchange(other.table_, 0)) {}
-    own_uris &operator=(own_uris &&other) noexcept {
-        unknown_ = std::exchange(other.unknown_, {});
-        table_ = std::exchange(other.table_, 0);
-        return *this;
-    }
-
-    /* The id means from now on what the URI names. bad_field, and nothing changes, where the id is 0, the URI is one
-     * too many that the library doesn't know (128 have numbers), or it isn't known and the map has numbers of another
-     * own_uris. */
-    status set(uri_map &map, std::uint8_t id, std::string_view uri) {
-        std::uint8_t kind = kind_of(uri);
-        const bool is_known = kind != RTPW_KIND_NONE && kind < RTPW_KIND_OWN;
-        if (!is_known && map.table_ != 0 && map.table_ != table_) {
-            return status::bad_field;
-        }
-        if (kind == RTPW_KIND_NONE && id != 0 && unknown_.size() < 256 - RTPW_KIND_OWN) {
-            unknown_.emplace_back(uri);
-            kind = kind_of(uri);
-        }
-        const status set = map_set(map, id, kind);
-        if (set == status::ok && !is_known) {
-            map.table_ = table();
-        }
-        return set;
-    }
-    /* The number of a kind of the library, or one's own where the URI was set; else RTPW_KIND_NONE. */
-    std::uint8_t kind_of(std::string_view uri) const noexcept {
-        std::uint8_t kind = rtpw::kind_of_uri(uri);
-        for (std::size_t i = 0; kind == RTPW_KIND_NONE && i < unknown_.size(); i++) {
-            kind = unknown_[i] == uri ? static_cast<std::uint8_t>(RTPW_KIND_OWN + i) : kind;
-        }
-        return kind;
-    }
-    /* The URIs that the library doesn't know, by their numbers: that of RTPW_KIND_OWN first. */
-    const std::vector<std::string> &unknown() const &noexcept RTPW_BOUND {
-        return unknown_;
-    }
-    std::vector<std::string> unknown() &&noexcept {
-        return std::move(unknown_);
-    }
-
-  private:
-    /* What the maps are told from those of others by. */
-    std::uint64_t table() noexcept {
-        static std::atomic<std::uint64_t> tables{0};
-        if (table_ == 0) {
-            table_ = ++tables;
-        }
-        return table_;
-    }
-    std::vector<std::string> unknown_;
-    std::uint64_t table_ = 0;
-};
-
 inline result<rtpw_values> values_read(bytes body, std::uint8_t form, const rtpw_map &map) noexcept {
     return result<rtpw_values>([&](rtpw_values *it) {
         return ::rtpw_values_read(body.data(), body.size(), form, &map, it);
@@ -518,58 +302,23 @@ inline result<std::size_t> data_of(std::uint8_t kind, const rtpw_values &values,
     });
 }
 
-/* The texts of values, where they are there. */
-inline std::optional<std::string_view> mid(const rtpw_values &values RTPW_BOUND) noexcept {
-    return values.has_mid ? std::optional<std::string_view>(values.mid) : std::nullopt;
-}
-inline std::optional<std::string_view> rid(const rtpw_values &values RTPW_BOUND) noexcept {
-    return values.has_rid ? std::optional<std::string_view>(values.rid) : std::nullopt;
-}
-inline std::optional<std::string_view> repaired_rid(const rtpw_values &values RTPW_BOUND) noexcept {
-    return values.has_repaired_rid ? std::optional<std::string_view>(values.repaired_rid) : std::nullopt;
-}
-std::optional<std::string_view> mid(const rtpw_values &&) = delete;
-std::optional<std::string_view> rid(const rtpw_values &&) = delete;
-std::optional<std::string_view> repaired_rid(const rtpw_values &&) = delete;
-
-/* Sets a text. bad_field where it is too long (16 characters, or 8) or has a zero; then nothing changes. Its other
- * characters are judged where it is written. */
-namespace detail {
-template <std::size_t size> status set_text(char (&text)[size], std::uint8_t &has, std::string_view to) noexcept {
-    if (to.size() >= size || to.find('\0') != std::string_view::npos) {
-        return status::bad_field;
-    }
-    std::memset(text, 0, size);
-    to.copy(text, to.size());
-    has = 1;
-    return status::ok;
-}
-} // namespace detail
-inline status set_mid(rtpw_values &values, std::string_view to) noexcept {
-    return detail::set_text(values.mid, values.has_mid, to);
-}
-inline status set_rid(rtpw_values &values, std::string_view to) noexcept {
-    return detail::set_text(values.rid, values.has_rid, to);
-}
-inline status set_repaired_rid(rtpw_values &values, std::string_view to) noexcept {
-    return detail::set_text(values.repaired_rid, values.has_repaired_rid, to);
-}
-
 /* ---- A header, read and written ---- */
 
+inline result<rtpw_whole_packet> read(bytes datagram, const rtpw_map &map) noexcept {
+    return result<rtpw_whole_packet>([&](rtpw_whole_packet *it) {
+        return ::rtpw_read(datagram.data(), datagram.size(), &map, it);
+    });
+}
 inline result<rtpw_header> parse(bytes datagram, const rtpw_map &map) noexcept {
     return result<rtpw_header>([&](rtpw_header *it) {
         return ::rtpw_parse(datagram.data(), datagram.size(), &map, it);
     });
 }
-/* The layers are written to `layers`, where there are none all zeros. */
 inline result<rtpw_header> parse_layers(bytes datagram, const rtpw_map &map, rtpw_layers &layers) noexcept {
     return result<rtpw_header>([&](rtpw_header *it) {
         return ::rtpw_parse_layers(datagram.data(), datagram.size(), &map, it, &layers);
     });
 }
-
-/* Each returns the length of the header that it wrote, or would write. */
 inline result<std::size_t> wire_len(const rtpw_map &map, const rtpw_header &header) noexcept {
     return result<std::size_t>([&](std::size_t *it) { return ::rtpw_wire_len(&map, &header, it); });
 }
@@ -588,17 +337,8 @@ inline result<std::size_t> write_layers(const rtpw_map &map, const rtpw_header &
         return ::rtpw_write_layers(&map, &header, &layers, buf.data(), buf.size(), it);
     });
 }
-/* The kinds of which there is a value that isn't written, each the bit 1 << kind. */
 inline result<std::uint32_t> left_out(const rtpw_map &map, const rtpw_header &header) noexcept {
     return result<std::uint32_t>([&](std::uint32_t *it) { return ::rtpw_left_out(&map, &header, it); });
-}
-/* A header with these values, all else 0: has_extension is set exactly where one of them is there. */
-inline rtpw_header header_with(const rtpw_values &values) noexcept {
-    rtpw_header it{};
-    it.values = values;
-    const auto there = left_out(rtpw_map{}, it); // without a block, all that are there
-    it.has_extension = there && *there == 0 ? 0 : 1;
-    return it;
 }
 inline result<std::uint32_t> left_out_layers(const rtpw_map &map, const rtpw_header &header,
         const rtpw_layers &layers) noexcept {
@@ -606,30 +346,16 @@ inline result<std::uint32_t> left_out_layers(const rtpw_map &map, const rtpw_hea
         return ::rtpw_left_out_layers(&map, &header, &layers, it);
     });
 }
-/* With `count` elements; `form` is RTPW_ONE_BYTE_FORM or RTPW_TWO_BYTE_FORM alone, or either. */
-inline result<std::size_t> write_with(const rtpw_header &header, bytes data, const rtpw_element *elements,
-                                      std::size_t count, buffer buf, std::uint8_t form = RTPW_NO_BLOCK) noexcept {
+inline result<std::size_t> write_with(const rtpw_header &header, bytes data, span<const rtpw_element> elements,
+        buffer buf) noexcept {
     return result<std::size_t>([&](std::size_t *it) {
-        return ::rtpw_write_with_form(&header, data.data(), data.size(), elements, count, form, buf.data(), buf.size(),
-                                      it);
+        return ::rtpw_write_with(&header, data.data(), data.size(), elements.data(), elements.size(), buf.data(),
+            buf.size(), it);
     });
 }
-inline result<std::size_t> write_elements(bytes data, const rtpw_element *elements, std::size_t count,
-                                          std::uint8_t form, buffer buf) noexcept {
-    return result<std::size_t>([&](std::size_t *it) {
-        return ::rtpw_write_elements(data.data(), data.size(), elements, count, form, buf.data(), buf.size(), it);
-    });
-}
-template <class Element, class = detail::derived<Element, const rtpw_element>>
-result<std::size_t> write_with(const rtpw_header &, bytes, Element *, std::size_t, buffer,
-                               std::uint8_t = RTPW_NO_BLOCK) = delete;
-template <class Element, class = detail::derived<Element, const rtpw_element>>
-result<std::size_t> write_elements(bytes, Element *, std::size_t, std::uint8_t, buffer) = delete;
 
 /* ---- Values as the standards lay them out ---- */
 
-/* The data of one element are read, or written to the front of a buffer: then what is returned is how many bytes they
- * are. */
 inline result<std::uint32_t> read_send_time(bytes data) noexcept {
     return result<std::uint32_t>([&](std::uint32_t *it) {
         return ::rtpw_read_send_time(data.data(), data.size(), it);
@@ -755,36 +481,19 @@ inline bool has_structure(bytes data) noexcept {
     return ::rtpw_has_structure(data.data(), data.size());
 }
 
-/* ---- From one map to another, padding and retransmissions ---- */
+/* ---- From one map to another ---- */
 
 inline rtpw_new_ids new_ids_between(const rtpw_map &from, const rtpw_map &to) noexcept {
     rtpw_new_ids ids;
     ::rtpw_new_ids_between(&from, &to, &ids);
     return ids;
 }
-/* Numbers of one's own that two own_uris gave are no common ones: of such maps their ids get none. */
-inline rtpw_new_ids new_ids_between(const uri_map &from, const uri_map &to) noexcept {
-    rtpw_map common = from;
-    if (from.table_ != 0 && to.table_ != 0 && from.table_ != to.table_) {
-        const auto is_own = [](std::uint8_t kind) { return kind >= RTPW_KIND_OWN; };
-        std::replace_if(std::begin(common.kind), std::end(common.kind), is_own, std::uint8_t{RTPW_KIND_NONE});
-    }
-    return new_ids_between(common, static_cast<const rtpw_map &>(to));
-}
-inline rtpw_new_ids new_ids_to_retransmission(const rtpw_map &map) noexcept {
-    rtpw_new_ids ids;
-    ::rtpw_new_ids_to_retransmission(&map, &ids);
-    return ids;
-}
-inline rtpw_new_ids new_ids_from_retransmission(const rtpw_map &map) noexcept {
-    rtpw_new_ids ids;
-    ::rtpw_new_ids_from_retransmission(&map, &ids);
-    return ids;
-}
 inline status renumber(buffer datagram, const rtpw_new_ids &ids) noexcept {
     return status(::rtpw_renumber(datagram.data(), datagram.size(), &ids));
 }
-/* How many bytes of padding were written behind the header. */
+
+/* ---- Padding and retransmissions ---- */
+
 inline result<std::size_t> pad(buffer datagram, std::size_t header_len, std::uint8_t pad_len,
         std::size_t block_size) noexcept {
     return result<std::size_t>([&](std::size_t *it) {
@@ -799,6 +508,16 @@ inline result<std::uint16_t> read_original(bytes payload) noexcept {
 inline status write_original(buffer payload, std::uint64_t number) noexcept {
     return status(::rtpw_write_original(payload.data(), payload.size(), number));
 }
+inline rtpw_new_ids new_ids_to_retransmission(const rtpw_map &map) noexcept {
+    rtpw_new_ids ids;
+    ::rtpw_new_ids_to_retransmission(&map, &ids);
+    return ids;
+}
+inline rtpw_new_ids new_ids_from_retransmission(const rtpw_map &map) noexcept {
+    rtpw_new_ids ids;
+    ::rtpw_new_ids_from_retransmission(&map, &ids);
+    return ids;
+}
 inline status to_retransmission(buffer buf, std::size_t &len, std::uint32_t ssrc, std::uint8_t payload_type,
         std::uint16_t number, const rtpw_new_ids &ids) noexcept {
     return status(::rtpw_to_retransmission(buf.data(), buf.size(), &len, ssrc, payload_type, number, &ids));
@@ -810,8 +529,6 @@ inline status from_retransmission(buffer buf, std::size_t &len, std::uint32_t ss
 
 /* ---- The numbers of a stream ---- */
 
-/* A receiver whose first packet has this rollover count: 1 where nothing is authenticated, so that a packet from before
- * the first one has a number too. */
 inline result<rtpw_receiver> receiver_start(std::uint64_t rollover_count) noexcept {
     return result<rtpw_receiver>([&](rtpw_receiver *it) { return ::rtpw_receiver_start(it, rollover_count); });
 }
@@ -821,11 +538,6 @@ inline std::uint64_t receiver_number_of(const rtpw_receiver &receiver, std::uint
 inline bool receiver_accepts(const rtpw_receiver &receiver, std::uint64_t number) noexcept {
     return ::rtpw_receiver_accepts(&receiver, number);
 }
-/* Why a number isn't accepted. */
-enum class standing : std::uint8_t { unseen = RTPW_NEW, taken = RTPW_TAKEN, too_old = RTPW_TOO_OLD };
-inline standing receiver_standing_of(const rtpw_receiver &receiver, std::uint64_t number) noexcept {
-    return standing(::rtpw_receiver_standing_of(&receiver, number));
-}
 inline void receiver_record(rtpw_receiver &receiver, std::uint64_t number) noexcept {
     ::rtpw_receiver_record(&receiver, number);
 }
@@ -834,6 +546,387 @@ inline result<std::uint64_t> receiver_receive(rtpw_receiver &receiver, std::uint
         return ::rtpw_receiver_receive(&receiver, sequence_number, it);
     });
 }
+inline standing receiver_standing_of(const rtpw_receiver &receiver, std::uint64_t number) noexcept {
+    return standing(::rtpw_receiver_standing_of(&receiver, number));
+}
+inline result<std::uint64_t> restarting_receive(rtpw_restarting_receiver &receiver, std::uint16_t sequence_number)
+        noexcept {
+    return result<std::uint64_t>([&](std::uint64_t *it) {
+        return ::rtpw_restarting_receive(&receiver, sequence_number, it);
+    });
+}
+inline void reception_record(rtpw_reception &reception, std::uint64_t number, std::uint32_t timestamp,
+        std::uint32_t arrival) noexcept {
+    ::rtpw_reception_record(&reception, number, timestamp, arrival);
+}
+inline result<rtpw_report> reception_report(rtpw_reception &reception) noexcept {
+    return result<rtpw_report>([&](rtpw_report *it) { return ::rtpw_reception_report(&reception, it); });
+}
+inline result<std::size_t> write_report(const rtpw_report &report, std::uint32_t ssrc, std::uint32_t last_report,
+        std::uint32_t delay, buffer buf) noexcept {
+    return result<std::size_t>([&](std::size_t *it) {
+        return ::rtpw_write_report(&report, ssrc, last_report, delay, buf.data(), buf.size(), it);
+    });
+}
+inline result<std::uint64_t> wide_restarting_receive(rtpw_wide_restarting_receiver &receiver,
+        span<std::uint64_t> words, std::uint16_t sequence_number) noexcept {
+    return result<std::uint64_t>([&](std::uint64_t *it) {
+        return ::rtpw_wide_restarting_receive(&receiver, words.data(), words.size(), sequence_number, it);
+    });
+}
+inline std::uint64_t extend_u8(std::uint64_t previous, std::uint8_t number) noexcept {
+    return ::rtpw_extend_u8(previous, number);
+}
+inline std::uint64_t extend_u15(std::uint64_t previous, std::uint16_t number) noexcept {
+    return ::rtpw_extend_u15(previous, number);
+}
+inline std::uint64_t extend_u16(std::uint64_t previous, std::uint16_t number) noexcept {
+    return ::rtpw_extend_u16(previous, number);
+}
+inline std::uint64_t extend_u32(std::uint64_t previous, std::uint32_t number) noexcept {
+    return ::rtpw_extend_u32(previous, number);
+}
+
+/* ---- Many at once ---- */
+
+inline void read_many(bytes buf, const rtpw_map &map, span<rtpw_whole_datagram> datagrams) noexcept {
+    ::rtpw_read_many(buf.data(), buf.size(), &map, datagrams.data(), datagrams.size());
+}
+inline void packet_parse_many(bytes buf, span<rtpw_datagram> datagrams) noexcept {
+    ::rtpw_packet_parse_many(buf.data(), buf.size(), datagrams.data(), datagrams.size());
+}
+inline void parse_many(bytes buf, const rtpw_map &map, span<rtpw_datagram_header> datagrams) noexcept {
+    ::rtpw_parse_many(buf.data(), buf.size(), &map, datagrams.data(), datagrams.size());
+}
+inline void receive_many(span<rtpw_receiver> receivers, span<rtpw_arrival> arrivals) noexcept {
+    ::rtpw_receive_many(receivers.data(), receivers.size(), arrivals.data(), arrivals.size());
+}
+
+/* ---- One packet to all its receivers ---- */
+
+inline result<rtpw_template> make_template(bytes datagram, const rtpw_new_ids &ids, bytes data,
+        span<const rtpw_element> elements, buffer buf, std::uint8_t allowed = RTPW_ANY_FORM) noexcept {
+    return result<rtpw_template>([&](rtpw_template *it) {
+        return ::rtpw_make_template(datagram.data(), datagram.size(), &ids, data.data(), data.size(),
+            elements.data(), elements.size(), allowed, buf.data(), buf.size(), it);
+    });
+}
+inline result<rtpw_group> prepare_group(const rtpw_new_ids &ids, span<const rtpw_element> elements,
+        std::uint8_t allowed = RTPW_ANY_FORM) noexcept {
+    return result<rtpw_group>([&](rtpw_group *it) {
+        return ::rtpw_prepare_group(&ids, elements.data(), elements.size(), allowed, it);
+    });
+}
+inline result<rtpw_template> make_from_group(const rtpw_group &group, bytes datagram, buffer buf) noexcept {
+    return result<rtpw_template>([&](rtpw_template *it) {
+        return ::rtpw_make_from_group(&group, datagram.data(), datagram.size(), buf.data(), buf.size(), it);
+    });
+}
+inline status write_headers(const rtpw_template &made, bytes header, bytes data, span<rtpw_routed_header> receivers,
+        buffer buf) noexcept {
+    return status(::rtpw_write_headers(&made, header.data(), header.size(), data.data(), data.size(),
+            receivers.data(), receivers.size(), buf.data(), buf.size()));
+}
+
+/* ---- Of C++ alone: the parts of a packet ---- */
+
+namespace detail {
+/* Both structs that tell a packet say where its parts lie. */
+inline std::size_t payload_at(const rtpw_packet &packet) noexcept {
+    return packet.payload_at;
+}
+inline std::size_t payload_at(const rtpw_whole_packet &packet) noexcept {
+    return packet.header.header_len;
+}
+template <class Packet> using told = decltype(payload_at(std::declval<const Packet &>()));
+} // namespace detail
+
+/* The parts of the datagram that was read: the payload with its padding and without, and the body of the block. Of what
+ * read tells, the payload with its padding is the rest of the datagram, from header.header_len on. */
+inline bytes payload(bytes datagram, const rtpw_packet &packet) noexcept {
+    return datagram.subspan(packet.payload_at, packet.payload_len);
+}
+template <class Packet, class = detail::told<Packet>>
+bytes unpadded_payload(bytes datagram, const Packet &packet) noexcept {
+    return datagram.subspan(detail::payload_at(packet), packet.unpadded_len);
+}
+template <class Packet, class = detail::told<Packet>> bytes body(bytes datagram, const Packet &packet) noexcept {
+    return datagram.subspan(packet.body_at, packet.body_len);
+}
+template <class Bytes, class Packet, class = detail::gone<Bytes>> bytes payload(Bytes &&, const Packet &) = delete;
+template <class Bytes, class Packet, class = detail::gone<Bytes>>
+bytes unpadded_payload(Bytes &&, const Packet &) = delete;
+template <class Bytes, class Packet, class = detail::gone<Bytes>> bytes body(Bytes &&, const Packet &) = delete;
+/* The contributing source at a place below packet.csrc_count. */
+inline std::uint32_t csrc(bytes datagram, std::size_t index) noexcept {
+    const std::uint8_t *it = datagram.data() + RTPW_CSRC_AT + 4 * index;
+    return std::uint32_t{it[0]} << 24 | std::uint32_t{it[1]} << 16 | std::uint32_t{it[2]} << 8 | it[3];
+}
+
+/* ---- Of C++ alone: the elements of a block ---- */
+
+/* An element, and its data where they lie. */
+struct element {
+    std::uint8_t id;
+    bytes data;
+};
+
+/* The elements of a packet, for `for`; none where its block has another form, or it has none. */
+class elements {
+  public:
+    template <class Packet, class = detail::told<Packet>>
+    elements(bytes datagram, const Packet &packet) noexcept
+        : body_(body(datagram, packet)), form_(packet.block_form) {}
+    template <class Bytes, class Packet, class = detail::gone<Bytes>> elements(Bytes &&, const Packet &) = delete;
+
+    class iterator {
+      public:
+        using iterator_category = std::input_iterator_tag;
+        using value_type = element;
+        using difference_type = std::ptrdiff_t;
+        using pointer = const element *;
+        using reference = element;
+        element operator*() const noexcept {
+            return {at_->id, body_.subspan(at_->data_at, at_->data_len)};
+        }
+        iterator &operator++() noexcept {
+            at_ = next_element(body_, form_, at_->end);
+            return *this;
+        }
+        iterator operator++(int) noexcept {
+            const iterator before = *this;
+            ++*this;
+            return before;
+        }
+        /* There are more; only end() is compared with. */
+        bool operator!=(const iterator &) const noexcept {
+            return static_cast<bool>(at_);
+        }
+        bool operator==(const iterator &) const noexcept {
+            return !at_;
+        }
+
+      private:
+        friend class elements;
+        iterator(bytes body, std::uint8_t form) noexcept : body_(body), form_(form), at_(next_element(body, form, 0)) {}
+        bytes body_;
+        std::uint8_t form_;
+        result<rtpw_element> at_;
+    };
+    iterator begin() const noexcept {
+        return {body_, form_};
+    }
+    iterator end() const noexcept {
+        return {bytes(), RTPW_NO_BLOCK};
+    }
+
+  private:
+    bytes body_;
+    std::uint8_t form_;
+};
+
+/* The data of the last element of an id, which is the one that counts. */
+template <class Packet, class = detail::told<Packet>>
+std::optional<bytes> data_of_element(bytes datagram, const Packet &packet, std::uint8_t id) noexcept {
+    const auto it = last_element(body(datagram, packet), packet.block_form, id);
+    return it ? std::optional(body(datagram, packet).subspan(it->data_at, it->data_len)) : std::nullopt;
+}
+/* The text of that element as it lies, to be compared with the SDP's, where its data are a token. mid() and its like
+ * have another text where they don't keep one of its characters, or its length. */
+template <class Packet, class = detail::told<Packet>>
+std::optional<std::string_view> token(bytes datagram, const Packet &packet, std::uint8_t id) noexcept {
+    const auto data = data_of_element(datagram, packet, id);
+    if (!data || !is_token(*data)) {
+        return std::nullopt;
+    }
+    return std::string_view(reinterpret_cast<const char *>(data->data()), data->size());
+}
+template <class Bytes, class Packet, class = detail::gone<Bytes>>
+std::optional<bytes> data_of_element(Bytes &&, const Packet &, std::uint8_t) = delete;
+template <class Bytes, class Packet, class = detail::gone<Bytes>>
+std::optional<std::string_view> token(Bytes &&, const Packet &, std::uint8_t) = delete;
+
+/* ---- Of C++ alone: URIs, maps and texts ---- */
+
+inline std::uint8_t kind_of_uri(std::string_view uri) noexcept {
+    return ::rtpw_kind_of_uri(reinterpret_cast<const std::uint8_t *>(uri.data()), uri.size());
+}
+/* The URI is written to the buffer, for which RTPW_URI_SIZE bytes are enough, and returned as it lies there. */
+inline result<std::string_view> uri_of_kind(std::uint8_t kind, buffer buf) noexcept {
+    return result<std::string_view>([&](std::string_view *it) {
+        std::size_t len = 0;
+        const std::int32_t status = ::rtpw_uri_of_kind(kind, buf.data(), buf.size(), &len);
+        *it = {reinterpret_cast<const char *>(buf.data()), len};
+        return status;
+    });
+}
+
+/* A map, and which own_uris gave the numbers of one's own in it: so those of two aren't taken for the same
+ * (new_ids_between). */
+class uri_map : public rtpw_map {
+  public:
+    uri_map() noexcept : rtpw_map{} {}
+    explicit uri_map(const rtpw_map &map) noexcept : rtpw_map(map) {}
+
+  private:
+    friend class own_uris;
+    friend rtpw_new_ids new_ids_between(const uri_map &, const uri_map &) noexcept;
+    std::uint64_t table_ = 0;
+};
+
+/* Numbers of one's own for URIs that the library doesn't know, the same for the same URI in all maps that are made with
+ * it: so the elements of an extension go on where both peers have it, whatever it is. Keep one for a call. It takes
+ * memory, which may throw.
+ *
+ *     rtpw::own_uris uris;
+ *     for (const auto &[id, uri] : offer.extmap) { // a=extmap:ID URI
+ *         if (uris.set(publisher.map, id, uri) != rtpw::status::ok) { // an rtpw::uri_map
+ *             return refuse(id);
+ *         }
+ *     }
+ *     for (const std::string &uri : uris.unknown()) {
+ *         log("no value is read of", uri); // or it is misspelled
+ *     }
+ */
+class own_uris {
+  public:
+    own_uris() noexcept = default;
+    own_uris(const own_uris &) = delete; // the URIs that come to a copy may be others
+    own_uris &operator=(const own_uris &) = delete;
+    own_uris(own_uris &&other) noexcept
+        : unknown_(std::exchange(other.unknown_, {})), table_(std::exchange(other.table_, 0)) {}
+    own_uris &operator=(own_uris &&other) noexcept {
+        unknown_ = std::exchange(other.unknown_, {});
+        table_ = std::exchange(other.table_, 0);
+        return *this;
+    }
+
+    /* The id means from now on what the URI names. bad_field, and nothing changes, where the id is 0, the URI is one
+     * too many that the library doesn't know (128 have numbers), or it isn't known and the map has numbers of another
+     * own_uris. */
+    status set(uri_map &map, std::uint8_t id, std::string_view uri) {
+        std::uint8_t kind = kind_of(uri);
+        const bool is_known = kind != RTPW_KIND_NONE && kind < RTPW_KIND_OWN;
+        if (!is_known && map.table_ != 0 && map.table_ != table_) {
+            return status::bad_field;
+        }
+        if (kind == RTPW_KIND_NONE && id != 0 && unknown_.size() < 256 - RTPW_KIND_OWN) {
+            unknown_.emplace_back(uri);
+            kind = kind_of(uri);
+        }
+        const status set = map_set(map, id, kind);
+        if (set == status::ok && !is_known) {
+            map.table_ = table();
+        }
+        return set;
+    }
+    /* The number of a kind of the library, or one's own where the URI was set; else RTPW_KIND_NONE. */
+    std::uint8_t kind_of(std::string_view uri) const noexcept {
+        std::uint8_t kind = rtpw::kind_of_uri(uri);
+        for (std::size_t i = 0; kind == RTPW_KIND_NONE && i < unknown_.size(); i++) {
+            kind = unknown_[i] == uri ? static_cast<std::uint8_t>(RTPW_KIND_OWN + i) : kind;
+        }
+        return kind;
+    }
+    /* The URIs that the library doesn't know, by their numbers: that of RTPW_KIND_OWN first. */
+    const std::vector<std::string> &unknown() const &noexcept RTPW_BOUND {
+        return unknown_;
+    }
+    std::vector<std::string> unknown() &&noexcept {
+        return std::move(unknown_);
+    }
+
+  private:
+    /* What the maps are told from those of others by. */
+    std::uint64_t table() noexcept {
+        static std::atomic<std::uint64_t> tables{0};
+        if (table_ == 0) {
+            table_ = ++tables;
+        }
+        return table_;
+    }
+    std::vector<std::string> unknown_;
+    std::uint64_t table_ = 0;
+};
+
+/* The texts of values, where they are there. One that is set is refused, bad_field, where it is too long (16
+ * characters, or 8) or has a zero: then nothing changes. Its other characters are judged where it is written. */
+namespace detail {
+template <std::size_t size> status set_text(char (&text)[size], std::uint8_t &has, std::string_view to) noexcept {
+    if (to.size() >= size || to.find('\0') != std::string_view::npos) {
+        return status::bad_field;
+    }
+    std::memset(text, 0, size);
+    to.copy(text, to.size());
+    has = 1;
+    return status::ok;
+}
+} // namespace detail
+inline std::optional<std::string_view> mid(const rtpw_values &values RTPW_BOUND) noexcept {
+    return values.has_mid ? std::optional<std::string_view>(values.mid) : std::nullopt;
+}
+std::optional<std::string_view> mid(const rtpw_values &&) = delete;
+inline status set_mid(rtpw_values &values, std::string_view to) noexcept {
+    return detail::set_text(values.mid, values.has_mid, to);
+}
+inline std::optional<std::string_view> rid(const rtpw_values &values RTPW_BOUND) noexcept {
+    return values.has_rid ? std::optional<std::string_view>(values.rid) : std::nullopt;
+}
+std::optional<std::string_view> rid(const rtpw_values &&) = delete;
+inline status set_rid(rtpw_values &values, std::string_view to) noexcept {
+    return detail::set_text(values.rid, values.has_rid, to);
+}
+inline std::optional<std::string_view> repaired_rid(const rtpw_values &values RTPW_BOUND) noexcept {
+    return values.has_repaired_rid ? std::optional<std::string_view>(values.repaired_rid) : std::nullopt;
+}
+std::optional<std::string_view> repaired_rid(const rtpw_values &&) = delete;
+inline status set_repaired_rid(rtpw_values &values, std::string_view to) noexcept {
+    return detail::set_text(values.repaired_rid, values.has_repaired_rid, to);
+}
+
+/* ---- Of C++ alone: a header, written ---- */
+
+/* A header with these values, all else 0: has_extension is set exactly where one of them is there. */
+inline rtpw_header header_with(const rtpw_values &values) noexcept {
+    rtpw_header it{};
+    it.values = values;
+    const auto there = left_out(rtpw_map{}, it); // without a block, all that are there
+    it.has_extension = there && *there == 0 ? 0 : 1;
+    return it;
+}
+/* With `count` elements; `form` is RTPW_ONE_BYTE_FORM or RTPW_TWO_BYTE_FORM alone, or either. */
+inline result<std::size_t> write_with(const rtpw_header &header, bytes data, const rtpw_element *elements,
+                                      std::size_t count, buffer buf, std::uint8_t form = RTPW_NO_BLOCK) noexcept {
+    return result<std::size_t>([&](std::size_t *it) {
+        return ::rtpw_write_with_form(&header, data.data(), data.size(), elements, count, form, buf.data(), buf.size(),
+                                      it);
+    });
+}
+inline result<std::size_t> write_elements(bytes data, const rtpw_element *elements, std::size_t count,
+                                          std::uint8_t form, buffer buf) noexcept {
+    return result<std::size_t>([&](std::size_t *it) {
+        return ::rtpw_write_elements(data.data(), data.size(), elements, count, form, buf.data(), buf.size(), it);
+    });
+}
+template <class Element, class = detail::derived<Element, const rtpw_element>>
+result<std::size_t> write_with(const rtpw_header &, bytes, Element *, std::size_t, buffer,
+                               std::uint8_t = RTPW_NO_BLOCK) = delete;
+template <class Element, class = detail::derived<Element, const rtpw_element>>
+result<std::size_t> write_elements(bytes, Element *, std::size_t, std::uint8_t, buffer) = delete;
+
+/* ---- Of C++ alone: from one map to another ---- */
+
+/* Numbers of one's own that two own_uris gave are no common ones: of such maps their ids get none. */
+inline rtpw_new_ids new_ids_between(const uri_map &from, const uri_map &to) noexcept {
+    rtpw_map common = from;
+    if (from.table_ != 0 && to.table_ != 0 && from.table_ != to.table_) {
+        const auto is_own = [](std::uint8_t kind) { return kind >= RTPW_KIND_OWN; };
+        std::replace_if(std::begin(common.kind), std::end(common.kind), is_own, std::uint8_t{RTPW_KIND_NONE});
+    }
+    return new_ids_between(common, static_cast<const rtpw_map &>(to));
+}
+
+/* ---- Of C++ alone: a window of any size ---- */
 
 /* A receiver with a window of 64 numbers for each of 1 to 512 words, made at a rollover count: 1 where nothing is
  * authenticated, so that a packet from before the first one has a number too, and with SRTP the one that was signalled,
@@ -858,119 +951,21 @@ template <std::size_t count> class wide_receiver {
     bool accepts(std::uint64_t number) const noexcept {
         return ::rtpw_wide_receiver_accepts(&state, words, count, number);
     }
-    standing standing_of(std::uint64_t number) const noexcept {
-        return standing(::rtpw_wide_receiver_standing_of(&state, words, count, number));
-    }
     status record(std::uint64_t number) noexcept {
         return status(::rtpw_wide_receiver_record(&state, words, count, number));
     }
     result<std::uint64_t> receive(std::uint16_t sequence_number) noexcept {
-        return result<std::uint64_t>(
-            [&](std::uint64_t *it) { return ::rtpw_wide_receiver_receive(&state, words, count, sequence_number, it); });
+        return result<std::uint64_t>([&](std::uint64_t *it) {
+            return ::rtpw_wide_receiver_receive(&state, words, count, sequence_number, it);
+        });
+    }
+    standing standing_of(std::uint64_t number) const noexcept {
+        return standing(::rtpw_wide_receiver_standing_of(&state, words, count, number));
     }
 
     rtpw_wide_receiver state{};
     std::uint64_t words[count]{};
 };
-
-/* The status is restarted where the packet begins another epoch: it is taken, and its number is there. */
-inline result<std::uint64_t> restarting_receive(rtpw_restarting_receiver &receiver, std::uint16_t sequence_number)
-        noexcept {
-    return result<std::uint64_t>([&](std::uint64_t *it) {
-        return ::rtpw_restarting_receive(&receiver, sequence_number, it);
-    });
-}
-
-inline void reception_record(rtpw_reception &reception, std::uint64_t number, std::uint32_t timestamp,
-        std::uint32_t arrival) noexcept {
-    ::rtpw_reception_record(&reception, number, timestamp, arrival);
-}
-/* The status is none where nothing was recorded since the last report. */
-inline result<rtpw_report> reception_report(rtpw_reception &reception) noexcept {
-    return result<rtpw_report>([&](rtpw_report *it) { return ::rtpw_reception_report(&reception, it); });
-}
-/* The report block's 24 bytes. */
-inline result<std::size_t> write_report(const rtpw_report &report, std::uint32_t ssrc, std::uint32_t last_report,
-        std::uint32_t delay, buffer buf) noexcept {
-    return result<std::size_t>([&](std::size_t *it) {
-        return ::rtpw_write_report(&report, ssrc, last_report, delay, buf.data(), buf.size(), it);
-    });
-}
-/* The same with a window of these words. The bounds are fields of the receiver, where 0 stands for those that are safe
- * for a stream whose packets are sent again. */
-inline result<std::uint64_t> wide_restarting_receive(rtpw_wide_restarting_receiver &receiver,
-        span<std::uint64_t> words, std::uint16_t sequence_number) noexcept {
-    return result<std::uint64_t>([&](std::uint64_t *it) {
-        return ::rtpw_wide_restarting_receive(&receiver, words.data(), words.size(), sequence_number, it);
-    });
-}
-
-inline std::uint64_t extend_u8(std::uint64_t previous, std::uint8_t number) noexcept {
-    return ::rtpw_extend_u8(previous, number);
-}
-inline std::uint64_t extend_u15(std::uint64_t previous, std::uint16_t number) noexcept {
-    return ::rtpw_extend_u15(previous, number);
-}
-inline std::uint64_t extend_u16(std::uint64_t previous, std::uint16_t number) noexcept {
-    return ::rtpw_extend_u16(previous, number);
-}
-inline std::uint64_t extend_u32(std::uint64_t previous, std::uint32_t number) noexcept {
-    return ::rtpw_extend_u32(previous, number);
-}
-
-/* ---- Many at once ---- */
-
-/* What is told of each stands in the struct, its status too: rtpw::status(it.status). */
-inline void read_many(bytes buf, const rtpw_map &map, span<rtpw_whole_datagram> datagrams) noexcept {
-    ::rtpw_read_many(buf.data(), buf.size(), &map, datagrams.data(), datagrams.size());
-}
-inline void packet_parse_many(bytes buf, span<rtpw_datagram> datagrams) noexcept {
-    ::rtpw_packet_parse_many(buf.data(), buf.size(), datagrams.data(), datagrams.size());
-}
-inline void parse_many(bytes buf, const rtpw_map &map, span<rtpw_datagram_header> datagrams) noexcept {
-    ::rtpw_parse_many(buf.data(), buf.size(), &map, datagrams.data(), datagrams.size());
-}
-inline void receive_many(span<rtpw_receiver> receivers, span<rtpw_arrival> arrivals) noexcept {
-    ::rtpw_receive_many(receivers.data(), receivers.size(), arrivals.data(), arrivals.size());
-}
-
-/* ---- One packet to all its receivers ---- */
-
-/* The header that a packet gets for a group is made in the buffer, and what is returned tells of it. The data of the
- * elements lie in `data`. */
-inline result<rtpw_template> make_template(bytes datagram, const rtpw_new_ids &ids, bytes data,
-        span<const rtpw_element> elements, buffer buf, std::uint8_t allowed = RTPW_ANY_FORM) noexcept {
-    return result<rtpw_template>([&](rtpw_template *it) {
-        return ::rtpw_make_template(datagram.data(), datagram.size(), &ids, data.data(), data.size(),
-            elements.data(), elements.size(), allowed, buf.data(), buf.size(), it);
-    });
-}
-inline result<rtpw_group> prepare_group(const rtpw_new_ids &ids, span<const rtpw_element> elements,
-        std::uint8_t allowed = RTPW_ANY_FORM) noexcept {
-    return result<rtpw_group>([&](rtpw_group *it) {
-        return ::rtpw_prepare_group(&ids, elements.data(), elements.size(), allowed, it);
-    });
-}
-inline result<rtpw_template> make_from_group(const rtpw_group &group, bytes datagram, buffer buf) noexcept {
-    return result<rtpw_template>([&](rtpw_template *it) {
-        return ::rtpw_make_from_group(&group, datagram.data(), datagram.size(), buf.data(), buf.size(), it);
-    });
-}
-/* The status of each receiver stands in its struct, and where its header lies in the buffer, whose start the first one
- * takes: rtpw::status(it.status), it.at and it.len. */
-inline status write_headers(const rtpw_template &made, bytes header, bytes data, span<rtpw_routed_header> receivers,
-        buffer buf) noexcept {
-    return status(::rtpw_write_headers(&made, header.data(), header.size(), data.data(), data.size(),
-            receivers.data(), receivers.size(), buf.data(), buf.size()));
-}
-
-inline result<std::size_t> write_with(const rtpw_header &header, bytes data, span<const rtpw_element> elements,
-        buffer buf) noexcept {
-    return result<std::size_t>([&](std::size_t *it) {
-        return ::rtpw_write_with(&header, data.data(), data.size(), elements.data(), elements.size(), buf.data(),
-            buf.size(), it);
-    });
-}
 
 } // namespace rtpw
 

@@ -52,8 +52,8 @@ static inline size_t rtpw_sanitizer_least(size_t one, size_t other) {
 
 /* ---- Memory ---- */
 
-/* These bytes are the caller's to give, whatever they hold: they need not be set. Where they lie is a number here, since
- * gcc takes a const pointer for a promise to read. */
+/* These bytes are the caller's to give, whatever they hold: they need not be set. Where they lie is a number here,
+ * since gcc takes a const pointer for a promise to read. */
 #define RTPW_SANITIZER_ROOM(at, size) rtpw_sanitizer_room((uintptr_t)(at), size)
 static inline void rtpw_sanitizer_room(uintptr_t at, size_t size) {
 #ifdef RTPW_SANITIZER_ADDRESS
@@ -110,7 +110,7 @@ static inline void rtpw_sanitizer_wrote_bits(uint8_t *at, uint8_t bits, uint8_t 
 
 /* The length of the header, or what is there of it. Of a packet each call reads its first byte, and where X is set
  * how long the block is. */
-static inline size_t rtpw_sanitizer_header_len(const uint8_t *datagram, size_t len) {
+static inline size_t rtpw_sanitizer_packet_header_len(const uint8_t *datagram, size_t len) {
     size_t at;
     RTPW_SANITIZER_ROOM(datagram, len);
     if (len < RTPW_CSRC_AT) {
@@ -129,16 +129,16 @@ static inline size_t rtpw_sanitizer_header_len(const uint8_t *datagram, size_t l
 }
 
 /* The length of the packet's padding is read where P is set and there is a payload. */
-static inline void rtpw_sanitizer_padding(const uint8_t *datagram, size_t len) {
-    size_t header_len = rtpw_sanitizer_header_len(datagram, len);
+static inline void rtpw_sanitizer_packet_padding(const uint8_t *datagram, size_t len) {
+    size_t header_len = rtpw_sanitizer_packet_header_len(datagram, len);
     if (header_len >= RTPW_CSRC_AT && header_len < len && (datagram[0] & 32) != 0) {
         rtpw_sanitizer_reads(datagram + len - 1, 1);
     }
 }
 
 /* The fixed part and the first bytes of the block are read. */
-static inline void rtpw_sanitizer_packet(const uint8_t *datagram, size_t len) {
-    size_t header_len = rtpw_sanitizer_header_len(datagram, len);
+static inline void rtpw_sanitizer_packet_fields(const uint8_t *datagram, size_t len) {
+    size_t header_len = rtpw_sanitizer_packet_header_len(datagram, len);
     rtpw_sanitizer_reads(datagram, rtpw_sanitizer_least(header_len, RTPW_CSRC_AT));
     if (header_len >= RTPW_CSRC_AT && (datagram[0] & 16) != 0) {
         size_t at = RTPW_CSRC_AT + 4 * (size_t)(datagram[0] & 15);
@@ -146,21 +146,21 @@ static inline void rtpw_sanitizer_packet(const uint8_t *datagram, size_t len) {
             rtpw_sanitizer_reads(datagram + at, rtpw_sanitizer_least(header_len - at, 4));
         }
     }
-    rtpw_sanitizer_padding(datagram, len);
+    rtpw_sanitizer_packet_padding(datagram, len);
 }
 
 /* The whole header is read. */
-static inline void rtpw_sanitizer_header(const uint8_t *datagram, size_t len) {
-    rtpw_sanitizer_reads(datagram, rtpw_sanitizer_header_len(datagram, len));
+static inline void rtpw_sanitizer_packet_header(const uint8_t *datagram, size_t len) {
+    rtpw_sanitizer_reads(datagram, rtpw_sanitizer_packet_header_len(datagram, len));
 }
 
 /* Of RTCP the first two bytes are read, and else the whole header and the length of the padding. */
-static inline void rtpw_sanitizer_whole(const uint8_t *datagram, size_t len) {
+static inline void rtpw_sanitizer_packet_whole(const uint8_t *datagram, size_t len) {
     RTPW_SANITIZER_ROOM(datagram, len);
     rtpw_sanitizer_reads(datagram, len < 2 ? 0 : 2);
     if (!rtpw_is_rtcp(datagram, len)) {
-        rtpw_sanitizer_header(datagram, len);
-        rtpw_sanitizer_padding(datagram, len);
+        rtpw_sanitizer_packet_header(datagram, len);
+        rtpw_sanitizer_packet_padding(datagram, len);
     }
 }
 
@@ -172,17 +172,24 @@ static inline size_t rtpw_sanitizer_block_at(const uint8_t *datagram, size_t hea
 }
 
 /* The block's elements are read. */
-static inline void rtpw_sanitizer_block(const uint8_t *datagram, size_t len) {
-    size_t header_len = rtpw_sanitizer_header_len(datagram, len);
+static inline void rtpw_sanitizer_packet_block(const uint8_t *datagram, size_t len) {
+    size_t header_len = rtpw_sanitizer_packet_header_len(datagram, len);
     if (header_len >= RTPW_CSRC_AT) {
         size_t at = rtpw_sanitizer_block_at(datagram, header_len);
         rtpw_sanitizer_reads(datagram + at, header_len - at);
     }
 }
 
+/* The number that the payload of a retransmission begins with is read. */
+static inline void rtpw_sanitizer_packet_number(const uint8_t *datagram, size_t len) {
+    size_t at = rtpw_sanitizer_packet_header_len(datagram, len);
+    if (at < len) { rtpw_sanitizer_reads(datagram + at, rtpw_sanitizer_least(len - at, 2)); }
+}
+
 /* The block's elements were changed where they lie. */
 static inline void rtpw_sanitizer_wrote_block(const uint8_t *datagram, size_t len) {
-    size_t header_len = rtpw_sanitizer_header_len(datagram, len), at = rtpw_sanitizer_block_at(datagram, header_len);
+    size_t header_len = rtpw_sanitizer_packet_header_len(datagram, len);
+    size_t at = rtpw_sanitizer_block_at(datagram, header_len);
     if (at < header_len) { rtpw_sanitizer_wrote(datagram + at, header_len - at); }
 }
 
@@ -200,7 +207,7 @@ static inline rtpw_sanitizer_before rtpw_sanitizer_front(const uint8_t *buf, siz
     RTPW_SANITIZER_ROOM(buf, size);
     rtpw_sanitizer_reads(len, sizeof *len);
     before.len = *len <= size ? *len : 0; /* else it isn't looked at */
-    before.header_len = rtpw_sanitizer_header_len(buf, before.len);
+    before.header_len = rtpw_sanitizer_packet_header_len(buf, before.len);
     before.payload = NULL;
 #ifdef RTPW_SANITIZER_MEMORY
     before.payload = (uint8_t *)__builtin_malloc(before.len - before.header_len + 1);
@@ -208,13 +215,6 @@ static inline rtpw_sanitizer_before rtpw_sanitizer_front(const uint8_t *buf, siz
         __msan_copy_shadow(before.payload, buf + before.header_len, before.len - before.header_len);
     }
 #endif
-    return before;
-}
-
-/* The same, and the elements of its block too. */
-static inline rtpw_sanitizer_before rtpw_sanitizer_buffer(const uint8_t *buf, size_t size, const size_t *len) {
-    rtpw_sanitizer_before before = rtpw_sanitizer_front(buf, size, len);
-    rtpw_sanitizer_block(buf, before.len);
     return before;
 }
 
@@ -239,18 +239,14 @@ static inline void rtpw_sanitizer_forget(rtpw_sanitizer_before before) {
 }
 
 /* The block of a packet was made anew, or taken off, and the payload moved. */
-static inline void rtpw_sanitizer_rebuilt(int32_t status, uint8_t *buf, const size_t *len,
-                                          rtpw_sanitizer_before before) {
-    if (status == RTPW_OK) {
-        size_t size = before.len - before.header_len, to = *len - size, at = rtpw_sanitizer_block_at(buf, to);
-        rtpw_sanitizer_wrote(len, sizeof *len);
-        rtpw_sanitizer_changed(buf, 1); /* X */
-        rtpw_sanitizer_wrote(buf + at, to - at);
-        rtpw_sanitizer_moved(buf, to, size, before, 0);
-        /* What lies behind a packet that is shorter may be anything. */
-        if (*len < before.len) { rtpw_sanitizer_changed(buf + *len, before.len - *len); }
-    }
-    rtpw_sanitizer_forget(before);
+static inline void rtpw_sanitizer_rebuilt(uint8_t *buf, const size_t *len, rtpw_sanitizer_before before) {
+    size_t size = before.len - before.header_len, to = *len - size, at = rtpw_sanitizer_block_at(buf, to);
+    rtpw_sanitizer_wrote(len, sizeof *len);
+    rtpw_sanitizer_changed(buf, 1); /* X */
+    rtpw_sanitizer_wrote(buf + at, to - at);
+    rtpw_sanitizer_moved(buf, to, size, before, 0);
+    /* What lies behind a packet that is shorter may be anything. */
+    if (*len < before.len) { rtpw_sanitizer_changed(buf + *len, before.len - *len); }
 }
 
 /* The packet has another SSRC and payload type now, and P is clear; its ids were changed where they lie. */
@@ -264,48 +260,26 @@ static inline void rtpw_sanitizer_readdressed(uint8_t *buf, const size_t *len, u
 }
 
 /* The packet is a retransmission now: its payload begins with the number that it had, and it has another one. */
-static inline void rtpw_sanitizer_resent(int32_t status, uint8_t *buf, const size_t *len, uint8_t payload_type,
+static inline void rtpw_sanitizer_resent(uint8_t *buf, const size_t *len, uint8_t payload_type,
                                          rtpw_sanitizer_before before) {
-    if (status == RTPW_OK) {
-        rtpw_sanitizer_readdressed(buf, len, payload_type, before.header_len);
-        rtpw_sanitizer_moved(buf, before.header_len + 2, *len - before.header_len - 2, before, 0);
-        rtpw_sanitizer_changed(buf + before.header_len, 2);
+    rtpw_sanitizer_readdressed(buf, len, payload_type, before.header_len);
+    rtpw_sanitizer_moved(buf, before.header_len + 2, *len - before.header_len - 2, before, 0);
+    rtpw_sanitizer_changed(buf + before.header_len, 2);
 #ifdef RTPW_SANITIZER_MEMORY
-        __msan_copy_shadow(buf + before.header_len, buf + 2, 2);
+    __msan_copy_shadow(buf + before.header_len, buf + 2, 2);
 #endif
-        rtpw_sanitizer_wrote(buf + 2, 2);
-    }
-    rtpw_sanitizer_forget(before);
+    rtpw_sanitizer_wrote(buf + 2, 2);
 }
 
 /* The retransmission is the packet that it repeats: it has the number that the payload began with, which was read. */
-static inline void rtpw_sanitizer_restored(int32_t status, uint8_t *buf, const size_t *len, uint8_t payload_type,
+static inline void rtpw_sanitizer_restored(uint8_t *buf, const size_t *len, uint8_t payload_type,
                                            rtpw_sanitizer_before before) {
-    if (status == RTPW_OK) {
-        rtpw_sanitizer_readdressed(buf, len, payload_type, before.header_len);
-        rtpw_sanitizer_moved(buf, before.header_len, *len - before.header_len, before, 2);
-        rtpw_sanitizer_wrote(buf + 2, 2);
-    }
-    rtpw_sanitizer_forget(before);
+    rtpw_sanitizer_readdressed(buf, len, payload_type, before.header_len);
+    rtpw_sanitizer_moved(buf, before.header_len, *len - before.header_len, before, 2);
+    rtpw_sanitizer_wrote(buf + 2, 2);
 }
 
 /* ---- Structs: the fields that count; what fills a struct up, and what isn't looked at, need not be set ---- */
-
-#define RTPW_SANITIZER_FIELD(field) rtpw_sanitizer_reads(&(field), sizeof(field))
-
-/* A map, or new ids: all but the entry of the id 0. */
-static inline void rtpw_sanitizer_ids(const uint8_t *ids) {
-    RTPW_SANITIZER_ROOM(ids, 256);
-    rtpw_sanitizer_reads(ids + 1, 255);
-}
-
-static inline void rtpw_sanitizer_map(const rtpw_map *map) {
-    rtpw_sanitizer_ids(map->kind);
-}
-
-static inline void rtpw_sanitizer_new_ids(const rtpw_new_ids *ids) {
-    rtpw_sanitizer_ids(ids->id);
-}
 
 static inline void rtpw_sanitizer_text(const char *text, size_t size) {
     size_t i = 0;
@@ -317,21 +291,28 @@ static inline void rtpw_sanitizer_text(const char *text, size_t size) {
 static inline void rtpw_sanitizer_fields(const rtpw_fields *it) {
     RTPW_SANITIZER_ROOM(it, sizeof *it);
     rtpw_sanitizer_reads(&it->has_timestamp, 5); /* up to has_marker */
-    if (it->has_timestamp) {
-        rtpw_sanitizer_reads(&it->timestamp, sizeof it->timestamp);
-    }
-    if (it->has_ssrc) {
-        rtpw_sanitizer_reads(&it->ssrc, sizeof it->ssrc);
-    }
-    if (it->has_sequence_number) {
-        rtpw_sanitizer_reads(&it->sequence_number, sizeof it->sequence_number);
-    }
-    if (it->has_payload_type) {
-        rtpw_sanitizer_reads(&it->payload_type, sizeof it->payload_type);
-    }
-    if (it->has_marker) {
-        rtpw_sanitizer_reads(&it->marker, sizeof it->marker);
-    }
+    if (it->has_timestamp) { rtpw_sanitizer_reads(&it->timestamp, sizeof it->timestamp); }
+    if (it->has_ssrc) { rtpw_sanitizer_reads(&it->ssrc, sizeof it->ssrc); }
+    if (it->has_sequence_number) { rtpw_sanitizer_reads(&it->sequence_number, sizeof it->sequence_number); }
+    if (it->has_payload_type) { rtpw_sanitizer_reads(&it->payload_type, sizeof it->payload_type); }
+    if (it->has_marker) { rtpw_sanitizer_reads(&it->marker, sizeof it->marker); }
+}
+
+static inline void rtpw_sanitizer_element(const rtpw_element *it) {
+    RTPW_SANITIZER_ROOM(it, sizeof *it);
+    rtpw_sanitizer_reads(&it->data_at, 16); /* up to data_len */
+    rtpw_sanitizer_reads(&it->id, sizeof it->id);
+}
+
+static inline void rtpw_sanitizer_element_but_data_at(const rtpw_element *it) {
+    RTPW_SANITIZER_ROOM(it, sizeof *it);
+    rtpw_sanitizer_reads(&it->data_len, sizeof it->data_len);
+    rtpw_sanitizer_reads(&it->id, sizeof it->id);
+}
+
+static inline void rtpw_sanitizer_map(const rtpw_map *it) {
+    RTPW_SANITIZER_ROOM(it, sizeof *it);
+    rtpw_sanitizer_reads(it->kind + 1, 255);
 }
 
 static inline void rtpw_sanitizer_time(const rtpw_time *it) {
@@ -342,77 +323,60 @@ static inline void rtpw_sanitizer_time(const rtpw_time *it) {
 static inline void rtpw_sanitizer_values(const rtpw_values *it) {
     RTPW_SANITIZER_ROOM(it, sizeof *it);
     rtpw_sanitizer_reads(&it->has_send_time, 16); /* up to has_repaired_rid */
-    if (it->has_send_time) {
-        rtpw_sanitizer_reads(&it->send_time, sizeof it->send_time);
-    }
-    if (it->has_capture_time) {
-        rtpw_sanitizer_reads(&it->capture_time, sizeof it->capture_time);
-    }
-    if (it->has_capture_offset) {
-        rtpw_sanitizer_reads(&it->capture_offset, sizeof it->capture_offset);
-    }
+    if (it->has_send_time) { rtpw_sanitizer_reads(&it->send_time, sizeof it->send_time); }
+    if (it->has_capture_time) { rtpw_sanitizer_reads(&it->capture_time, sizeof it->capture_time); }
+    if (it->has_capture_offset) { rtpw_sanitizer_reads(&it->capture_offset, sizeof it->capture_offset); }
     if (it->has_transmission_offset) {
         rtpw_sanitizer_reads(&it->transmission_offset, sizeof it->transmission_offset);
     }
-    if (it->has_frame_marking) {
-        rtpw_sanitizer_reads(&it->frame_marking, sizeof it->frame_marking);
-    }
-    if (it->has_transport_number) {
-        rtpw_sanitizer_reads(&it->transport_number, sizeof it->transport_number);
-    }
-    if (it->has_video_orientation) {
-        rtpw_sanitizer_reads(&it->video_orientation, sizeof it->video_orientation);
-    }
+    if (it->has_frame_marking) { rtpw_sanitizer_reads(&it->frame_marking, sizeof it->frame_marking); }
+    if (it->has_transport_number) { rtpw_sanitizer_reads(&it->transport_number, sizeof it->transport_number); }
+    if (it->has_video_orientation) { rtpw_sanitizer_reads(&it->video_orientation, sizeof it->video_orientation); }
     if (it->has_video_content_type) {
         rtpw_sanitizer_reads(&it->video_content_type, sizeof it->video_content_type);
     }
-    if (it->has_audio_level) {
-        rtpw_sanitizer_reads(&it->audio_level, sizeof it->audio_level);
-    }
-    if (it->has_voice_activity) {
-        rtpw_sanitizer_reads(&it->voice_activity, sizeof it->voice_activity);
-    }
-    if (it->has_playout_delay_min) {
-        rtpw_sanitizer_time(&it->playout_delay_min);
-    }
-    if (it->has_playout_delay_max) {
-        rtpw_sanitizer_time(&it->playout_delay_max);
-    }
-    if (it->has_video_timing) {
-        rtpw_sanitizer_reads(&it->encode_start, 9); /* up to timing_flags */
-    }
-    if (it->has_mid) {
-        rtpw_sanitizer_text(it->mid, sizeof it->mid);
-    }
-    if (it->has_rid) {
-        rtpw_sanitizer_text(it->rid, sizeof it->rid);
-    }
-    if (it->has_repaired_rid) {
-        rtpw_sanitizer_text(it->repaired_rid, sizeof it->repaired_rid);
-    }
+    if (it->has_audio_level) { rtpw_sanitizer_reads(&it->audio_level, sizeof it->audio_level); }
+    if (it->has_voice_activity) { rtpw_sanitizer_reads(&it->voice_activity, sizeof it->voice_activity); }
+    if (it->has_playout_delay_min) { rtpw_sanitizer_time(&it->playout_delay_min); }
+    if (it->has_playout_delay_max) { rtpw_sanitizer_time(&it->playout_delay_max); }
+    if (it->has_video_timing) { rtpw_sanitizer_reads(&it->encode_start, 9); /* up to timing_flags */ }
+    if (it->has_mid) { rtpw_sanitizer_text(it->mid, sizeof it->mid); }
+    if (it->has_rid) { rtpw_sanitizer_text(it->rid, sizeof it->rid); }
+    if (it->has_repaired_rid) { rtpw_sanitizer_text(it->repaired_rid, sizeof it->repaired_rid); }
+}
+
+static inline void rtpw_sanitizer_header(const rtpw_header *it) {
+    RTPW_SANITIZER_ROOM(it, sizeof *it);
+    rtpw_sanitizer_reads(&it->timestamp, 8); /* up to ssrc */
+    rtpw_sanitizer_reads(&it->sequence_number, 7); /* up to has_extension */
+    rtpw_sanitizer_reads(it->csrc, sizeof *it->csrc * rtpw_sanitizer_least(it->csrc_count, 15));
+    rtpw_sanitizer_values(&it->values);
+}
+
+static inline void rtpw_sanitizer_header_but_has_extension_values(const rtpw_header *it) {
+    RTPW_SANITIZER_ROOM(it, sizeof *it);
+    rtpw_sanitizer_reads(&it->timestamp, 8); /* up to ssrc */
+    rtpw_sanitizer_reads(&it->sequence_number, 6); /* up to has_padding */
+    rtpw_sanitizer_reads(it->csrc, sizeof *it->csrc * rtpw_sanitizer_least(it->csrc_count, 15));
 }
 
 static inline void rtpw_sanitizer_layer(const rtpw_layer *it) {
     RTPW_SANITIZER_ROOM(it, sizeof *it);
     rtpw_sanitizer_reads(&it->has_resolution, 2); /* up to rates */
     rtpw_sanitizer_reads(it->kbps, sizeof *it->kbps * rtpw_sanitizer_least(it->rates, 4));
-    if (it->has_resolution) {
-        rtpw_sanitizer_reads(&it->width, 5); /* up to framerate */
-    }
+    if (it->has_resolution) { rtpw_sanitizer_reads(&it->width, 5); /* up to framerate */ }
 }
 
 static inline void rtpw_sanitizer_stream(const rtpw_stream *it) {
-    size_t i;
     RTPW_SANITIZER_ROOM(it, sizeof *it);
     rtpw_sanitizer_reads(&it->count, sizeof it->count);
-    for (i = 0; i < rtpw_sanitizer_least(it->count, 4); i++) { rtpw_sanitizer_layer(&it->layers[i]); }
+    for (size_t i = 0; i < rtpw_sanitizer_least(it->count, 4); i++) { rtpw_sanitizer_layer(&it->layers[i]); }
 }
 
 static inline void rtpw_sanitizer_layers(const rtpw_layers *it) {
-    size_t i;
     RTPW_SANITIZER_ROOM(it, sizeof *it);
     rtpw_sanitizer_reads(&it->count, 2); /* up to current */
-    for (i = 0; i < rtpw_sanitizer_least(it->count, 4); i++) { rtpw_sanitizer_stream(&it->streams[i]); }
+    for (size_t i = 0; i < rtpw_sanitizer_least(it->count, 4); i++) { rtpw_sanitizer_stream(&it->streams[i]); }
 }
 
 static inline void rtpw_sanitizer_frame_marking(const rtpw_frame_marking *it) {
@@ -420,9 +384,7 @@ static inline void rtpw_sanitizer_frame_marking(const rtpw_frame_marking *it) {
     rtpw_sanitizer_reads(&it->start, 5); /* up to has_layers */
     if (it->has_layers) {
         rtpw_sanitizer_reads(&it->base_layer_sync, 4); /* up to has_tl0_pic_idx */
-        if (it->has_tl0_pic_idx) {
-            rtpw_sanitizer_reads(&it->tl0_pic_idx, sizeof it->tl0_pic_idx);
-        }
+        if (it->has_tl0_pic_idx) { rtpw_sanitizer_reads(&it->tl0_pic_idx, sizeof it->tl0_pic_idx); }
     }
 }
 
@@ -435,9 +397,7 @@ static inline void rtpw_sanitizer_timing(const rtpw_timing *it) {
     RTPW_SANITIZER_ROOM(it, sizeof *it);
     rtpw_sanitizer_reads(&it->encode_start, 12); /* up to network2 */
     rtpw_sanitizer_reads(&it->has_flags, sizeof it->has_flags);
-    if (it->has_flags) {
-        rtpw_sanitizer_reads(&it->flags, sizeof it->flags);
-    }
+    if (it->has_flags) { rtpw_sanitizer_reads(&it->flags, sizeof it->flags); }
 }
 
 static inline void rtpw_sanitizer_transport_number(const rtpw_transport_number *it) {
@@ -468,9 +428,7 @@ static inline void rtpw_sanitizer_hdr_metadata(const rtpw_hdr_metadata *it) {
 static inline void rtpw_sanitizer_color_space(const rtpw_color_space *it) {
     RTPW_SANITIZER_ROOM(it, sizeof *it);
     rtpw_sanitizer_reads(&it->primaries, 7); /* up to has_hdr */
-    if (it->has_hdr) {
-        rtpw_sanitizer_hdr_metadata(&it->hdr);
-    }
+    if (it->has_hdr) { rtpw_sanitizer_hdr_metadata(&it->hdr); }
 }
 
 static inline void rtpw_sanitizer_dependency_descriptor(const rtpw_dependency_descriptor *it) {
@@ -478,13 +436,16 @@ static inline void rtpw_sanitizer_dependency_descriptor(const rtpw_dependency_de
     rtpw_sanitizer_reads(&it->frame_number, 5); /* up to template_id */
 }
 
+static inline void rtpw_sanitizer_new_ids(const rtpw_new_ids *it) {
+    RTPW_SANITIZER_ROOM(it, sizeof *it);
+    rtpw_sanitizer_reads(it->id + 1, 255);
+}
+
 static inline void rtpw_sanitizer_receiver(const rtpw_receiver *it) {
     RTPW_SANITIZER_ROOM(it, sizeof *it);
     rtpw_sanitizer_reads(&it->highest, sizeof it->highest);
     rtpw_sanitizer_reads(&it->started, sizeof it->started);
-    if (it->started) {
-        rtpw_sanitizer_reads(&it->recorded_low, 16); /* up to recorded_high */
-    }
+    if (it->started) { rtpw_sanitizer_reads(&it->recorded_low, 16); /* up to recorded_high */ }
 }
 
 static inline void rtpw_sanitizer_wide_receiver(const rtpw_wide_receiver *it) {
@@ -496,12 +457,8 @@ static inline void rtpw_sanitizer_restarting_receiver(const rtpw_restarting_rece
     RTPW_SANITIZER_ROOM(it, sizeof *it);
     rtpw_sanitizer_reads(&it->max_dropout, sizeof it->max_dropout);
     rtpw_sanitizer_reads(&it->min_sequential, 3); /* up to started */
-    if (it->in_row) {
-        rtpw_sanitizer_reads(&it->next, sizeof it->next);
-    }
-    if (it->started) {
-        rtpw_sanitizer_reads(&it->highest, 24); /* up to words */
-    }
+    if (it->in_row) { rtpw_sanitizer_reads(&it->next, sizeof it->next); }
+    if (it->started) { rtpw_sanitizer_reads(&it->highest, 24); /* up to words */ }
 }
 
 static inline void rtpw_sanitizer_reception(const rtpw_reception *it) {
@@ -519,12 +476,49 @@ static inline void rtpw_sanitizer_wide_restarting_receiver(const rtpw_wide_resta
     RTPW_SANITIZER_ROOM(it, sizeof *it);
     rtpw_sanitizer_reads(&it->max_dropout, 4); /* up to max_misorder */
     rtpw_sanitizer_reads(&it->min_sequential, 3); /* up to started */
-    if (it->in_row) {
-        rtpw_sanitizer_reads(&it->next, sizeof it->next);
-    }
-    if (it->started) {
-        rtpw_sanitizer_reads(&it->highest, sizeof it->highest);
-    }
+    if (it->in_row) { rtpw_sanitizer_reads(&it->next, sizeof it->next); }
+    if (it->started) { rtpw_sanitizer_reads(&it->highest, sizeof it->highest); }
+}
+
+static inline void rtpw_sanitizer_whole_datagram(const rtpw_whole_datagram *it) {
+    RTPW_SANITIZER_ROOM(it, sizeof *it);
+    rtpw_sanitizer_reads(&it->at, 16); /* up to len */
+}
+
+static inline void rtpw_sanitizer_wrote_whole_datagram(const rtpw_whole_datagram *it) {
+    rtpw_sanitizer_wrote(&it->status, sizeof it->status);
+    if (it->status == RTPW_OK) { rtpw_sanitizer_wrote(&it->packet, sizeof it->packet); }
+}
+
+static inline void rtpw_sanitizer_datagram(const rtpw_datagram *it) {
+    RTPW_SANITIZER_ROOM(it, sizeof *it);
+    rtpw_sanitizer_reads(&it->at, 16); /* up to len */
+}
+
+static inline void rtpw_sanitizer_wrote_datagram(const rtpw_datagram *it) {
+    rtpw_sanitizer_wrote(&it->status, 5); /* up to is_rtcp */
+    if (it->status == RTPW_OK) { rtpw_sanitizer_wrote(&it->packet, sizeof it->packet); }
+}
+
+static inline void rtpw_sanitizer_datagram_header(const rtpw_datagram_header *it) {
+    RTPW_SANITIZER_ROOM(it, sizeof *it);
+    rtpw_sanitizer_reads(&it->at, 16); /* up to len */
+}
+
+static inline void rtpw_sanitizer_wrote_datagram_header(const rtpw_datagram_header *it) {
+    rtpw_sanitizer_wrote(&it->status, 5); /* up to is_rtcp */
+    if (it->status == RTPW_OK) { rtpw_sanitizer_wrote(&it->header, sizeof it->header); }
+}
+
+static inline void rtpw_sanitizer_arrival(const rtpw_arrival *it) {
+    RTPW_SANITIZER_ROOM(it, sizeof *it);
+    rtpw_sanitizer_reads(&it->receiver, sizeof it->receiver);
+    rtpw_sanitizer_reads(&it->sequence_number, sizeof it->sequence_number);
+}
+
+static inline void rtpw_sanitizer_wrote_arrival(const rtpw_arrival *it) {
+    rtpw_sanitizer_wrote(&it->status, sizeof it->status);
+    if (it->status == RTPW_OK) { rtpw_sanitizer_wrote(&it->number, sizeof it->number); }
 }
 
 static inline void rtpw_sanitizer_template(const rtpw_template *it) {
@@ -540,7 +534,20 @@ static inline void rtpw_sanitizer_group(const rtpw_group *it) {
     rtpw_sanitizer_reads(&it->new_ids, 549); /* up to one_byte */
 }
 
-static inline void rtpw_sanitizer_wrote_fields(uint8_t *datagram, const rtpw_fields *fields) {
+static inline void rtpw_sanitizer_routed_header(const rtpw_routed_header *it) {
+    RTPW_SANITIZER_ROOM(it, sizeof *it);
+    rtpw_sanitizer_reads(&it->data_at, sizeof it->data_at);
+    rtpw_sanitizer_reads(&it->is_retransmission, 2); /* up to clears_padding */
+    rtpw_sanitizer_fields(&it->fields);
+    if (it->is_retransmission) { rtpw_sanitizer_reads(&it->original_number, sizeof it->original_number); }
+}
+
+static inline void rtpw_sanitizer_wrote_routed_header(const rtpw_routed_header *it) {
+    rtpw_sanitizer_wrote(&it->at, sizeof it->at);
+    rtpw_sanitizer_wrote(&it->status, 8); /* up to len */
+}
+
+static inline void rtpw_sanitizer_set_fields(uint8_t *datagram, const rtpw_fields *fields) {
     if (fields->has_payload_type) { rtpw_sanitizer_wrote_bits(datagram + 1, 0x7f, fields->payload_type); }
     if (fields->has_marker) { rtpw_sanitizer_wrote_bits(datagram + 1, 0x80, fields->marker ? 0x80 : 0); }
     if (fields->has_sequence_number) { rtpw_sanitizer_wrote(datagram + 2, 2); }
@@ -548,203 +555,34 @@ static inline void rtpw_sanitizer_wrote_fields(uint8_t *datagram, const rtpw_fie
     if (fields->has_ssrc) { rtpw_sanitizer_wrote(datagram + 8, 4); }
 }
 
-/* A header without its values. */
-static inline void rtpw_sanitizer_fixed_part(const rtpw_header *header) {
-    RTPW_SANITIZER_ROOM(header, sizeof *header);
-    rtpw_sanitizer_reads(&header->timestamp, 8);       /* and ssrc */
-    rtpw_sanitizer_reads(&header->sequence_number, 6); /* and payload_type, csrc_count, marker, has_padding */
-    rtpw_sanitizer_reads(header->csrc, 4 * rtpw_sanitizer_least(header->csrc_count, 15));
-}
-
-/* A header that is written under a map. */
-static inline void rtpw_sanitizer_written(const rtpw_map *map, const rtpw_header *header) {
-    rtpw_sanitizer_fixed_part(header);
-    RTPW_SANITIZER_FIELD(header->has_extension);
-    rtpw_sanitizer_values(&header->values);
-    RTPW_SANITIZER_ROOM(map, sizeof *map);
-    if (header->has_extension) { rtpw_sanitizer_map(map); }
-}
-
-/* Elements that are written, and the data of each. */
-static inline void rtpw_sanitizer_elements(const uint8_t *data, size_t data_len, const rtpw_element *elements,
-                                           size_t count) {
-    size_t i;
-    RTPW_SANITIZER_ROOM(data, data_len);
-    RTPW_SANITIZER_ROOM(elements, count * sizeof *elements);
-    for (i = 0; i < count; i++) {
-        rtpw_sanitizer_reads(&elements[i].data_at, 2 * sizeof(size_t)); /* and data_len */
-        RTPW_SANITIZER_FIELD(elements[i].id);
-        if (elements[i].data_at < data_len && elements[i].data_len <= data_len - elements[i].data_at) {
-            rtpw_sanitizer_reads(data + elements[i].data_at, elements[i].data_len);
-        }
-    }
-}
-
-/* Elements of which the ids and the lengths of the data alone are looked at. */
-static inline void rtpw_sanitizer_shapes(const rtpw_element *elements, size_t count) {
-    size_t i;
-    RTPW_SANITIZER_ROOM(elements, count * sizeof *elements);
-    for (i = 0; i < count; i++) {
-        RTPW_SANITIZER_FIELD(elements[i].data_len);
-        RTPW_SANITIZER_FIELD(elements[i].id);
-    }
-}
-
-/* The words aren't read before the first number is taken. */
-static inline void rtpw_sanitizer_window(const rtpw_wide_receiver *receiver, const uint64_t *words, size_t count) {
-    rtpw_sanitizer_wide_receiver(receiver);
-    RTPW_SANITIZER_ROOM(words, count * sizeof *words);
-    if (receiver->started && count <= 512) { rtpw_sanitizer_reads(words, count * sizeof *words); }
-}
-
-/* What is read of a body from an offset on: up to the data of the element that was found. */
-static inline void rtpw_sanitizer_reads_next(const uint8_t *body, size_t body_len, size_t at, int32_t status,
-                                             const rtpw_element *element) {
-    if (at < body_len) {
-        rtpw_sanitizer_reads(body + at, (status == RTPW_OK ? element->data_at : body_len) - at);
-    }
-}
-
-/* The number that the payload of a retransmission begins with. */
-static inline void rtpw_sanitizer_original(const uint8_t *buf, size_t size, size_t len) {
-    if (len <= size) {
-        size_t at = rtpw_sanitizer_header_len(buf, len);
-        if (at < len) { rtpw_sanitizer_reads(buf + at, rtpw_sanitizer_least(len - at, 2)); }
-    }
-}
-
-/* ---- Values as the standards lay them out ---- */
-
-/* The data of an element: they are read where they have from `least` to `most` bytes. */
-static inline void rtpw_sanitizer_data(const uint8_t *data, size_t data_len, size_t least, size_t most) {
-    RTPW_SANITIZER_ROOM(data, data_len);
-    if (least <= data_len && data_len <= most) { rtpw_sanitizer_reads(data, data_len); }
-}
-
-/* A text: it is read where it isn't too long. */
-static inline void rtpw_sanitizer_token(const uint8_t *data, size_t data_len) {
-    rtpw_sanitizer_data(data, data_len, 1, 255);
+/* Padding was written behind a header, and P set. */
+static inline void rtpw_sanitizer_wrote_padding(uint8_t *datagram, size_t header_len, size_t count) {
+    rtpw_sanitizer_changed(datagram, 1);
+    rtpw_sanitizer_wrote(datagram + header_len, count);
 }
 
 /* ---- Many at once ---- */
 
-/* Of a datagram its place and length are read, and the two bytes by which RTCP is told. Returns where more is read:
- * NULL where it isn't within the buffer, or has no two bytes. */
-static inline const uint8_t *rtpw_sanitizer_datagram(const uint8_t *buf, size_t size, const size_t *at,
-                                                     const size_t *len) {
-    rtpw_sanitizer_reads(at, sizeof *at);
-    rtpw_sanitizer_reads(len, sizeof *len);
-    if (*at > size || *len > size - *at || *len < 2) {
-        return NULL;
-    }
-    rtpw_sanitizer_reads(buf + *at, 2);
-    return buf + *at;
+/* The bytes that a struct names by their place are read, where they are within the data. */
+static inline void rtpw_sanitizer_part(const uint8_t *data, size_t size, size_t at, size_t len) {
+    if (at < size && len <= size - at) { rtpw_sanitizer_reads(data + at, len); }
 }
 
-static inline void rtpw_sanitizer_datagrams(const uint8_t *buf, size_t size, const rtpw_datagram *datagrams,
-                                            size_t count) {
-    size_t i;
-    RTPW_SANITIZER_ROOM(buf, size);
-    RTPW_SANITIZER_ROOM(datagrams, count * sizeof *datagrams);
-    for (i = 0; i < count; i++) {
-        const uint8_t *datagram = rtpw_sanitizer_datagram(buf, size, &datagrams[i].at, &datagrams[i].len);
-        if (datagram != NULL) { rtpw_sanitizer_packet(datagram, datagrams[i].len); }
-    }
-}
-
-static inline void rtpw_sanitizer_wrote_datagrams(const rtpw_datagram *datagrams, size_t count) {
-    size_t i;
-    for (i = 0; i < count; i++) {
-        rtpw_sanitizer_wrote(&datagrams[i].status, 5); /* and is_rtcp */
-        if (datagrams[i].status == RTPW_OK) { rtpw_sanitizer_wrote(&datagrams[i].packet, sizeof(rtpw_packet)); }
-    }
-}
-
-static inline void rtpw_sanitizer_whole_datagrams(const uint8_t *buf, size_t size, const rtpw_map *map,
-                                                  const rtpw_whole_datagram *datagrams, size_t count) {
-    size_t i;
-    RTPW_SANITIZER_ROOM(buf, size);
-    RTPW_SANITIZER_ROOM(map, sizeof *map);
-    RTPW_SANITIZER_ROOM(datagrams, count * sizeof *datagrams);
-    if (count != 0) { rtpw_sanitizer_map(map); }
-    for (i = 0; i < count; i++) {
-        const uint8_t *datagram = rtpw_sanitizer_datagram(buf, size, &datagrams[i].at, &datagrams[i].len);
-        if (datagram != NULL) { rtpw_sanitizer_whole(datagram, datagrams[i].len); }
-    }
-}
-
-static inline void rtpw_sanitizer_wrote_whole_datagrams(const rtpw_whole_datagram *datagrams, size_t count) {
-    size_t i;
-    for (i = 0; i < count; i++) {
-        rtpw_sanitizer_wrote(&datagrams[i].status, sizeof datagrams[i].status);
-        if (datagrams[i].status == RTPW_OK) { rtpw_sanitizer_wrote(&datagrams[i].packet, sizeof(rtpw_whole_packet)); }
-    }
-}
-
-static inline void rtpw_sanitizer_datagram_headers(const uint8_t *buf, size_t size, const rtpw_map *map,
-                                                   const rtpw_datagram_header *datagrams, size_t count) {
-    size_t i;
-    RTPW_SANITIZER_ROOM(buf, size);
-    RTPW_SANITIZER_ROOM(map, sizeof *map);
-    RTPW_SANITIZER_ROOM(datagrams, count * sizeof *datagrams);
-    if (count != 0) { rtpw_sanitizer_map(map); }
-    for (i = 0; i < count; i++) {
-        const uint8_t *datagram = rtpw_sanitizer_datagram(buf, size, &datagrams[i].at, &datagrams[i].len);
-        if (datagram != NULL) { rtpw_sanitizer_header(datagram, datagrams[i].len); }
-    }
-}
-
-static inline void rtpw_sanitizer_wrote_datagram_headers(const rtpw_datagram_header *datagrams, size_t count) {
-    size_t i;
-    for (i = 0; i < count; i++) {
-        rtpw_sanitizer_wrote(&datagrams[i].status, 5); /* and is_rtcp */
-        if (datagrams[i].status == RTPW_OK) { rtpw_sanitizer_wrote(&datagrams[i].header, sizeof(rtpw_header)); }
-    }
-}
-
-static inline void rtpw_sanitizer_wide_restarting(const rtpw_wide_restarting_receiver *receiver, const uint64_t *words,
-                                                  size_t count) {
-    RTPW_SANITIZER_ROOM(receiver, sizeof *receiver);
-    RTPW_SANITIZER_ROOM(words, count * sizeof *words);
-    if (count == 0 || count > 512) { return; } /* of these nothing is read */
-    rtpw_sanitizer_wide_restarting_receiver(receiver);
-    if (receiver->started) { rtpw_sanitizer_reads(words, count * sizeof *words); }
-}
-
-/* Of each arrival its receiver and its number are read, and the receiver where there is one. */
-static inline void rtpw_sanitizer_arrivals(const rtpw_receiver *receivers, size_t receiver_count,
-                                           const rtpw_arrival *arrivals, size_t count) {
-    size_t i;
-    RTPW_SANITIZER_ROOM(receivers, receiver_count * sizeof *receivers);
-    RTPW_SANITIZER_ROOM(arrivals, count * sizeof *arrivals);
-    for (i = 0; i < count; i++) {
-        RTPW_SANITIZER_FIELD(arrivals[i].receiver);
-        RTPW_SANITIZER_FIELD(arrivals[i].sequence_number);
-        if (arrivals[i].receiver < receiver_count) { rtpw_sanitizer_receiver(&receivers[arrivals[i].receiver]); }
-    }
-}
-
-static inline void rtpw_sanitizer_wrote_arrivals(const rtpw_receiver *receivers, const rtpw_arrival *arrivals,
-                                                 size_t count) {
-    size_t i;
-    for (i = 0; i < count; i++) {
-        rtpw_sanitizer_wrote(&arrivals[i].status, sizeof arrivals[i].status);
-        if (arrivals[i].status == RTPW_OK) {
-            rtpw_sanitizer_wrote(&arrivals[i].number, sizeof arrivals[i].number);
-            rtpw_sanitizer_wrote(&receivers[arrivals[i].receiver], sizeof *receivers);
-        }
-    }
+/* Whether a datagram is within the buffer and has the two bytes by which RTCP is told, which are read. */
+static inline bool rtpw_sanitizer_has_datagram(const uint8_t *buf, size_t size, size_t at, size_t len) {
+    bool is_there = at <= size && len <= size - at && len >= 2;
+    if (is_there) { rtpw_sanitizer_reads(buf + at, 2); }
+    return is_there;
 }
 
 /* Whether the template is one is looked at: then the header is read. */
 static inline bool rtpw_sanitizer_made(const rtpw_template *made, const uint8_t *header, size_t size) {
-    size_t i, total = 0;
-    rtpw_sanitizer_template(made);
+    size_t total = 0;
     RTPW_SANITIZER_ROOM(header, size);
     if (made->count > 16 || made->header_len > size) {
         return false;
     }
-    for (i = 0; i < made->count; i++) {
+    for (size_t i = 0; i < made->count; i++) {
         if (made->data_at[i] > made->header_len || made->data_len[i] > made->header_len - made->data_at[i]) {
             return false;
         }
@@ -753,39 +591,26 @@ static inline bool rtpw_sanitizer_made(const rtpw_template *made, const uint8_t 
     if (total != made->data_total) {
         return false;
     }
-    rtpw_sanitizer_header(header, made->header_len);
-    return rtpw_sanitizer_header_len(header, made->header_len) == made->header_len;
+    rtpw_sanitizer_packet_header(header, made->header_len);
+    return rtpw_sanitizer_packet_header_len(header, made->header_len) == made->header_len;
 }
 
 /* Of each receiver what is given is read, and its data where they lie in the data. */
-static inline void rtpw_sanitizer_receivers(const rtpw_template *made, const uint8_t *header, size_t header_size,
-                                            const uint8_t *data, size_t data_len,
-                                            const rtpw_routed_header *receivers, size_t count, uint8_t *buf,
-                                            size_t size) {
-    size_t i;
+static inline void rtpw_sanitizer_routed(const rtpw_template *made, const uint8_t *header, size_t header_size,
+                                         const uint8_t *data, size_t data_len, const rtpw_routed_header *receivers,
+                                         size_t count) {
+    bool is_made = rtpw_sanitizer_made(made, header, header_size);
     RTPW_SANITIZER_ROOM(data, data_len);
     RTPW_SANITIZER_ROOM(receivers, count * sizeof *receivers);
-    RTPW_SANITIZER_ROOM(buf, size);
-    if (!rtpw_sanitizer_made(made, header, header_size)) {
-        return;
-    }
-    for (i = 0; i < count; i++) {
-        RTPW_SANITIZER_FIELD(receivers[i].data_at);
-        rtpw_sanitizer_fields(&receivers[i].fields);
-        RTPW_SANITIZER_FIELD(receivers[i].is_retransmission);
-        RTPW_SANITIZER_FIELD(receivers[i].clears_padding);
-        if (receivers[i].is_retransmission) { RTPW_SANITIZER_FIELD(receivers[i].original_number); }
-        if (receivers[i].data_at < data_len && made->data_total <= data_len - receivers[i].data_at) {
-            rtpw_sanitizer_reads(data + receivers[i].data_at, made->data_total);
-        }
+    for (size_t i = 0; is_made && i < count; i++) {
+        rtpw_sanitizer_routed_header(&receivers[i]);
+        rtpw_sanitizer_part(data, data_len, receivers[i].data_at, made->data_total);
     }
 }
 
 static inline void rtpw_sanitizer_wrote_headers(const rtpw_routed_header *receivers, size_t count, uint8_t *buf) {
-    size_t i;
-    for (i = 0; i < count; i++) {
-        rtpw_sanitizer_wrote(&receivers[i].at, sizeof receivers[i].at);
-        rtpw_sanitizer_wrote(&receivers[i].status, 8); /* and len */
+    for (size_t i = 0; i < count; i++) {
+        rtpw_sanitizer_wrote_routed_header(&receivers[i]);
         if (receivers[i].status == RTPW_OK) { rtpw_sanitizer_wrote(buf + receivers[i].at, receivers[i].len); }
     }
 }
@@ -794,15 +619,16 @@ static inline void rtpw_sanitizer_wrote_headers(const rtpw_routed_header *receiv
 
 static inline bool rtpw_sanitized_is_rtcp(const uint8_t *datagram, size_t len) {
     bool status;
-    RTPW_SANITIZER_ROOM(datagram, len); rtpw_sanitizer_reads(datagram, len < 2 ? 0 : 2);
+    RTPW_SANITIZER_ROOM(datagram, len);
+    if (len >= 2) { rtpw_sanitizer_reads(datagram, 2); }
     status = rtpw_is_rtcp(datagram, len);
     return status;
 }
 #define rtpw_is_rtcp rtpw_sanitized_is_rtcp
 RTPW_CHECKED static inline int32_t rtpw_sanitized_packet_parse(const uint8_t *datagram, size_t len,
-    rtpw_packet *packet) {
+        rtpw_packet *packet) {
     int32_t status;
-    rtpw_sanitizer_packet(datagram, len);
+    rtpw_sanitizer_packet_fields(datagram, len);
     RTPW_SANITIZER_ROOM(packet, sizeof *packet);
     status = rtpw_packet_parse(datagram, len, packet);
     if (status == RTPW_OK) { rtpw_sanitizer_wrote(packet, sizeof *packet); }
@@ -811,25 +637,25 @@ RTPW_CHECKED static inline int32_t rtpw_sanitized_packet_parse(const uint8_t *da
 #define rtpw_packet_parse rtpw_sanitized_packet_parse
 RTPW_CHECKED static inline int32_t rtpw_sanitized_set_marker(uint8_t *datagram, size_t len, bool marker) {
     int32_t status;
-    (void)rtpw_sanitizer_header_len(datagram, len);
+    rtpw_sanitizer_packet_header_len(datagram, len);
     status = rtpw_set_marker(datagram, len, marker);
     if (status == RTPW_OK) { rtpw_sanitizer_wrote_bits(datagram + 1, 0x80, marker ? 0x80 : 0); }
     return status;
 }
 #define rtpw_set_marker rtpw_sanitized_set_marker
 RTPW_CHECKED static inline int32_t rtpw_sanitized_set_payload_type(uint8_t *datagram, size_t len,
-    uint8_t payload_type) {
+        uint8_t payload_type) {
     int32_t status;
-    (void)rtpw_sanitizer_header_len(datagram, len);
+    rtpw_sanitizer_packet_header_len(datagram, len);
     status = rtpw_set_payload_type(datagram, len, payload_type);
     if (status == RTPW_OK) { rtpw_sanitizer_wrote_bits(datagram + 1, 0x7f, payload_type); }
     return status;
 }
 #define rtpw_set_payload_type rtpw_sanitized_set_payload_type
 RTPW_CHECKED static inline int32_t rtpw_sanitized_set_sequence_number(uint8_t *datagram, size_t len,
-    uint16_t number) {
+        uint16_t number) {
     int32_t status;
-    (void)rtpw_sanitizer_header_len(datagram, len);
+    rtpw_sanitizer_packet_header_len(datagram, len);
     status = rtpw_set_sequence_number(datagram, len, number);
     if (status == RTPW_OK) { rtpw_sanitizer_wrote(datagram + 2, 2); }
     return status;
@@ -837,7 +663,7 @@ RTPW_CHECKED static inline int32_t rtpw_sanitized_set_sequence_number(uint8_t *d
 #define rtpw_set_sequence_number rtpw_sanitized_set_sequence_number
 RTPW_CHECKED static inline int32_t rtpw_sanitized_set_timestamp(uint8_t *datagram, size_t len, uint32_t timestamp) {
     int32_t status;
-    (void)rtpw_sanitizer_header_len(datagram, len);
+    rtpw_sanitizer_packet_header_len(datagram, len);
     status = rtpw_set_timestamp(datagram, len, timestamp);
     if (status == RTPW_OK) { rtpw_sanitizer_wrote(datagram + 4, 4); }
     return status;
@@ -845,35 +671,35 @@ RTPW_CHECKED static inline int32_t rtpw_sanitized_set_timestamp(uint8_t *datagra
 #define rtpw_set_timestamp rtpw_sanitized_set_timestamp
 RTPW_CHECKED static inline int32_t rtpw_sanitized_set_ssrc(uint8_t *datagram, size_t len, uint32_t ssrc) {
     int32_t status;
-    (void)rtpw_sanitizer_header_len(datagram, len);
+    rtpw_sanitizer_packet_header_len(datagram, len);
     status = rtpw_set_ssrc(datagram, len, ssrc);
     if (status == RTPW_OK) { rtpw_sanitizer_wrote(datagram + 8, 4); }
     return status;
 }
 #define rtpw_set_ssrc rtpw_sanitized_set_ssrc
 RTPW_CHECKED static inline int32_t rtpw_sanitized_set_fields(uint8_t *datagram, size_t len,
-    const rtpw_fields *fields) {
+        const rtpw_fields *fields) {
     int32_t status;
-    (void)rtpw_sanitizer_header_len(datagram, len);
+    rtpw_sanitizer_packet_header_len(datagram, len);
     rtpw_sanitizer_fields(fields);
     status = rtpw_set_fields(datagram, len, fields);
-    if (status == RTPW_OK) { rtpw_sanitizer_wrote_fields(datagram, fields); }
+    if (status == RTPW_OK) { rtpw_sanitizer_set_fields(datagram, fields); }
     return status;
 }
 #define rtpw_set_fields rtpw_sanitized_set_fields
 RTPW_CHECKED static inline int32_t rtpw_sanitized_set_csrc(uint8_t *datagram, size_t len, size_t index,
-    uint32_t source) {
+        uint32_t source) {
     int32_t status;
-    (void)rtpw_sanitizer_header_len(datagram, len);
+    rtpw_sanitizer_packet_header_len(datagram, len);
     status = rtpw_set_csrc(datagram, len, index, source);
-    if (status == RTPW_OK) { rtpw_sanitizer_wrote(datagram + RTPW_CSRC_AT + 4 * index, 4); }
+    if (status == RTPW_OK) { rtpw_sanitizer_wrote(datagram + 12 + 4 * index, 4); }
     return status;
 }
 #define rtpw_set_csrc rtpw_sanitized_set_csrc
 RTPW_CHECKED static inline int32_t rtpw_sanitized_set_element(uint8_t *datagram, size_t len, uint8_t id,
-    const uint8_t *data, size_t data_len) {
+        const uint8_t *data, size_t data_len) {
     int32_t status;
-    rtpw_sanitizer_block(datagram, len);
+    rtpw_sanitizer_packet_block(datagram, len);
     rtpw_sanitizer_reads(data, data_len);
     status = rtpw_set_element(datagram, len, id, data, data_len);
     if (status == RTPW_OK) { rtpw_sanitizer_wrote_block(datagram, len); }
@@ -882,7 +708,7 @@ RTPW_CHECKED static inline int32_t rtpw_sanitized_set_element(uint8_t *datagram,
 #define rtpw_set_element rtpw_sanitized_set_element
 RTPW_CHECKED static inline int32_t rtpw_sanitized_remove_element(uint8_t *datagram, size_t len, uint8_t id) {
     int32_t status;
-    rtpw_sanitizer_block(datagram, len);
+    rtpw_sanitizer_packet_block(datagram, len);
     status = rtpw_remove_element(datagram, len, id);
     if (status == RTPW_OK) { rtpw_sanitizer_wrote_block(datagram, len); }
     return status;
@@ -890,7 +716,7 @@ RTPW_CHECKED static inline int32_t rtpw_sanitized_remove_element(uint8_t *datagr
 #define rtpw_remove_element rtpw_sanitized_remove_element
 RTPW_CHECKED static inline int32_t rtpw_sanitized_set_padding(uint8_t *datagram, size_t len, bool has_padding) {
     int32_t status;
-    (void)rtpw_sanitizer_header_len(datagram, len);
+    rtpw_sanitizer_packet_header_len(datagram, len);
     status = rtpw_set_padding(datagram, len, has_padding);
     if (status == RTPW_OK) { rtpw_sanitizer_wrote(datagram, 1); }
     return status;
@@ -898,7 +724,7 @@ RTPW_CHECKED static inline int32_t rtpw_sanitized_set_padding(uint8_t *datagram,
 #define rtpw_set_padding rtpw_sanitized_set_padding
 RTPW_CHECKED static inline int32_t rtpw_sanitized_remove_padding(uint8_t *datagram, size_t len, size_t *new_len) {
     int32_t status;
-    rtpw_sanitizer_padding(datagram, len);
+    rtpw_sanitizer_packet_padding(datagram, len);
     RTPW_SANITIZER_ROOM(new_len, sizeof *new_len);
     status = rtpw_remove_padding(datagram, len, new_len);
     if (status == RTPW_OK) { rtpw_sanitizer_wrote(new_len, sizeof *new_len); }
@@ -907,39 +733,47 @@ RTPW_CHECKED static inline int32_t rtpw_sanitized_remove_padding(uint8_t *datagr
 }
 #define rtpw_remove_padding rtpw_sanitized_remove_padding
 RTPW_CHECKED static inline int32_t rtpw_sanitized_put_element(uint8_t *buf, size_t size, size_t *len, uint8_t id,
-    const uint8_t *data, size_t data_len, uint8_t allowed) {
+        const uint8_t *data, size_t data_len, uint8_t allowed) {
     int32_t status;
-    rtpw_sanitizer_before before = rtpw_sanitizer_buffer(buf, size, len);
+    rtpw_sanitizer_before before = rtpw_sanitizer_front(buf, size, len);
+    rtpw_sanitizer_packet_block(buf, before.len);
     rtpw_sanitizer_reads(data, data_len);
     status = rtpw_put_element(buf, size, len, id, data, data_len, allowed);
-    rtpw_sanitizer_rebuilt(status, buf, len, before);
+    if (status == RTPW_OK) { rtpw_sanitizer_rebuilt(buf, len, before); }
+    rtpw_sanitizer_forget(before);
     return status;
 }
 #define rtpw_put_element rtpw_sanitized_put_element
 RTPW_CHECKED static inline int32_t rtpw_sanitized_add_element(uint8_t *buf, size_t size, size_t *len, uint8_t id,
-    const uint8_t *data, size_t data_len, uint8_t allowed) {
+        const uint8_t *data, size_t data_len, uint8_t allowed) {
     int32_t status;
-    rtpw_sanitizer_before before = rtpw_sanitizer_buffer(buf, size, len);
+    rtpw_sanitizer_before before = rtpw_sanitizer_front(buf, size, len);
+    rtpw_sanitizer_packet_block(buf, before.len);
     rtpw_sanitizer_reads(data, data_len);
     status = rtpw_add_element(buf, size, len, id, data, data_len, allowed);
-    rtpw_sanitizer_rebuilt(status, buf, len, before);
+    if (status == RTPW_OK) { rtpw_sanitizer_rebuilt(buf, len, before); }
+    rtpw_sanitizer_forget(before);
     return status;
 }
 #define rtpw_add_element rtpw_sanitized_add_element
 RTPW_CHECKED static inline int32_t rtpw_sanitized_compact(uint8_t *buf, size_t size, size_t *len) {
     int32_t status;
-    rtpw_sanitizer_before before = rtpw_sanitizer_buffer(buf, size, len);
+    rtpw_sanitizer_before before = rtpw_sanitizer_front(buf, size, len);
+    rtpw_sanitizer_packet_block(buf, before.len);
     status = rtpw_compact(buf, size, len);
-    rtpw_sanitizer_rebuilt(status, buf, len, before);
+    if (status == RTPW_OK) { rtpw_sanitizer_rebuilt(buf, len, before); }
+    rtpw_sanitizer_forget(before);
     return status;
 }
 #define rtpw_compact rtpw_sanitized_compact
-RTPW_CHECKED static inline int32_t rtpw_sanitized_change_form(uint8_t *buf, size_t size, size_t *len, uint8_t form)
-    {
+RTPW_CHECKED static inline int32_t rtpw_sanitized_change_form(uint8_t *buf, size_t size, size_t *len,
+        uint8_t form) {
     int32_t status;
-    rtpw_sanitizer_before before = rtpw_sanitizer_buffer(buf, size, len);
+    rtpw_sanitizer_before before = rtpw_sanitizer_front(buf, size, len);
+    rtpw_sanitizer_packet_block(buf, before.len);
     status = rtpw_change_form(buf, size, len, form);
-    rtpw_sanitizer_rebuilt(status, buf, len, before);
+    if (status == RTPW_OK) { rtpw_sanitizer_rebuilt(buf, len, before); }
+    rtpw_sanitizer_forget(before);
     return status;
 }
 #define rtpw_change_form rtpw_sanitized_change_form
@@ -947,33 +781,35 @@ RTPW_CHECKED static inline int32_t rtpw_sanitized_remove_block(uint8_t *buf, siz
     int32_t status;
     rtpw_sanitizer_before before = rtpw_sanitizer_front(buf, size, len);
     status = rtpw_remove_block(buf, size, len);
-    rtpw_sanitizer_rebuilt(status, buf, len, before);
+    if (status == RTPW_OK) { rtpw_sanitizer_rebuilt(buf, len, before); }
+    rtpw_sanitizer_forget(before);
     return status;
 }
 #define rtpw_remove_block rtpw_sanitized_remove_block
 RTPW_CHECKED static inline int32_t rtpw_sanitized_put_block(uint8_t *buf, size_t size, size_t *len,
-    uint16_t profile, const uint8_t *body, size_t body_len) {
+        uint16_t profile, const uint8_t *body, size_t body_len) {
     int32_t status;
     rtpw_sanitizer_before before = rtpw_sanitizer_front(buf, size, len);
     rtpw_sanitizer_reads(body, body_len);
     status = rtpw_put_block(buf, size, len, profile, body, body_len);
-    rtpw_sanitizer_rebuilt(status, buf, len, before);
+    if (status == RTPW_OK) { rtpw_sanitizer_rebuilt(buf, len, before); }
+    rtpw_sanitizer_forget(before);
     return status;
 }
 #define rtpw_put_block rtpw_sanitized_put_block
 RTPW_CHECKED static inline int32_t rtpw_sanitized_next_element(const uint8_t *body, size_t body_len, uint8_t form,
-    size_t at, rtpw_element *element) {
+        size_t at, rtpw_element *element) {
     int32_t status;
-    RTPW_SANITIZER_ROOM(body, body_len);
     RTPW_SANITIZER_ROOM(element, sizeof *element);
+    RTPW_SANITIZER_ROOM(body, body_len);
     status = rtpw_next_element(body, body_len, form, at, element);
     if (status == RTPW_OK) { rtpw_sanitizer_wrote(element, sizeof *element); }
-    rtpw_sanitizer_reads_next(body, body_len, at, status, element);
+    if (at < body_len) { rtpw_sanitizer_reads(body + at, (status == RTPW_OK ? element->data_at : body_len) - at); }
     return status;
 }
 #define rtpw_next_element rtpw_sanitized_next_element
 RTPW_CHECKED static inline int32_t rtpw_sanitized_last_element(const uint8_t *body, size_t body_len, uint8_t form,
-    uint8_t id, rtpw_element *element) {
+        uint8_t id, rtpw_element *element) {
     int32_t status;
     rtpw_sanitizer_reads(body, body_len);
     RTPW_SANITIZER_ROOM(element, sizeof *element);
@@ -989,8 +825,8 @@ static inline uint8_t rtpw_sanitized_kind_of_uri(const uint8_t *uri, size_t len)
     return status;
 }
 #define rtpw_kind_of_uri rtpw_sanitized_kind_of_uri
-RTPW_CHECKED static inline int32_t rtpw_sanitized_uri_of_kind(uint8_t kind, uint8_t *buf, size_t size, size_t *len)
-    {
+RTPW_CHECKED static inline int32_t rtpw_sanitized_uri_of_kind(uint8_t kind, uint8_t *buf, size_t size,
+        size_t *len) {
     int32_t status;
     RTPW_SANITIZER_ROOM(buf, size);
     RTPW_SANITIZER_ROOM(len, sizeof *len);
@@ -1004,19 +840,20 @@ RTPW_CHECKED static inline int32_t rtpw_sanitized_map_set(rtpw_map *map, uint8_t
     int32_t status;
     RTPW_SANITIZER_ROOM(map, sizeof *map);
     status = rtpw_map_set(map, id, kind);
-    if (status == RTPW_OK) { rtpw_sanitizer_wrote(&map->kind[id], 1); }
+    if (status == RTPW_OK) { rtpw_sanitizer_wrote((uint8_t *)map + id, 1); }
     return status;
 }
 #define rtpw_map_set rtpw_sanitized_map_set
 static inline void rtpw_sanitized_map_remove(rtpw_map *map, uint8_t id) {
     RTPW_SANITIZER_ROOM(map, sizeof *map);
     rtpw_map_remove(map, id);
-    if (id != 0) { rtpw_sanitizer_wrote(&map->kind[id], 1); }
+    rtpw_sanitizer_wrote((uint8_t *)map + id, id != 0);
 }
 #define rtpw_map_remove rtpw_sanitized_map_remove
 static inline uint8_t rtpw_sanitized_map_get(const rtpw_map *map, uint8_t id) {
     uint8_t status;
-    RTPW_SANITIZER_ROOM(map, sizeof *map); rtpw_sanitizer_reads(&map->kind[id], id != 0);
+    RTPW_SANITIZER_ROOM(map, sizeof *map);
+    rtpw_sanitizer_reads((const uint8_t *)map + id, id != 0);
     status = rtpw_map_get(map, id);
     return status;
 }
@@ -1035,7 +872,7 @@ static inline void rtpw_sanitized_map_standard(rtpw_map *map) {
 }
 #define rtpw_map_standard rtpw_sanitized_map_standard
 RTPW_CHECKED static inline int32_t rtpw_sanitized_values_read(const uint8_t *body, size_t body_len, uint8_t form,
-    const rtpw_map *map, rtpw_values *values) {
+        const rtpw_map *map, rtpw_values *values) {
     int32_t status;
     rtpw_sanitizer_reads(body, body_len);
     rtpw_sanitizer_map(map);
@@ -1046,7 +883,7 @@ RTPW_CHECKED static inline int32_t rtpw_sanitized_values_read(const uint8_t *bod
 }
 #define rtpw_values_read rtpw_sanitized_values_read
 RTPW_CHECKED static inline int32_t rtpw_sanitized_data_of(uint8_t kind, const rtpw_values *values, uint8_t *buf,
-    size_t size, size_t *len) {
+        size_t size, size_t *len) {
     int32_t status;
     rtpw_sanitizer_values(values);
     RTPW_SANITIZER_ROOM(buf, size);
@@ -1058,9 +895,9 @@ RTPW_CHECKED static inline int32_t rtpw_sanitized_data_of(uint8_t kind, const rt
 }
 #define rtpw_data_of rtpw_sanitized_data_of
 RTPW_CHECKED static inline int32_t rtpw_sanitized_read(const uint8_t *datagram, size_t len, const rtpw_map *map,
-    rtpw_whole_packet *packet) {
+        rtpw_whole_packet *packet) {
     int32_t status;
-    rtpw_sanitizer_whole(datagram, len);
+    rtpw_sanitizer_packet_whole(datagram, len);
     rtpw_sanitizer_map(map);
     RTPW_SANITIZER_ROOM(packet, sizeof *packet);
     status = rtpw_read(datagram, len, map, packet);
@@ -1069,9 +906,9 @@ RTPW_CHECKED static inline int32_t rtpw_sanitized_read(const uint8_t *datagram, 
 }
 #define rtpw_read rtpw_sanitized_read
 RTPW_CHECKED static inline int32_t rtpw_sanitized_parse(const uint8_t *datagram, size_t len, const rtpw_map *map,
-    rtpw_header *header) {
+        rtpw_header *header) {
     int32_t status;
-    rtpw_sanitizer_header(datagram, len);
+    rtpw_sanitizer_packet_header(datagram, len);
     rtpw_sanitizer_map(map);
     RTPW_SANITIZER_ROOM(header, sizeof *header);
     status = rtpw_parse(datagram, len, map, header);
@@ -1080,9 +917,9 @@ RTPW_CHECKED static inline int32_t rtpw_sanitized_parse(const uint8_t *datagram,
 }
 #define rtpw_parse rtpw_sanitized_parse
 RTPW_CHECKED static inline int32_t rtpw_sanitized_parse_layers(const uint8_t *datagram, size_t len,
-    const rtpw_map *map, rtpw_header *header, rtpw_layers *layers) {
+        const rtpw_map *map, rtpw_header *header, rtpw_layers *layers) {
     int32_t status;
-    rtpw_sanitizer_header(datagram, len);
+    rtpw_sanitizer_packet_header(datagram, len);
     rtpw_sanitizer_map(map);
     RTPW_SANITIZER_ROOM(header, sizeof *header);
     RTPW_SANITIZER_ROOM(layers, sizeof *layers);
@@ -1093,21 +930,25 @@ RTPW_CHECKED static inline int32_t rtpw_sanitized_parse_layers(const uint8_t *da
 }
 #define rtpw_parse_layers rtpw_sanitized_parse_layers
 RTPW_CHECKED static inline int32_t rtpw_sanitized_wire_len(const rtpw_map *map, const rtpw_header *header,
-    size_t *len) {
+        size_t *len) {
     int32_t status;
-    rtpw_sanitizer_written(map, header);
+    RTPW_SANITIZER_ROOM(map, sizeof *map);
+    rtpw_sanitizer_header(header);
     RTPW_SANITIZER_ROOM(len, sizeof *len);
+    if (header->has_extension) { rtpw_sanitizer_map(map); }
     status = rtpw_wire_len(map, header, len);
     if (status == RTPW_OK) { rtpw_sanitizer_wrote(len, sizeof *len); }
     return status;
 }
 #define rtpw_wire_len rtpw_sanitized_wire_len
 RTPW_CHECKED static inline int32_t rtpw_sanitized_write(const rtpw_map *map, const rtpw_header *header,
-    uint8_t *buf, size_t size, size_t *len) {
+        uint8_t *buf, size_t size, size_t *len) {
     int32_t status;
-    rtpw_sanitizer_written(map, header);
+    RTPW_SANITIZER_ROOM(map, sizeof *map);
+    rtpw_sanitizer_header(header);
     RTPW_SANITIZER_ROOM(buf, size);
     RTPW_SANITIZER_ROOM(len, sizeof *len);
+    if (header->has_extension) { rtpw_sanitizer_map(map); }
     status = rtpw_write(map, header, buf, size, len);
     if (status == RTPW_OK) { rtpw_sanitizer_wrote(len, sizeof *len); }
     if (status == RTPW_OK) { rtpw_sanitizer_wrote(buf, *len); }
@@ -1115,23 +956,27 @@ RTPW_CHECKED static inline int32_t rtpw_sanitized_write(const rtpw_map *map, con
 }
 #define rtpw_write rtpw_sanitized_write
 RTPW_CHECKED static inline int32_t rtpw_sanitized_wire_len_layers(const rtpw_map *map, const rtpw_header *header,
-    const rtpw_layers *layers, size_t *len) {
+        const rtpw_layers *layers, size_t *len) {
     int32_t status;
-    rtpw_sanitizer_written(map, header);
+    RTPW_SANITIZER_ROOM(map, sizeof *map);
+    rtpw_sanitizer_header(header);
     rtpw_sanitizer_layers(layers);
     RTPW_SANITIZER_ROOM(len, sizeof *len);
+    if (header->has_extension) { rtpw_sanitizer_map(map); }
     status = rtpw_wire_len_layers(map, header, layers, len);
     if (status == RTPW_OK) { rtpw_sanitizer_wrote(len, sizeof *len); }
     return status;
 }
 #define rtpw_wire_len_layers rtpw_sanitized_wire_len_layers
 RTPW_CHECKED static inline int32_t rtpw_sanitized_write_layers(const rtpw_map *map, const rtpw_header *header,
-    const rtpw_layers *layers, uint8_t *buf, size_t size, size_t *len) {
+        const rtpw_layers *layers, uint8_t *buf, size_t size, size_t *len) {
     int32_t status;
-    rtpw_sanitizer_written(map, header);
+    RTPW_SANITIZER_ROOM(map, sizeof *map);
+    rtpw_sanitizer_header(header);
     rtpw_sanitizer_layers(layers);
     RTPW_SANITIZER_ROOM(buf, size);
     RTPW_SANITIZER_ROOM(len, sizeof *len);
+    if (header->has_extension) { rtpw_sanitizer_map(map); }
     status = rtpw_write_layers(map, header, layers, buf, size, len);
     if (status == RTPW_OK) { rtpw_sanitizer_wrote(len, sizeof *len); }
     if (status == RTPW_OK) { rtpw_sanitizer_wrote(buf, *len); }
@@ -1139,33 +984,42 @@ RTPW_CHECKED static inline int32_t rtpw_sanitized_write_layers(const rtpw_map *m
 }
 #define rtpw_write_layers rtpw_sanitized_write_layers
 RTPW_CHECKED static inline int32_t rtpw_sanitized_left_out(const rtpw_map *map, const rtpw_header *header,
-    uint32_t *kinds) {
+        uint32_t *kinds) {
     int32_t status;
-    rtpw_sanitizer_written(map, header);
+    RTPW_SANITIZER_ROOM(map, sizeof *map);
+    rtpw_sanitizer_header(header);
     RTPW_SANITIZER_ROOM(kinds, sizeof *kinds);
+    if (header->has_extension) { rtpw_sanitizer_map(map); }
     status = rtpw_left_out(map, header, kinds);
     if (status == RTPW_OK) { rtpw_sanitizer_wrote(kinds, sizeof *kinds); }
     return status;
 }
 #define rtpw_left_out rtpw_sanitized_left_out
 RTPW_CHECKED static inline int32_t rtpw_sanitized_left_out_layers(const rtpw_map *map, const rtpw_header *header,
-    const rtpw_layers *layers, uint32_t *kinds) {
+        const rtpw_layers *layers, uint32_t *kinds) {
     int32_t status;
-    rtpw_sanitizer_written(map, header);
+    RTPW_SANITIZER_ROOM(map, sizeof *map);
+    rtpw_sanitizer_header(header);
     rtpw_sanitizer_layers(layers);
     RTPW_SANITIZER_ROOM(kinds, sizeof *kinds);
+    if (header->has_extension) { rtpw_sanitizer_map(map); }
     status = rtpw_left_out_layers(map, header, layers, kinds);
     if (status == RTPW_OK) { rtpw_sanitizer_wrote(kinds, sizeof *kinds); }
     return status;
 }
 #define rtpw_left_out_layers rtpw_sanitized_left_out_layers
 RTPW_CHECKED static inline int32_t rtpw_sanitized_write_with(const rtpw_header *header, const uint8_t *data,
-    size_t data_len, const rtpw_element *elements, size_t count, uint8_t *buf, size_t size, size_t *len) {
+        size_t data_len, const rtpw_element *elements, size_t count, uint8_t *buf, size_t size, size_t *len) {
     int32_t status;
-    rtpw_sanitizer_fixed_part(header);
-    rtpw_sanitizer_elements(data, data_len, elements, count);
+    rtpw_sanitizer_header_but_has_extension_values(header);
+    RTPW_SANITIZER_ROOM(data, data_len);
+    RTPW_SANITIZER_ROOM(elements, count * sizeof *elements);
+    for (size_t i = 0; i < count; i++) { rtpw_sanitizer_element(&elements[i]); }
     RTPW_SANITIZER_ROOM(buf, size);
     RTPW_SANITIZER_ROOM(len, sizeof *len);
+    for (size_t i = 0; i < count; i++) {
+        rtpw_sanitizer_part(data, data_len, elements[i].data_at, elements[i].data_len);
+    }
     status = rtpw_write_with(header, data, data_len, elements, count, buf, size, len);
     if (status == RTPW_OK) { rtpw_sanitizer_wrote(len, sizeof *len); }
     if (status == RTPW_OK) { rtpw_sanitizer_wrote(buf, *len); }
@@ -1173,13 +1027,18 @@ RTPW_CHECKED static inline int32_t rtpw_sanitized_write_with(const rtpw_header *
 }
 #define rtpw_write_with rtpw_sanitized_write_with
 RTPW_CHECKED static inline int32_t rtpw_sanitized_write_with_form(const rtpw_header *header, const uint8_t *data,
-    size_t data_len, const rtpw_element *elements, size_t count, uint8_t form, uint8_t *buf, size_t size,
-    size_t *len) {
+        size_t data_len, const rtpw_element *elements, size_t count, uint8_t form, uint8_t *buf, size_t size,
+        size_t *len) {
     int32_t status;
-    rtpw_sanitizer_fixed_part(header);
-    rtpw_sanitizer_elements(data, data_len, elements, count);
+    rtpw_sanitizer_header_but_has_extension_values(header);
+    RTPW_SANITIZER_ROOM(data, data_len);
+    RTPW_SANITIZER_ROOM(elements, count * sizeof *elements);
+    for (size_t i = 0; i < count; i++) { rtpw_sanitizer_element(&elements[i]); }
     RTPW_SANITIZER_ROOM(buf, size);
     RTPW_SANITIZER_ROOM(len, sizeof *len);
+    for (size_t i = 0; i < count; i++) {
+        rtpw_sanitizer_part(data, data_len, elements[i].data_at, elements[i].data_len);
+    }
     status = rtpw_write_with_form(header, data, data_len, elements, count, form, buf, size, len);
     if (status == RTPW_OK) { rtpw_sanitizer_wrote(len, sizeof *len); }
     if (status == RTPW_OK) { rtpw_sanitizer_wrote(buf, *len); }
@@ -1187,11 +1046,16 @@ RTPW_CHECKED static inline int32_t rtpw_sanitized_write_with_form(const rtpw_hea
 }
 #define rtpw_write_with_form rtpw_sanitized_write_with_form
 RTPW_CHECKED static inline int32_t rtpw_sanitized_write_elements(const uint8_t *data, size_t data_len,
-    const rtpw_element *elements, size_t count, uint8_t form, uint8_t *buf, size_t size, size_t *len) {
+        const rtpw_element *elements, size_t count, uint8_t form, uint8_t *buf, size_t size, size_t *len) {
     int32_t status;
-    rtpw_sanitizer_elements(data, data_len, elements, count);
+    RTPW_SANITIZER_ROOM(data, data_len);
+    RTPW_SANITIZER_ROOM(elements, count * sizeof *elements);
+    for (size_t i = 0; i < count; i++) { rtpw_sanitizer_element(&elements[i]); }
     RTPW_SANITIZER_ROOM(buf, size);
     RTPW_SANITIZER_ROOM(len, sizeof *len);
+    for (size_t i = 0; i < count; i++) {
+        rtpw_sanitizer_part(data, data_len, elements[i].data_at, elements[i].data_len);
+    }
     status = rtpw_write_elements(data, data_len, elements, count, form, buf, size, len);
     if (status == RTPW_OK) { rtpw_sanitizer_wrote(len, sizeof *len); }
     if (status == RTPW_OK) { rtpw_sanitizer_wrote(buf, *len); }
@@ -1199,17 +1063,18 @@ RTPW_CHECKED static inline int32_t rtpw_sanitized_write_elements(const uint8_t *
 }
 #define rtpw_write_elements rtpw_sanitized_write_elements
 RTPW_CHECKED static inline int32_t rtpw_sanitized_read_send_time(const uint8_t *data, size_t data_len,
-    uint32_t *units) {
+        uint32_t *units) {
     int32_t status;
-    rtpw_sanitizer_data(data, data_len, 3, 3);
+    RTPW_SANITIZER_ROOM(data, data_len);
     RTPW_SANITIZER_ROOM(units, sizeof *units);
+    if (data_len == 3) { rtpw_sanitizer_reads(data, data_len); }
     status = rtpw_read_send_time(data, data_len, units);
     if (status == RTPW_OK) { rtpw_sanitizer_wrote(units, sizeof *units); }
     return status;
 }
 #define rtpw_read_send_time rtpw_sanitized_read_send_time
 RTPW_CHECKED static inline int32_t rtpw_sanitized_write_send_time(uint32_t units, uint8_t *buf, size_t size,
-    size_t *len) {
+        size_t *len) {
     int32_t status;
     RTPW_SANITIZER_ROOM(buf, size);
     RTPW_SANITIZER_ROOM(len, sizeof *len);
@@ -1220,17 +1085,18 @@ RTPW_CHECKED static inline int32_t rtpw_sanitized_write_send_time(uint32_t units
 }
 #define rtpw_write_send_time rtpw_sanitized_write_send_time
 RTPW_CHECKED static inline int32_t rtpw_sanitized_read_transmission_offset(const uint8_t *data, size_t data_len,
-    int32_t *offset) {
+        int32_t *offset) {
     int32_t status;
-    rtpw_sanitizer_data(data, data_len, 3, 3);
+    RTPW_SANITIZER_ROOM(data, data_len);
     RTPW_SANITIZER_ROOM(offset, sizeof *offset);
+    if (data_len == 3) { rtpw_sanitizer_reads(data, data_len); }
     status = rtpw_read_transmission_offset(data, data_len, offset);
     if (status == RTPW_OK) { rtpw_sanitizer_wrote(offset, sizeof *offset); }
     return status;
 }
 #define rtpw_read_transmission_offset rtpw_sanitized_read_transmission_offset
 RTPW_CHECKED static inline int32_t rtpw_sanitized_write_transmission_offset(int32_t offset, uint8_t *buf,
-    size_t size, size_t *len) {
+        size_t size, size_t *len) {
     int32_t status;
     RTPW_SANITIZER_ROOM(buf, size);
     RTPW_SANITIZER_ROOM(len, sizeof *len);
@@ -1241,17 +1107,18 @@ RTPW_CHECKED static inline int32_t rtpw_sanitized_write_transmission_offset(int3
 }
 #define rtpw_write_transmission_offset rtpw_sanitized_write_transmission_offset
 RTPW_CHECKED static inline int32_t rtpw_sanitized_read_frame_marking(const uint8_t *data, size_t data_len,
-    rtpw_frame_marking *marking) {
+        rtpw_frame_marking *marking) {
     int32_t status;
-    rtpw_sanitizer_data(data, data_len, 1, 3);
+    RTPW_SANITIZER_ROOM(data, data_len);
     RTPW_SANITIZER_ROOM(marking, sizeof *marking);
+    if (data_len <= 3) { rtpw_sanitizer_reads(data, data_len); }
     status = rtpw_read_frame_marking(data, data_len, marking);
     if (status == RTPW_OK) { rtpw_sanitizer_wrote(marking, sizeof *marking); }
     return status;
 }
 #define rtpw_read_frame_marking rtpw_sanitized_read_frame_marking
 RTPW_CHECKED static inline int32_t rtpw_sanitized_write_frame_marking(const rtpw_frame_marking *marking,
-    uint8_t *buf, size_t size, size_t *len) {
+        uint8_t *buf, size_t size, size_t *len) {
     int32_t status;
     rtpw_sanitizer_frame_marking(marking);
     RTPW_SANITIZER_ROOM(buf, size);
@@ -1263,17 +1130,18 @@ RTPW_CHECKED static inline int32_t rtpw_sanitized_write_frame_marking(const rtpw
 }
 #define rtpw_write_frame_marking rtpw_sanitized_write_frame_marking
 RTPW_CHECKED static inline int32_t rtpw_sanitized_read_orientation(const uint8_t *data, size_t data_len,
-    rtpw_orientation *orientation) {
+        rtpw_orientation *orientation) {
     int32_t status;
-    rtpw_sanitizer_data(data, data_len, 1, 1);
+    RTPW_SANITIZER_ROOM(data, data_len);
     RTPW_SANITIZER_ROOM(orientation, sizeof *orientation);
+    if (data_len == 1) { rtpw_sanitizer_reads(data, data_len); }
     status = rtpw_read_orientation(data, data_len, orientation);
     if (status == RTPW_OK) { rtpw_sanitizer_wrote(orientation, sizeof *orientation); }
     return status;
 }
 #define rtpw_read_orientation rtpw_sanitized_read_orientation
 RTPW_CHECKED static inline int32_t rtpw_sanitized_write_orientation(const rtpw_orientation *orientation,
-    uint8_t *buf, size_t size, size_t *len) {
+        uint8_t *buf, size_t size, size_t *len) {
     int32_t status;
     rtpw_sanitizer_orientation(orientation);
     RTPW_SANITIZER_ROOM(buf, size);
@@ -1286,30 +1154,33 @@ RTPW_CHECKED static inline int32_t rtpw_sanitized_write_orientation(const rtpw_o
 #define rtpw_write_orientation rtpw_sanitized_write_orientation
 static inline bool rtpw_sanitized_is_token(const uint8_t *data, size_t data_len) {
     bool status;
-    rtpw_sanitizer_token(data, data_len);
+    RTPW_SANITIZER_ROOM(data, data_len);
+    if (data_len <= 255) { rtpw_sanitizer_reads(data, data_len); }
     status = rtpw_is_token(data, data_len);
     return status;
 }
 #define rtpw_is_token rtpw_sanitized_is_token
 static inline bool rtpw_sanitized_is_stream_id(const uint8_t *data, size_t data_len) {
     bool status;
-    rtpw_sanitizer_token(data, data_len);
+    RTPW_SANITIZER_ROOM(data, data_len);
+    if (data_len <= 255) { rtpw_sanitizer_reads(data, data_len); }
     status = rtpw_is_stream_id(data, data_len);
     return status;
 }
 #define rtpw_is_stream_id rtpw_sanitized_is_stream_id
 RTPW_CHECKED static inline int32_t rtpw_sanitized_read_timing(const uint8_t *data, size_t data_len,
-    rtpw_timing *timing) {
+        rtpw_timing *timing) {
     int32_t status;
-    rtpw_sanitizer_data(data, data_len, 12, 13);
+    RTPW_SANITIZER_ROOM(data, data_len);
     RTPW_SANITIZER_ROOM(timing, sizeof *timing);
+    if (data_len == 12 || data_len == 13) { rtpw_sanitizer_reads(data, data_len); }
     status = rtpw_read_timing(data, data_len, timing);
     if (status == RTPW_OK) { rtpw_sanitizer_wrote(timing, sizeof *timing); }
     return status;
 }
 #define rtpw_read_timing rtpw_sanitized_read_timing
 RTPW_CHECKED static inline int32_t rtpw_sanitized_write_timing(const rtpw_timing *timing, uint8_t *buf, size_t size,
-    size_t *len) {
+        size_t *len) {
     int32_t status;
     rtpw_sanitizer_timing(timing);
     RTPW_SANITIZER_ROOM(buf, size);
@@ -1321,17 +1192,18 @@ RTPW_CHECKED static inline int32_t rtpw_sanitized_write_timing(const rtpw_timing
 }
 #define rtpw_write_timing rtpw_sanitized_write_timing
 RTPW_CHECKED static inline int32_t rtpw_sanitized_read_transport_number(const uint8_t *data, size_t data_len,
-    rtpw_transport_number *number) {
+        rtpw_transport_number *number) {
     int32_t status;
-    rtpw_sanitizer_data(data, data_len, 2, 2); rtpw_sanitizer_data(data, data_len, 4, 4);
+    RTPW_SANITIZER_ROOM(data, data_len);
     RTPW_SANITIZER_ROOM(number, sizeof *number);
+    if (data_len == 2 || data_len == 4) { rtpw_sanitizer_reads(data, data_len); }
     status = rtpw_read_transport_number(data, data_len, number);
     if (status == RTPW_OK) { rtpw_sanitizer_wrote(number, sizeof *number); }
     return status;
 }
 #define rtpw_read_transport_number rtpw_sanitized_read_transport_number
 RTPW_CHECKED static inline int32_t rtpw_sanitized_write_transport_number(const rtpw_transport_number *number,
-    uint8_t *buf, size_t size, size_t *len) {
+        uint8_t *buf, size_t size, size_t *len) {
     int32_t status;
     rtpw_sanitizer_transport_number(number);
     RTPW_SANITIZER_ROOM(buf, size);
@@ -1343,39 +1215,42 @@ RTPW_CHECKED static inline int32_t rtpw_sanitized_write_transport_number(const r
 }
 #define rtpw_write_transport_number rtpw_sanitized_write_transport_number
 RTPW_CHECKED static inline int32_t rtpw_sanitized_read_mixer_level(const uint8_t *data, size_t data_len,
-    size_t csrc_count, size_t index, int8_t *level) {
+        size_t csrc_count, size_t index, int8_t *level) {
     int32_t status;
-    RTPW_SANITIZER_ROOM(data, data_len); if (index < csrc_count && index < data_len) { rtpw_sanitizer_reads(data + index, 1); }
+    RTPW_SANITIZER_ROOM(data, data_len);
     RTPW_SANITIZER_ROOM(level, sizeof *level);
+    if (index < csrc_count && index < data_len) { rtpw_sanitizer_reads(data + index, 1); }
     status = rtpw_read_mixer_level(data, data_len, csrc_count, index, level);
     if (status == RTPW_OK) { rtpw_sanitizer_wrote(level, sizeof *level); }
     return status;
 }
 #define rtpw_read_mixer_level rtpw_sanitized_read_mixer_level
 RTPW_CHECKED static inline int32_t rtpw_sanitized_write_mixer_levels(const int8_t *levels, size_t count,
-    uint8_t *buf, size_t size, size_t *len) {
+        uint8_t *buf, size_t size, size_t *len) {
     int32_t status;
-    RTPW_SANITIZER_ROOM(levels, count); rtpw_sanitizer_reads(levels, count <= 15 ? count : 0);
+    RTPW_SANITIZER_ROOM(levels, count);
     RTPW_SANITIZER_ROOM(buf, size);
     RTPW_SANITIZER_ROOM(len, sizeof *len);
+    if (count <= 15) { rtpw_sanitizer_reads(levels, count); }
     status = rtpw_write_mixer_levels(levels, count, buf, size, len);
     if (status == RTPW_OK) { rtpw_sanitizer_wrote(len, sizeof *len); }
     if (status == RTPW_OK) { rtpw_sanitizer_wrote(buf, *len); }
     return status;
 }
 #define rtpw_write_mixer_levels rtpw_sanitized_write_mixer_levels
-RTPW_CHECKED static inline int32_t rtpw_sanitized_read_ntp_64(const uint8_t *data, size_t data_len, uint64_t *time)
-    {
+RTPW_CHECKED static inline int32_t rtpw_sanitized_read_ntp_64(const uint8_t *data, size_t data_len,
+        uint64_t *time) {
     int32_t status;
-    rtpw_sanitizer_data(data, data_len, 8, 8);
+    RTPW_SANITIZER_ROOM(data, data_len);
     RTPW_SANITIZER_ROOM(time, sizeof *time);
+    if (data_len == 8) { rtpw_sanitizer_reads(data, data_len); }
     status = rtpw_read_ntp_64(data, data_len, time);
     if (status == RTPW_OK) { rtpw_sanitizer_wrote(time, sizeof *time); }
     return status;
 }
 #define rtpw_read_ntp_64 rtpw_sanitized_read_ntp_64
 RTPW_CHECKED static inline int32_t rtpw_sanitized_write_ntp_64(uint64_t time, uint8_t *buf, size_t size,
-    size_t *len) {
+        size_t *len) {
     int32_t status;
     RTPW_SANITIZER_ROOM(buf, size);
     RTPW_SANITIZER_ROOM(len, sizeof *len);
@@ -1385,18 +1260,19 @@ RTPW_CHECKED static inline int32_t rtpw_sanitized_write_ntp_64(uint64_t time, ui
     return status;
 }
 #define rtpw_write_ntp_64 rtpw_sanitized_write_ntp_64
-RTPW_CHECKED static inline int32_t rtpw_sanitized_read_ntp_56(const uint8_t *data, size_t data_len, uint64_t *time)
-    {
+RTPW_CHECKED static inline int32_t rtpw_sanitized_read_ntp_56(const uint8_t *data, size_t data_len,
+        uint64_t *time) {
     int32_t status;
-    rtpw_sanitizer_data(data, data_len, 7, 7);
+    RTPW_SANITIZER_ROOM(data, data_len);
     RTPW_SANITIZER_ROOM(time, sizeof *time);
+    if (data_len == 7) { rtpw_sanitizer_reads(data, data_len); }
     status = rtpw_read_ntp_56(data, data_len, time);
     if (status == RTPW_OK) { rtpw_sanitizer_wrote(time, sizeof *time); }
     return status;
 }
 #define rtpw_read_ntp_56 rtpw_sanitized_read_ntp_56
 RTPW_CHECKED static inline int32_t rtpw_sanitized_write_ntp_56(uint64_t time, uint8_t *buf, size_t size,
-    size_t *len) {
+        size_t *len) {
     int32_t status;
     RTPW_SANITIZER_ROOM(buf, size);
     RTPW_SANITIZER_ROOM(len, sizeof *len);
@@ -1407,17 +1283,18 @@ RTPW_CHECKED static inline int32_t rtpw_sanitized_write_ntp_56(uint64_t time, ui
 }
 #define rtpw_write_ntp_56 rtpw_sanitized_write_ntp_56
 RTPW_CHECKED static inline int32_t rtpw_sanitized_read_color_space(const uint8_t *data, size_t data_len,
-    rtpw_color_space *space) {
+        rtpw_color_space *space) {
     int32_t status;
-    rtpw_sanitizer_data(data, data_len, 4, 4); rtpw_sanitizer_data(data, data_len, 28, 28);
+    RTPW_SANITIZER_ROOM(data, data_len);
     RTPW_SANITIZER_ROOM(space, sizeof *space);
+    if (data_len == 4 || data_len == 28) { rtpw_sanitizer_reads(data, data_len); }
     status = rtpw_read_color_space(data, data_len, space);
     if (status == RTPW_OK) { rtpw_sanitizer_wrote(space, sizeof *space); }
     return status;
 }
 #define rtpw_read_color_space rtpw_sanitized_read_color_space
 RTPW_CHECKED static inline int32_t rtpw_sanitized_write_color_space(const rtpw_color_space *space, uint8_t *buf,
-    size_t size, size_t *len) {
+        size_t size, size_t *len) {
     int32_t status;
     rtpw_sanitizer_color_space(space);
     RTPW_SANITIZER_ROOM(buf, size);
@@ -1429,18 +1306,19 @@ RTPW_CHECKED static inline int32_t rtpw_sanitized_write_color_space(const rtpw_c
 }
 #define rtpw_write_color_space rtpw_sanitized_write_color_space
 RTPW_CHECKED static inline int32_t rtpw_sanitized_read_dependency_descriptor(const uint8_t *data, size_t data_len,
-    rtpw_dependency_descriptor *descriptor) {
+        rtpw_dependency_descriptor *descriptor) {
     int32_t status;
-    RTPW_SANITIZER_ROOM(data, data_len); rtpw_sanitizer_reads(data, data_len < 3 ? 0 : 3);
+    RTPW_SANITIZER_ROOM(data, data_len);
     RTPW_SANITIZER_ROOM(descriptor, sizeof *descriptor);
+    if (data_len >= 3) { rtpw_sanitizer_reads(data, 3); }
     status = rtpw_read_dependency_descriptor(data, data_len, descriptor);
     if (status == RTPW_OK) { rtpw_sanitizer_wrote(descriptor, sizeof *descriptor); }
     return status;
 }
 #define rtpw_read_dependency_descriptor rtpw_sanitized_read_dependency_descriptor
 RTPW_CHECKED static inline int32_t
-    rtpw_sanitized_write_dependency_descriptor(const rtpw_dependency_descriptor *descriptor, uint8_t *buf,
-    size_t size, size_t *len) {
+        rtpw_sanitized_write_dependency_descriptor(const rtpw_dependency_descriptor *descriptor, uint8_t *buf,
+        size_t size, size_t *len) {
     int32_t status;
     rtpw_sanitizer_dependency_descriptor(descriptor);
     RTPW_SANITIZER_ROOM(buf, size);
@@ -1453,7 +1331,8 @@ RTPW_CHECKED static inline int32_t
 #define rtpw_write_dependency_descriptor rtpw_sanitized_write_dependency_descriptor
 static inline bool rtpw_sanitized_has_structure(const uint8_t *data, size_t data_len) {
     bool status;
-    RTPW_SANITIZER_ROOM(data, data_len); if (data_len > 3) { rtpw_sanitizer_reads(data + 3, 1); }
+    RTPW_SANITIZER_ROOM(data, data_len);
+    if (data_len > 3) { rtpw_sanitizer_reads(data + 3, 1); }
     status = rtpw_has_structure(data, data_len);
     return status;
 }
@@ -1468,7 +1347,7 @@ static inline void rtpw_sanitized_new_ids_between(const rtpw_map *from, const rt
 #define rtpw_new_ids_between rtpw_sanitized_new_ids_between
 RTPW_CHECKED static inline int32_t rtpw_sanitized_renumber(uint8_t *datagram, size_t len, const rtpw_new_ids *ids) {
     int32_t status;
-    rtpw_sanitizer_block(datagram, len);
+    rtpw_sanitizer_packet_block(datagram, len);
     rtpw_sanitizer_new_ids(ids);
     status = rtpw_renumber(datagram, len, ids);
     if (status == RTPW_OK) { rtpw_sanitizer_wrote_block(datagram, len); }
@@ -1476,21 +1355,23 @@ RTPW_CHECKED static inline int32_t rtpw_sanitized_renumber(uint8_t *datagram, si
 }
 #define rtpw_renumber rtpw_sanitized_renumber
 RTPW_CHECKED static inline int32_t rtpw_sanitized_pad(uint8_t *datagram, size_t size, size_t header_len,
-    uint8_t pad_len, size_t block_size, size_t *count) {
+        uint8_t pad_len, size_t block_size, size_t *count) {
     int32_t status;
-    RTPW_SANITIZER_ROOM(datagram, size); rtpw_sanitizer_reads(datagram, pad_len != 0 && header_len != 0 && size != 0);
+    RTPW_SANITIZER_ROOM(datagram, size);
     RTPW_SANITIZER_ROOM(count, sizeof *count);
+    if (pad_len != 0 && header_len != 0 && size != 0) { rtpw_sanitizer_reads(datagram, 1); }
     status = rtpw_pad(datagram, size, header_len, pad_len, block_size, count);
     if (status == RTPW_OK) { rtpw_sanitizer_wrote(count, sizeof *count); }
-    if (status == RTPW_OK) { if (*count != 0) { rtpw_sanitizer_changed(datagram, 1); rtpw_sanitizer_wrote(datagram + header_len, *count); } }
+    if (status == RTPW_OK) { if (*count != 0) { rtpw_sanitizer_wrote_padding(datagram, header_len, *count); } }
     return status;
 }
 #define rtpw_pad rtpw_sanitized_pad
 RTPW_CHECKED static inline int32_t rtpw_sanitized_read_original(const uint8_t *payload, size_t len,
-    uint16_t *number) {
+        uint16_t *number) {
     int32_t status;
-    RTPW_SANITIZER_ROOM(payload, len); rtpw_sanitizer_reads(payload, len < 2 ? 0 : 2);
+    RTPW_SANITIZER_ROOM(payload, len);
     RTPW_SANITIZER_ROOM(number, sizeof *number);
+    if (len >= 2) { rtpw_sanitizer_reads(payload, 2); }
     status = rtpw_read_original(payload, len, number);
     if (status == RTPW_OK) { rtpw_sanitizer_wrote(number, sizeof *number); }
     return status;
@@ -1519,22 +1400,29 @@ static inline void rtpw_sanitized_new_ids_from_retransmission(const rtpw_map *ma
 }
 #define rtpw_new_ids_from_retransmission rtpw_sanitized_new_ids_from_retransmission
 RTPW_CHECKED static inline int32_t rtpw_sanitized_to_retransmission(uint8_t *buf, size_t size, size_t *len,
-    uint32_t ssrc, uint8_t payload_type, uint16_t number, const rtpw_new_ids *ids) {
+        uint32_t ssrc, uint8_t payload_type, uint16_t number, const rtpw_new_ids *ids) {
     int32_t status;
-    rtpw_sanitizer_before before = rtpw_sanitizer_buffer(buf, size, len); if (*len <= size) { rtpw_sanitizer_padding(buf, *len); }
+    rtpw_sanitizer_before before = rtpw_sanitizer_front(buf, size, len);
+    rtpw_sanitizer_packet_block(buf, before.len);
+    rtpw_sanitizer_packet_padding(buf, before.len);
     rtpw_sanitizer_new_ids(ids);
     status = rtpw_to_retransmission(buf, size, len, ssrc, payload_type, number, ids);
-    rtpw_sanitizer_resent(status, buf, len, payload_type, before);
+    if (status == RTPW_OK) { rtpw_sanitizer_resent(buf, len, payload_type, before); }
+    rtpw_sanitizer_forget(before);
     return status;
 }
 #define rtpw_to_retransmission rtpw_sanitized_to_retransmission
 RTPW_CHECKED static inline int32_t rtpw_sanitized_from_retransmission(uint8_t *buf, size_t size, size_t *len,
-    uint32_t ssrc, uint8_t payload_type, const rtpw_new_ids *ids) {
+        uint32_t ssrc, uint8_t payload_type, const rtpw_new_ids *ids) {
     int32_t status;
-    rtpw_sanitizer_before before = rtpw_sanitizer_buffer(buf, size, len); if (*len <= size) { rtpw_sanitizer_padding(buf, *len); } rtpw_sanitizer_original(buf, size, *len);
+    rtpw_sanitizer_before before = rtpw_sanitizer_front(buf, size, len);
+    rtpw_sanitizer_packet_block(buf, before.len);
+    rtpw_sanitizer_packet_padding(buf, before.len);
+    rtpw_sanitizer_packet_number(buf, before.len);
     rtpw_sanitizer_new_ids(ids);
     status = rtpw_from_retransmission(buf, size, len, ssrc, payload_type, ids);
-    rtpw_sanitizer_restored(status, buf, len, payload_type, before);
+    if (status == RTPW_OK) { rtpw_sanitizer_restored(buf, len, payload_type, before); }
+    rtpw_sanitizer_forget(before);
     return status;
 }
 #define rtpw_from_retransmission rtpw_sanitized_from_retransmission
@@ -1567,7 +1455,7 @@ static inline void rtpw_sanitized_receiver_record(rtpw_receiver *receiver, uint6
 }
 #define rtpw_receiver_record rtpw_sanitized_receiver_record
 RTPW_CHECKED static inline int32_t rtpw_sanitized_receiver_receive(rtpw_receiver *receiver,
-    uint16_t sequence_number, uint64_t *number) {
+        uint16_t sequence_number, uint64_t *number) {
     int32_t status;
     rtpw_sanitizer_receiver(receiver);
     RTPW_SANITIZER_ROOM(number, sizeof *number);
@@ -1585,7 +1473,7 @@ static inline uint8_t rtpw_sanitized_receiver_standing_of(const rtpw_receiver *r
 }
 #define rtpw_receiver_standing_of rtpw_sanitized_receiver_standing_of
 RTPW_CHECKED static inline int32_t rtpw_sanitized_wide_receiver_start(rtpw_wide_receiver *receiver,
-    uint64_t rollover_count) {
+        uint64_t rollover_count) {
     int32_t status;
     RTPW_SANITIZER_ROOM(receiver, sizeof *receiver);
     status = rtpw_wide_receiver_start(receiver, rollover_count);
@@ -1594,7 +1482,7 @@ RTPW_CHECKED static inline int32_t rtpw_sanitized_wide_receiver_start(rtpw_wide_
 }
 #define rtpw_wide_receiver_start rtpw_sanitized_wide_receiver_start
 static inline uint64_t rtpw_sanitized_wide_receiver_number_of(const rtpw_wide_receiver *receiver,
-    uint16_t sequence_number) {
+        uint16_t sequence_number) {
     uint64_t status;
     rtpw_sanitizer_wide_receiver(receiver);
     status = rtpw_wide_receiver_number_of(receiver, sequence_number);
@@ -1602,17 +1490,21 @@ static inline uint64_t rtpw_sanitized_wide_receiver_number_of(const rtpw_wide_re
 }
 #define rtpw_wide_receiver_number_of rtpw_sanitized_wide_receiver_number_of
 static inline bool rtpw_sanitized_wide_receiver_accepts(const rtpw_wide_receiver *receiver, const uint64_t *words,
-    size_t count, uint64_t number) {
+        size_t count, uint64_t number) {
     bool status;
-    rtpw_sanitizer_window(receiver, words, count);
+    rtpw_sanitizer_wide_receiver(receiver);
+    RTPW_SANITIZER_ROOM(words, count * sizeof *words);
+    if (receiver->started && count <= 512) { rtpw_sanitizer_reads(words, count * sizeof *words); }
     status = rtpw_wide_receiver_accepts(receiver, words, count, number);
     return status;
 }
 #define rtpw_wide_receiver_accepts rtpw_sanitized_wide_receiver_accepts
 RTPW_CHECKED static inline int32_t rtpw_sanitized_wide_receiver_record(rtpw_wide_receiver *receiver,
-    uint64_t *words, size_t count, uint64_t number) {
+        uint64_t *words, size_t count, uint64_t number) {
     int32_t status;
-    rtpw_sanitizer_window(receiver, words, count);
+    rtpw_sanitizer_wide_receiver(receiver);
+    RTPW_SANITIZER_ROOM(words, count * sizeof *words);
+    if (receiver->started && count <= 512) { rtpw_sanitizer_reads(words, count * sizeof *words); }
     status = rtpw_wide_receiver_record(receiver, words, count, number);
     if (status == RTPW_OK) { rtpw_sanitizer_wrote(receiver, sizeof *receiver); }
     if (status == RTPW_OK) { rtpw_sanitizer_wrote(words, count * sizeof *words); }
@@ -1620,10 +1512,12 @@ RTPW_CHECKED static inline int32_t rtpw_sanitized_wide_receiver_record(rtpw_wide
 }
 #define rtpw_wide_receiver_record rtpw_sanitized_wide_receiver_record
 RTPW_CHECKED static inline int32_t rtpw_sanitized_wide_receiver_receive(rtpw_wide_receiver *receiver,
-    uint64_t *words, size_t count, uint16_t sequence_number, uint64_t *number) {
+        uint64_t *words, size_t count, uint16_t sequence_number, uint64_t *number) {
     int32_t status;
-    rtpw_sanitizer_window(receiver, words, count);
+    rtpw_sanitizer_wide_receiver(receiver);
+    RTPW_SANITIZER_ROOM(words, count * sizeof *words);
     RTPW_SANITIZER_ROOM(number, sizeof *number);
+    if (receiver->started && count <= 512) { rtpw_sanitizer_reads(words, count * sizeof *words); }
     status = rtpw_wide_receiver_receive(receiver, words, count, sequence_number, number);
     if (status == RTPW_OK) { rtpw_sanitizer_wrote(receiver, sizeof *receiver); }
     if (status == RTPW_OK) { rtpw_sanitizer_wrote(number, sizeof *number); }
@@ -1632,26 +1526,30 @@ RTPW_CHECKED static inline int32_t rtpw_sanitized_wide_receiver_receive(rtpw_wid
 }
 #define rtpw_wide_receiver_receive rtpw_sanitized_wide_receiver_receive
 static inline uint8_t rtpw_sanitized_wide_receiver_standing_of(const rtpw_wide_receiver *receiver,
-    const uint64_t *words, size_t count, uint64_t number) {
+        const uint64_t *words, size_t count, uint64_t number) {
     uint8_t status;
-    rtpw_sanitizer_window(receiver, words, count);
+    rtpw_sanitizer_wide_receiver(receiver);
+    RTPW_SANITIZER_ROOM(words, count * sizeof *words);
+    if (receiver->started && count <= 512) { rtpw_sanitizer_reads(words, count * sizeof *words); }
     status = rtpw_wide_receiver_standing_of(receiver, words, count, number);
     return status;
 }
 #define rtpw_wide_receiver_standing_of rtpw_sanitized_wide_receiver_standing_of
 RTPW_CHECKED static inline int32_t rtpw_sanitized_restarting_receive(rtpw_restarting_receiver *receiver,
-    uint16_t sequence_number, uint64_t *number) {
+        uint16_t sequence_number, uint64_t *number) {
     int32_t status;
     rtpw_sanitizer_restarting_receiver(receiver);
     RTPW_SANITIZER_ROOM(number, sizeof *number);
     status = rtpw_restarting_receive(receiver, sequence_number, number);
-    if (status == RTPW_OK || status == RTPW_RESTARTED || status == RTPW_REFUSED) { rtpw_sanitizer_wrote(receiver, sizeof *receiver); }
+    if (status == RTPW_OK || status == RTPW_RESTARTED || status == RTPW_REFUSED) {
+        rtpw_sanitizer_wrote(receiver, sizeof *receiver);
+    }
     if (status == RTPW_OK || status == RTPW_RESTARTED) { rtpw_sanitizer_wrote(number, sizeof *number); }
     return status;
 }
 #define rtpw_restarting_receive rtpw_sanitized_restarting_receive
 static inline void rtpw_sanitized_reception_record(rtpw_reception *reception, uint64_t number, uint32_t timestamp,
-    uint32_t arrival) {
+        uint32_t arrival) {
     rtpw_sanitizer_reception(reception);
     rtpw_reception_record(reception, number, timestamp, arrival);
     rtpw_sanitizer_wrote(reception, sizeof *reception);
@@ -1668,7 +1566,7 @@ RTPW_CHECKED static inline int32_t rtpw_sanitized_reception_report(rtpw_receptio
 }
 #define rtpw_reception_report rtpw_sanitized_reception_report
 RTPW_CHECKED static inline int32_t rtpw_sanitized_write_report(const rtpw_report *report, uint32_t ssrc,
-    uint32_t last_report, uint32_t delay, uint8_t *buf, size_t size, size_t *len) {
+        uint32_t last_report, uint32_t delay, uint8_t *buf, size_t size, size_t *len) {
     int32_t status;
     rtpw_sanitizer_report(report);
     RTPW_SANITIZER_ROOM(buf, size);
@@ -1680,54 +1578,99 @@ RTPW_CHECKED static inline int32_t rtpw_sanitized_write_report(const rtpw_report
 }
 #define rtpw_write_report rtpw_sanitized_write_report
 RTPW_CHECKED static inline int32_t rtpw_sanitized_wide_restarting_receive(rtpw_wide_restarting_receiver *receiver,
-    uint64_t *words, size_t count, uint16_t sequence_number, uint64_t *number) {
+        uint64_t *words, size_t count, uint16_t sequence_number, uint64_t *number) {
     int32_t status;
-    rtpw_sanitizer_wide_restarting(receiver, words, count);
+    RTPW_SANITIZER_ROOM(receiver, sizeof *receiver);
+    RTPW_SANITIZER_ROOM(words, count * sizeof *words);
     RTPW_SANITIZER_ROOM(number, sizeof *number);
+    if (count != 0 && count <= 512) { rtpw_sanitizer_wide_restarting_receiver(receiver); }
+    if (count != 0 && count <= 512 && receiver->started) { rtpw_sanitizer_reads(words, count * sizeof *words); }
     status = rtpw_wide_restarting_receive(receiver, words, count, sequence_number, number);
-    if (status == RTPW_OK || status == RTPW_RESTARTED || status == RTPW_REFUSED) { rtpw_sanitizer_wrote(receiver, sizeof *receiver); }
+    if (status == RTPW_OK || status == RTPW_RESTARTED || status == RTPW_REFUSED) {
+        rtpw_sanitizer_wrote(receiver, sizeof *receiver);
+    }
     if (status == RTPW_OK || status == RTPW_RESTARTED) { rtpw_sanitizer_wrote(number, sizeof *number); }
     if (status == RTPW_OK || status == RTPW_RESTARTED) { rtpw_sanitizer_wrote(words, count * sizeof *words); }
     return status;
 }
 #define rtpw_wide_restarting_receive rtpw_sanitized_wide_restarting_receive
 static inline void rtpw_sanitized_read_many(const uint8_t *buf, size_t size, const rtpw_map *map,
-    rtpw_whole_datagram *datagrams, size_t count) {
-    rtpw_sanitizer_whole_datagrams(buf, size, map, datagrams, count);
+        rtpw_whole_datagram *datagrams, size_t count) {
+    RTPW_SANITIZER_ROOM(buf, size);
+    RTPW_SANITIZER_ROOM(map, sizeof *map);
+    RTPW_SANITIZER_ROOM(datagrams, count * sizeof *datagrams);
+    for (size_t i = 0; i < count; i++) { rtpw_sanitizer_whole_datagram(&datagrams[i]); }
+    for (size_t i = 0; i < count; i++) {
+        if (rtpw_sanitizer_has_datagram(buf, size, datagrams[i].at, datagrams[i].len)) {
+            rtpw_sanitizer_packet_whole(buf + datagrams[i].at, datagrams[i].len);
+        }
+    }
+    if (count != 0) { rtpw_sanitizer_map(map); }
     rtpw_read_many(buf, size, map, datagrams, count);
-    rtpw_sanitizer_wrote_whole_datagrams(datagrams, count);
+    for (size_t i = 0; i < count; i++) { rtpw_sanitizer_wrote_whole_datagram(&datagrams[i]); }
 }
 #define rtpw_read_many rtpw_sanitized_read_many
 static inline void rtpw_sanitized_packet_parse_many(const uint8_t *buf, size_t size, rtpw_datagram *datagrams,
-    size_t count) {
-    rtpw_sanitizer_datagrams(buf, size, datagrams, count);
+        size_t count) {
+    RTPW_SANITIZER_ROOM(buf, size);
+    RTPW_SANITIZER_ROOM(datagrams, count * sizeof *datagrams);
+    for (size_t i = 0; i < count; i++) { rtpw_sanitizer_datagram(&datagrams[i]); }
+    for (size_t i = 0; i < count; i++) {
+        if (rtpw_sanitizer_has_datagram(buf, size, datagrams[i].at, datagrams[i].len)) {
+            rtpw_sanitizer_packet_fields(buf + datagrams[i].at, datagrams[i].len);
+        }
+    }
     rtpw_packet_parse_many(buf, size, datagrams, count);
-    rtpw_sanitizer_wrote_datagrams(datagrams, count);
+    for (size_t i = 0; i < count; i++) { rtpw_sanitizer_wrote_datagram(&datagrams[i]); }
 }
 #define rtpw_packet_parse_many rtpw_sanitized_packet_parse_many
 static inline void rtpw_sanitized_parse_many(const uint8_t *buf, size_t size, const rtpw_map *map,
-    rtpw_datagram_header *datagrams, size_t count) {
-    rtpw_sanitizer_datagram_headers(buf, size, map, datagrams, count);
+        rtpw_datagram_header *datagrams, size_t count) {
+    RTPW_SANITIZER_ROOM(buf, size);
+    RTPW_SANITIZER_ROOM(map, sizeof *map);
+    RTPW_SANITIZER_ROOM(datagrams, count * sizeof *datagrams);
+    for (size_t i = 0; i < count; i++) { rtpw_sanitizer_datagram_header(&datagrams[i]); }
+    for (size_t i = 0; i < count; i++) {
+        if (rtpw_sanitizer_has_datagram(buf, size, datagrams[i].at, datagrams[i].len)) {
+            rtpw_sanitizer_packet_header(buf + datagrams[i].at, datagrams[i].len);
+        }
+    }
+    if (count != 0) { rtpw_sanitizer_map(map); }
     rtpw_parse_many(buf, size, map, datagrams, count);
-    rtpw_sanitizer_wrote_datagram_headers(datagrams, count);
+    for (size_t i = 0; i < count; i++) { rtpw_sanitizer_wrote_datagram_header(&datagrams[i]); }
 }
 #define rtpw_parse_many rtpw_sanitized_parse_many
 static inline void rtpw_sanitized_receive_many(rtpw_receiver *receivers, size_t receiver_count,
-    rtpw_arrival *arrivals, size_t count) {
-    rtpw_sanitizer_arrivals(receivers, receiver_count, arrivals, count);
+        rtpw_arrival *arrivals, size_t count) {
+    RTPW_SANITIZER_ROOM(receivers, receiver_count * sizeof *receivers);
+    RTPW_SANITIZER_ROOM(arrivals, count * sizeof *arrivals);
+    for (size_t i = 0; i < count; i++) { rtpw_sanitizer_arrival(&arrivals[i]); }
+    for (size_t i = 0; i < count; i++) {
+        if (arrivals[i].receiver < receiver_count) { rtpw_sanitizer_receiver(&receivers[arrivals[i].receiver]); }
+    }
     rtpw_receive_many(receivers, receiver_count, arrivals, count);
-    rtpw_sanitizer_wrote_arrivals(receivers, arrivals, count);
+    for (size_t i = 0; i < count; i++) { rtpw_sanitizer_wrote_arrival(&arrivals[i]); }
+    for (size_t i = 0; i < count; i++) {
+        if (arrivals[i].status == RTPW_OK) {
+            rtpw_sanitizer_wrote(&receivers[arrivals[i].receiver], sizeof *receivers);
+        }
+    }
 }
 #define rtpw_receive_many rtpw_sanitized_receive_many
 RTPW_CHECKED static inline int32_t rtpw_sanitized_make_template(const uint8_t *datagram, size_t len,
-    const rtpw_new_ids *ids, const uint8_t *data, size_t data_len, const rtpw_element *elements, size_t count,
-    uint8_t allowed, uint8_t *buf, size_t size, rtpw_template *made) {
+        const rtpw_new_ids *ids, const uint8_t *data, size_t data_len, const rtpw_element *elements, size_t count,
+        uint8_t allowed, uint8_t *buf, size_t size, rtpw_template *made) {
     int32_t status;
-    rtpw_sanitizer_header(datagram, len);
+    rtpw_sanitizer_packet_header(datagram, len);
     rtpw_sanitizer_new_ids(ids);
-    rtpw_sanitizer_elements(data, data_len, elements, count);
+    RTPW_SANITIZER_ROOM(data, data_len);
+    RTPW_SANITIZER_ROOM(elements, count * sizeof *elements);
+    for (size_t i = 0; i < count; i++) { rtpw_sanitizer_element(&elements[i]); }
     RTPW_SANITIZER_ROOM(buf, size);
     RTPW_SANITIZER_ROOM(made, sizeof *made);
+    for (size_t i = 0; i < count; i++) {
+        rtpw_sanitizer_part(data, data_len, elements[i].data_at, elements[i].data_len);
+    }
     status = rtpw_make_template(datagram, len, ids, data, data_len, elements, count, allowed, buf, size, made);
     if (status == RTPW_OK) { rtpw_sanitizer_wrote(made, sizeof *made); }
     rtpw_sanitizer_changed(buf, size); if (status == RTPW_OK) { rtpw_sanitizer_wrote(buf, made->header_len); }
@@ -1735,10 +1678,11 @@ RTPW_CHECKED static inline int32_t rtpw_sanitized_make_template(const uint8_t *d
 }
 #define rtpw_make_template rtpw_sanitized_make_template
 RTPW_CHECKED static inline int32_t rtpw_sanitized_prepare_group(const rtpw_new_ids *ids,
-    const rtpw_element *elements, size_t count, uint8_t allowed, rtpw_group *group) {
+        const rtpw_element *elements, size_t count, uint8_t allowed, rtpw_group *group) {
     int32_t status;
     rtpw_sanitizer_new_ids(ids);
-    rtpw_sanitizer_shapes(elements, count);
+    RTPW_SANITIZER_ROOM(elements, count * sizeof *elements);
+    for (size_t i = 0; i < count; i++) { rtpw_sanitizer_element_but_data_at(&elements[i]); }
     RTPW_SANITIZER_ROOM(group, sizeof *group);
     status = rtpw_prepare_group(ids, elements, count, allowed, group);
     if (status == RTPW_OK) { rtpw_sanitizer_wrote(group, sizeof *group); }
@@ -1746,10 +1690,10 @@ RTPW_CHECKED static inline int32_t rtpw_sanitized_prepare_group(const rtpw_new_i
 }
 #define rtpw_prepare_group rtpw_sanitized_prepare_group
 RTPW_CHECKED static inline int32_t rtpw_sanitized_make_from_group(const rtpw_group *group, const uint8_t *datagram,
-    size_t len, uint8_t *buf, size_t size, rtpw_template *made) {
+        size_t len, uint8_t *buf, size_t size, rtpw_template *made) {
     int32_t status;
     rtpw_sanitizer_group(group);
-    rtpw_sanitizer_header(datagram, len);
+    rtpw_sanitizer_packet_header(datagram, len);
     RTPW_SANITIZER_ROOM(buf, size);
     RTPW_SANITIZER_ROOM(made, sizeof *made);
     status = rtpw_make_from_group(group, datagram, len, buf, size, made);
@@ -1759,17 +1703,18 @@ RTPW_CHECKED static inline int32_t rtpw_sanitized_make_from_group(const rtpw_gro
 }
 #define rtpw_make_from_group rtpw_sanitized_make_from_group
 RTPW_CHECKED static inline int32_t rtpw_sanitized_write_headers(const rtpw_template *made, const uint8_t *header,
-    size_t header_size, const uint8_t *data, size_t data_len, rtpw_routed_header *receivers, size_t count,
-    uint8_t *buf, size_t size) {
+        size_t header_size, const uint8_t *data, size_t data_len, rtpw_routed_header *receivers, size_t count,
+        uint8_t *buf, size_t size) {
     int32_t status;
-    rtpw_sanitizer_receivers(made, header, header_size, data, data_len, receivers, count, buf, size);
+    rtpw_sanitizer_template(made);
+    RTPW_SANITIZER_ROOM(buf, size);
+    rtpw_sanitizer_routed(made, header, header_size, data, data_len, receivers, count);
     status = rtpw_write_headers(made, header, header_size, data, data_len, receivers, count, buf, size);
     if (status == RTPW_OK) { rtpw_sanitizer_wrote_headers(receivers, count, buf); }
     return status;
 }
 #define rtpw_write_headers rtpw_sanitized_write_headers
 
-#undef RTPW_SANITIZER_FIELD
 #undef RTPW_SANITIZER_ROOM
 #undef RTPW_SANITIZER_ADDRESS
 #undef RTPW_SANITIZER_MEMORY

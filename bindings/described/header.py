@@ -1,10 +1,9 @@
 """What rtp_wire.h says, as one description: it is read by pycparser, a parser of C, with the marks of its parameters.
 
     from described.header import read
-    api = read()                                     # of bindings/c/rtp_wire.h
-    for function in api.functions: ..                # in the order of the header file
-    api.function["rtpw_receive_many"].parameters[0]  # Parameter(name='receivers', type='rtpw_receiver', ..)
-    api.struct["rtpw_packet"].fields[0]              # Field(name='payload_at', type='size_t', count=None, at=0, size=8)
+    api = read()                              # of bindings/c/rtp_wire.h
+    api.function["rtpw_read"].parameters[0]   # Parameter(name='datagram', type='uint8_t', ..)
+    api.struct["rtpw_packet"].fields[0]       # Field(name='payload_at', type='size_t', .., count=None, at=0, size=8)
 
 Sizes and offsets are those of a machine with 64 bits, by the rules of its ABI: bindings/test/layout.c compares them
 with what compilers make. pycparser is Debian's python3-pycparser, from 2.21 on; `cc` is the preprocessor.
@@ -23,33 +22,47 @@ HEADER = Path(__file__).resolve().parent.parent / "c/rtp_wire.h"
 SIZES = {"bool": 1, "char": 1, "size_t": 8}
 SIZES.update({f"{sign}int{bits}_t": bits // 8 for sign in ("", "u") for bits in (8, 16, 32, 64)})
 
-# The marks, as something that stands in a declaration of C11, and of a constant.
-MARKS = [f"{name}{'(...)' if has else ''}=_Alignas(RTPW_{name}({'__VA_ARGS__' if has else ''}))"
-         for name, has in (("OUT", 0), ("INOUT", 0), ("COUNT", 1), ("MAY_OVERLAP", 1), ("WRITTEN_IF", 1), ("TELLS", 1),
-                           ("RANGE", 1))]
-MARKS.append("KIND(...)=+RTPW_KIND(__VA_ARGS__)")
-
 
 class NoParser(Exception):
     """There is no pycparser."""
 
 
-class Named:
-    short = property(lambda self: self.name[len("rtpw_"):], doc="The name without rtpw_.")
+def only(mark: str) -> property:
+    """What a mark has, and None without it."""
+    return property(lambda self: self.marks.get(mark, (None,))[0])
 
 
 @dataclass(frozen=True)
-class Parameter:
-    """A parameter of a function."""
+class Marked:
+    """What may have marks: these by their names behind RTPW_, with what they have."""
 
     name: str
     type: str  # as "uint8_t" or "rtpw_map"; of a pointer that of what it is to
-    is_pointer: bool = False
-    is_const: bool = False  # of a pointer: to what is only read
-    mark: str = ""  # of a pointer: "in", "out" or "inout"
-    count: Optional[str] = None  # of a pointer to several: the parameter that says how many; NULL is allowed with 0
-    may_overlap: Optional[str] = None  # the buffer in which it may lie: the status is then RTPW_BAD_FIELD
-    written_if: Tuple[str, ...] = ()  # the statuses at which it is written, where that isn't RTPW_OK alone
+    marks: Dict[str, Tuple[str, ...]]
+
+    part = property(lambda self: self.marks.get("PART"), doc="Where it is looked at, and how many bytes.")
+    written_if = property(lambda self: self.marks.get("WRITTEN_IF", ()), doc="The statuses, but for RTPW_OK alone.")
+    is_plain = property(lambda self: self.type in SIZES, doc="Whether it is of numbers, and of no structs.")
+    short_type = property(lambda self: self.type[len("rtpw_"):], doc="The name of the struct without rtpw_.")
+
+
+@dataclass(frozen=True)
+class Parameter(Marked):
+    """A parameter of a function."""
+
+    is_pointer: bool
+    is_const: bool  # of a pointer: to what is only read
+
+    count = only("COUNT")  # of a pointer to several: the parameter that says how many; NULL is allowed with 0
+    may_overlap = only("MAY_OVERLAP")
+    each, read_if = only("EACH"), only("READ_IF")
+    packet = property(lambda self: self.marks.get("PACKET", ()), doc="What is looked at of a packet.")
+    without = property(lambda self: self.marks.get("BUT", ()), doc="The fields that aren't looked at.")
+
+    @property
+    def mark(self) -> str:
+        """Of a pointer: "in", "out" or "inout"."""
+        return next((it.lower() for it in ("OUT", "INOUT") if it in self.marks), "in" if self.is_pointer else "")
 
     @property
     def c(self) -> str:
@@ -58,12 +71,42 @@ class Parameter:
 
 
 @dataclass(frozen=True)
+class Named:
+    name: str
+
+    short = property(lambda self: self.name[len("rtpw_"):], doc="The name without rtpw_.")
+
+
+@dataclass(frozen=True)
 class Function(Named):
     """A function; `result` is a type as a parameter has it, or "void". A status is told by "int32_t"."""
 
-    name: str
     result: str
     parameters: Tuple[Parameter, ...]
+
+    has_status = property(lambda self: self.result == "int32_t")
+    named = property(lambda self: {it.name: it for it in self.parameters})
+    pointers = property(lambda self: [it for it in self.parameters if it.is_pointer])
+    outputs = property(lambda self: [it for it in self.pointers if it.mark == "out" and not it.count])
+
+    def given(self, output: Optional[Parameter]) -> List[Parameter]:
+        """What is given where what is written to this one is returned, and a pointer tells how many there are."""
+        return [it for it in self.parameters if it is not output and not self.counted_by(it.name)]
+
+    def fills(self, p: Parameter) -> bool:
+        """Whether it is a buffer of which the first *len bytes are written."""
+        return p.mark == "out" and bool(p.count) and "len" in self.named and self.named["len"].mark == "out"
+
+    @property
+    def returns(self) -> bool:
+        """Whether what it writes is what it is for."""
+        return bool(re.match("(read|next|last)_|(?!write_).*_(receive|report)$", self.short))
+
+    @property
+    def grown(self) -> Optional[Parameter]:
+        """The buffer that has a packet of *len bytes at its front, which may get another length."""
+        grows = any(it.name == "len" and it.mark == "inout" for it in self.parameters)
+        return next((it for it in self.parameters if it.packet and grows), None)
 
     def counted_by(self, name: str) -> Optional[Parameter]:
         """The pointer whose count this parameter is."""
@@ -71,35 +114,28 @@ class Function(Named):
 
 
 @dataclass(frozen=True)
-class Field:
-    """A field of a struct; `count` is that of an array, and None of what is none."""
+class Field(Marked):
+    """A field of a struct."""
 
-    name: str
-    type: str
-    count: Optional[int]
+    count: Optional[int]  # of an array: how many it has
     at: int
     size: int
-    counted: Optional[str] = None  # of an array: the field that says how many of it are looked at
-    range: Optional[Tuple[int, int]] = None  # the least and the most that is written
-    told: Optional[str] = None  # the field without which it isn't looked at, being 0
+    told: Optional[str]  # the field without which it isn't looked at, being 0
+
+    counted = only("COUNT")  # of an array: the field that says how many of it are looked at
+    is_out = property(lambda self: "OUT" in self.marks, doc="Whether it is written alone.")
+
+    @property
+    def range(self) -> Optional[Tuple[int, int]]:
+        """The least and the most that is written."""
+        return tuple(map(int, self.marks["RANGE"])) if "RANGE" in self.marks else None
 
 
 @dataclass(frozen=True)
 class Struct(Named):
-    name: str
     size: int
     align: int
     fields: Tuple[Field, ...]
-
-
-@dataclass(frozen=True)
-class Kind:
-    """A kind of header extension that has a URI, and the fields of rtpw_values that are of it, by their has_."""
-
-    name: str  # as "ABS_SEND_TIME"
-    number: int
-    uri: str
-    values: Tuple[str, ...]
 
 
 @dataclass
@@ -111,16 +147,10 @@ class Api:
     enums: List[Dict[str, int]] = field(default_factory=list)  # the constants of each enum
     constants: Dict[str, int] = field(default_factory=dict)  # of all enums, and then the macros that are numbers
     version: str = ""
-    kinds: List[Kind] = field(default_factory=list)
     texts: Dict[str, str] = field(default_factory=dict)  # of each status by its constant, and of none by ""
 
-    @property
-    def function(self) -> Dict[str, Function]:
-        return {it.name: it for it in self.functions}
-
-    @property
-    def struct(self) -> Dict[str, Struct]:
-        return {it.name: it for it in self.structs}
+    function = property(lambda self: {it.name: it for it in self.functions})
+    struct = property(lambda self: {it.name: it for it in self.structs})
 
 
 def laid_out(text: str, first: int = 0, others: int = 4) -> str:
@@ -129,108 +159,105 @@ def laid_out(text: str, first: int = 0, others: int = 4) -> str:
     return made.replace("~", " ")
 
 
+def template(name: str) -> str:
+    """A file of this folder, of which a part is made; in place of a line @NAME@ stands the file of that name."""
+    text = Path(__file__).with_name(name).read_text("utf-8")
+    return re.sub(r"^@(\w+\.\w+\.in)@\n", lambda it: template(it[1]), text, flags=re.M)
+
+
 def parser():
     """The module pycparser."""
     sys.path.append("/usr/lib/python3/dist-packages")  # for a python3 that isn't Debian's
     try:
-        import pycparser
+        import pycparser.c_generator
     except ImportError:
         raise NoParser("there is no pycparser (Debian: python3-pycparser)") from None
     return pycparser
 
 
-def preprocessed(header: Path) -> str:
-    """The header file with its marks, without the standard ones: these are stubs here."""
+def preprocessed(header: Path, text: str) -> str:
+    """The header file without the standard ones, which are stubs here, and with its marks as something that may stand
+    in a declaration of C11; those of constants stay empty."""
+    marks = text.partition("#ifndef RTPW_OUT\n")[2].partition("#endif")[0]
     with tempfile.TemporaryDirectory() as stubs:
         types = "".join(f"typedef int {it};\n" for it in SIZES if it != "char")
         for name in ("stdbool", "stddef", "stdint"):
             (Path(stubs) / f"{name}.h").write_text(types if name == "stddef" else "")
-        options = ["-nostdinc", "-undef", "-P", f"-I{stubs}", *(f"-DRTPW_{it}" for it in MARKS)]
+        options = ["-nostdinc", "-undef", "-P", f"-I{stubs}"]
+        for name, given in re.findall(r"^#define (\w+)(\(.*\))?$", marks, re.M):
+            mark = f"_Alignas({name}({'__VA_ARGS__' if given else ''}))" if name != "RTPW_KIND" else ""
+            options.append(f"-D{name}{'(...)' if given else ''}={mark}")
         command = ["cc", "-std=c11", "-E", *options, str(header)]
-        return subprocess.run(command, stdout=subprocess.PIPE, text=True, check=True).stdout
+        made = subprocess.run(command, stdout=subprocess.PIPE, text=True, check=True).stdout
+    # The marks of a field stand behind its type: before it pycparser 2.21 takes the type for the field's name.
+    return re.sub(r"^ +(_Alignas\(.*\))\n( +\w+) ", r"\2 \1 ", made, flags=re.M)
 
 
 def read(header: Path = HEADER, word: int = 8) -> Api:
     """The description of a header file, for a machine whose size_t has so many bytes (4 on wasm32). NoParser where
     there is no pycparser."""
-    pycparser, api = parser(), Api()
-    ast = pycparser.c_ast
-    text = header.read_text("utf-8")
-    api.version = re.search(r'^#define RTPW_VERSION "(.*)"$', text, re.M).group(1)
-    for node in pycparser.c_parser.CParser().parse(preprocessed(header), str(header)).ext:
+    pycparser, text = parser(), header.read_text("utf-8")
+    of_c = Reader(pycparser, word)
+    of_c.api.version = re.search(r'^#define RTPW_VERSION "(.*)"$', text, re.M).group(1)
+    for node in pycparser.c_parser.CParser().parse(preprocessed(header, text), str(header)).ext:
+        of_c.add(node)
+    macros = re.findall(r"^#define (RTPW_\w+) (\d+)$", text, re.M)
+    of_c.api.constants.update((name, int(number)) for name, number in macros)
+    return of_c.api
+
+
+class Reader:
+    """Adds what is declared to the description."""
+
+    def __init__(self, pycparser, word: int):
+        self.ast, self.api = pycparser.c_ast, Api()
+        self.text = pycparser.c_generator.CGenerator(reduce_parentheses=True).visit
+        self.sizes = {name: (size, size) for name, size in {**SIZES, "size_t": word}.items()}
+
+    def add(self, node) -> None:
+        ast, api = self.ast, self.api
         if isinstance(node, ast.Typedef) and isinstance(node.type.type, ast.Struct):
-            api.structs.append(struct(node, api, word))
+            api.structs.append(self.struct(node))
         elif isinstance(node, ast.Decl) and isinstance(node.type, ast.Enum):
-            enum(node.type.values.enumerators, api, ast)
+            api.enums.append({it.name: int(it.value.value) for it in node.type.values.enumerators})
+            api.constants.update(api.enums[-1])
         elif isinstance(node, ast.Decl) and isinstance(node.type, ast.FuncDecl):
-            api.functions.append(function(node, ast))
+            api.functions.append(self.function(node))
         elif isinstance(node, ast.FuncDef) and node.decl.name == "rtpw_status_text":
             for case in node.body.block_items[0].stmt.block_items:
                 name = case.expr.name if isinstance(case, ast.Case) else ""
                 api.texts[name] = case.stmts[0].expr.value[1:-1]
-    api.constants.update((name, int(number)) for name, number in re.findall(r"^#define (RTPW_\w+) (\d+)$", text, re.M))
-    return api
 
+    def marks_of(self, node) -> Dict[str, Tuple[str, ...]]:
+        calls = [it.alignment for it in node.align]
+        return {it.name.name[len("RTPW_"):]: tuple(map(self.text, it.args.exprs)) if it.args else () for it in calls}
 
-def enum(rows, api: Api, ast) -> None:
-    numbers = api.enums.append({}) or api.enums[-1]
-    for it in rows:
-        marked = isinstance(it.value, ast.BinaryOp)
-        numbers[it.name] = int((it.value.left if marked else it.value).value)
-        if marked:
-            uri, *values = it.value.right.args.exprs
-            names = tuple(value.name for value in values)
-            api.kinds.append(Kind(it.name[len("RTPW_KIND_"):], numbers[it.name], uri.value[1:-1], names))
-    api.constants.update(numbers)
+    def struct(self, node) -> Struct:
+        fields, end, most, decls = [], 0, 1, node.type.type.decls
+        marked = {it.name: self.marks_of(it) for it in decls}
+        told = {name[len("has_"):]: name for name in marked if name.startswith("has_")}
+        told.update({name: flag for flag, marks in marked.items() for name in marks.get("TELLS", ())})
+        for it in decls:
+            count = int(it.type.dim.value) if isinstance(it.type, self.ast.ArrayDecl) else None
+            kind = (it.type if count is None else it.type.type).type.names[0]
+            size, align = self.sizes[kind]
+            at = -(-end // align) * align
+            end, most = at + size * (1 if count is None else count), max(most, align)
+            fields.append(Field(it.name, kind, marked[it.name], count, at, end - at, told.get(it.name)))
+        self.sizes[node.name] = -(-end // most) * most, most
+        return Struct(node.name, *self.sizes[node.name], tuple(fields))
 
+    def function(self, node) -> Function:
+        given = [self.parameter(it, node.name) for it in node.type.args.params if it.name is not None]
+        named = {it.name for it in given}
+        for it in given:
+            assert {it.count, it.may_overlap, it.each} - {None} <= named, f"{node.name}: a mark of {it.name}"
+        return Function(node.name, node.type.type.type.names[0], tuple(given))
 
-def struct(node, api: Api, word: int) -> Struct:
-    sizes = {name: (size, size) for name, size in SIZES.items()}
-    sizes.update({"size_t": (word, word), **{it.name: (it.size, it.align) for it in api.structs}})
-    fields, end, most, decls = [], 0, 1, node.type.type.decls
-    told = {f"{it.name[4:]}": it.name for it in decls if it.name.startswith("has_")}
-    told.update({name: it.name for it in decls for name in marks_of(it).get("RTPW_TELLS", ())})
-    for it in decls:
-        is_array = hasattr(it.type, "dim")
-        count = int(it.type.dim.value) if is_array else None
-        name = " ".join((it.type.type if is_array else it.type).type.names)
-        size, align = sizes[name]
-        at = -(-end // align) * align
-        marks = marks_of(it)
-        counted, limits = marks.get("RTPW_COUNT", [None])[0], marks.get("RTPW_RANGE")
-        end, most = at + size * (1 if count is None else count), max(most, align)
-        limits = limits and (int(limits[0]), int(limits[1]))
-        fields.append(Field(it.name, name, count, at, end - at, counted, limits, told.get(it.name)))
-    return Struct(node.name, -(-end // most) * most, most, tuple(fields))
-
-
-def function(node, ast) -> Function:
-    params = [it for it in node.type.args.params if it.name is not None]
-    made = Function(node.name, node.type.type.type.names[0], tuple(parameter(it, ast, node.name) for it in params))
-    named = {it.name for it in made.parameters}
-    for it in made.parameters:
-        assert {it.count, it.may_overlap} - {None} <= named, f"{node.name}: {it.name} is marked by what isn't there"
-    return made
-
-
-def marks_of(node) -> Dict[str, List[str]]:
-    """The marks of a parameter or a field, and the names and numbers that they have."""
-    calls = [it.alignment for it in node.align]
-    return {it.name.name: [word(arg) for arg in it.args.exprs] if it.args else [] for it in calls}
-
-
-def word(it) -> str:
-    return f"-{it.expr.value}" if hasattr(it, "expr") else getattr(it, "name", None) or it.value
-
-
-def parameter(node, ast, of: str) -> Parameter:
-    marks = marks_of(node)
-    is_pointer = isinstance(node.type, ast.PtrDecl)
-    inner = node.type.type if is_pointer else node.type
-    is_const = is_pointer and "const" in inner.quals
-    written = [it for it in ("RTPW_OUT", "RTPW_INOUT") if it in marks]
-    assert len(written) == (is_pointer and not is_const), f"{of}: {node.name} has to be marked as written, or not"
-    mark = ("in" if is_const else written[0][5:].lower()) if is_pointer else ""
-    count, overlaps = (marks.get(it, [None])[0] for it in ("RTPW_COUNT", "RTPW_MAY_OVERLAP"))
-    statuses = tuple(marks.get("RTPW_WRITTEN_IF", ()))
-    return Parameter(node.name, inner.type.names[0], is_pointer, is_const, mark, count, overlaps, statuses)
+    def parameter(self, node, of: str) -> Parameter:
+        is_pointer = isinstance(node.type, self.ast.PtrDecl)
+        inner = node.type.type if is_pointer else node.type
+        is_const = is_pointer and "const" in inner.quals
+        made = Parameter(node.name, inner.type.names[0], self.marks_of(node), is_pointer, is_const)
+        assert (made.mark in ("out", "inout")) == (is_pointer and not is_const), f"{of}: whether {made.name} is written"
+        return made

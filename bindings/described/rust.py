@@ -1,6 +1,5 @@
 """What is made of the description for Rust: the functions with types of Rust, and the structs."""
 
-import re
 from textwrap import indent
 
 from .header import Api, Function, Parameter, Struct, laid_out
@@ -17,17 +16,17 @@ NAMES = {
     "color_space": "ColorSpaceView", "dependency_descriptor": "DependencyDescriptorView",
     "receiver": "ReceiverState", "wide_receiver": "WideState", "restarting_receiver": "NarrowRestartingState",
     "wide_restarting_receiver": "RestartingState", "reception": "ReceptionState", "report": "ReceptionReport",
-    "datagram": "PacketSlot", "datagram_header": "HeaderSlot", "whole_datagram": "WholeSlot", "arrival": "ArrivalSlot", "template": "TemplateParts",
-    "routed_header": "RoutedSlot", "group": "StoredGroup",
+    "datagram": "PacketSlot", "datagram_header": "HeaderSlot", "whole_datagram": "WholeSlot", "arrival": "ArrivalSlot",
+    "template": "TemplateParts", "routed_header": "RoutedSlot", "group": "StoredGroup",
 }
 # Those that stand in the package by hand, since their fields are public.
 BY_HAND = {"report": "reception", "chromaticity": "standard", "hdr_metadata": "standard"}
 # What those derive that are public where it isn't all that others do.
-DERIVES = {"datagram": ", Default", "whole_datagram": ", Default", "datagram_header": ", Default", "arrival": "", "routed_header": ""}
+DERIVES = {
+    **dict.fromkeys(("datagram", "whole_datagram", "datagram_header"), ", Default"), "arrival": "", "routed_header": "",
+}
 # A parameter that is given in another type, which is that struct and nothing else.
 GIVEN_AS = {("receive_many", "receivers"): "crate::receiver::Receiver"}
-# The calls whose one output is what they are for: it is returned, and None where the status isn't RTPW_OK.
-RETURNS = re.compile(r"(read|next|last)_|.*_(receive|report)$")
 
 
 def name_of(short: str) -> str:
@@ -39,17 +38,15 @@ def type_of(name: str) -> str:
 
 
 def output_of(it: Function):
-    """The output that the function returns in Rust."""
-    outputs = [p for p in it.parameters if p.mark == "out"]
-    returns = len(outputs) == 1 and not outputs[0].count and RETURNS.match(it.short) and it.result == "int32_t"
-    return outputs[0] if returns and not it.short.startswith("write_") else None
+    """The output that the function returns in Rust: None where the status isn't RTPW_OK."""
+    written = [p for p in it.pointers if p.mark == "out"]
+    return written[0] if written == it.outputs and len(written) == 1 and it.returns and it.has_status else None
 
 
 def declared(it: Function) -> str:
     """The function as the linker has it."""
-    given = ", ".join(
-        f"{p.name}: {('*const ' if p.is_const else '*mut ') if p.is_pointer else ''}{type_of(p.type)}"
-        for p in it.parameters)
+    of_c = {(True, True): "*const ", (True, False): "*mut "}
+    given = ", ".join(f"{p.name}: {of_c.get((p.is_pointer, p.is_const), '')}{type_of(p.type)}" for p in it.parameters)
     return f"pub fn {it.name}({given}){'' if it.result == 'void' else f' -> {TYPES[it.result]}'};"
 
 
@@ -73,7 +70,7 @@ def argument_of(it: Function, p: Parameter, output) -> str:
 def wrapped(it: Function) -> str:
     """The function with types of Rust."""
     output = output_of(it)
-    given = [parameter_of(it, p) for p in it.parameters if not it.counted_by(p.name) and p is not output]
+    given = [parameter_of(it, p) for p in it.given(output)]
     arguments = ", ".join(argument_of(it, p, output) for p in it.parameters)
     result = {"void": "", **{name: f" -> {kind}" for name, kind in TYPES.items()}}[it.result]
     call = f"unsafe {{ c::{it.name}({arguments}) }}"

@@ -61,12 +61,12 @@ func FromRetransmission(packet []byte, ssrc uint32, payloadType uint8, ids *NewI
 
 // Append appends the header, as [Header.WriteInto] writes it, and returns its error, and with that the slice as it was.
 func (h *Header) Append(buf []byte, m *Map) ([]byte, error) {
-	n, err := h.write(buf[len(buf):cap(buf)], m)
+	n, err := write(m, h, buf[len(buf):cap(buf)])
 	if err == ErrShortBuffer {
-		n, err = h.wireLen(m)
+		n, err = wireLen(m, h)
 		if err == nil {
 			buf = withRoom(buf, n)[:len(buf)]
-			n, err = h.write(buf[len(buf):cap(buf)], m)
+			n, err = write(m, h, buf[len(buf):cap(buf)])
 		}
 	}
 	return appended(buf, n, err)
@@ -75,12 +75,12 @@ func (h *Header) Append(buf []byte, m *Map) ([]byte, error) {
 // AppendLayers appends the header with these layers, as [Header.WriteLayers] writes it, and returns its error, and with
 // that the slice as it was.
 func (h *Header) AppendLayers(buf []byte, m *Map, layers *Layers) ([]byte, error) {
-	n, err := h.wireLenLayers(m, layers)
+	n, err := wireLenLayers(m, h, layers)
 	if err != nil {
 		return buf, err
 	}
 	buf = withRoomFor(buf, n)
-	n, err = h.writeLayers(buf[len(buf):cap(buf)], m, layers)
+	n, err = writeLayers(m, h, layers, buf[len(buf):cap(buf)])
 	return appended(buf, n, err)
 }
 

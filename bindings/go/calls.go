@@ -1569,3 +1569,654 @@ func rtpw_next_elements(body *byte, body_len uintptr, form byte, at uintptr, ele
 	}
 	return text_next_elements(body, body_len, form, at, elements, count)
 }
+
+// The functions with types of Go.
+
+func (it *PacketFields) c() *rtpw_packet {
+	return (*rtpw_packet)(unsafe.Pointer(it))
+}
+
+func (it *Fields) c() *rtpw_fields {
+	return (*rtpw_fields)(unsafe.Pointer(it))
+}
+
+func (it *Place) c() *rtpw_element {
+	return (*rtpw_element)(unsafe.Pointer(it))
+}
+
+func (it *Map) c() *rtpw_map {
+	_ = *it // nil ends here
+	return (*rtpw_map)(unsafe.Pointer(it))
+}
+
+func (it *ReadValues) c() *rtpw_values {
+	return (*rtpw_values)(unsafe.Pointer(it))
+}
+
+func (it *wholePacket) c() *rtpw_whole_packet {
+	_ = *it // nil ends here
+	return (*rtpw_whole_packet)(unsafe.Pointer(it))
+}
+
+func (it *Header) c() *rtpw_header {
+	_ = *it // nil ends here
+	return (*rtpw_header)(unsafe.Pointer(it))
+}
+
+func (it *Layers) c() *rtpw_layers {
+	_ = *it // nil ends here
+	return (*rtpw_layers)(unsafe.Pointer(it))
+}
+
+func (it *FrameMarking) c() *rtpw_frame_marking {
+	return (*rtpw_frame_marking)(unsafe.Pointer(it))
+}
+
+func (it *Orientation) c() *rtpw_orientation {
+	return (*rtpw_orientation)(unsafe.Pointer(it))
+}
+
+func (it *Timing) c() *rtpw_timing {
+	return (*rtpw_timing)(unsafe.Pointer(it))
+}
+
+func (it *TransportNumber) c() *rtpw_transport_number {
+	return (*rtpw_transport_number)(unsafe.Pointer(it))
+}
+
+func (it *ColorSpace) c() *rtpw_color_space {
+	return (*rtpw_color_space)(unsafe.Pointer(it))
+}
+
+func (it *DependencyDescriptor) c() *rtpw_dependency_descriptor {
+	return (*rtpw_dependency_descriptor)(unsafe.Pointer(it))
+}
+
+func (it *NewIDs) c() *rtpw_new_ids {
+	_ = *it // nil ends here
+	return (*rtpw_new_ids)(unsafe.Pointer(it))
+}
+
+func (it *Receiver) c() *rtpw_receiver {
+	_ = *it // nil ends here
+	return (*rtpw_receiver)(unsafe.Pointer(it))
+}
+
+func (it *wideState) c() *rtpw_wide_receiver {
+	return (*rtpw_wide_receiver)(unsafe.Pointer(it))
+}
+
+func (it *ReceptionStatistics) c() *rtpw_reception {
+	return (*rtpw_reception)(unsafe.Pointer(it))
+}
+
+func (it *ReceptionReport) c() *rtpw_report {
+	return (*rtpw_report)(unsafe.Pointer(it))
+}
+
+func (it *template) c() *rtpw_template {
+	return (*rtpw_template)(unsafe.Pointer(it))
+}
+
+func (it *PreparedGroup) c() *rtpw_group {
+	return (*rtpw_group)(unsafe.Pointer(it))
+}
+
+func first(values []byte) *byte {
+	if len(values) == 0 {
+		return nil
+	}
+	return &values[0]
+}
+
+func firstElement(values []Place) *rtpw_element {
+	if len(values) == 0 {
+		return nil
+	}
+	return (*rtpw_element)(unsafe.Pointer(&values[0]))
+}
+
+func firstInt8(values []int8) *int8 {
+	if len(values) == 0 {
+		return nil
+	}
+	return &values[0]
+}
+
+func firstUint64(values []uint64) *uint64 {
+	if len(values) == 0 {
+		return nil
+	}
+	return &values[0]
+}
+
+func firstDatagram(values []datagram) *rtpw_datagram {
+	if len(values) == 0 {
+		return nil
+	}
+	return (*rtpw_datagram)(unsafe.Pointer(&values[0]))
+}
+
+func firstDatagramHeader(values []datagramHeader) *rtpw_datagram_header {
+	if len(values) == 0 {
+		return nil
+	}
+	return (*rtpw_datagram_header)(unsafe.Pointer(&values[0]))
+}
+
+func firstReceiver(values []Receiver) *rtpw_receiver {
+	if len(values) == 0 {
+		return nil
+	}
+	return (*rtpw_receiver)(unsafe.Pointer(&values[0]))
+}
+
+func firstArrival(values []arrival) *rtpw_arrival {
+	if len(values) == 0 {
+		return nil
+	}
+	return (*rtpw_arrival)(unsafe.Pointer(&values[0]))
+}
+
+func firstRoutedHeader(values []routedHeader) *rtpw_routed_header {
+	if len(values) == 0 {
+		return nil
+	}
+	return (*rtpw_routed_header)(unsafe.Pointer(&values[0]))
+}
+
+func version() uint32 {
+	return rtpw_version()
+}
+
+func isRTCP(datagram []byte) bool {
+	return rtpw_is_rtcp(first(datagram), uintptr(len(datagram)))
+}
+
+func packetParse(datagram []byte, packet *PacketFields) int32 {
+	return rtpw_packet_parse(first(datagram), uintptr(len(datagram)), packet.c())
+}
+
+func setPayloadType(datagram []byte, payloadType uint8) int32 {
+	return rtpw_set_payload_type(first(datagram), uintptr(len(datagram)), payloadType)
+}
+
+func setFields(datagram []byte, fields *Fields) error {
+	return errorOf(rtpw_set_fields(first(datagram), uintptr(len(datagram)), fields.c()))
+}
+
+func setCSRC(datagram []byte, index int, source uint32) error {
+	return errorOf(rtpw_set_csrc(first(datagram), uintptr(len(datagram)), uintptr(index), source))
+}
+
+func setElement(datagram []byte, id uint8, data []byte) error {
+	data = apart(data, datagram)
+	return errorOf(rtpw_set_element(first(datagram), uintptr(len(datagram)), id, first(data), uintptr(len(data))))
+}
+
+func removeElement(datagram []byte, id uint8) error {
+	return errorOf(rtpw_remove_element(first(datagram), uintptr(len(datagram)), id))
+}
+
+func setPadding(datagram []byte, hasPadding bool) error {
+	return errorOf(rtpw_set_padding(first(datagram), uintptr(len(datagram)), hasPadding))
+}
+
+func removePadding(datagram []byte) ([]byte, error) {
+	var newLen uintptr
+	status := rtpw_remove_padding(first(datagram), uintptr(len(datagram)), &newLen)
+	return upTo(datagram, newLen, status)
+}
+
+func putElement(buf []byte, length int, id uint8, data []byte, allowed Forms) ([]byte, error) {
+	data = apart(data, buf)
+	n := uintptr(length)
+	status := rtpw_put_element(first(buf), uintptr(len(buf)), &n, id, first(data), uintptr(len(data)), uint8(allowed))
+	return upTo(buf, n, status)
+}
+
+func addElement(buf []byte, length int, id uint8, data []byte, allowed Forms) ([]byte, error) {
+	data = apart(data, buf)
+	n := uintptr(length)
+	status := rtpw_add_element(first(buf), uintptr(len(buf)), &n, id, first(data), uintptr(len(data)), uint8(allowed))
+	return upTo(buf, n, status)
+}
+
+func compact(buf []byte, length int) ([]byte, error) {
+	n := uintptr(length)
+	status := rtpw_compact(first(buf), uintptr(len(buf)), &n)
+	return upTo(buf, n, status)
+}
+
+func changeForm(buf []byte, length int, form Form) ([]byte, error) {
+	n := uintptr(length)
+	status := rtpw_change_form(first(buf), uintptr(len(buf)), &n, uint8(form))
+	return upTo(buf, n, status)
+}
+
+func removeBlock(buf []byte, length int) ([]byte, error) {
+	n := uintptr(length)
+	status := rtpw_remove_block(first(buf), uintptr(len(buf)), &n)
+	return upTo(buf, n, status)
+}
+
+func putBlock(buf []byte, length int, profile uint16, body []byte) ([]byte, error) {
+	body = apart(body, buf)
+	n := uintptr(length)
+	status := rtpw_put_block(first(buf), uintptr(len(buf)), &n, profile, first(body), uintptr(len(body)))
+	return upTo(buf, n, status)
+}
+
+func nextElement(body []byte, form Form, at int, element *Place) int32 {
+	return rtpw_next_element(first(body), uintptr(len(body)), uint8(form), uintptr(at), element.c())
+}
+
+func lastElement(body []byte, form Form, id uint8) (Place, error) {
+	var element Place
+	status := rtpw_last_element(first(body), uintptr(len(body)), uint8(form), id, element.c())
+	return element, errorOf(status)
+}
+
+func kindOfURI(uri []byte) uint8 {
+	return rtpw_kind_of_uri(first(uri), uintptr(len(uri)))
+}
+
+func uriOfKind(kind Kind, buf []byte) (int, error) {
+	var n uintptr
+	status := rtpw_uri_of_kind(uint8(kind), first(buf), uintptr(len(buf)), &n)
+	return int(n), errorOf(status)
+}
+
+func mapSet(m *Map, id uint8, kind Kind) error {
+	return errorOf(rtpw_map_set(m.c(), id, uint8(kind)))
+}
+
+func idOf(m *Map, kind Kind) uint8 {
+	return rtpw_id_of(m.orNone().c(), uint8(kind))
+}
+
+func mapStandard(m *Map) {
+	rtpw_map_standard(m.c())
+}
+
+func valuesRead(body []byte, form Form, m *Map, values *ReadValues) int32 {
+	return rtpw_values_read(first(body), uintptr(len(body)), uint8(form), m.orNone().c(), values.c())
+}
+
+func dataOf(kind Kind, values *ReadValues, buf []byte) (int, error) {
+	var n uintptr
+	status := rtpw_data_of(uint8(kind), values.c(), first(buf), uintptr(len(buf)), &n)
+	return int(n), errorOf(status)
+}
+
+func read(datagram []byte, m *Map, packet *wholePacket) int32 {
+	return rtpw_read(first(datagram), uintptr(len(datagram)), m.orNone().c(), packet.c())
+}
+
+func parse(datagram []byte, m *Map, header *Header) int32 {
+	return rtpw_parse(first(datagram), uintptr(len(datagram)), m.orNone().c(), header.c())
+}
+
+func parseLayers(datagram []byte, m *Map, header *Header, layers *Layers) int32 {
+	return rtpw_parse_layers(first(datagram), uintptr(len(datagram)), m.orNone().c(), header.c(), layers.c())
+}
+
+func wireLen(m *Map, header *Header) (int, error) {
+	var n uintptr
+	status := rtpw_wire_len(m.orNone().c(), header.c(), &n)
+	return int(n), errorOf(status)
+}
+
+func write(m *Map, header *Header, buf []byte) (int, error) {
+	var n uintptr
+	status := rtpw_write(m.orNone().c(), header.c(), first(buf), uintptr(len(buf)), &n)
+	return int(n), errorOf(status)
+}
+
+func wireLenLayers(m *Map, header *Header, layers *Layers) (int, error) {
+	var n uintptr
+	status := rtpw_wire_len_layers(m.orNone().c(), header.c(), layers.c(), &n)
+	return int(n), errorOf(status)
+}
+
+func writeLayers(m *Map, header *Header, layers *Layers, buf []byte) (int, error) {
+	var n uintptr
+	status := rtpw_write_layers(m.orNone().c(), header.c(), layers.c(), first(buf), uintptr(len(buf)), &n)
+	return int(n), errorOf(status)
+}
+
+func leftOut(m *Map, header *Header) (uint32, error) {
+	var kinds uint32
+	status := rtpw_left_out(m.orNone().c(), header.c(), &kinds)
+	return kinds, errorOf(status)
+}
+
+func leftOutLayers(m *Map, header *Header, layers *Layers) (uint32, error) {
+	var kinds uint32
+	status := rtpw_left_out_layers(m.orNone().c(), header.c(), layers.c(), &kinds)
+	return kinds, errorOf(status)
+}
+
+func writeWithForm(header *Header, data []byte, elements []Place, form Form, buf []byte) (int, error) {
+	data = apart(data, buf)
+	var n uintptr
+	status := rtpw_write_with_form(header.c(), first(data), uintptr(len(data)), firstElement(elements), uintptr(len(elements)), uint8(form), first(buf), uintptr(len(buf)), &n)
+	return int(n), errorOf(status)
+}
+
+func writeElements(data []byte, elements []Place, form Form, buf []byte) (int, error) {
+	data = apart(data, buf)
+	var n uintptr
+	status := rtpw_write_elements(first(data), uintptr(len(data)), firstElement(elements), uintptr(len(elements)), uint8(form), first(buf), uintptr(len(buf)), &n)
+	return int(n), errorOf(status)
+}
+
+func readSendTime(data []byte) (uint32, error) {
+	var units uint32
+	status := rtpw_read_send_time(first(data), uintptr(len(data)), &units)
+	return units, errorOf(status)
+}
+
+func appendSendTime(data []byte, units uint32) ([]byte, error) {
+	var it written
+	status := rtpw_write_send_time(units, &it.data[0], uintptr(len(it.data)), &it.n)
+	return it.after(data, status)
+}
+
+func extendSendTime(around uint64, units uint32) uint64 {
+	return rtpw_extend_send_time(around, units)
+}
+
+func readTransmissionOffset(data []byte) (int32, error) {
+	var offset int32
+	status := rtpw_read_transmission_offset(first(data), uintptr(len(data)), &offset)
+	return offset, errorOf(status)
+}
+
+func appendTransmissionOffset(data []byte, offset int32) ([]byte, error) {
+	var it written
+	status := rtpw_write_transmission_offset(offset, &it.data[0], uintptr(len(it.data)), &it.n)
+	return it.after(data, status)
+}
+
+func readFrameMarking(data []byte) (FrameMarking, error) {
+	var marking FrameMarking
+	status := rtpw_read_frame_marking(first(data), uintptr(len(data)), marking.c())
+	return marking, errorOf(status)
+}
+
+func appendFrameMarking(data []byte, marking *FrameMarking) ([]byte, error) {
+	var it written
+	status := rtpw_write_frame_marking(marking.c(), &it.data[0], uintptr(len(it.data)), &it.n)
+	return it.after(data, status)
+}
+
+func readOrientation(data []byte) (Orientation, error) {
+	var orientation Orientation
+	status := rtpw_read_orientation(first(data), uintptr(len(data)), orientation.c())
+	return orientation, errorOf(status)
+}
+
+func appendOrientation(data []byte, orientation *Orientation) ([]byte, error) {
+	var it written
+	status := rtpw_write_orientation(orientation.c(), &it.data[0], uintptr(len(it.data)), &it.n)
+	return it.after(data, status)
+}
+
+func isToken(data []byte) bool {
+	return rtpw_is_token(first(data), uintptr(len(data)))
+}
+
+func isStreamID(data []byte) bool {
+	return rtpw_is_stream_id(first(data), uintptr(len(data)))
+}
+
+func readTiming(data []byte) (Timing, error) {
+	var timing Timing
+	status := rtpw_read_timing(first(data), uintptr(len(data)), timing.c())
+	return timing, errorOf(status)
+}
+
+func appendTiming(data []byte, timing *Timing) ([]byte, error) {
+	var it written
+	status := rtpw_write_timing(timing.c(), &it.data[0], uintptr(len(it.data)), &it.n)
+	return it.after(data, status)
+}
+
+func readTransportNumber(data []byte) (TransportNumber, error) {
+	var number TransportNumber
+	status := rtpw_read_transport_number(first(data), uintptr(len(data)), number.c())
+	return number, errorOf(status)
+}
+
+func appendTransportNumber(data []byte, number *TransportNumber) ([]byte, error) {
+	var it written
+	status := rtpw_write_transport_number(number.c(), &it.data[0], uintptr(len(it.data)), &it.n)
+	return it.after(data, status)
+}
+
+func readMixerLevel(data []byte, csrcCount int, index int) (int8, error) {
+	var level int8
+	status := rtpw_read_mixer_level(first(data), uintptr(len(data)), uintptr(csrcCount), uintptr(index), &level)
+	return level, errorOf(status)
+}
+
+func writeMixerLevels(levels []int8, buf []byte) (int, error) {
+	var n uintptr
+	status := rtpw_write_mixer_levels(firstInt8(levels), uintptr(len(levels)), first(buf), uintptr(len(buf)), &n)
+	return int(n), errorOf(status)
+}
+
+func readNTP64(data []byte) (uint64, error) {
+	var time uint64
+	status := rtpw_read_ntp_64(first(data), uintptr(len(data)), &time)
+	return time, errorOf(status)
+}
+
+func appendNTP64(data []byte, time uint64) ([]byte, error) {
+	var it written
+	status := rtpw_write_ntp_64(time, &it.data[0], uintptr(len(it.data)), &it.n)
+	return it.after(data, status)
+}
+
+func readNTP56(data []byte) (uint64, error) {
+	var time uint64
+	status := rtpw_read_ntp_56(first(data), uintptr(len(data)), &time)
+	return time, errorOf(status)
+}
+
+func appendNTP56(data []byte, time uint64) ([]byte, error) {
+	var it written
+	status := rtpw_write_ntp_56(time, &it.data[0], uintptr(len(it.data)), &it.n)
+	return it.after(data, status)
+}
+
+func extendNTP56(around uint64, low uint64) uint64 {
+	return rtpw_extend_ntp_56(around, low)
+}
+
+func readColorSpace(data []byte) (ColorSpace, error) {
+	var space ColorSpace
+	status := rtpw_read_color_space(first(data), uintptr(len(data)), space.c())
+	return space, errorOf(status)
+}
+
+func appendColorSpace(data []byte, space *ColorSpace) ([]byte, error) {
+	var it written
+	status := rtpw_write_color_space(space.c(), &it.data[0], uintptr(len(it.data)), &it.n)
+	return it.after(data, status)
+}
+
+func readDependencyDescriptor(data []byte) (DependencyDescriptor, error) {
+	var descriptor DependencyDescriptor
+	status := rtpw_read_dependency_descriptor(first(data), uintptr(len(data)), descriptor.c())
+	return descriptor, errorOf(status)
+}
+
+func appendDependencyDescriptor(data []byte, descriptor *DependencyDescriptor) ([]byte, error) {
+	var it written
+	status := rtpw_write_dependency_descriptor(descriptor.c(), &it.data[0], uintptr(len(it.data)), &it.n)
+	return it.after(data, status)
+}
+
+func hasStructure(data []byte) bool {
+	return rtpw_has_structure(first(data), uintptr(len(data)))
+}
+
+func newIDsBetween(from *Map, to *Map, ids *NewIDs) {
+	rtpw_new_ids_between(from.orNone().c(), to.orNone().c(), ids.c())
+}
+
+func renumber(datagram []byte, ids *NewIDs) error {
+	return errorOf(rtpw_renumber(first(datagram), uintptr(len(datagram)), ids.c()))
+}
+
+func pad(datagram []byte, headerLen int, padLen uint8, blockSize int) (int, error) {
+	var count uintptr
+	status := rtpw_pad(first(datagram), uintptr(len(datagram)), uintptr(headerLen), padLen, uintptr(blockSize), &count)
+	return int(count), errorOf(status)
+}
+
+func readOriginal(payload []byte) (uint16, error) {
+	var number uint16
+	status := rtpw_read_original(first(payload), uintptr(len(payload)), &number)
+	return number, errorOf(status)
+}
+
+func writeOriginal(payload []byte, number uint64) error {
+	return errorOf(rtpw_write_original(first(payload), uintptr(len(payload)), number))
+}
+
+func newIDsToRetransmission(m *Map, ids *NewIDs) {
+	rtpw_new_ids_to_retransmission(m.orNone().c(), ids.c())
+}
+
+func newIDsFromRetransmission(m *Map, ids *NewIDs) {
+	rtpw_new_ids_from_retransmission(m.orNone().c(), ids.c())
+}
+
+func toRetransmission(buf []byte, length int, ssrc uint32, payloadType uint8, number uint16, ids *NewIDs) ([]byte, error) {
+	n := uintptr(length)
+	status := rtpw_to_retransmission(first(buf), uintptr(len(buf)), &n, ssrc, payloadType, number, ids.c())
+	return upTo(buf, n, status)
+}
+
+func fromRetransmission(buf []byte, length int, ssrc uint32, payloadType uint8, ids *NewIDs) ([]byte, error) {
+	n := uintptr(length)
+	status := rtpw_from_retransmission(first(buf), uintptr(len(buf)), &n, ssrc, payloadType, ids.c())
+	return upTo(buf, n, status)
+}
+
+func receiverStart(receiver *Receiver, rolloverCount uint64) error {
+	return errorOf(rtpw_receiver_start(receiver.c(), rolloverCount))
+}
+
+func receiverNumberOf(receiver *Receiver, sequenceNumber uint16) uint64 {
+	return rtpw_receiver_number_of(receiver.c(), sequenceNumber)
+}
+
+func receiverAccepts(receiver *Receiver, number uint64) bool {
+	return rtpw_receiver_accepts(receiver.c(), number)
+}
+
+func receiverRecord(receiver *Receiver, number uint64) {
+	rtpw_receiver_record(receiver.c(), number)
+}
+
+func receiverReceive(receiver *Receiver, sequenceNumber uint16) (uint64, error) {
+	var number uint64
+	status := rtpw_receiver_receive(receiver.c(), sequenceNumber, &number)
+	return number, errorOf(status)
+}
+
+func receiverStandingOf(receiver *Receiver, number uint64) uint8 {
+	return rtpw_receiver_standing_of(receiver.c(), number)
+}
+
+func wideReceiverStart(receiver *wideState, rolloverCount uint64) error {
+	return errorOf(rtpw_wide_receiver_start(receiver.c(), rolloverCount))
+}
+
+func wideReceiverNumberOf(receiver *wideState, sequenceNumber uint16) uint64 {
+	return rtpw_wide_receiver_number_of(receiver.c(), sequenceNumber)
+}
+
+func wideReceiverAccepts(receiver *wideState, words []uint64, number uint64) bool {
+	return rtpw_wide_receiver_accepts(receiver.c(), firstUint64(words), uintptr(len(words)), number)
+}
+
+func wideReceiverRecord(receiver *wideState, words []uint64, number uint64) error {
+	return errorOf(rtpw_wide_receiver_record(receiver.c(), firstUint64(words), uintptr(len(words)), number))
+}
+
+func wideReceiverReceive(receiver *wideState, words []uint64, sequenceNumber uint16) (uint64, error) {
+	var number uint64
+	status := rtpw_wide_receiver_receive(receiver.c(), firstUint64(words), uintptr(len(words)), sequenceNumber, &number)
+	return number, errorOf(status)
+}
+
+func wideReceiverStandingOf(receiver *wideState, words []uint64, number uint64) uint8 {
+	return rtpw_wide_receiver_standing_of(receiver.c(), firstUint64(words), uintptr(len(words)), number)
+}
+
+func receptionRecord(reception *ReceptionStatistics, number uint64, timestamp uint32, arrival uint32) {
+	rtpw_reception_record(reception.c(), number, timestamp, arrival)
+}
+
+func receptionReport(reception *ReceptionStatistics) (ReceptionReport, error) {
+	var report ReceptionReport
+	status := rtpw_reception_report(reception.c(), report.c())
+	return report, errorOf(status)
+}
+
+func appendReport(data []byte, report *ReceptionReport, ssrc uint32, lastReport uint32, delay uint32) ([]byte, error) {
+	var it written
+	status := rtpw_write_report(report.c(), ssrc, lastReport, delay, &it.data[0], uintptr(len(it.data)), &it.n)
+	return it.after(data, status)
+}
+
+func wideRestartingReceive(receiver *rtpw_wide_restarting_receiver, words []uint64, sequenceNumber uint16) (uint64, int32) {
+	var number uint64
+	status := rtpw_wide_restarting_receive(receiver, firstUint64(words), uintptr(len(words)), sequenceNumber, &number)
+	return number, status
+}
+
+func extendU8(previous uint64, number uint8) uint64 {
+	return rtpw_extend_u8(previous, number)
+}
+
+func extendU15(previous uint64, number uint16) uint64 {
+	return rtpw_extend_u15(previous, number)
+}
+
+func extendU16(previous uint64, number uint16) uint64 {
+	return rtpw_extend_u16(previous, number)
+}
+
+func extendU32(previous uint64, number uint32) uint64 {
+	return rtpw_extend_u32(previous, number)
+}
+
+func packetParseMany(buf []byte, datagrams []datagram) {
+	rtpw_packet_parse_many(first(buf), uintptr(len(buf)), firstDatagram(datagrams), uintptr(len(datagrams)))
+}
+
+func parseMany(buf []byte, m *Map, datagrams []datagramHeader) {
+	rtpw_parse_many(first(buf), uintptr(len(buf)), m.orNone().c(), firstDatagramHeader(datagrams), uintptr(len(datagrams)))
+}
+
+func receiveMany(receivers []Receiver, arrivals []arrival) {
+	rtpw_receive_many(firstReceiver(receivers), uintptr(len(receivers)), firstArrival(arrivals), uintptr(len(arrivals)))
+}
+
+func prepareGroup(ids *NewIDs, elements []Place, allowed Forms, group *PreparedGroup) error {
+	return errorOf(rtpw_prepare_group(ids.c(), firstElement(elements), uintptr(len(elements)), uint8(allowed), group.c()))
+}
+
+func makeFromGroup(group *PreparedGroup, datagram []byte, buf []byte, made *template) int32 {
+	return rtpw_make_from_group(group.c(), first(datagram), uintptr(len(datagram)), first(buf), uintptr(len(buf)), made.c())
+}
+
+func nextElements(body []byte, form Form, at int, elements []Place) int {
+	return int(rtpw_next_elements(first(body), uintptr(len(body)), uint8(form), uintptr(at), firstElement(elements), uintptr(len(elements))))
+}

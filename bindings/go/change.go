@@ -147,7 +147,7 @@ func PutBlockIn(buf []byte, length int, profile uint16, body []byte) ([]byte, er
 // first ones of the datagram: the payload moves to the end of the CSRC list. Without a block nothing changes. So the
 // block of no words goes that [RemoveElement] and Compact leave. A header alone is enough.
 func RemoveBlock(datagram []byte) ([]byte, error) {
-	return removeBlock(datagram)
+	return removeBlock(datagram, len(datagram))
 }
 
 // Compact makes the packet as short as its elements allow, and returns the bytes that it then has, the first ones of
@@ -155,7 +155,7 @@ func RemoveBlock(datagram []byte) ([]byte, error) {
 // Elements of the id 0 go, and so does what stands where reading ends; a block of another form stays. So
 // [RemoveElement] and then this gives bytes back. A header alone is enough.
 func Compact(datagram []byte) ([]byte, error) {
-	return compact(datagram)
+	return compact(datagram, len(datagram))
 }
 
 // Pad makes a packet of padding alone after its header: it sets P, and writes the padding from headerLen on, zeros and
@@ -215,5 +215,5 @@ func FromRetransmissionIn(buf []byte, length int, ssrc uint32, payloadType uint8
 // LibraryVersion is the version of the library that is linked: 65,536 times its major number, 256 times the minor
 // one, and the patch.
 func LibraryVersion() uint32 {
-	return libraryVersion()
+	return version()
 }

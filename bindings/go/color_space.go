@@ -55,7 +55,7 @@ type ColorSpace struct {
 // samples from left to right. The high two bits of the fourth byte are not looked at. It returns ErrBadField where
 // there are neither four nor 28 bytes, or a siting is 3.
 func ParseColorSpace(data []byte) (ColorSpace, error) {
-	return parseColorSpace(data)
+	return readColorSpace(data)
 }
 
 // Append appends the data of the color space: four bytes, or 28 with HDR metadata. It returns ErrBadField where the
@@ -70,5 +70,5 @@ func (c ColorSpace) Append(data []byte) ([]byte, error) {
 			return data, err
 		}
 	}
-	return c.append(data)
+	return appendColorSpace(data, &c)
 }

@@ -93,5 +93,5 @@ func (p *Packet) Element(id uint8) (data []byte, ok bool) {
 // It returns ErrBadField where the form is none of the two or can't carry one of them, or one has bytes past the end
 // of data; and else ErrShortBuffer. Nothing is written then.
 func WriteElements(buf []byte, form Form, data []byte, places []Place) (int, error) {
-	return writeElements(buf, form, data, places)
+	return writeElements(data, places, form, buf)
 }

@@ -66,7 +66,7 @@ func (h *Header) SetCSRC(sources []uint32) error {
 
 // WireLen is how many bytes WriteInto writes: a multiple of 4. It returns ErrBadField as WriteInto does.
 func (h *Header) WireLen(m *Map) (int, error) {
-	return h.wireLen(m)
+	return wireLen(m, h)
 }
 
 // WriteInto writes the header to the front of the buffer, and returns how many bytes it took: the payload follows there.
@@ -79,12 +79,12 @@ func (h *Header) WireLen(m *Map) (int, error) {
 // It returns ErrBadField where the payload type is above 127, the orientation none of the four, or the audio level none
 // of -127 to 0, and else ErrShortBuffer where the buffer has too few bytes; nothing is written then.
 func (h *Header) WriteInto(buf []byte, m *Map) (int, error) {
-	return h.write(buf, m)
+	return write(m, h, buf)
 }
 
 // WireLenLayers is how many bytes WriteLayers writes: a multiple of 4. It returns ErrBadField as WriteLayers does.
 func (h *Header) WireLenLayers(m *Map, layers *Layers) (int, error) {
-	return h.wireLenLayers(m, layers)
+	return wireLenLayers(m, h, layers)
 }
 
 // WriteLayers writes the header as WriteInto does, and these layers, in an element for each id that means KindLayers: so
@@ -94,7 +94,7 @@ func (h *Header) WireLenLayers(m *Map, layers *Layers) (int, error) {
 // above 0 without a stream; a rate is 2^63 or more; a width or height is 0; there is a resolution of a layer that isn't
 // active, or behind an active layer without one; or they take more than 255 bytes.
 func (h *Header) WriteLayers(buf []byte, m *Map, layers *Layers) (int, error) {
-	return h.writeLayers(buf, m, layers)
+	return writeLayers(m, h, layers, buf)
 }
 
 // LeftOut is the kinds of which there is a value that WriteInto leaves out: all that are there where HasExtension is false,
@@ -104,13 +104,15 @@ func (h *Header) WriteLayers(buf []byte, m *Map, layers *Layers) (int, error) {
 // form are no part of a header. To send a packet on with all of its elements, change it where it lies ([Fields],
 // [Renumber]).
 func (h *Header) LeftOut(m *Map) (KindSet, error) {
-	return h.leftOut(m)
+	kinds, err := leftOut(m, h)
+	return KindSet(kinds), err
 }
 
 // LeftOutLayers is the same where WriteLayers writes: these layers are left out where HasExtension is false or KindLayers
 // isn't mapped.
 func (h *Header) LeftOutLayers(m *Map, layers *Layers) (KindSet, error) {
-	return h.leftOutLayers(m, layers)
+	kinds, err := leftOutLayers(m, h, layers)
+	return KindSet(kinds), err
 }
 
 // WriteAll writes the header as WriteInto does, where no value is left out. It returns the errors of WriteInto; and after
@@ -118,7 +120,7 @@ func (h *Header) LeftOutLayers(m *Map, layers *Layers) (KindSet, error) {
 // doesn't see elements that have no value, as LeftOut doesn't: of a packet that was read they aren't written, and no error
 // says so.
 func (h *Header) WriteAll(buf []byte, m *Map) (int, error) {
-	kinds, err := h.leftOut(m)
+	kinds, err := h.LeftOut(m)
 	if err != nil {
 		return 0, err
 	}
@@ -131,14 +133,14 @@ func (h *Header) WriteAll(buf []byte, m *Map) (int, error) {
 // WriteAllLayers writes the header as WriteLayers does, where no value is left out. It returns the errors of WriteLayers,
 // and a *[LeftOutError] as WriteAll does.
 func (h *Header) WriteAllLayers(buf []byte, m *Map, layers *Layers) (int, error) {
-	kinds, err := h.leftOutLayers(m, layers)
+	kinds, err := h.LeftOutLayers(m, layers)
 	if err != nil {
 		return 0, err
 	}
 	if kinds != 0 {
 		return 0, &LeftOutError{kinds}
 	}
-	return h.writeLayers(buf, m, layers)
+	return writeLayers(m, h, layers, buf)
 }
 
 // WriteWith writes the header with a block of these elements, whatever HasExtension and Values hold, and returns how
@@ -149,7 +151,7 @@ func (h *Header) WriteAllLayers(buf []byte, m *Map, layers *Layers) (int, error)
 // bytes past the end of data, or all of them are too long for a block; and else ErrShortBuffer. Nothing is written
 // then.
 func (h *Header) WriteWith(buf, data []byte, places []Place) (int, error) {
-	return h.writeWith(buf, NoBlock, data, places)
+	return writeWithForm(h, data, places, NoBlock, buf)
 }
 
 // WriteWithForm writes as WriteWith does, in this form alone, for a peer that hasn't agreed to both forms in one
@@ -160,7 +162,7 @@ func (h *Header) WriteWithForm(buf []byte, form Form, data []byte, places []Plac
 	if form == NoBlock {
 		return 0, ErrBadField
 	}
-	return h.writeWith(buf, form, data, places)
+	return writeWithForm(h, data, places, form, buf)
 }
 
 // WireLenWith is how many bytes WriteWith writes: a multiple of 4. It returns ErrBadField as WriteWith does.
@@ -177,7 +179,7 @@ func (h *Header) WireLenWithForm(form Form, data []byte, places []Place) (int, e
 }
 
 func (h *Header) wireLenWith(form Form, data []byte, places []Place) (int, error) {
-	_, err := h.writeWith(nil, form, data, places)
+	_, err := writeWithForm(h, data, places, form, nil)
 	if err != ErrShortBuffer {
 		return 0, err
 	}

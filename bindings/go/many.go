@@ -179,7 +179,7 @@ func (b *PacketBatch) Add(at, length int) {
 // keeps the buffer until it reads another one or is Reset.
 func (b *PacketBatch) Parse(buf []byte) {
 	b.buf, b.read = buf, b.given
-	parsePackets(buf, b.read)
+	packetParseMany(buf, b.read)
 }
 
 // Len is how many datagrams the last Parse read; 0 after a Reset.

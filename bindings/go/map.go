@@ -71,14 +71,14 @@ func (k Kind) String() string {
 // KindOfURI is the kind that this URI names in SDP (RFC 8285, 5), letter for letter; KindNone where the library doesn't
 // know it, as where it is misspelled: [Map.SetURI] has a kind for it too.
 func KindOfURI(uri string) Kind {
-	return kindOfURI([]byte(uri))
+	return Kind(kindOfURI([]byte(uri)))
 }
 
 // URI is the URI that names the kind in SDP (RFC 8285, 5), as an answer says it: "" for KindNone, and for yours, whose
 // URIs [OwnURIs.URI] tells.
 func (k Kind) URI() string {
 	var buf [87]byte // the longest has as many
-	n, err := k.uri(buf[:])
+	n, err := uriOfKind(k, buf[:])
 	if err != nil {
 		return ""
 	}
@@ -96,14 +96,14 @@ type Map struct {
 // repaired rid, 13 video orientation.
 func StandardMap() *Map {
 	m := new(Map)
-	m.standard()
+	mapStandard(m)
 	return m
 }
 
 // Set makes the id mean the kind from now on. It returns ErrBadField, and changes nothing, where the id is 0, or the kind
 // is KindNone, as of a URI that [KindOfURI] doesn't know, or one of 21 to 127.
 func (m *Map) Set(id uint8, kind Kind) error {
-	err := m.set(id, kind)
+	err := mapSet(m, id, kind)
 	m.letGo()
 	return err
 }
@@ -149,7 +149,7 @@ func (m *Map) Get(id uint8) Kind {
 
 // IDOf is the lowest id that means the kind: that of the element to set, say. It is 0 where none means it.
 func (m *Map) IDOf(kind Kind) uint8 {
-	return m.idOf(kind)
+	return idOf(m, kind)
 }
 
 // NewIDs says which ids elements get where a packet goes from one map to another. In the zero NewIDs none gets
@@ -165,7 +165,7 @@ func NewIDsBetween(from, to *Map) *NewIDs {
 		from = from.withoutOwn()
 	}
 	n := new(NewIDs)
-	n.between(from, to)
+	newIDsBetween(from, to, n)
 	return n
 }
 
@@ -185,7 +185,7 @@ func (m *Map) withoutOwn() *Map {
 // the second get none. Every other id keeps itself, and so does each where the map hasn't both.
 func NewIDsToRetransmission(m *Map) *NewIDs {
 	n := new(NewIDs)
-	n.toRetransmission(m)
+	newIDsToRetransmission(m, n)
 	return n
 }
 
@@ -193,7 +193,7 @@ func NewIDsToRetransmission(m *Map) *NewIDs {
 // id of KindRID, and the ids of that get none.
 func NewIDsFromRetransmission(m *Map) *NewIDs {
 	n := new(NewIDs)
-	n.fromRetransmission(m)
+	newIDsFromRetransmission(m, n)
 	return n
 }
 

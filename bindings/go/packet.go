@@ -50,7 +50,7 @@ type PacketFields struct {
 //
 // It returns the first Cause for which the datagram is no packet; nothing changes then.
 func (p *PacketFields) Parse(datagram []byte) error {
-	return errorOf(rtpw_packet_parse(first(datagram), size(datagram), p.c()))
+	return errorOf(rtpw_packet_parse(first(datagram), uintptr(len(datagram)), p.c()))
 }
 
 // HeaderLen is how many bytes the header takes: 12 to 262,216.

@@ -23,7 +23,7 @@ type PreparedGroup struct {
 // bytes of data, or two have one id; and [ErrBadID] where one has the id 0.
 func (g *Group) Prepare() (*PreparedGroup, error) {
 	prepared := new(PreparedGroup)
-	if err := prepared.prepare(g); err != nil {
+	if err := prepareGroup(g.ids(), g.Elements, g.Allowed, prepared); err != nil {
 		return nil, err
 	}
 	return prepared, nil
@@ -50,16 +50,16 @@ func (b *RouteBatch) RoutePrepared(datagram []byte, group *PreparedGroup, data, 
 	b.buf, b.written = nil, nil
 	status := b.own.makePrepared(datagram, group)
 	if status == statusOK {
-		status = writeHeaders(&b.own, data, b.given, buf)
+		status = b.own.writeAll(data, b.given, buf)
 	}
 	return b.ended(buf, status)
 }
 
 // makePrepared makes the header, where the buffer is too short in one that isn't.
 func (t *HeaderTemplate) makePrepared(datagram []byte, group *PreparedGroup) int32 {
-	status := t.makeFrom(datagram, group)
+	status := makeFromGroup(group, datagram, t.buf, &t.made)
 	for status == statusShortBuffer && t.grow(datagram, int(group.count)) {
-		status = t.makeFrom(datagram, group)
+		status = makeFromGroup(group, datagram, t.buf, &t.made)
 	}
 	return status
 }

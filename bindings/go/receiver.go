@@ -23,7 +23,7 @@ type Receiver struct {
 // signalled, or 0. It returns ErrBadField where the count is 2^48 or more.
 func NewReceiver(rolloverCount uint64) (*Receiver, error) {
 	r := new(Receiver)
-	if err := r.start(rolloverCount); err != nil {
+	if err := receiverStart(r, rolloverCount); err != nil {
 		return nil, err
 	}
 	return r, nil
@@ -37,7 +37,10 @@ func NewReceiver(rolloverCount uint64) (*Receiver, error) {
 // old to tell: then only p is changed, to what was read. A stream with payload types 64 to 95, on a port of its own, is
 // read by [Packet.Parse] and then judged by its number: [Receiver.Receive].
 func (r *Receiver) ReceivePacket(datagram []byte, m *Map, p *Packet) (uint64, error) {
-	return r.receivePacket(datagram, m, p)
+	if err := p.read(datagram, m); err != nil {
+		return 0, err
+	}
+	return receiverReceive(r, p.header.SequenceNumber)
 }
 
 // CheckPacket reads the packet that the datagram is ([Packet.ParseMuxed]), and tests whether it may be taken: it
@@ -49,13 +52,20 @@ func (r *Receiver) ReceivePacket(datagram []byte, m *Map, p *Packet) (uint64, er
 // the number is told too. A stream with payload types 64 to 95, on a port of its own, is read by [Packet.Parse], and
 // [Receiver.NumberOf] and [Receiver.Accepts] check its number.
 func (r *Receiver) CheckPacket(datagram []byte, m *Map, p *Packet) (uint64, error) {
-	return r.checkPacket(datagram, m, p)
+	if err := p.read(datagram, m); err != nil {
+		return 0, err
+	}
+	number := r.NumberOf(p.header.SequenceNumber)
+	if !r.Accepts(number) {
+		return number, ErrRefused
+	}
+	return number, nil
 }
 
 // Receive takes a packet that was read already and needn't be authenticated, and returns its extended number. It is
 // not ok, and nothing changes, where the packet is a replay or too old to tell.
 func (r *Receiver) Receive(sequenceNumber uint16) (number uint64, ok bool) {
-	number, err := r.receive(sequenceNumber)
+	number, err := receiverReceive(r, sequenceNumber)
 	return number, err == nil
 }
 
@@ -70,12 +80,12 @@ func (r *Receiver) Highest() (number uint64, ok bool) {
 // NumberOf is the extended sequence number of a packet: the nearest to the highest taken that ends in these 16 bits,
 // and of the first packet the one with the rollover count of the start.
 func (r *Receiver) NumberOf(sequenceNumber uint16) uint64 {
-	return r.numberOf(sequenceNumber)
+	return receiverNumberOf(r, sequenceNumber)
 }
 
 // Accepts is whether the number may be taken.
 func (r *Receiver) Accepts(number uint64) bool {
-	return r.accepts(number)
+	return receiverAccepts(r, number)
 }
 
 // A Standing is what a receiver knows of a number: why it isn't accepted.
@@ -107,33 +117,33 @@ func (s Standing) String() string {
 // r.StandingOf(r.NumberOf(p.SequenceNumber())) says why. Numbers before the first one taken count as new too where the
 // window reaches them: none of them was taken.
 func (r *Receiver) StandingOf(number uint64) Standing {
-	return r.standingOf(number)
+	return Standing(receiverStandingOf(r, number))
 }
 
 // Record records that the number is taken. It is not ok, and nothing changes, where the number isn't accepted.
 func (r *Receiver) Record(number uint64) (ok bool) {
-	ok = r.accepts(number)
-	r.record(number)
+	ok = receiverAccepts(r, number)
+	receiverRecord(r, number)
 	return ok
 }
 
 // Extend16 is the number nearest to the previous one, modulo 2^64, that ends in these 16 bits. Where two are equally
 // near it is the one with the rollover count of the previous one.
 func Extend16(previous uint64, number uint16) uint64 {
-	return extend16(previous, number)
+	return extendU16(previous, number)
 }
 
 // Extend8 is Extend16 of 8 bits.
 func Extend8(previous uint64, number uint8) uint64 {
-	return extend8(previous, number)
+	return extendU8(previous, number)
 }
 
 // Extend15 is Extend16 of 15 bits, as a picture id has: the sixteenth bit of number isn't looked at.
 func Extend15(previous uint64, number uint16) uint64 {
-	return extend15(previous, number)
+	return extendU15(previous, number)
 }
 
 // Extend32 is Extend16 of 32 bits, as a timestamp has.
 func Extend32(previous uint64, number uint32) uint64 {
-	return extend32(previous, number)
+	return extendU32(previous, number)
 }

@@ -39,7 +39,7 @@ type ReceptionReport struct {
 // Record records a packet that came, by its extended sequence number, its timestamp and the time of its arrival: in
 // ticks of the timestamp's clock, from any moment on, modulo 2^32.
 func (s *ReceptionStatistics) Record(number uint64, timestamp, arrival uint32) {
-	s.record(number, timestamp, arrival)
+	receptionRecord(s, number, timestamp, arrival)
 }
 
 // Received is how many packets came.
@@ -61,13 +61,14 @@ func (s *ReceptionStatistics) Expected() uint64 {
 // Report reports on the packets that were recorded, and begins the interval of the next report. It is not ok where none
 // was recorded since the last report, since no report on the source is owed then (6.4).
 func (s *ReceptionStatistics) Report() (report ReceptionReport, ok bool) {
-	return s.report()
+	report, err := receptionReport(s)
+	return report, err == nil
 }
 
 // AppendBlock appends the 24 bytes of the report block on this source (6.4.1). lastReport is LSR, the middle 32 bits of
 // the NTP time of the last sender report, and delay is DLSR, the time since it came in units of 1/65,536 s: both 0
 // where none came yet. A CumulativeLost that 24 bits can't carry is appended as the nearest that they can.
 func (r ReceptionReport) AppendBlock(data []byte, ssrc, lastReport, delay uint32) []byte {
-	data, _ = r.appendBlock(data, ssrc, lastReport, delay)
+	data, _ = appendReport(data, &r, ssrc, lastReport, delay)
 	return data
 }

@@ -245,7 +245,7 @@ func (b *RouteBatch) Write(t *HeaderTemplate, data, buf []byte) error {
 	if t.HeaderLen() == 0 {
 		return ErrBadField
 	}
-	return b.ended(buf, writeHeaders(t, data, b.given, buf))
+	return b.ended(buf, t.writeAll(data, b.given, buf))
 }
 
 // Route makes the header of a packet for a group and writes it for all receivers that were added, as

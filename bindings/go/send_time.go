@@ -16,7 +16,8 @@ func SendTimeOf(t time.Time) SendTime {
 // ParseSendTime reads a send time: FF FF FF is the last unit of the 64 seconds. It returns ErrBadField where there are
 // not three bytes.
 func ParseSendTime(data []byte) (SendTime, error) {
-	return parseSendTime(data)
+	units, err := readSendTime(data)
+	return SendTime(units), err
 }
 
 // Append appends the three bytes of the send time. It returns ErrBadField where it is 2^24 or more.
@@ -24,7 +25,7 @@ func (s SendTime) Append(data []byte) ([]byte, error) {
 	if err := inRange("the send time", int(s), 0, 1<<24-1); err != nil {
 		return data, err
 	}
-	return s.append(data)
+	return appendSendTime(data, uint32(s))
 }
 
 // Estimate is the moment at which the packet was sent that arrived then: of those that have this send time the one that
@@ -33,7 +34,7 @@ func (s SendTime) Append(data []byte) ([]byte, error) {
 // nanoseconds: it is the first one within it, so that its SendTimeOf is this one.
 func (s SendTime) Estimate(arrival time.Time) time.Time {
 	near := ntpOf(arrival)
-	sent := extendSendTime(near, s)
+	sent := extendSendTime(near, uint32(s))
 	seconds := int64(int32(uint32(sent>>32) - uint32(near>>32)))
 	nanoseconds := int64((uint64(uint32(sent))*1e9 + 1<<32 - 1) >> 32)
 	return arrival.Add(time.Duration(seconds*1e9 + nanoseconds - int64(arrival.Nanosecond())))

@@ -35,7 +35,7 @@ func inRange(field string, value, least, most int) error {
 // timestamp the packet was sent, in ticks of the stream's clock, -8,388,608 to 8,388,607 (RFC 5450, 3). FF FF FE is -2.
 // It returns ErrBadField where there are not three bytes. [ReadValues.TransmissionOffset] has str0m's, which are four.
 func ParseTransmissionOffset(data []byte) (ticks int32, err error) {
-	return parseTransmissionOffset(data)
+	return readTransmissionOffset(data)
 }
 
 // AppendTransmissionOffset appends the data of a transmission time offset in ticks of the stream's clock: -2 is
@@ -68,7 +68,7 @@ type FrameMarking struct {
 // layer 1 with BaseLayerSync, the layer 2 and the number 7. Of one byte the low four bits are not looked at. It returns
 // ErrBadField where there are none or more than three bytes.
 func ParseFrameMarking(data []byte) (FrameMarking, error) {
-	return parseFrameMarking(data)
+	return readFrameMarking(data)
 }
 
 // Append appends the data of the marking. It returns ErrBadField where there are layers and the temporal one is above
@@ -79,7 +79,7 @@ func (m FrameMarking) Append(data []byte) ([]byte, error) {
 			return data, err
 		}
 	}
-	return m.append(data)
+	return appendFrameMarking(data, &m)
 }
 
 // A Camera says which way the camera of a video faces.
@@ -102,7 +102,7 @@ type Orientation struct {
 // ParseOrientation reads an orientation: 0D is of the back camera, mirrored, and to be turned by 270 degrees. The high
 // four bits are not looked at. It returns ErrBadField where there is not one byte.
 func ParseOrientation(data []byte) (Orientation, error) {
-	return parseOrientation(data)
+	return readOrientation(data)
 }
 
 // Append appends the data of the orientation. It returns ErrBadField where the turn is none of the four, or the camera
@@ -114,7 +114,7 @@ func (o Orientation) Append(data []byte) ([]byte, error) {
 	if err := inRange("Camera", int(o.Camera), int(FrontCamera), int(BackCamera)); err != nil {
 		return data, err
 	}
-	return o.append(data)
+	return appendOrientation(data, &o)
 }
 
 // ParseToken reads the text of a mid or of a stream id as it lies, to be compared with the SDP's byte by byte: a token
@@ -176,12 +176,12 @@ type Timing struct {
 // ParseTiming reads a timing: 01 00 0A 00 14 00 1E 00 28 00 32 00 3C has the flags 1 and the times 10, 20, 30, 40, 50
 // and 60. It returns ErrBadField where there are neither 12 nor 13 bytes.
 func ParseTiming(data []byte) (Timing, error) {
-	return parseTiming(data)
+	return readTiming(data)
 }
 
 // Append appends the data of the timing: 13 bytes, or 12 without flags.
 func (t Timing) Append(data []byte) []byte {
-	data, _ = t.append(data)
+	data, _ = appendTiming(data, &t)
 	return data
 }
 
@@ -199,7 +199,7 @@ type TransportNumber struct {
 // ParseTransportNumber reads a number: 12 34 80 05 is 0x1234, with a request for five packets with their times. It
 // returns ErrBadField where there are neither two nor four bytes.
 func ParseTransportNumber(data []byte) (TransportNumber, error) {
-	return parseTransportNumber(data)
+	return readTransportNumber(data)
 }
 
 // Append appends the data of the number. It returns ErrBadField where there is a request for more than 32,767 packets.
@@ -209,7 +209,7 @@ func (n TransportNumber) Append(data []byte) ([]byte, error) {
 			return data, err
 		}
 	}
-	return n.append(data)
+	return appendTransportNumber(data, &n)
 }
 
 // ParseMixerLevel reads the audio level of the contributing source at this index of the csrcCount that the packet has
@@ -220,7 +220,7 @@ func ParseMixerLevel(data []byte, csrcCount, index int) (level int8, err error) 
 	if csrcCount < 0 || index < 0 {
 		return 0, ErrBadField
 	}
-	return parseMixerLevel(data, csrcCount, index)
+	return readMixerLevel(data, csrcCount, index)
 }
 
 // AppendMixerLevels appends the levels of a packet's contributing sources, in their order, a byte for each: -127 and
@@ -243,7 +243,7 @@ func AppendMixerLevels(data []byte, levels []int8) ([]byte, error) {
 // ParseNTP64 reads an NTP timestamp of eight bytes (KindNTP64; RFC 6051, 3.3), in units of 2^-32 seconds since 1900. It
 // returns ErrBadField where there are not eight bytes.
 func ParseNTP64(data []byte) (time uint64, err error) {
-	return parseNTP64(data)
+	return readNTP64(data)
 }
 
 // AppendNTP64 appends the eight bytes of the timestamp.
@@ -255,7 +255,7 @@ func AppendNTP64(data []byte, time uint64) []byte {
 // ParseNTP56 reads the low 56 bits of an NTP timestamp, in seven bytes (KindNTP56; RFC 6051, 3.3): [ExtendNTP56] finds
 // the others. It returns ErrBadField where there are not seven bytes.
 func ParseNTP56(data []byte) (low uint64, err error) {
-	return parseNTP56(data)
+	return readNTP56(data)
 }
 
 // AppendNTP56 appends the seven bytes of the low 56 bits of the timestamp.
@@ -284,7 +284,7 @@ type DependencyDescriptor struct {
 // ParseDependencyDescriptor reads the first three bytes: 83 01 02 is the first packet of the frame 258, by the template
 // 3. It returns ErrBadField where there are fewer.
 func ParseDependencyDescriptor(data []byte) (DependencyDescriptor, error) {
-	return parseDependencyDescriptor(data)
+	return readDependencyDescriptor(data)
 }
 
 // Append appends three bytes, which are a whole descriptor. It returns ErrBadField where the template is above 63.
@@ -292,11 +292,11 @@ func (d DependencyDescriptor) Append(data []byte) ([]byte, error) {
 	if err := inRange("TemplateID", int(d.TemplateID), 0, 63); err != nil {
 		return data, err
 	}
-	return d.append(data)
+	return appendDependencyDescriptor(data, &d)
 }
 
 // HasDependencyStructure is whether a dependency descriptor brings a template dependency structure, as that of the
 // first packet of a key frame does: the first bit of its fourth byte is set, if it has one.
 func HasDependencyStructure(data []byte) bool {
-	return hasDependencyStructure(data)
+	return hasStructure(data)
 }

@@ -257,7 +257,7 @@ const MostData = 16
 // can't be written; ErrNotFound where a value that the kind needs isn't there, and always for KindColorSpace
 // ([ColorSpace.Append]), KindLayers, those behind it and your own kinds; ErrShortBuffer. Then nothing changes.
 func (v *ReadValues) DataOf(kind Kind, buf []byte) ([]byte, error) {
-	length, err := v.dataOf(kind, buf)
+	length, err := dataOf(kind, v, buf)
 	if err != nil {
 		return nil, err
 	}

@@ -24,7 +24,7 @@ func NewWideReceiver(words int, rolloverCount uint64) (*WideReceiver, error) {
 		return nil, ErrBadField
 	}
 	r := new(WideReceiver)
-	if err := r.start(rolloverCount); err != nil {
+	if err := wideReceiverStart(&r.state, rolloverCount); err != nil {
 		return nil, err
 	}
 	r.words = make([]uint64, words)
@@ -33,18 +33,28 @@ func NewWideReceiver(words int, rolloverCount uint64) (*WideReceiver, error) {
 
 // ReceivePacket reads the packet that the datagram is, and takes it, as [Receiver.ReceivePacket] does.
 func (r *WideReceiver) ReceivePacket(datagram []byte, m *Map, p *Packet) (uint64, error) {
-	return r.receivePacket(datagram, m, p)
+	if err := p.read(datagram, m); err != nil {
+		return 0, err
+	}
+	return wideReceiverReceive(&r.state, r.words, p.header.SequenceNumber)
 }
 
 // CheckPacket reads the packet that the datagram is, and tests whether it may be taken, as [Receiver.CheckPacket] does.
 func (r *WideReceiver) CheckPacket(datagram []byte, m *Map, p *Packet) (uint64, error) {
-	return r.checkPacket(datagram, m, p)
+	if err := p.read(datagram, m); err != nil {
+		return 0, err
+	}
+	number := r.NumberOf(p.header.SequenceNumber)
+	if !r.Accepts(number) {
+		return number, ErrRefused
+	}
+	return number, nil
 }
 
 // Receive takes a packet that was read already and needn't be authenticated, and returns its extended number. It is
 // not ok, and nothing changes, where the packet is a replay or too old to tell.
 func (r *WideReceiver) Receive(sequenceNumber uint16) (number uint64, ok bool) {
-	number, err := r.receive(sequenceNumber)
+	number, err := wideReceiverReceive(&r.state, r.words, sequenceNumber)
 	return number, err == nil
 }
 
@@ -58,12 +68,12 @@ func (r *WideReceiver) Highest() (number uint64, ok bool) {
 
 // NumberOf is the extended sequence number of a packet, as [Receiver.NumberOf].
 func (r *WideReceiver) NumberOf(sequenceNumber uint16) uint64 {
-	return r.numberOf(sequenceNumber)
+	return wideReceiverNumberOf(&r.state, sequenceNumber)
 }
 
 // Accepts is whether the number may be taken.
 func (r *WideReceiver) Accepts(number uint64) bool {
-	return r.accepts(number)
+	return wideReceiverAccepts(&r.state, r.words, number)
 }
 
 // StandingOf is what is known of the number, as [Receiver.StandingOf]; of the zero WideReceiver it is StandingTooOld.
@@ -71,10 +81,10 @@ func (r *WideReceiver) StandingOf(number uint64) Standing {
 	if len(r.words) == 0 {
 		return StandingTooOld
 	}
-	return r.standingOf(number)
+	return Standing(wideReceiverStandingOf(&r.state, r.words, number))
 }
 
 // Record records that the number is taken. It is not ok, and nothing changes, where the number isn't accepted.
 func (r *WideReceiver) Record(number uint64) (ok bool) {
-	return r.record(number) == nil
+	return wideReceiverRecord(&r.state, r.words, number) == nil
 }

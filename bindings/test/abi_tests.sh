@@ -18,7 +18,7 @@ cp "$here/../c/rtp_wire.h" "$scratch/c"
 "$scratch/test/abi.sh" 2>"$scratch/told" || fail "the same: $(cat "$scratch/told")"
 ! grep 'was left out' "$scratch/told" || exit 0
 [ ! -s "$scratch/told" ] || fail 'what is told of the same'
-sed -e 's/uint8_t id;/uint16_t id;/' -e '/RTPW_REFUSED/s/10,/17,/' -e '/rtpw_set_marker(/s/bool/uint8_t/' \
+sed -e 's/uint8_t id;/uint16_t id;/' -e '/RTPW_REFUSED/s/10,/17,/' -e '/rtpw_set_marker(/,/;/s/bool/uint8_t/' \
     -e 's/^uint32_t rtpw_version(void);/uint32_t rtpw_versions(void);/' -e '/define RTPW_CSRC_AT/s/12/16/' \
     "$here/../c/rtp_wire.h" >"$scratch/c/rtp_wire.h"
 status=0
