@@ -106,10 +106,9 @@ impl KindsById {
             (items_from at.old (drop at.old (take end (slots_of self.now))) ≡ []) }
     {
         for index in *at..end {
-            let id = index as u8 + 1;
-            if let Some(kind) = self.get(id) {
+            if let Some(kind) = self.kinds[index + 1] {
                 *at = index + 1;
-                return Some((id, kind));
+                return Some((index as u8 + 1, kind));
             }
         }
         None
