@@ -17,6 +17,7 @@ pub mod MemoryLemmas
 mod MapLemmas
 pub mod ListingLemmas
 pub mod WalkLemmas
+mod MappedIdLemmas
 mod ReplacedLemmas
 mod ExchangedLemmas
 mod CopiedLemmas

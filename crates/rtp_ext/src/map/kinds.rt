@@ -6,16 +6,16 @@ use crate::{MAX_ID_ONE_BYTE_FORM, slots};
 use rtp_values::KnownKind;
 
 impl Kinds for ExtensionMap {
-    ghost use Rattle.std.specs.Prelude.{drop, take, refl};
-    ghost use Rattle.rtp_ext.specs.ExtensionMap.{items_from};
+    ghost use Rattle.std.specs.Prelude.{drop, refl};
     ghost use Rattle.rtp_ext.specs.KindsById.{known_slots};
+    ghost use Rattle.rtp_ext.specs.MapSlots.{items_at, mapped_ids};
 
     ghost slots = { λ map. map };
 
     ghost known = { λ map. known_slots map };
 
-    // A walk ends at the highest mapped id.
-    ghost left = { λ map at end. items_from at (drop at (take end (known_slots map))) };
+    ghost left = { λ map at end. items_at (known_slots map)
+        (drop at (mapped_ids (known_slots map))) };
 
     #[inline(always)]
     fn get(&self, id: u8) -> Option<KnownKind> {
@@ -24,12 +24,14 @@ impl Kinds for ExtensionMap {
 
     #[inline(always)]
     fn walk_end(&self) -> usize {
-        usize::from(self.last)
+        self.kinds.len()
     }
 
     #[inline(always)]
-    fn next(&self, at: &mut usize, end: &mut usize) -> Option<(u8, KnownKind)> {
-        self.kinds.next(at, *end)
+    fn next(&self, at: &mut usize, _end: &mut usize) -> Option<(u8, KnownKind)> {
+        let item = self.kinds.item(*at)?;
+        *at += 1;
+        Some(item)
     }
 
     // An unknown extension too may have an id above 14.
@@ -39,8 +41,8 @@ impl Kinds for ExtensionMap {
     }
 
     #[inline(always)]
-    fn at_most(&self, end: usize) -> usize {
-        end
+    fn at_most(&self, _end: usize) -> usize {
+        self.kinds.len()
     }
 
     fn id_under(&self, other: &Self, id: u8) -> Option<u8> {

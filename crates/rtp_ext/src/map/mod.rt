@@ -178,7 +178,7 @@ impl ExtensionMap {
         ensures none { IfNone result (spec.IsUnmapped self.now ext.now) }
     {
         match ext.known_kind() {
-            Some(kind) => self.kinds.lowest_id(kind, usize::from(self.last)),
+            Some(kind) => self.kinds.lowest_id(kind),
             None => self.lowest_unknown(ext),
         }
     }

@@ -1,10 +1,10 @@
 use Rattle.rtp_ext.proofs.Common.{◌≡◌, arith, rules, sym, ap, same_true, same_false, the_type, extension_of_kind, slots_of}
-use Rattle.rtp_ext.proofs.WalkLemmas.{walk-all}
+use Rattle.rtp_ext.proofs.MappedIdLemmas.{items_at-mapped}
 use Rattle.rtp_ext.proofs.RenamedIdLemmas.{same_kind, AreLeft-start, AreLeft-next, IsLowest-left, IsUnmapped-left}
 use Rattle.rtp_ext.proofs.kinds_by_id.KindsById.lowest_id.Goals as goal
 
 pub loop-id-init : goal.loop-id-init
-loop-id-init c = AreLeft-start (slots_of c.args.self.now) (extension_of_kind c.args.kind) _ (walk-all (slots_of c.args.self.now) _ (search rules))
+loop-id-init c = AreLeft-start (slots_of c.args.self.now) (extension_of_kind c.args.kind) _ (items_at-mapped (slots_of c.args.self.now))
 
 pub returns-then-eq-clause-found : goal.returns-then-eq-clause-found
 returns-then-eq-clause-found c =
@@ -16,6 +16,9 @@ returns-then-eq-clause-valid c =
     let this : c.in-Some.found ≡ c.args.kind = same_true the_type tt _ _ (sym c.if-eq.ensures) in
     let above = (IsLowest-left _ _ _ _ (c.in-Some.id, extension_of_kind c.in-Some.found) c.loop-id.invariant c.in-Some.ensures.some (ap extension_of_kind this)).1 in
     (omega (arith, above), search rules)
+
+pub loop-id-smaller : goal.loop-id-smaller
+loop-id-smaller c = omega (arith, c.in-Some.ensures.within)
 
 pub loop-id-preserved : goal.loop-id-preserved
 loop-id-preserved c =

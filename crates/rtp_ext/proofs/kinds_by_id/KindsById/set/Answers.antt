@@ -25,6 +25,8 @@ invariant_of-self c =
       set-length kinds c.from-2.result c.args.kind c.self.invariant.0,
       set-padding kinds c.from-2.result c.args.kind (omega (arith, c.from-2.ensures, c.if-id-eq0.false)) c.self.invariant.1,
       omega (arith, counted),
+      c.mapped_ids.ensures.ids,
+      c.mapped_ids.ensures.count,
     )
 
 pub returns : goal.returns

@@ -1,12 +1,6 @@
-use Rattle.rtp_ext.proofs.Common.{arith, ap, sym, ◌∙◌, Slots, entry_at, known_slots}
+use Rattle.rtp_ext.proofs.Common.{ap, sym, ◌∙◌, known_slots}
 use Rattle.rtp_ext.proofs.RenamedIdLemmas.{IsLowest-of_kind, IsUnmapped-of_kind}
-use Rattle.rtp_ext.proofs.WalkLemmas.{HasNoIdAbove-known}
 use Rattle.rtp_ext.proofs.map.ExtensionMap.lowest_id.Goals as goal
-
-pub lowest_id-requires-clause-none_above : goal.lowest_id-requires-clause-none_above
-lowest_id-requires-clause-none_above c = λ id above.
-    ap (λ (slots : Slots). entry_at slots id) c.self.invariant.2
-    ∙ HasNoIdAbove-known c.self.inside.slots c.self.inside.last c.self.invariant.1.none_above id (omega (arith, above, c.from.ensures))
 
 pub returns-in-Some-clause-found : goal.returns-in-Some-clause-found
 returns-in-Some-clause-found c = IsLowest-of_kind c.args.self.now _ c.in-Some.kind c.args.ext.now c.lowest_id.result (c.self.invariant.2 ∙ ap known_slots c.self.view_is) (sym c.in-Some.ensures.known) c.lowest_id.ensures.found
