@@ -1,8 +1,6 @@
--- A copy of a map, or of its entries for one medium, made on a walk over the mapped ids.
-use Rattle.rtp_ext.proofs.Common.{◌≡◌, ◌⊎◌, inl, inr, ℕ, zero, suc, ◌+◌, ◌-◌, ◌<◌, ◌≤◌, List, ◌∷◌, length, get_or, set, drop, map, Bool, true, false, Option, Some, None, All, arith, refl, sym, ap, ◌∙◌, subst, length-set, if◌then◌else◌, [], Contains, AllByRecursion, cases_eq, cases_lt, get_or-set_same, get_or-set_other, get_or_past, get_or_default, same_lists, drop_all, All-head, All-tail, drop-cons, Extension, Entry, Slots, IsEmpty, IsId, ListsItems, Sets, entry_at, extension_at, extension_of, is_of_medium, of_medium, unlocked, items_from, IsMapped, mapped_ids}
-use Rattle.rtp_ext.proofs.MapLemmas.{entry_at-slot, entry_at-mapped, entry_at-other}
-use Rattle.rtp_ext.proofs.ListingLemmas.{ListsItems-from_slots, item_or_later}
-use Rattle.rtp_ext.proofs.MappedIdLemmas.{all_mapped}
+-- A copy of a map, or of its entries for one medium, made on a walk.
+use Rattle.rtp_ext.proofs.Common.{◌≡◌, ◌⊎◌, inl, inr, ℕ, zero, suc, ◌+◌, ◌<◌, ◌≤◌, List, ◌∷◌, length, get_or, set, Bool, true, false, Option, Some, None, All, arith, refl, sym, ap, ◌∙◌, subst, length-set, if◌then◌else◌, Contains, cases_eq, cases_lt, get_or-set_same, get_or-set_other, get_or_default, same_lists, All-head, All-tail, Extension, Entry, Slots, IsEmpty, IsId, ListsItems, Sets, entry_at, extension_at, extension_of, is_of_medium, of_medium, unlocked, HasNoIdAbove}
+use Rattle.rtp_ext.proofs.ListingLemmas.{item_or_later}
 
 -- ---- of one medium
 
@@ -75,101 +73,42 @@ IsOfMediumBut-next audio from left more to new item put are is below same sets =
 
 -- ---- of the whole map
 
-id_or_later : (first : ℕ) (left : List ℕ) (id : ℕ) → Contains (first ∷ left) id → (first ≡ id) ⊎ Contains left id
-id_or_later first left id (zero, here, is) = inl is
-id_or_later first left id (suc k, here, is) = inr (k, omega arith, is)
-
--- the entries are in the new map, but for those of the ids that are left
-pub record IsCopiedBut (from : Slots) (left : List ℕ) (to : Slots) : Type 0 where
+-- the entries up to an index are in the new map, and no others yet
+pub record IsCopiedTo (from to : Slots) (passed : ℕ) : Type 0 where
   pub long : length to ≡ length from
-  pub mapped : AllByRecursion (IsMapped from) left
-  pub each : (id : ℕ) → (entry_at to id ≡ entry_at from id) ⊎ Contains left id
+  pub before : (k : ℕ) → k < passed → get_or to k None ≡ get_or from k None
+  pub after : (k : ℕ) → passed ≤ k → get_or to k None ≡ None
 
-listed : (items : List (ℕ × Extension)) (item : ℕ × Extension) → Contains items item → Contains (map (λ i. i.0) items) item.0
-listed [] item (k, here, is) = absurd (omega arith)
-listed (first ∷ items) item (zero, here, is) = (zero, omega arith, ap (λ (i : ℕ × Extension). i.0) is)
-listed (first ∷ items) item (suc k, here, is) =
-    let rest = listed items item (k, omega arith, is) in
-    let within = rest.1 in
-    (suc rest.0, omega arith, rest.2)
-
-pub IsCopiedBut-start : (from : Slots) (left : List ℕ) (to : Slots) → length to ≡ length from → left ≡ mapped_ids from → IsEmpty to → IsCopiedBut from left to
-IsCopiedBut-start from left to long are empty =
-    subst (λ (ids : List ℕ). IsCopiedBut from ids to) (sym are) (record {
-      long = long;
-      mapped = all_mapped from;
-      each = λ id. each id (entry_at from id) refl;
-    })
-  where
-    each : (id : ℕ) (slot : Option Entry) → entry_at from id ≡ slot → (entry_at to id ≡ entry_at from id) ⊎ Contains (mapped_ids from) id
-    each id None is = inl (empty id ∙ sym is)
-    each id (Some entry) is = inr (listed (items_from 0 from) (id, entry.extension) ((ListsItems-from_slots from).all id entry.extension (ap extension_of is) refl))
-
-next_id : (ids : List ℕ) (i n : ℕ) → i < length ids → n ≡ get_or ids i 0 → drop i ids ≡ n ∷ drop (i + 1) ids
-next_id ids i n within is =
-    let after : suc i ≡ i + 1 = omega arith in
-    drop-cons ids i 0 within ∙ ap (λ (id : ℕ). id ∷ drop (suc i) ids) (sym is) ∙ ap (λ (k : ℕ). n ∷ drop k ids) after
-
--- the entry of the next id, as it is read
-pub IsCopiedBut-entry : (from : Slots) (ids : List ℕ) (i : ℕ) (to : Slots) (n : ℕ) (slot : Option Entry) → IsCopiedBut from (drop i ids) to → i < length ids
-    → n ≡ get_or ids i 0 → slot ≡ get_or from (n - 1) slot → entry_at from n ≡ slot
-IsCopiedBut-entry from ids i to n slot are within is read =
-    let mapped = subst (λ (list : List ℕ). AllByRecursion (IsMapped from) list) (next_id ids i n within is) are.mapped in
-    entry_at-mapped from n (n - 1) slot mapped.0 refl read
-
-place_of_mapped : (from : Slots) (id : ℕ) → IsMapped from id → ((id - 1) + 1 ≡ id) × (id - 1 < length from)
-place_of_mapped from zero mapped = let found = mapped.1 in cc
-place_of_mapped from (suc k) mapped = (
-  omega arith,
-  elim (cases_lt k (length from)) [
-    | inl here ↦ omega arith
-    | inr past ↦ let found = sym (get_or_past from k None past) ∙ mapped.1 in cc
-  ],
-)
-
--- the next entry is copied
-pub IsCopiedBut-next : (from : Slots) (ids : List ℕ) (i : ℕ) (to : Slots) (n : ℕ) (slot copy : Option Entry) → IsCopiedBut from (drop i ids) to → i < length ids
-    → n ≡ get_or ids i 0 → slot ≡ get_or from (n - 1) slot → copy ≡ slot → IsCopiedBut from (drop (i + 1) ids) (set to (n - 1) copy)
-IsCopiedBut-next from ids i to n slot copy are within is read same = record {
-  long = length-set to (n - 1) copy ∙ whole.long;
-  mapped = whole.mapped.1;
-  each = λ k. elim (cases_eq k n) [
-    | inl here ↦ inl (subst (λ (id : ℕ). entry_at (set to (n - 1) copy) id ≡ entry_at from id) (sym here)
-        (entry_at-slot (set to (n - 1) copy) (n - 1) n place.0
-        ∙ get_or-set_same to (n - 1) copy None (omega (arith, place.1, whole.long)) ∙ same ∙ sym (IsCopiedBut-entry from ids i to n slot are within is read)))
-    | inr other ↦ elim (whole.each k) [
-      | inl there ↦ inl (entry_at-other to (set to (n - 1) copy) (n - 1) n place.0 (λ j apart. get_or-set_other to (n - 1) j copy None apart) k other ∙ there)
-      | inr waits ↦ elim (id_or_later n (drop (i + 1) ids) k waits) [
-        | inl this ↦ absurd (other (sym this))
-        | inr later ↦ inr later
-      ]
-    ]
-  ];
+pub IsCopiedTo-start : (from to : Slots) → length to ≡ length from → IsEmpty to → IsCopiedTo from to 0
+IsCopiedTo-start from to long empty = record {
+  long = long;
+  before = λ k below. absurd (omega (arith, below));
+  after = λ k above. empty (suc k);
 }
+
+-- the next one is copied
+pub IsCopiedTo-next : (from to : Slots) (passed : ℕ) (copy : Option Entry) → IsCopiedTo from to passed → passed < length from
+    → copy ≡ get_or from passed None → IsCopiedTo from (set to passed copy) (passed + 1)
+IsCopiedTo-next from to passed copy are within same = record {
+  long = length-set to passed copy ∙ are.long;
+  before = λ k below. elim (cases_eq k passed) [
+    | inl here ↦
+        ap (λ (i : ℕ). get_or (set to passed copy) i None) here ∙ get_or-set_same to passed copy None (omega (arith, within, are.long))
+        ∙ same ∙ ap (λ (i : ℕ). get_or from i None) (sym here)
+    | inr other ↦ get_or-set_other to passed k copy None other ∙ are.before k (omega (arith, below, other))
+  ];
+  after = λ k above. get_or-set_other to passed k copy None (λ here. omega (arith, above, here)) ∙ are.after k (omega (arith, above));
+}
+
+-- all are, as none stands behind
+pub IsCopiedTo-end : (from to : Slots) (last passed : ℕ) → IsCopiedTo from to passed → HasNoIdAbove last from → last ≤ passed → to ≡ from
+IsCopiedTo-end from to last passed are none past = same_lists to from are.long each
   where
-    whole : IsCopiedBut from (n ∷ drop (i + 1) ids) to
-    whole = subst (λ (list : List ℕ). IsCopiedBut from list to) (next_id ids i n within is) are
-
-    place : ((n - 1) + 1 ≡ n) × (n - 1 < length from)
-    place = place_of_mapped from n whole.mapped.0
-
--- all are
-pub IsCopiedBut-end : (from : Slots) (ids : List ℕ) (i : ℕ) (to : Slots) → IsCopiedBut from (drop i ids) to → length ids ≤ i → to ≡ from
-IsCopiedBut-end from ids i to are past = same_lists to from are.long each
-  where
-    none_left : drop i ids ≡ []
-    none_left = drop_all i ids past
-
-    there : (id : ℕ) → entry_at to id ≡ entry_at from id
-    there id = elim (are.each id) [
-      | inl same ↦ same
-      | inr waits ↦
-          let found = subst (λ (list : List ℕ). Contains list id) none_left waits in
-          let within = found.1 in
-          absurd (omega arith)
+    there : (k : ℕ) → get_or to k None ≡ get_or from k None
+    there k = elim (cases_lt k passed) [
+      | inl below ↦ are.before k below
+      | inr above ↦ are.after k above ∙ sym (none (suc k) (omega (arith, above, past)))
     ]
 
     each : (k : ℕ) (d : Option Entry) → k < length to → get_or to k d ≡ get_or from k d
-    each k d here =
-        sym (get_or_default to k None d here) ∙ sym (entry_at-slot to k (k + 1) refl) ∙ there (k + 1) ∙ entry_at-slot from k (k + 1) refl
-        ∙ get_or_default from k None d (omega (arith, here, are.long))
+    each k d here = sym (get_or_default to k None d here) ∙ there k ∙ get_or_default from k None d (omega (arith, here, are.long))

@@ -1,5 +1,5 @@
 -- The known extensions by their ids: what a table of kinds shows, and what the known extensions of a map read.
-use Rattle.rtp_ext.proofs.Common.{◌≡◌, ℕ, ◌+◌, ◌-◌, suc, zero, List, [], ◌∷◌, length, map, replicate, set, get_or, Option, Some, None, All, arith, ap, refl, sym, ◌∙◌, subst, get_or-map, map-set, Extension, UnknownUri, VideoLayersAllocation, KnownKind, ExtensionValues, IsKnown, IsWellFormed, one_kind, Element, Entry, Slots, IsEmpty, IsId, entry_at, extension_at, extension_of, entry_of_kind, slots_of, known_alone, known_entry, known_slots, IsMapped, Carries, AreFields, last, none, AreValues, ReadElements, HasAllocation, ReadUntilRefused, All-weaker}
+use Rattle.rtp_ext.proofs.Common.{option_map, extension_of_kind, ◌≡◌, ℕ, ◌+◌, ◌-◌, suc, zero, List, [], ◌∷◌, length, map, replicate, set, get_or, Option, Some, None, All, arith, ap, refl, sym, ◌∙◌, subst, get_or-map, map-set, Extension, UnknownUri, VideoLayersAllocation, KnownKind, ExtensionValues, IsKnown, IsWellFormed, one_kind, Element, Entry, Slots, IsEmpty, IsId, entry_at, extension_at, extension_of, entry_of_kind, slots_of, known_alone, known_entry, known_slots, IsMapped, Carries, AreFields, last, none, AreValues, ReadElements, HasAllocation, ReadUntilRefused, All-weaker}
 use Rattle.rtp_ext.proofs.MapLemmas.{entry_at-map}
 
 -- ---- the table
@@ -8,6 +8,19 @@ use Rattle.rtp_ext.proofs.MapLemmas.{entry_at-map}
 pub entry_at-kinds : (kinds : List (Option KnownKind)) (k : ℕ) → entry_at (slots_of kinds) (suc k) ≡ entry_of_kind (get_or kinds (suc k) None)
 entry_at-kinds [] k = refl
 entry_at-kinds (kind ∷ kinds) k = get_or-map entry_of_kind kinds k None
+
+-- the extension of an id, by its kind
+pub kind_at : (kinds : List (Option KnownKind)) (k : ℕ) (kind : Option KnownKind) → get_or kinds (k + 1) None ≡ kind
+    → extension_at (slots_of kinds) (k + 1) ≡ option_map extension_of_kind kind
+kind_at kinds k kind is =
+    let next : k + 1 ≡ suc k = omega arith in
+    ap (extension_at (slots_of kinds)) next ∙ ap extension_of (entry_at-kinds kinds k)
+    ∙ ap (λ (n : ℕ). extension_of (entry_of_kind (get_or kinds n None))) (sym next) ∙ ap (λ (it : Option KnownKind). extension_of (entry_of_kind it)) is
+    ∙ of_entry kind
+  where
+    of_entry : (kind : Option KnownKind) → extension_of (entry_of_kind kind) ≡ option_map extension_of_kind kind
+    of_entry None = refl
+    of_entry (Some it) = refl
 
 -- the slots are the old ones, except for that of the id
 pub slots_of-put : (kinds : List (Option KnownKind)) (id : ℕ) (kind : Option KnownKind) → IsId id
@@ -23,17 +36,6 @@ pub slots_of-set_slots : (kinds old : List (Option KnownKind)) (at id : ℕ) (ki
 slots_of-set_slots kinds old at id kind is shows is_id =
     ap (λ (n : ℕ). slots_of (set kinds n kind)) is ∙ slots_of-put kinds id kind is_id
     ∙ ap (λ (ks : List (Option KnownKind)). set (slots_of ks) (id - 1) (entry_of_kind kind)) shows
-
--- no kind is there
-none_at : (n k : ℕ) → get_or (map entry_of_kind (replicate n None)) k None ≡ None
-none_at zero k = refl
-none_at (suc n) zero = refl
-none_at (suc n) (suc k) = none_at n k
-
-pub slots_of-none : (n id : ℕ) → entry_at (slots_of (replicate n None)) id ≡ None
-slots_of-none n zero = refl
-slots_of-none zero (suc k) = refl
-slots_of-none (suc n) (suc k) = none_at n k
 
 kinds-none : (n : ℕ) → map entry_of_kind (replicate n None) ≡ replicate n None
 kinds-none zero = refl

@@ -1,8 +1,9 @@
 -- The mapped ids whose extensions are known: what a map writes is what its known extensions do.
-use Rattle.rtp_ext.proofs.Common.{◌≡◌, ℕ, ◌+◌, ◌≤◌, ◌⊎◌, inl, inr, suc, List, [], ◌∷◌, length, map, Bool, true, false, Some, None, refl, sym, ap, ◌∙◌, arith, ◌||◌, nat_lt, if◌then◌else◌, list_any, cons_option, or_parts, Extension, UnknownUri, ExtensionValues, has_no_data, has_empty_text, spelled_data, longest, carried_values, with_fields, ExtensionsForm, OneByte, TwoByte, Element, Slots, items_from, mapped_count, known_alone, known_slots, is_long_item, has_long_data, has_empty, mapped_ids}
+use Rattle.rtp_ext.proofs.Common.{◌≡◌, ℕ, ◌+◌, ◌≤◌, ◌⊎◌, inl, inr, suc, List, [], ◌∷◌, length, Bool, true, false, Some, None, refl, sym, ap, ◌∙◌, arith, ◌||◌, nat_lt, if◌then◌else◌, list_any, cons_option, or_parts, Extension, UnknownUri, ExtensionValues, has_no_data, has_empty_text, spelled_data, longest, carried_values, with_fields, ExtensionsForm, OneByte, TwoByte, Element, Slots, items_from, mapped_count, known_alone, known_slots, is_long_item, has_long_data, has_empty, IsLastId}
 use Rattle.rtp_values.proofs.EmptyDataLemmas.{no_empty_text}
 use Rattle.rtp_ext.specs.WrittenBlock.{written_elements, needs_two, form_of, fields_of_items, image_values}
 use Rattle.rtp_ext.proofs.FormLemmas.{Item, element_of, elements_of}
+use Rattle.rtp_ext.proofs.WalkLemmas.{has_above, has_above-last}
 
 -- ---- whether one of some items passes a test
 
@@ -40,35 +41,28 @@ or_unknown : (a above all known : Bool) → all ≡ (above || known) → ((a || 
 or_unknown true above all known is = refl
 or_unknown false above all known is = is
 
--- of some slots: whether an id is above 14
-abbrev above : ℕ → Slots → Bool
-above passed left = list_any (nat_lt 14) (map (λ item. item.0) (items_from passed left))
-
 abbrev needs : ExtensionValues → ℕ → Slots → Bool
 needs values passed left = list_any (needs_two values) (items_from passed left)
 
 needs-cons : (values : ExtensionValues) (passed : ℕ) (extension : Extension) (left : Slots)
-    → needs values (passed + 1) left ≡ (above (passed + 1) left || needs values (passed + 1) (known_slots left))
+    → needs values (passed + 1) left ≡ (has_above (passed + 1) left || needs values (passed + 1) (known_slots left))
     → (needs_two values (passed + 1, extension) || needs values (passed + 1) left)
-    ≡ ((nat_lt 14 (passed + 1) || above (passed + 1) left) || needs values passed (known_alone extension ∷ known_slots left))
+    ≡ ((nat_lt 14 (passed + 1) || has_above (passed + 1) left) || needs values passed (known_alone extension ∷ known_slots left))
 needs-cons values passed (UnknownUri uri) left is =
-    or_unknown (nat_lt 14 (passed + 1)) (above (passed + 1) left) (needs values (passed + 1) left) (needs values (passed + 1) (known_slots left)) is
+    or_unknown (nat_lt 14 (passed + 1)) (has_above (passed + 1) left) (needs values (passed + 1) left) (needs values (passed + 1) (known_slots left)) is
 needs-cons values passed extension left is =
-    or_above (nat_lt 14 (passed + 1)) (nat_lt 16 (longest extension) || has_no_data (spelled_data extension values)) (above (passed + 1) left)
+    or_above (nat_lt 14 (passed + 1)) (nat_lt 16 (longest extension) || has_no_data (spelled_data extension values)) (has_above (passed + 1) left)
     (needs values (passed + 1) left) (needs values (passed + 1) (known_slots left)) is
 
-needs-known : (values : ExtensionValues) (passed : ℕ) (left : Slots) → needs values passed left ≡ (above passed left || needs values passed (known_slots left))
+needs-known : (values : ExtensionValues) (passed : ℕ) (left : Slots) → needs values passed left ≡ (has_above passed left || needs values passed (known_slots left))
 needs-known values passed [] = refl
 needs-known values passed (None ∷ left) = needs-known values (passed + 1) left
 needs-known values passed (Some entry ∷ left) = needs-cons values passed entry.extension left (needs-known values (passed + 1) left)
 
 -- the two-byte form is needed for an id above 14, or for the known ones
-pub needs_two_known : (exts known : Slots) (ids : List ℕ) (values : ExtensionValues) → ids ≡ mapped_ids exts → known ≡ known_slots exts
-    → list_any (needs_two values) (items_from 0 exts) ≡ (list_any (nat_lt 14) ids || list_any (needs_two values) (items_from 0 known))
-needs_two_known exts known ids values are is =
-    needs-known values 0 exts
-    ∙ ap (λ (slots : Slots). above 0 exts || needs values 0 slots) (sym is)
-    ∙ ap (λ (list : List ℕ). list_any (nat_lt 14) list || needs values 0 known) (sym are)
+pub needs_two_known : (exts known : Slots) (values : ExtensionValues) → known ≡ known_slots exts
+    → list_any (needs_two values) (items_from 0 exts) ≡ (has_above 0 exts || list_any (needs_two values) (items_from 0 known))
+needs_two_known exts known values is = needs-known values 0 exts ∙ ap (λ (slots : Slots). has_above 0 exts || needs values 0 slots) (sym is)
 
 chosen : (form : ExtensionsForm) (above all known : Bool) → all ≡ (above || known) → form ≡ (if all then TwoByte else OneByte)
     → (form ≡ (if known then TwoByte else OneByte)) ⊎ (form ≡ TwoByte)
@@ -79,8 +73,8 @@ chosen form false all known split is = inl (is ∙ ap (λ (b : Bool). if b then 
 pub chosen_known : (exts known : Slots) (values : ExtensionValues) (form : ExtensionsForm) → known ≡ known_slots exts
     → (form ≡ form_of exts values) ⊎ (form ≡ TwoByte) → (form ≡ form_of known values) ⊎ (form ≡ TwoByte)
 chosen_known exts known values form is (inl serves) =
-    chosen form (list_any (nat_lt 14) (mapped_ids exts)) (list_any (needs_two values) (items_from 0 exts)) (list_any (needs_two values) (items_from 0 known))
-    (needs_two_known exts known (mapped_ids exts) values refl is) serves
+    chosen form (has_above 0 exts) (list_any (needs_two values) (items_from 0 exts)) (list_any (needs_two values) (items_from 0 known))
+    (needs_two_known exts known values is) serves
 chosen_known exts known values form is (inr two) = inr two
 
 written-cons : (values : ExtensionValues) (passed : ℕ) (extension : Extension) (left : Slots)
@@ -140,29 +134,29 @@ or_each false true false all known is = refl
 or_each false false above all known is = is
 
 long-cons : (passed : ℕ) (extension : Extension) (left : Slots)
-    → list_any is_long_item (items_from (passed + 1) left) ≡ (above (passed + 1) left || list_any has_long_data (items_from (passed + 1) (known_slots left)))
+    → list_any is_long_item (items_from (passed + 1) left) ≡ (has_above (passed + 1) left || list_any has_long_data (items_from (passed + 1) (known_slots left)))
     → (is_long_item (passed + 1, extension) || list_any is_long_item (items_from (passed + 1) left))
-    ≡ ((nat_lt 14 (passed + 1) || above (passed + 1) left) || list_any has_long_data (items_from passed (known_alone extension ∷ known_slots left)))
+    ≡ ((nat_lt 14 (passed + 1) || has_above (passed + 1) left) || list_any has_long_data (items_from passed (known_alone extension ∷ known_slots left)))
 long-cons passed (UnknownUri uri) left is =
-    or_unknown (nat_lt 14 (passed + 1)) (above (passed + 1) left) (list_any is_long_item (items_from (passed + 1) left))
+    or_unknown (nat_lt 14 (passed + 1)) (has_above (passed + 1) left) (list_any is_long_item (items_from (passed + 1) left))
     (list_any has_long_data (items_from (passed + 1) (known_slots left))) is
 long-cons passed extension left is =
-    or_each (nat_lt 14 (passed + 1)) (nat_lt 16 (longest extension)) (above (passed + 1) left) (list_any is_long_item (items_from (passed + 1) left))
+    or_each (nat_lt 14 (passed + 1)) (nat_lt 16 (longest extension)) (has_above (passed + 1) left) (list_any is_long_item (items_from (passed + 1) left))
     (list_any has_long_data (items_from (passed + 1) (known_slots left))) is
 
 long-known : (passed : ℕ) (left : Slots)
-    → list_any is_long_item (items_from passed left) ≡ (above passed left || list_any has_long_data (items_from passed (known_slots left)))
+    → list_any is_long_item (items_from passed left) ≡ (has_above passed left || list_any has_long_data (items_from passed (known_slots left)))
 long-known passed [] = refl
 long-known passed (None ∷ left) = long-known (passed + 1) left
 long-known passed (Some entry ∷ left) = long-cons passed entry.extension left (long-known (passed + 1) left)
 
 -- a mapped id is long for being above 14, or for the data that its kind may have
-pub long_split : (exts known : Slots) (ids : List ℕ) → ids ≡ mapped_ids exts → known ≡ known_slots exts
-    → list_any is_long_item (items_from 0 exts) ≡ (list_any (nat_lt 14) ids || list_any has_long_data (items_from 0 known))
-long_split exts known ids are is =
+pub long_split : (exts known : Slots) (last : ℕ) → IsLastId exts last → known ≡ known_slots exts
+    → list_any is_long_item (items_from 0 exts) ≡ (nat_lt 14 last || list_any has_long_data (items_from 0 known))
+long_split exts known last ends is =
     long-known 0 exts
-    ∙ ap (λ (slots : Slots). above 0 exts || list_any has_long_data (items_from 0 slots)) (sym is)
-    ∙ ap (λ (list : List ℕ). list_any (nat_lt 14) list || list_any has_long_data (items_from 0 known)) (sym are)
+    ∙ ap (λ (slots : Slots). has_above 0 exts || list_any has_long_data (items_from 0 slots)) (sym is)
+    ∙ ap (λ (b : Bool). b || list_any has_long_data (items_from 0 known)) (has_above-last exts last ends)
 
 short-cons : (passed : ℕ) (extension : Extension) (left : Slots) → is_long_item (passed + 1, extension) ≡ false
     → list_any is_long_item (items_from (passed + 1) (known_slots left)) ≡ false

@@ -16,11 +16,8 @@ pub mod MemoryLemmas
 -- What each id is mapped to.
 mod MapLemmas
 pub mod ListingLemmas
+pub mod WalkLemmas
 mod MappedIdLemmas
-mod RisingIdLemmas
-mod PaddedIdLemmas
-mod UpdatedIdLemmas
-mod RemovedIdLemmas
 mod ReplacedLemmas
 mod ExchangedLemmas
 mod CopiedLemmas

@@ -1,5 +1,5 @@
 -- The map of extension ids: what an id stands for once slots have changed.
-use Rattle.rtp_ext.proofs.Common.{◌≡◌, ◌≢◌, ℕ, ◌+◌, ◌-◌, ◌<◌, inl, inr, suc, zero, List, ◌∷◌, length, map, drop, get_or, Option, Some, None, arith, ap, refl, sym, ◌∙◌, subst, ◌==◌, if◌then◌else◌, get_or_past, get_or_default, length-map, get_or-map, drop-cons, option_map, cases_lt, eq-eqb, ne_eqb, eqb_tells, Extension, IsMapped, Puts, Swaps, Entry, Slots, IsEmpty, IsId, entry_at, extension_at, extension_of, Sets, Exchanges, IsRenumbered, IsLocked, IsLockedAt, locked, IsLowest, Remaps, AreRemapped, same_slot, moved}
+use Rattle.rtp_ext.proofs.Common.{◌≡◌, ◌≢◌, ℕ, ◌+◌, ◌<◌, inl, inr, suc, zero, List, ◌∷◌, length, map, drop, get_or, Option, Some, None, arith, ap, refl, sym, ◌∙◌, subst, ◌==◌, if◌then◌else◌, get_or_past, length-map, get_or-map, drop-cons, option_map, cases_lt, eq-eqb, ne_eqb, eqb_tells, Extension, Puts, Swaps, Entry, Slots, IsEmpty, IsId, entry_at, extension_at, extension_of, Sets, Exchanges, IsRenumbered, IsLocked, IsLockedAt, locked, IsLowest, Remaps, AreRemapped, same_slot, moved}
 
 -- nothing stands in a index where nothing does in any
 pub IsEmpty-from_each : (slots : Slots) → ((k : ℕ) → k < length slots → get_or slots k None ≡ None) → IsEmpty slots
@@ -13,17 +13,6 @@ IsEmpty-from_each slots each (suc k) = elim (cases_lt k (length slots)) [
 pub entry_at-slot : (slots : Slots) (k id : ℕ) → k + 1 ≡ id → entry_at slots id ≡ get_or slots k None
 entry_at-slot slots k zero is = absurd (omega arith)
 entry_at-slot slots k (suc j) is = ap (λ (index : ℕ). get_or slots index None) (omega arith)
-
--- the slot of a mapped id, as it is read
-pub entry_at-mapped : (slots : Slots) (id index : ℕ) (slot : Option Entry) → IsMapped slots id → index ≡ id - 1 → slot ≡ get_or slots index slot
-    → entry_at slots id ≡ slot
-entry_at-mapped slots zero index slot mapped at is = let found = mapped.1 in cc
-entry_at-mapped slots (suc k) index slot mapped at is = elim (cases_lt k (length slots)) [
-  | inl here ↦
-      let same : k ≡ index = omega arith in
-      get_or_default slots k None slot here ∙ (ap (λ (i : ℕ). get_or slots i slot) same ∙ sym is)
-  | inr past ↦ let found = sym (get_or_past slots k None past) ∙ mapped.1 in cc
-]
 
 -- two lists that differ in one index
 pub entry_at-other : (slots new : Slots) (index id : ℕ) → index + 1 ≡ id

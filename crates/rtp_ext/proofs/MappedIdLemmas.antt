@@ -1,6 +1,7 @@
--- The list of the mapped ids, and one more id in it.
-use Rattle.rtp_ext.proofs.Common.{◌≡◌, ℕ, ◌+◌, ◌-◌, ◌<◌, ◌≤◌, suc, zero, List, ◌∷◌, ◌++◌, length, map, take, drop, set, get_or, Bool, false, Option, Some, None, All, arith, ap, refl, sym, ◌∙◌, le-ltb, lt-ltb, length-take-le, length-append, length-drop, [], copy_within, take-set-lt, drop-append_seam, is_some, get_or_default, drop-take, set_split, take-append-le, take-take, take-paste, All-head, Extension, items_from, mapped_ids, items_at, inserted, IsMapped, Entry, Slots, IsEmpty, entry_at, extension_of, ◌↔◌, ◌==◌, IsTrue, option_map, cons_option, AllByRecursion, eqb-true}
-use Rattle.rtp_ext.proofs.ListingLemmas.{above_passed, items_from-empty, ListsItems-from_slots}
+-- The list of the mapped ids of a table of kinds.
+use Rattle.rtp_ext.proofs.Common.{◌≡◌, ℕ, ◌+◌, ◌-◌, ◌<◌, ◌≤◌, suc, zero, List, ◌∷◌, ◌++◌, length, map, take, set, replicate, get_or, Option, Some, None, arith, ap, refl, sym, ◌∙◌, [], append-nil, append_assoc, length-append, take_all, drop, true, false, is_some, get_or_default, unlocked, extension_of_kind, KnownKind, entry_of_kind, slots_of, items_from, mapped_ids, items_at, padded_ids, IsMapped, Entry, Slots, entry_at, extension_of, Extension, option_map, cons_option, AllByRecursion}
+use Rattle.std.proofs.lemmas.List.{length-drop, length-map}
+use Rattle.rtp_ext.proofs.KindsByIdLemmas.{entry_at-kinds}
 use Rattle.rtp_ext.proofs.MapLemmas.{entry_at-slot}
 
 -- what the ids of the slots left stand for, once one more was passed
@@ -42,139 +43,145 @@ mapped-left slots passed (Some entry ∷ left) here =
 pub all_mapped : (slots : Slots) → AllByRecursion (IsMapped slots) (mapped_ids slots)
 all_mapped slots = mapped-left slots 0 slots (λ k. entry_at-slot slots k (0 + k + 1) (omega arith))
 
--- a map without mapped ids is empty, and an empty one has none
-IsEmpty-no_ids : (slots : Slots) → mapped_ids slots ≡ [] → IsEmpty slots
-IsEmpty-no_ids slots none id = nothing_at (entry_at slots id) refl
-  where
-    no_items : items_from 0 slots ≡ []
-    no_items = sym (items_at-mapped slots) ∙ ap (items_at slots) none
+-- ---- one slot more
 
-    nothing_at : (slot : Option Entry) → entry_at slots id ≡ slot → entry_at slots id ≡ None
-    nothing_at None is = is
-    nothing_at (Some entry) is =
-        let found = (ListsItems-from_slots slots).all id entry.extension (ap extension_of is) refl in
-        absurd (omega (arith, found.1, ap length no_items))
+-- the id of a slot, where it is mapped
+one : ℕ → Option Entry → List ℕ
+one id None = []
+one id (Some entry) = id ∷ []
 
-pub no_ids-IsEmpty : (slots : Slots) → IsEmpty slots → mapped_ids slots ≡ []
-no_ids-IsEmpty slots empty = ap (map (λ item. item.0)) (items_from-empty 0 slots (λ k. empty (suc k)))
+abbrev ids_of : ℕ → Slots → List ℕ
+ids_of passed left = map (λ item. item.0) (items_from passed left)
 
--- whether there are mapped ids tells whether the map is empty
-pub no_ids-tells : (slots : Slots) (ids : List ℕ) (none : Bool) → ids ≡ mapped_ids slots → none ≡ (length ids == 0)
-    → IsTrue none ↔ IsEmpty slots
-no_ids-tells slots [] none are is = (λ yes. IsEmpty-no_ids slots (sym are), λ empty. is)
-no_ids-tells slots (id ∷ ids) none are is = (
-  λ yes. absurd (omega (arith, eqb-true (length (id ∷ ids)) 0 (sym is ∙ yes))),
-  λ empty. let nothing = are ∙ no_ids-IsEmpty slots empty in absurd (omega (arith, ap length nothing)),
-)
-
--- the ids of some entries
-abbrev pub ids_of : List (ℕ × Extension) → List ℕ
-ids_of items = map (λ item. item.0) items
-
--- an id below all others stands first
-inserted-first : (id : ℕ) (items : List (ℕ × Extension)) → All (λ item. id < item.0) items → inserted id (ids_of items) ≡ id ∷ ids_of items
-inserted-first id [] above = refl
-inserted-first id (item ∷ items) above =
-    let less : id ≤ item.0 = omega (arith, All-head (λ i. id < i.0) item items above) in
-    rw (le-ltb item.0 id less) refl
-
-pub inserted-later : (id first : ℕ) (ids : List ℕ) → first < id → inserted id (first ∷ ids) ≡ first ∷ inserted id ids
-inserted-later id first ids less = rw (lt-ltb first id less) refl
-
--- an entry in an empty slot inserts its id
-ids_from-set : (passed : ℕ) (left : Slots) (k : ℕ) (entry : Entry) → k < length left → get_or left k None ≡ None
-    → ids_of (items_from passed (set left k (Some entry))) ≡ inserted (passed + k + 1) (ids_of (items_from passed left))
-ids_from-set passed [] k entry here none = absurd (omega (arith, here))
-ids_from-set passed (None ∷ left) zero entry here none =
-    let index : passed + 1 ≡ passed + 0 + 1 = omega arith in
-    sym (inserted-first (passed + 1) (items_from (passed + 1) left) (above_passed (passed + 1) left))
-    ∙ ap (λ (id : ℕ). inserted id (ids_of (items_from (passed + 1) left))) index
-ids_from-set passed (None ∷ left) (suc k) entry here none =
-    let index : passed + 1 + k + 1 ≡ passed + suc k + 1 = omega arith in
-    ids_from-set (passed + 1) left k entry (omega arith) none
-    ∙ ap (λ (id : ℕ). inserted id (ids_of (items_from (passed + 1) left))) index
-ids_from-set passed (Some old ∷ left) zero entry here none = cc
-ids_from-set passed (Some old ∷ left) (suc k) entry here none =
-    let index : passed + 1 + k + 1 ≡ passed + suc k + 1 = omega arith in
+ids-more : (n passed : ℕ) (left : Slots) → n < length left → ids_of passed (take (suc n) left) ≡ ids_of passed (take n left) ++ one (passed + n + 1) (get_or left n None)
+unfolding one
+ids-more n passed [] within = absurd (omega arith)
+ids-more zero passed (None ∷ left) within = refl
+ids-more zero passed (Some entry ∷ left) within =
+    let here : passed + 1 ≡ passed + 0 + 1 = omega arith in
+    ap (λ (id : ℕ). id ∷ []) here
+ids-more (suc n) passed (None ∷ left) within =
+    let there : passed + 1 + n + 1 ≡ passed + suc n + 1 = omega arith in
+    ids-more n (passed + 1) left (omega arith)
+    ∙ ap (λ (id : ℕ). ids_of (passed + 1) (take n left) ++ one id (get_or left n None)) there
+ids-more (suc n) passed (Some entry ∷ left) within =
+    let there : passed + 1 + n + 1 ≡ passed + suc n + 1 = omega arith in
     ap (λ (ids : List ℕ). (passed + 1) ∷ ids)
-    (ids_from-set (passed + 1) left k entry (omega arith) none
-    ∙ ap (λ (id : ℕ). inserted id (ids_of (items_from (passed + 1) left))) index)
-    ∙ sym (inserted-later (passed + suc k + 1) (passed + 1) (ids_of (items_from (passed + 1) left)) (omega arith))
+    (ids-more n (passed + 1) left (omega arith)
+    ∙ ap (λ (id : ℕ). ids_of (passed + 1) (take n left) ++ one id (get_or left n None)) there)
 
-pub mapped_ids-set : (slots : Slots) (k id : ℕ) (entry : Entry) → k + 1 ≡ id → k < length slots → get_or slots k None ≡ None
-    → mapped_ids (set slots k (Some entry)) ≡ inserted id (mapped_ids slots)
-mapped_ids-set slots k id entry is here none =
-    let index : 0 + k + 1 ≡ id = omega (arith, is) in
-    ids_from-set 0 slots k entry here none ∙ ap (λ (i : ℕ). inserted i (mapped_ids slots)) index
+few-ids : (n passed : ℕ) (left : Slots) → length (ids_of passed (take n left)) ≤ n
+few-ids zero passed left = omega arith
+few-ids (suc n) passed [] = omega arith
+few-ids (suc n) passed (None ∷ left) = omega (arith, few-ids n (passed + 1) left)
+few-ids (suc n) passed (Some entry ∷ left) = omega (arith, few-ids n (passed + 1) left)
 
--- another entry in a slot that has one leaves the ids
-ids_from-same : (passed : ℕ) (left : Slots) (k : ℕ) (old entry : Entry) → get_or left k None ≡ Some old
-    → ids_of (items_from passed (set left k (Some entry))) ≡ ids_of (items_from passed left)
-ids_from-same passed [] k old entry some = cc
-ids_from-same passed (None ∷ left) zero old entry some = cc
-ids_from-same passed (None ∷ left) (suc k) old entry some = ids_from-same (passed + 1) left k old entry some
-ids_from-same passed (Some first ∷ left) zero old entry some = refl
-ids_from-same passed (Some first ∷ left) (suc k) old entry some =
-    ap (λ (ids : List ℕ). (passed + 1) ∷ ids) (ids_from-same (passed + 1) left k old entry some)
+-- the ids of the slots before that of an id
+abbrev pub mapped_before : Slots → ℕ → List ℕ
+mapped_before slots id = ids_of 0 (take (id - 1) slots)
 
-pub mapped_ids-same : (slots : Slots) (k : ℕ) (old entry : Entry) → get_or slots k None ≡ Some old
-    → mapped_ids (set slots k (Some entry)) ≡ mapped_ids slots
-mapped_ids-same slots k old entry some = ids_from-same 0 slots k old entry some
+before-more : (slots : Slots) (id : ℕ) → 1 ≤ id → id - 1 < length slots → mapped_before slots (id + 1) ≡ mapped_before slots id ++ one id (get_or slots (id - 1) None)
+before-more slots id above within =
+    let next : id + 1 - 1 ≡ suc (id - 1) = omega (arith, above) in
+    let here : 0 + (id - 1) + 1 ≡ id = omega (arith, above) in
+    ap (λ (n : ℕ). ids_of 0 (take n slots)) next ∙ ids-more (id - 1) 0 slots within
+    ∙ ap (λ (n : ℕ). mapped_before slots id ++ one n (get_or slots (id - 1) None)) here
 
--- there are fewer mapped ids than slots where one is empty
-length-ids : (passed : ℕ) (left : Slots) → length (ids_of (items_from passed left)) ≤ length left
-length-ids passed [] = omega arith
-length-ids passed (None ∷ left) = omega (arith, length-ids (passed + 1) left)
-length-ids passed (Some entry ∷ left) = omega (arith, length-ids (passed + 1) left)
+pub before-none : (slots : Slots) (id : ℕ) → 1 ≤ id → id - 1 < length slots → get_or slots (id - 1) None ≡ None → mapped_before slots (id + 1) ≡ mapped_before slots id
+unfolding one
+before-none slots id above within none =
+    before-more slots id above within ∙ ap (λ slot. mapped_before slots id ++ one id slot) none ∙ append-nil (mapped_before slots id)
 
-pub fewer_ids : (passed : ℕ) (left : Slots) (k : ℕ) → k < length left → get_or left k None ≡ None → length (ids_of (items_from passed left)) < length left
-fewer_ids passed [] k here none = absurd (omega (arith, here))
-fewer_ids passed (None ∷ left) k here none = omega (arith, length-ids (passed + 1) left)
-fewer_ids passed (Some entry ∷ left) zero here none = cc
-fewer_ids passed (Some entry ∷ left) (suc k) here none = omega (arith, fewer_ids (passed + 1) left k (omega arith) none)
+pub before-some : (slots : Slots) (id : ℕ) (entry : Entry) → 1 ≤ id → id - 1 < length slots → get_or slots (id - 1) None ≡ Some entry
+    → mapped_before slots (id + 1) ≡ mapped_before slots id ++ id ∷ []
+unfolding one
+before-some slots id entry above within is = before-more slots id above within ∙ ap (λ slot. mapped_before slots id ++ one id slot) is
 
--- where the ids before a place are lower, and the one there isn't, an id is inserted there
-pub inserted-at : (id : ℕ) (ids : List ℕ) (at : ℕ) → at ≤ length ids → ((k : ℕ) → k < at → get_or ids k 0 < id)
-    → (at < length ids → id ≤ get_or ids at 0) → inserted id ids ≡ take at ids ++ id ∷ drop at ids
-inserted-at id [] zero within lower higher = refl
-inserted-at id [] (suc at) within lower higher = absurd (omega arith)
-inserted-at id (first ∷ ids) zero within lower higher = rw (le-ltb first id (higher (omega arith))) refl
-inserted-at id (first ∷ ids) (suc at) within lower higher =
-    inserted-later id first ids (lower 0 (omega arith))
-    ∙ ap (λ (rest : List ℕ). first ∷ rest)
-    (inserted-at id ids at (omega arith) (λ k below. lower (suc k) (omega arith)) (λ below. higher (omega arith)))
+pub before-few : (slots : Slots) (id : ℕ) → length (mapped_before slots id) ≤ id - 1
+before-few slots id = few-ids (id - 1) 0 slots
 
--- the ids from a place on are moved one further, and an id is put there
-pub moved-and-put : (ids : List ℕ) (at count id : ℕ) → at ≤ count → count < length ids
-    → take (count + 1) (set (copy_within ids at count (at + 1)) at id) ≡ take at (take count ids) ++ id ∷ drop at (take count ids)
-moved-and-put ids at count id within room =
-    let tail = take (count - at) (drop at ids) in
-    let front = take (at + 1) ids in
-    let moved = copy_within ids at count (at + 1) in
-    let whole : at + 1 + (count - at) ≡ count + 1 = omega arith in
-    let there : at + (count - at) ≡ count = omega arith in
-    let long : length front ≡ at + 1 = length-take-le (at + 1) ids (omega arith) in
-    let one : take (count + 1) moved ≡ front ++ tail =
-    ap (λ (n : ℕ). take n moved) (sym whole) ∙ take-paste ids (at + 1) (drop at ids) (count - at) (omega arith) (omega (arith, length-drop at ids)) in
-    let head : take at (front ++ tail) ≡ take at ids = take-append-le at front tail (omega (arith, long)) ∙ take-take at (at + 1) ids (omega arith) in
-    let end : suc at ≡ length front = omega (arith, long) in
-    let rest : drop (suc at) (front ++ tail) ≡ tail = ap (λ (n : ℕ). drop n (front ++ tail)) end ∙ drop-append_seam front tail in
-    let kept : take at ids ≡ take at (take count ids) = sym (take-take at count ids within) in
-    let after : tail ≡ drop at (take count ids) = sym (drop-take at (count - at) ids) ∙ ap (λ (n : ℕ). drop at (take n ids)) there in
-    take-set-lt (count + 1) moved at id (omega arith)
-    ∙ ap (λ (xs : List ℕ). set xs at id) one
-    ∙ set_split (front ++ tail) at id (omega (arith, length-append front tail, long))
-    ∙ ap (λ (xs : List ℕ). xs ++ id ∷ drop (suc at) (front ++ tail)) (head ∙ kept)
-    ∙ ap (λ (xs : List ℕ). take at (take count ids) ++ id ∷ xs) (rest ∙ after)
+pub before-all : (slots : Slots) (id : ℕ) → length slots ≤ id - 1 → mapped_before slots id ≡ mapped_ids slots
+before-all slots id past = ap (ids_of 0) (take_all (id - 1) slots past)
 
--- a slot that held nothing when it was read
-empty_slot : (slots : Slots) (k : ℕ) (old seen : Option Entry) → k < length slots → old ≡ get_or slots k seen → is_some old ≡ false
-    → get_or slots k None ≡ None
-empty_slot slots k None seen here is none = get_or_default slots k None seen here ∙ sym is
-empty_slot slots k (Some entry) seen here is none = cc
+set-behind : (xs ys : List ℕ) (y z : ℕ) → set (xs ++ y ∷ ys) (length xs) z ≡ xs ++ z ∷ ys
+set-behind [] ys y z = refl
+set-behind (x ∷ xs) ys y z = ap (λ (left : List ℕ). x ∷ left) (set-behind xs ys y z)
 
--- there is room for the id of an empty slot
-pub room_for_new : (slots : Slots) (ids : List ℕ) (k : ℕ) (old seen : Option Entry) → ids ≡ mapped_ids slots → k < length slots
-    → old ≡ get_or slots k seen → is_some old ≡ false → length ids < length slots
-room_for_new slots ids k old seen are here is none =
-    omega (arith, ap length are, fewer_ids 0 slots k here (empty_slot slots k old seen here is none))
+-- one id more takes the place of the first zero
+pub padded-put : (ids : List ℕ) (id : ℕ) → length ids < 255 → set (padded_ids ids) (length ids) id ≡ padded_ids (ids ++ id ∷ [])
+padded-put ids id few =
+    let more : 255 - length ids ≡ suc (255 - suc (length ids)) = omega (arith, few) in
+    let long : suc (length ids) ≡ length (ids ++ id ∷ []) = omega (arith, length-append ids (id ∷ [])) in
+    let zeros = replicate (255 - suc (length ids)) 0 in
+    ap (λ (n : ℕ). set (ids ++ replicate n 0) (length ids) id) more
+    ∙ set-behind ids zeros 0 id
+    ∙ sym (append_assoc ids (id ∷ []) zeros)
+    ∙ ap (λ (n : ℕ). (ids ++ id ∷ []) ++ replicate (255 - n) 0) long
+
+-- ---- as the kinds are gone through
+
+slot_of : (kinds : List (Option KnownKind)) (id : ℕ) → 1 ≤ id → get_or (slots_of kinds) (id - 1) None ≡ entry_of_kind (get_or kinds id None)
+slot_of kinds zero above = absurd (omega (arith, above))
+slot_of kinds (suc k) above = sym (entry_at-slot (slots_of kinds) (suc k - 1) (suc k) (omega arith)) ∙ entry_at-kinds kinds k
+
+slots_long : (kinds : List (Option KnownKind)) → length kinds ≡ 256 → length (slots_of kinds) ≡ 255
+slots_long kinds many = omega (arith, many, length-map (drop 1 kinds) entry_of_kind, length-drop 1 kinds)
+
+-- what a list and its length are, once the ids before one are gone through
+pub AreListed : List (Option KnownKind) → ℕ → List ℕ → ℕ → Type 0
+AreListed kinds id ids count = (ids ≡ padded_ids (mapped_before (slots_of kinds) id)) × (count ≡ length (mapped_before (slots_of kinds) id)) × (1 ≤ id)
+
+pub listed-none : (kinds : List (Option KnownKind)) (id : ℕ) (ids : List ℕ) (count : ℕ) (d : Option KnownKind) → length kinds ≡ 256 → id < 256
+    → is_some (get_or kinds id d) ≡ false → AreListed kinds id ids count → AreListed kinds (id + 1) ids count
+unfolding AreListed
+listed-none kinds id ids count d many within missing listed =
+    let none = get_or_default kinds id None d (omega (arith, within, many)) ∙ none_where (get_or kinds id d) missing in
+    let same = before-none (slots_of kinds) id listed.2 (omega (arith, within, slots_long kinds many)) (slot_of kinds id listed.2 ∙ ap entry_of_kind none) in
+    (listed.0 ∙ ap padded_ids (sym same), listed.1 ∙ ap length (sym same), omega (arith, listed.2))
+  where
+    none_where : (kind : Option KnownKind) → is_some kind ≡ false → kind ≡ None
+    none_where None missing = refl
+    none_where (Some kind) missing = cc
+
+pub listed-some : (kinds : List (Option KnownKind)) (id : ℕ) (ids : List ℕ) (count : ℕ) (d : Option KnownKind) → length kinds ≡ 256 → id < 256
+    → is_some (get_or kinds id d) ≡ true → AreListed kinds id ids count → AreListed kinds (id + 1) (set ids count id) (count + 1)
+unfolding AreListed
+listed-some kinds id ids count d many within there listed =
+    let found = some_where (get_or kinds id d) there in
+    let some = get_or_default kinds id None d (omega (arith, within, many)) ∙ found.1 in
+    let more = before-some (slots_of kinds) id (unlocked (extension_of_kind found.0)) listed.2 (omega (arith, within, slots_long kinds many))
+    (slot_of kinds id listed.2 ∙ ap entry_of_kind some) in
+    let before = mapped_before (slots_of kinds) id in
+    let few : length before < 255 = omega (arith, before-few (slots_of kinds) id, within) in (
+      ap (λ (xs : List ℕ). set xs count id) listed.0 ∙ ap (λ (n : ℕ). set (padded_ids before) n id) listed.1 ∙ padded-put before id few ∙ ap padded_ids (sym more),
+      omega (arith, listed.1, length-append before (id ∷ []), ap length more),
+      omega (arith, listed.2),
+    )
+  where
+    some_where : (kind : Option KnownKind) → is_some kind ≡ true → (found : KnownKind) × (kind ≡ Some found)
+    some_where None there = cc
+    some_where (Some kind) there = (kind, refl)
+
+pub listed-few : (kinds : List (Option KnownKind)) (id : ℕ) (ids : List ℕ) (count : ℕ) → AreListed kinds id ids count → count ≤ id - 1
+unfolding AreListed
+listed-few kinds id ids count listed = omega (arith, listed.1, before-few (slots_of kinds) id)
+
+pub listed-first : (kinds : List (Option KnownKind)) → AreListed kinds 1 (replicate 255 0) 0
+unfolding AreListed
+listed-first kinds = (refl, refl, omega arith)
+
+pub listed-all : (kinds : List (Option KnownKind)) (id : ℕ) (ids : List ℕ) (count : ℕ) → length kinds ≡ 256 → 256 ≤ id → AreListed kinds id ids count
+    → (ids ≡ padded_ids (mapped_ids (slots_of kinds))) × (count ≡ length (mapped_ids (slots_of kinds)))
+unfolding AreListed
+listed-all kinds id ids count many past listed =
+    let all = before-all (slots_of kinds) id (omega (arith, past, slots_long kinds many)) in
+    (listed.0 ∙ ap padded_ids all, listed.1 ∙ ap length all)
+
+-- the ids in front of the zeros
+pub padded-front : (ids listed : List ℕ) (count : ℕ) → ids ≡ padded_ids listed → count ≡ length listed → take count ids ≡ listed
+padded-front ids listed count are many =
+    ap (λ (n : ℕ). take n ids) many ∙ ap (take (length listed)) are ∙ front listed (replicate (255 - length listed) 0)
+  where
+    front : (xs ys : List ℕ) → take (length xs) (xs ++ ys) ≡ xs
+    front [] ys = refl
+    front (x ∷ xs) ys = ap (λ (left : List ℕ). x ∷ left) (front xs ys)

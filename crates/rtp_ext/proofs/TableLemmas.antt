@@ -1,14 +1,6 @@
--- What a table of kinds keeps in step with its entries: the list of the mapped ids, and how many layer allocations there are.
-use Rattle.rtp_ext.proofs.Common.{◌≡◌, ◌≢◌, ℕ, ◌+◌, ◌-◌, ◌<◌, suc, zero, List, [], ◌∷◌, length, drop, set, get_or, Bool, true, false, Option, Some, None, arith, ap, refl, sym, ◌∙◌, lt-ltb, get_or-set_other, length-drop, nat_lt, map, ◌≤◌, if◌then◌else◌, from_bool, is_some, list_any, filter, length-map, length-set, KnownKind, items_from, entry_of_kind, slots_of, is_layers, has_long_data, layers_count, mapped_ids}
+-- What a table of kinds keeps in step with its entries: how many layer allocations there are.
+use Rattle.rtp_ext.proofs.Common.{◌≡◌, ◌≢◌, ℕ, ◌+◌, ◌-◌, ◌<◌, suc, zero, List, [], ◌∷◌, length, drop, set, get_or, Bool, true, false, Option, Some, None, arith, ap, refl, sym, ◌∙◌, lt-ltb, get_or-set_other, length-drop, nat_lt, map, ◌≤◌, if◌then◌else◌, from_bool, list_any, filter, length-map, length-set, KnownKind, items_from, entry_of_kind, slots_of, is_layers, has_long_data, layers_count}
 use Rattle.rtp_values.specs.declared.known_kind.KnownKind.TheVariants as known
-use Rattle.rtp_ext.proofs.KindsByIdLemmas.{entry_at-kinds}
-use Rattle.rtp_ext.proofs.MapLemmas.{entry_at-slot}
-use Rattle.rtp_ext.proofs.MappedIdLemmas.{fewer_ids}
-
--- the entries, and what is in step with them
-abbrev pub IsTable : List (Option KnownKind) → List ℕ → ℕ → Type 0
-IsTable kinds ids layers =
-    (length kinds ≡ 256) × (get_or kinds 0 None ≡ None) × (ids ≡ mapped_ids (slots_of kinds)) × (layers ≡ layers_count kinds)
 
 -- ---- one entry is written
 
@@ -18,44 +10,9 @@ set-length kinds id kind many = length-set kinds id kind ∙ many
 pub set-padding : (kinds : List (Option KnownKind)) (id : ℕ) (kind : Option KnownKind) → id ≢ 0 → get_or kinds 0 None ≡ None → get_or (set kinds id kind) 0 None ≡ None
 set-padding kinds id kind other padding = get_or-set_other kinds id 0 kind None (λ same. other (sym same)) ∙ padding
 
--- an id that had no kind when it was read
-no_kind-at : (kinds : List (Option KnownKind)) (id : ℕ) (d : Option KnownKind) → id < length kinds → is_some (get_or kinds id d) ≡ false → get_or kinds id None ≡ None
-no_kind-at [] id d within missing = refl
-no_kind-at (None ∷ kinds) zero d within missing = refl
-no_kind-at (Some kind ∷ kinds) zero d within missing = cc
-no_kind-at (kind ∷ kinds) (suc id) d within missing = no_kind-at kinds id d (omega arith) missing
-
-pub no_kind : (kinds : List (Option KnownKind)) (read id : ℕ) (d : Option KnownKind) → read ≡ id → id < length kinds → is_some (get_or kinds read d) ≡ false
-    → get_or kinds id None ≡ None
-no_kind kinds read id d same within missing =
-    no_kind-at kinds id d within (ap (λ (n : ℕ). is_some (get_or kinds n d)) (sym same) ∙ missing)
-
-pub none_where : (kind : Option KnownKind) → is_some kind ≡ false → kind ≡ None
-none_where None missing = refl
-none_where (Some kind) missing = cc
-
-no_entry : (kinds : List (Option KnownKind)) (id : ℕ) → id ≢ 0 → get_or kinds id None ≡ None → get_or (slots_of kinds) (id - 1) None ≡ None
-no_entry kinds zero other missing = absurd (other refl)
-no_entry kinds (suc k) other missing =
-    sym (entry_at-slot (slots_of kinds) (suc k - 1) (suc k) (omega arith)) ∙ entry_at-kinds kinds k ∙ ap entry_of_kind missing
-
 pub within_slots : (kinds : List (Option KnownKind)) (id : ℕ) → id ≢ 0 → id < length kinds → id - 1 < length (slots_of kinds)
 within_slots kinds zero other within = absurd (other refl)
 within_slots kinds (suc k) other within = omega (arith, length-map (drop 1 kinds) entry_of_kind, length-drop 1 kinds)
-
-slots_many : (kinds : List (Option KnownKind)) → length kinds ≡ 256 → length (slots_of kinds) ≡ 255
-slots_many kinds many = omega (arith, many, length-map (drop 1 kinds) entry_of_kind, length-drop 1 kinds)
-
--- there is room for the id of an empty entry
-pub set-room : (kinds : List (Option KnownKind)) (ids : List ℕ) (id : ℕ) → length kinds ≡ 256 → ids ≡ mapped_ids (slots_of kinds)
-    → id ≢ 0 → id < 256 → get_or kinds id None ≡ None → length ids < 255
-set-room kinds ids id many are other high missing =
-    omega (
-      arith,
-      ap length are,
-      slots_many kinds many,
-      fewer_ids 0 (slots_of kinds) (id - 1) (within_slots kinds id other (omega (arith, high, many))) (no_entry kinds id other missing),
-    )
 
 -- ---- how many layer allocations there are
 

@@ -111,7 +111,7 @@ pub record ChangesRowTo (form new_form : ExtensionsForm) (old new : List ℕ) (l
   pub behind : end ≤ at
   pub fits : end + length (elements_bytes new_form left) ≤ length new
 
--- how long the elements up to an offset are in a row in another form, without those of the id and of the id 0; the form can carry each
+-- how many bytes the elements up to an offset take in a row in another form, which can carry each, without those of the id and of the id 0
 pub record IsRowLengthTo (form new_form : ExtensionsForm) (id : ℕ) (body : List ℕ) (at len : ℕ) : Type 0 where
   pub passed : List Element
   pub elements_are : elements_left form body ≡ passed ++ elements_left form (drop at body)

@@ -18,7 +18,7 @@ pub data IsLastAllocation (exts : Slots) (elements : List Element) (first bytes 
   none_is : All (λ element. Carries exts VideoLayersAllocation element → ⊥) elements → bytes ≡ first
       → IsLastAllocation exts elements first bytes
 
--- the elements that follow an allocation of the first data begin with a row of elements that carry no other kind, and the bytes are what counts of the first data and of the row; they take memory only where the first data do
+-- some elements follow an allocation that has the first data: they begin with a row of elements that carry no other kind, and the bytes are the data of its last allocation, or else the first ones; they take memory only where the first ones do
 pub record EndsRow (exts : Slots) (first : List ℕ) (elements left : List Element) (bytes : List ℕ) : Type 0 where
   pub row : List Element
   pub elements_are : elements ≡ row ++ left

@@ -53,8 +53,8 @@ fn gather_in(form: ExtensionsForm, body: &mut [u8], id: u8, front_first: bool) -
 }
 
 // Puts the elements of other ids, but those of the id 0, before an offset in a row at the front, and
-// those between two further offsets in a row from the first of these on. Returns how many bytes they
-// take, there and there. It stays out of line, since the elements of most blocks stand in a row.
+// those between two further offsets in a row from the first of these on. Returns how many bytes each
+// of the two rows has. It stays out of line, since the elements of most blocks stand in a row.
 #[inline(never)]
 pub(super) fn gather_around(
     form: ExtensionsForm,

@@ -1,13 +1,11 @@
 //! The entries of a map, one after another.
 
-ghost use Rattle.std.specs.Prelude.{◌≡◌, []};
+ghost use Rattle.std.specs.Prelude.{◌≡◌, ◌≤◌, [], length};
 ghost use Rattle.std.specs.Fmt.{WritesOnOk};
-ghost use Rattle.std.specs.List.{filter, AllByRecursion};
+ghost use Rattle.std.specs.List.{filter};
 ghost use Rattle.std.specs.Iterator.{YieldsFirstBy, item_count};
-ghost use Rattle.rtp_ext.specs.ExtensionMap.{is_of_medium, items_text};
-ghost use Rattle.rtp_ext.specs.MapSlots.{items_at, IsMapped};
+ghost use Rattle.rtp_ext.specs.ExtensionMap.{is_of_medium, items_from, items_text};
 
-use super::slots;
 use super::slots::{Slot, is_of_medium};
 use rtp_values::Extension;
 use std::fmt;
@@ -16,32 +14,33 @@ use std::marker::Model;
 /// The ids of a map by rising id, each with its extension.
 #[derive(Drop)]
 pub struct Iter<'a> {
-    // What the ids from 1 on are mapped to.
-    slots: &'a [Slot],
-    // The mapped ids that are left.
-    left: &'a [u8],
+    // The slots that are left, and how many were passed: the id of the last one.
+    left: &'a [Slot],
+    passed: u8,
 }
 
 impl<'a> Model for Iter<'a> {
-    ghost use Rattle.std.specs.Prelude.{ℕ, List};
-    ghost use Rattle.std.specs.List.{AllByRecursion};
+    ghost use Rattle.std.specs.Prelude.{ℕ, ◌+◌, ◌≤◌, List, length};
     ghost use Rattle.rtp_values.specs.declared.kind.Extension.{Extension};
-    ghost use Rattle.rtp_ext.specs.MapSlots.{items_at, IsMapped};
+    ghost use Rattle.rtp_ext.specs.ExtensionMap.{items_from};
 
     ghost Value = { List (ℕ × Extension) };
 
-    ghost view = { λ iter. items_at iter.slots.now iter.left.now };
+    ghost view = { λ iter. items_from iter.passed iter.left.now };
 
-    ghost invariant = { λ iter. AllByRecursion (IsMapped iter.slots.now) iter.left.now };
+    ghost invariant = { λ iter. iter.passed + length iter.left.now ≤ 255 };
 }
 
 impl<'a> Iter<'a> {
-    // The entries of these ids, all of which are mapped.
-    pub(super) fn new(slots: &'a [Slot], ids: &'a [u8]) -> Self
-        requires { AllByRecursion (IsMapped slots.now) ids.now }
-        ensures { result ≡ items_at slots.now ids.now }
+    // The entries of these slots, which are those of the ids from 1 on.
+    pub(super) fn new(slots: &'a [Slot]) -> Self
+        requires { length slots.now ≤ 255 }
+        ensures { result ≡ items_from 0 slots.now }
     {
-        Iter { slots, left: ids }
+        Iter {
+            left: slots,
+            passed: 0,
+        }
     }
 }
 
@@ -53,9 +52,14 @@ impl<'a> Iterator for Iter<'a> {
     ghost remaining = { item_count (λ left. left) };
 
     fn next(&mut self) -> Option<(u8, &'a Extension)> {
-        let (id, left) = self.left.split_first()?;
-        self.left = left;
-        Some((*id, slots::extension_of_mapped(self.slots, *id)))
+        loop {
+            let (slot, left) = self.left.split_first()?;
+            self.left = left;
+            self.passed += 1;
+            if let Some(ext) = slot.extension() {
+                return Some((self.passed, ext));
+            }
+        }
     }
 }
 
@@ -68,7 +72,11 @@ impl<'a> fmt::Debug for Iter<'a> {
 
     fn fmt<W: fmt::Write>(&self, f: &mut fmt::Formatter<W>) -> fmt::Result {
         f.write_str("Iter(")?;
-        write_entries(f, Iter::new(self.slots, self.left))?;
+        let left = Iter {
+            left: self.left,
+            passed: self.passed,
+        };
+        write_entries(f, left)?;
         f.write_str(")")
     }
 }

@@ -83,8 +83,11 @@ pub trait Kinds {
         ensures { Renames (known self.now) (extension_of_kind from)
             (extension_of_kind to) lowest ids.old ids.new }
     {
-        for (id, new) in ids.iter_mut().enumerate() {
-            *new = renamed(self.get(id as u8), from, to, lowest, *new);
+        let mut at = 0;
+        let mut end = self.walk_end();
+        while let Some((id, kind)) = self.next(&mut at, &mut end) {
+            let index = usize::from(id);
+            ids[index] = renamed(Some(kind), from, to, lowest, ids[index]);
         }
     }
 

@@ -1,17 +1,14 @@
 //! The known extensions of a map by their ids.
 
-ghost use Rattle.std.specs.Prelude.{◌≡◌, ◌≢◌, ◌+◌, ◌-◌, ◌<◌, ◌≤◌, ◌∷◌, [], length, drop, replicate, Some, None, IfSome, IfNone, slice_set};
+ghost use Rattle.std.specs.Prelude.{◌≡◌, ◌≢◌, ◌+◌, ◌-◌, ◌<◌, ◌≤◌, ◌∷◌, [], length, drop, replicate, None, IfSome, IfNone, slice_set};
 ghost use Rattle.std.specs.Option.{option_map};
 ghost use Rattle.std.specs.List.{list_any, swap};
 ghost use Rattle.rtp_values.specs.KnownKind.{extension_of_kind};
 ghost use Rattle.rtp_ext.specs.ExtensionMap.{IsId, IsLowest, IsUnmapped, extension_at, items_from, mapped_count};
 ghost use Rattle.rtp_ext.specs.KindsById.{slots_of, entry_of_kind, is_layers, has_long_data};
-ghost use Rattle.rtp_ext.specs.MapSlots.{items_at, mapped_ids};
-ghost use Rattle.rtp_ext.specs.NewIds.{Renames};
+ghost use Rattle.rtp_ext.specs.MapSlots.{items_at, mapped_ids, padded_ids};
 
 use super::map::MAX_ID;
-use super::mapped_ids::MappedIds;
-use super::renamed_ids::renamed;
 use rtp_values::KnownKind;
 use std::marker::Model;
 
@@ -24,8 +21,10 @@ pub(super) const IDS: usize = MAX_ID as usize + 1;
 pub(super) struct KindsById {
     // What each id is mapped to, the id 0 to nothing.
     kinds: [Option<KnownKind>; IDS],
-    // The mapped ids, so that a walk goes over these alone.
-    mapped: MappedIds,
+    // The mapped ids, rising, so that a walk goes over these alone, with zeros behind them; and how many
+    // they are.
+    ids: [u8; MAX_ID as usize],
+    count: u8,
     // How many ids are mapped to the layer allocation, the one kind that may have more than 16
     // bytes of data.
     layers: u16,
@@ -35,7 +34,7 @@ impl Model for KindsById {
     ghost use Rattle.std.specs.Prelude.{◌≡◌, List, Option, None, length, slice_index_or};
     ghost use Rattle.rtp_values.specs.declared.known_kind.KnownKind.{KnownKind};
     ghost use Rattle.rtp_ext.specs.KindsById.{slots_of, layers_count};
-    ghost use Rattle.rtp_ext.specs.MapSlots.{mapped_ids};
+    ghost use Rattle.rtp_ext.specs.MapSlots.{mapped_ids, padded_ids};
     ghost use Rattle.rtp_ext.specs.declared.kinds_by_id.TheConstants.{IDS};
     ghost use Rattle.std.proofs.Common.{sym};
 
@@ -45,19 +44,22 @@ impl Model for KindsById {
 
     ghost invariant = { λ table. (length table.kinds ≡ IDS)
         × (slice_index_or table.kinds 0 None ≡ None)
-        × (table.mapped ≡ mapped_ids (slots_of table.kinds))
-        × (table.layers ≡ layers_count table.kinds) };
+        × (table.layers ≡ layers_count table.kinds)
+        × (table.ids ≡ padded_ids (mapped_ids (slots_of table.kinds)))
+        × (table.count ≡ length (mapped_ids (slots_of table.kinds))) };
 
     ghost inverse = { λ kinds. record {
       kinds = kinds;
-      mapped = mapped_ids (slots_of kinds);
+      ids = padded_ids (mapped_ids (slots_of kinds));
+      count = length (mapped_ids (slots_of kinds));
       layers = layers_count kinds;
     } };
 
     ghost inverse_ok = { λ table known i. record {
       kinds = table.kinds;
-      mapped = sym known.2 i;
-      layers = sym known.3 i;
+      ids = sym known.3 i;
+      count = sym known.4 i;
+      layers = sym known.2 i;
     } };
 }
 
@@ -68,7 +70,8 @@ impl KindsById {
     {
         KindsById {
             kinds: [None; IDS],
-            mapped: MappedIds::none(),
+            ids: [0; MAX_ID as usize],
+            count: 0,
             layers: 0,
         }
     }
@@ -78,7 +81,7 @@ impl KindsById {
         ensures count { result ≡ mapped_count (slots_of self.now) }
         ensures few { result ≤ MAX_ID }
     {
-        self.mapped.as_slice().len()
+        usize::from(self.count)
     }
 
     // The kind that the id is mapped to, and `None` where there is none, as always for 0.
@@ -100,9 +103,9 @@ impl KindsById {
         }
         let old = self.kinds[usize::from(id)];
         self.kinds[usize::from(id)] = kind;
-        self.mapped.update(id, old.is_some(), kind.is_some());
         self.layers += u16::from(is_layers(kind));
         self.layers -= u16::from(is_layers(old));
+        (self.ids, self.count) = mapped_ids(&self.kinds);
     }
 
     // Puts the kinds of two ids in each other's place.
@@ -111,12 +114,8 @@ impl KindsById {
         requires apart { from ≢ to }
         ensures { slots_of self.new ≡ swap (slots_of self.old) (from - 1) (to - 1) }
     {
-        let here = self.kinds[usize::from(from)];
-        let there = self.kinds[usize::from(to)];
-        self.kinds[usize::from(from)] = there;
-        self.kinds[usize::from(to)] = here;
-        self.mapped.update(from, here.is_some(), there.is_some());
-        self.mapped.update(to, there.is_some(), here.is_some());
+        self.kinds.swap(usize::from(from), usize::from(to));
+        (self.ids, self.count) = mapped_ids(&self.kinds);
     }
 
     // The lowest id that is mapped to the kind: the first, since the mapped ids rise.
@@ -135,21 +134,6 @@ impl KindsById {
         None
     }
 
-    // Puts `lowest` at the index of each id that is mapped to the first kind, and 0 at that of each
-    // id that is mapped to the second.
-    pub(super) fn rename(&self, from: KnownKind, to: KnownKind, lowest: u8, ids: &mut [u8; 256])
-        requires { from ≢ to }
-        ensures { Renames (slots_of self.now) (extension_of_kind from)
-            (extension_of_kind to) lowest ids.old ids.new }
-    {
-        let mut place = 0;
-        while let Some((id, kind)) = self.item(place) {
-            let index = usize::from(id);
-            ids[index] = renamed(Some(kind), from, to, lowest, ids[index]);
-            place += 1;
-        }
-    }
-
     // The id at this place among the mapped ids, which rise, and its kind.
     #[inline(always)]
     pub(super) fn item(&self, place: usize) -> Option<(u8, KnownKind)>
@@ -161,7 +145,7 @@ impl KindsById {
             (items_at (slots_of self.now) (drop place (mapped_ids (slots_of self.now))) ≡ []) }
         ensures within { IfSome result (λ _. place < MAX_ID) }
     {
-        let id = *self.mapped.as_slice().get(place)?;
+        let id = *self.ids[..usize::from(self.count)].get(place)?;
         // Each listed id is mapped.
         Some((id, self.kinds[usize::from(id)].unwrap()))
     }
@@ -181,4 +165,21 @@ fn is_layers(kind: Option<KnownKind>) -> bool
     ensures { result ≡ is_layers kind }
 {
     matches!(kind, Some(KnownKind::VideoLayersAllocation))
+}
+
+// The ids that are mapped to a kind, rising, with zeros behind them, and how many they are.
+fn mapped_ids(kinds: &[Option<KnownKind>; IDS]) -> ([u8; MAX_ID as usize], u8)
+    ensures ids { result.0 ≡ padded_ids (mapped_ids (slots_of kinds.now)) }
+    ensures count { result.1 ≡ length (mapped_ids (slots_of kinds.now)) }
+{
+    let mut ids = [0; MAX_ID as usize];
+    let mut count = 0;
+    for id in 1..IDS {
+        if kinds[id].is_none() {
+            continue;
+        }
+        ids[count] = id as u8;
+        count += 1;
+    }
+    (ids, count as u8)
 }

@@ -17,7 +17,6 @@ mod kinds_by_id;
 mod known_ids;
 mod left_out;
 mod map;
-mod mapped_ids;
 mod new_ids;
 mod place;
 mod raw_writing;

@@ -1,12 +1,12 @@
 //! The slots of a map, one for each id from 1 on: what the id is mapped to.
 
-ghost use Rattle.std.specs.Prelude.{◌≡◌, ◌↔◌, length, IsTrue, IsOk, IfOk, Some, None};
+ghost use Rattle.std.specs.Prelude.{◌≡◌, ◌≤◌, ◌↔◌, length, IsTrue, IsOk, IfOk, Some, None};
 ghost use Rattle.std.specs.Cmp.{partial_equiv_from_equiv};
 ghost use Rattle.std.specs.Option.{is_some, option_copied, option_map};
 ghost use Rattle.rtp_values.specs.Kind.{IsKnown};
 ghost use Rattle.rtp_ext.specs.EqualMaps.{same_slot, same_slot-equiv};
 ghost use Rattle.rtp_ext.specs.KindsById.{entry_of_kind, known_entry};
-ghost use Rattle.rtp_ext.specs.MapSlots.{IsMapped, mapped_ids};
+ghost use Rattle.rtp_ext.specs.MapSlots.{IsLastId};
 ghost use Rattle.rtp_ext.specs.ExtensionMap as spec;
 
 use rtp_values::{Extension, KnownKind};
@@ -152,29 +152,34 @@ pub(super) fn extension(slots: &[Slot], id: u8) -> Option<&Extension>
     slots.get(usize::from(id).checked_sub(1)?)?.extension()
 }
 
-// The extension of an id that is mapped to one.
-pub(super) fn extension_of_mapped(slots: &[Slot], id: u8) -> &Extension
-    requires { IsMapped slots.now id }
-    ensures { spec.extension_at slots.now id ≡ Some result.now }
+// The highest mapped id, where none above this one is mapped.
+pub(super) fn last_id(slots: &[Slot], highest: u8) -> u8
+    requires within { highest ≤ length slots.now }
+    requires none_above { spec.HasNoIdAbove highest slots.now }
+    ensures { IsLastId slots.now result }
 {
-    slots[usize::from(id) - 1].extension().unwrap()
+    let mut last = highest;
+    while last > 0 && !slots[usize::from(last) - 1].is_mapped() {
+        last -= 1;
+    }
+    last
 }
 
-// Copies the entries of the mapped ids into the slots of an empty map.
+// Copies the entries of the ids up to the highest mapped one into the slots of an empty map.
 pub(super) fn copy(
     alloc: Global,
     from: &[Slot],
-    ids: &[u8],
+    last: u8,
     to: &mut [Slot],
 ) -> Result<(), AllocError>
     requires length { length from.now ≡ length to.old }
-    requires ids { ids.now ≡ mapped_ids from.now }
+    requires within { last ≤ length from.now }
+    requires none_above { spec.HasNoIdAbove last from.now }
     requires empty { spec.IsEmpty to.old }
     ensures same { IfOk result (λ _. to.new ≡ from.now) }
     ensures known { spec.HasNoText from.now → IsOk result }
 {
-    for id in ids {
-        let index = usize::from(*id) - 1;
+    for index in 0..usize::from(last) {
         to[index] = from[index].clone(alloc)?;
     }
     Ok(())

@@ -59,8 +59,8 @@ pub(super) fn survey_by(form: ExtensionsForm, body: &[u8], id: u8, front_first: 
     }
 }
 
-// One more than a count. It stays out of line, so that a walk over elements, of which next to none
-// has the id 0, reckons nothing for those that have another.
+// One more than a count. It stays out of line, since next to no element has the id 0: a walk over
+// those that have another does nothing for it.
 #[cold]
 #[inline(never)]
 fn one_more(count: usize) -> usize

@@ -1,7 +1,5 @@
 //! A map as the kinds of its ids, by which elements are read and written.
 
-ghost use Rattle.std.specs.Prelude.{true, false};
-
 use super::ExtensionMap;
 use crate::kinds::Kinds;
 use crate::{MAX_ID_ONE_BYTE_FORM, slots};
@@ -38,9 +36,8 @@ impl Kinds for ExtensionMap {
 
     // An unknown extension too may have an id above 14.
     #[inline(always)]
-    #[tactic(auto, using(crate::proofs::KnownItemsLemmas::long_split, crate::proofs::RisingIdLemmas::mapped_rise))]
     fn has_long(&self, _end: usize) -> bool {
-        self.mapped.has_above(MAX_ID_ONE_BYTE_FORM) || self.kinds.has_layers()
+        self.last > MAX_ID_ONE_BYTE_FORM || self.kinds.has_layers()
     }
 
     #[inline(always)]
@@ -59,10 +56,6 @@ impl Kinds for ExtensionMap {
             ids[usize::from(id)] = other.lowest_id(ext).unwrap_or(0);
         }
         ids
-    }
-
-    fn rename(&self, from: KnownKind, to: KnownKind, lowest: u8, ids: &mut [u8; 256]) {
-        self.kinds.rename(from, to, lowest, ids);
     }
 
     ghost known_is = { λ map. refl };

@@ -11,13 +11,12 @@ ghost use Rattle.rtp_ext.specs.EqualMaps.{same_slots, same_slots-equiv};
 
 use super::iter::write_entries;
 use super::kinds_by_id::KindsById;
-use super::mapped_ids::MappedIds;
 use super::slots::Slot;
 use super::{Iter, IterByMediaType, slots};
 use rtp_values::Extension;
 use std::alloc::{AllocError, Global};
 use std::marker::Model;
-use std::{array, fmt, mem};
+use std::{array, fmt};
 
 /// The greatest id that a map has room for, and that an element can have: that of the two-byte form
 /// (RFC 8285, 4.3).
@@ -34,8 +33,8 @@ pub const MAX_ID: u8 = 255;
 pub struct ExtensionMap {
     // What the ids from 1 on are mapped to.
     slots: [Slot; MAX_ID as usize],
-    // The mapped ids, so that a walk goes over these alone.
-    mapped: MappedIds,
+    // The highest mapped id, at which a walk ends, and 0 where none is mapped.
+    last: u8,
     // The known extensions, by which elements are read and written.
     kinds: KindsById,
 }
@@ -43,7 +42,7 @@ pub struct ExtensionMap {
 impl Model for ExtensionMap {
     ghost use Rattle.std.specs.Prelude.{◌≡◌, length};
     ghost use Rattle.rtp_ext.specs.ExtensionMap.{Slots};
-    ghost use Rattle.rtp_ext.specs.MapSlots.{mapped_ids};
+    ghost use Rattle.rtp_ext.specs.MapSlots.{IsLastId};
     ghost use Rattle.rtp_ext.specs.KindsById.{slots_of, known_slots};
     ghost use Rattle.rtp_ext.specs.declared.map.TheConstants.{MAX_ID};
 
@@ -52,7 +51,7 @@ impl Model for ExtensionMap {
     ghost view = { λ map. map.slots };
 
     ghost invariant = { λ map. (length map.slots ≡ MAX_ID)
-        × (map.mapped ≡ mapped_ids map.slots)
+        × (IsLastId map.slots map.last)
         × (slots_of map.kinds ≡ known_slots map.slots) };
 }
 
@@ -83,7 +82,7 @@ impl ExtensionMap {
     {
         ExtensionMap {
             slots: array::from_fn(|_| Slot::unmapped()),
-            mapped: MappedIds::none(),
+            last: 0,
             kinds: KindsById::empty(),
         }
     }
@@ -117,7 +116,7 @@ impl ExtensionMap {
     pub fn is_empty(&self) -> bool
         ensures { IsTrue result ↔ spec.IsEmpty self.now }
     {
-        self.mapped.as_slice().is_empty()
+        self.last == 0
     }
 
     /// How many ids are mapped.
@@ -125,7 +124,11 @@ impl ExtensionMap {
         ensures count { result ≡ spec.mapped_count self.now }
         ensures few { result ≤ MAX_ID }
     {
-        self.mapped.as_slice().len()
+        let mut count = 0;
+        for _ in self.iter() {
+            count += 1;
+        }
+        count
     }
 
     /// Maps the id to the extension, unlocked, instead of what it was mapped to. The id 0, which a
@@ -149,8 +152,8 @@ impl ExtensionMap {
     {
         let new = Slot::from(ext);
         self.kinds.set(id, new.known_kind());
-        let old = mem::replace(&mut self.slots[usize::from(id) - 1], new);
-        self.mapped.update(id, old.is_mapped(), true);
+        self.slots[usize::from(id) - 1] = new;
+        self.last = self.last.max(id);
     }
 
     /// The extension that the id is mapped to, and `None` where there is none, as always for 0.
@@ -181,7 +184,7 @@ impl ExtensionMap {
     }
 
     // The lowest id that is mapped to any extension, known or not: the first that is found, since the
-    // mapped ids rise.
+    // ids rise.
     fn lowest_unknown(&self, ext: &Extension) -> Option<u8>
         ensures found { IfSome result (spec.IsLowest self.now ext.now) }
         ensures valid { IfSome result spec.IsId }
@@ -199,8 +202,9 @@ impl ExtensionMap {
     pub fn iter(&self) -> Iter<'_>
         ensures listing { spec.ListsItems self.now (λ _. true) result }
         ensures items { result ≡ items_from 0 self.now }
+        ensures few { length result ≤ MAX_ID }
     {
-        Iter::new(&self.slots, self.mapped.as_slice())
+        Iter::new(&self.slots[..usize::from(self.last)])
     }
 
     /// The ids whose extensions are for audio, or else for video, by rising id, each with its
@@ -247,8 +251,8 @@ impl ExtensionMap {
         ensures known { spec.HasNoText self.now → result ≡ Ok self.now }
     {
         let mut copy = Self::empty();
-        slots::copy(alloc, &self.slots, self.mapped.as_slice(), &mut copy.slots)?;
-        copy.mapped = self.mapped;
+        slots::copy(alloc, &self.slots, self.last, &mut copy.slots)?;
+        copy.last = self.last;
         copy.kinds = self.kinds;
         Ok(copy)
     }

@@ -6,6 +6,7 @@ ghost use Rattle.rtp_ext.specs.ExtensionMap as spec;
 ghost use Rattle.rtp_ext.specs.MapSlots.{Puts, Swaps};
 
 use super::ExtensionMap;
+use crate::slots;
 use rtp_values::Extension;
 
 impl ExtensionMap {
@@ -60,11 +61,8 @@ impl ExtensionMap {
         self.kinds.exchange(from, to);
         let here = usize::from(from) - 1;
         let there = usize::from(to) - 1;
-        let was_here = self.slots[here].is_mapped();
-        let was_there = self.slots[there].is_mapped();
         self.slots.swap(here, there);
-        self.mapped.update(from, was_here, was_there);
-        self.mapped.update(to, was_there, was_here);
+        self.last = slots::last_id(&self.slots, self.last.max(from).max(to));
     }
 
     // Whether the entry of the id is locked.

@@ -3,12 +3,19 @@
 ghost use Rattle.std.specs.Prelude.{◌≡◌, ℕ, ◌+◌, ◌*◌, ◌^◌, ◌<◌, ◌≤◌, length, take, slice_index};
 ghost use Rattle.std.specs.List.{flat_map};
 ghost use Rattle.std.specs.Int.{w32, to_be_bytes};
+ghost use Rattle.rtp_base.specs.Flag.{bit};
 ghost use Rattle.rtp_base.specs.Overwriting.{overwritten};
 ghost use Rattle.rtp_wire.specs.Written.{fixed_bytes, source_bytes};
 
 use super::get_fields::GetFields;
-use crate::packet::flag;
 use rtp_base::put;
+
+// Whether a flag is set, as the number that it adds to its byte.
+pub(crate) fn flag(is_set: bool, worth: u8) -> u8
+    ensures { result ≡ bit is_set * worth }
+{
+    if is_set { worth } else { 0 }
+}
 
 // The twelve bytes that every header begins with, with this X. The ranges are those of the types, of
 // which a caller is told that doesn't read the fields itself.

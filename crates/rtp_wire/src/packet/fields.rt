@@ -1,8 +1,5 @@
 //! Fields of a header's fixed part that are set at once.
 
-ghost use Rattle.std.specs.Prelude.{◌≡◌, ◌*◌};
-ghost use Rattle.rtp_base.specs.Flag.{bit};
-
 use super::RtpPacketMut;
 use rtp_base::{Pt, Ssrc};
 
@@ -57,11 +54,4 @@ impl<'a> RtpPacketMut<'a> {
             self.set_ssrc(ssrc);
         }
     }
-}
-
-// Whether a flag is set, as the number that it adds to its byte.
-pub(crate) fn flag(is_set: bool, worth: u8) -> u8
-    ensures { result ≡ bit is_set * worth }
-{
-    if is_set { worth } else { 0 }
 }

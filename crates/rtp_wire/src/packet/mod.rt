@@ -28,7 +28,6 @@ pub use block_not_put::BlockNotPut;
 pub use compacting::{compact, compact_copy};
 pub use csrcs::Csrcs;
 pub use fields::Fields;
-pub(crate) use fields::flag;
 pub use not_a_packet::NotAPacket;
 pub use not_in_buffer::NotInBuffer;
 pub use not_put::NotPut;

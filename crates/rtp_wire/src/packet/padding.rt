@@ -5,7 +5,8 @@ ghost use Rattle.rtp_wire.specs.ChangedPacket.{ChangesOnly, HasUnpadded};
 ghost use Rattle.rtp_wire.specs.Packet.{IsWithoutPadding};
 ghost use Rattle.rtp_wire.specs.Padding.{padding_count};
 
-use super::{RtpPacket, RtpPacketMut, flag};
+use super::{RtpPacket, RtpPacketMut};
+use crate::header::flag;
 use crate::payload::unpad_payload;
 use rtp_base::put;
 

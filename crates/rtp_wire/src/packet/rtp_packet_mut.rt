@@ -21,7 +21,8 @@ ghost use Rattle.rtp_wire.specs.PacketElements.{AreElementsOf, HasValues};
 ghost use Rattle.rtp_wire.specs.PartsAt.{form_in, header_end, HasLayout};
 
 use super::rtp_packet::body_start;
-use super::{NotAPacket, RtpPacket, flag};
+use super::{NotAPacket, RtpPacket};
+use crate::header::flag;
 use rtp_base::{Pt, Ssrc, put};
 use rtp_ext::{ExtensionsForm, NewIds, remove_element, renumber, set_element};
 

@@ -1,21 +1,23 @@
-use Rattle.rtp_ext.proofs.Common.{ap, sym, ◌∙◌, false≢true, extension_of}
-use Rattle.rtp_ext.proofs.CopiedLemmas.{IsCopiedBut-start, IsCopiedBut-entry, IsCopiedBut-next, IsCopiedBut-end}
+use Rattle.rtp_ext.proofs.Common.{suc, None, arith, ap, sym, ◌∙◌, length, get_or_default, false≢true, ◌<◌, extension_of}
+use Rattle.rtp_ext.proofs.CopiedLemmas.{IsCopiedTo-start, IsCopiedTo-next, IsCopiedTo-end}
 use Rattle.rtp_ext.proofs.slots.copy.Goals as goal
 
-pub loop-id-init : goal.loop-id-init
-loop-id-init c = IsCopiedBut-start c.args.from.now _ c.args.to.now (sym c.requires.length) c.requires.ids c.requires.empty
+pub loop-index-init : goal.loop-index-init
+loop-index-init c = IsCopiedTo-start c.args.from.now c.args.to.now (sym c.requires.length) c.requires.empty
 
-pub loop-id-preserved : goal.loop-id-preserved
-loop-id-preserved c =
-    IsCopiedBut-next c.args.from.now c.args.ids.now c.loop-id.id-index c.loop-id.to c.from-index.result c.index-from-index.result c.in_ok-to.field-0
-    c.loop-id.invariant c.loop-id-test.true c.from-index.ensures c.index-from-index.is c.in_ok-to.ensures.same
+pub loop-index-preserved : goal.loop-index-preserved
+loop-index-preserved c =
+    let within : c.loop-index.index < length c.args.from.now = omega (arith, c.loop-index-test.true, c.from-index-end.ensures, c.requires.within) in
+    IsCopiedTo-next c.args.from.now c.loop-index.to c.loop-index.index c.in_ok-to.field-0 c.loop-index.invariant within
+    (c.in_ok-to.ensures.same ∙ c.index-from-index.is ∙ sym (get_or_default c.args.from.now c.loop-index.index None c.index-from-index.result within))
 
 pub returns-in_err-to-clause-known : goal.returns-in_err-to-clause-known
 returns-in_err-to-clause-known c = λ no_text.
-    let told = c.in_err-to.ensures in
-    absurd (false≢true (told.known (λ extension is. no_text c.from-index.result extension
-    (ap extension_of (IsCopiedBut-entry c.args.from.now c.args.ids.now c.loop-id.id-index c.loop-id.to c.from-index.result c.index-from-index.result
-    c.loop-id.invariant c.loop-id-test.true c.from-index.ensures c.index-from-index.is) ∙ is))))
+    let within : c.loop-index.index < length c.args.from.now = omega (arith, c.loop-index-test.true, c.from-index-end.ensures, c.requires.within) in
+    let here = get_or_default c.args.from.now c.loop-index.index None c.index-from-index.result within ∙ sym c.index-from-index.is in
+    absurd (false≢true (c.in_err-to.ensures.known (λ extension is. no_text (suc c.loop-index.index) extension (ap extension_of here ∙ is))))
 
 pub returns-clause-same : goal.returns-clause-same
-returns-clause-same c = IsCopiedBut-end c.args.from.now c.args.ids.now c.loop-id.id-index c.loop-id.to c.loop-id.invariant c.loop-id-test.false
+returns-clause-same c =
+    IsCopiedTo-end c.args.from.now c.loop-index.to c.args.last c.loop-index.index c.loop-index.invariant c.requires.none_above
+    (omega (arith, c.loop-index-test.false, c.from-index-end.ensures))

@@ -1,29 +1,18 @@
-use Rattle.rtp_ext.proofs.Common.{arith, refl, sym, ◌∙◌, slots_of}
+use Rattle.rtp_ext.proofs.Common.{arith, refl}
 use Rattle.rtp_ext.proofs.KindsByIdLemmas.{slots_of-set_slots}
-use Rattle.rtp_ext.proofs.RisingIdLemmas.{mapped_rise}
-use Rattle.rtp_ext.proofs.TableLemmas.{no_kind, set-length, set-padding, set-room, few_layers, is_layers-once, layers_count-set}
-use Rattle.rtp_ext.proofs.UpdatedIdLemmas.{updated_kinds}
+use Rattle.rtp_ext.proofs.TableLemmas.{set-length, set-padding, few_layers, is_layers-once, layers_count-set}
 use Rattle.rtp_ext.proofs.kinds_by_id.KindsById.set.Goals as goal
-
-pub update-requires-clause-room : goal.update-requires-clause-room
-update-requires-clause-room c = λ missing.
-    let kinds = c.self.inside.kinds in
-    set-room kinds c.self.inside.mapped c.args.id c.self.invariant.0 c.self.invariant.2 (omega (arith, c.if-id-eq0.false)) (omega (arith, c.ranges.id.fits))
-    (no_kind kinds c.from.result c.args.id _ c.from.ensures (omega (arith, c.ranges.id.fits, c.self.invariant.0)) (sym c.is_some.ensures ∙ missing))
-
-pub update-requires-clause-rising : goal.update-requires-clause-rising
-update-requires-clause-rising c = mapped_rise (slots_of c.self.inside.kinds) c.self.inside.mapped c.self.invariant.2
 
 pub overflow_add-self : goal.overflow_add-self
 overflow_add-self c =
-    omega (arith, few_layers c.self.inside.kinds c.self.inside.layers c.self.invariant.0 c.self.invariant.3, is_layers-once c.is_layers.result, c.from-3.ensures)
+    omega (arith, few_layers c.self.inside.kinds c.self.inside.layers c.self.invariant.0 c.self.invariant.2, is_layers-once c.is_layers.result, c.from-3.ensures)
 
 pub overflow_sub-self : goal.overflow_sub-self
 overflow_sub-self c =
     omega (
       arith,
       layers_count-set c.self.inside.kinds c.from.result c.from-2.result c.args.id c.self.inside.layers _ c.args.kind _ c.is_layers.result c.is_layers-2.result
-          c.from-3.result c.from-4.result c.from.ensures c.from-2.ensures (omega (arith, c.ranges.id.fits, c.self.invariant.0)) refl c.self.invariant.3
+          c.from-3.result c.from-4.result c.from.ensures c.from-2.ensures (omega (arith, c.ranges.id.fits, c.self.invariant.0)) refl c.self.invariant.2
           c.is_layers.ensures c.is_layers-2.ensures c.from-3.ensures c.from-4.ensures,
     )
 
@@ -31,14 +20,13 @@ pub invariant_of-self : goal.invariant_of-self
 invariant_of-self c =
     let kinds = c.self.inside.kinds in
     let counted = layers_count-set kinds c.from.result c.from-2.result c.args.id c.self.inside.layers _ c.args.kind _ c.is_layers.result c.is_layers-2.result
-    c.from-3.result c.from-4.result c.from.ensures c.from-2.ensures (omega (arith, c.ranges.id.fits, c.self.invariant.0)) refl c.self.invariant.3
+    c.from-3.result c.from-4.result c.from.ensures c.from-2.ensures (omega (arith, c.ranges.id.fits, c.self.invariant.0)) refl c.self.invariant.2
     c.is_layers.ensures c.is_layers-2.ensures c.from-3.ensures c.from-4.ensures in (
       set-length kinds c.from-2.result c.args.kind c.self.invariant.0,
       set-padding kinds c.from-2.result c.args.kind (omega (arith, c.from-2.ensures, c.if-id-eq0.false)) c.self.invariant.1,
-      updated_kinds kinds c.self.inside.mapped c.update.new.self c.from.result c.from-2.result c.args.id _ c.args.kind c.is_some.result c.is_some-2.result
-          c.self.invariant.0 c.self.invariant.2 c.from.ensures c.from-2.ensures (omega (arith, c.if-id-eq0.false)) (omega (arith, c.ranges.id.fits))
-          c.is_some.ensures c.is_some-2.ensures c.update.ensures,
       omega (arith, counted),
+      c.mapped_ids.ensures.ids,
+      c.mapped_ids.ensures.count,
     )
 
 pub returns : goal.returns

@@ -1,9 +1,10 @@
-use Rattle.std.proofs.Common.{◌↔◌, IsTrue, ◌∙◌, subst}
-use Rattle.rtp_ext.specs.ExtensionMap as spec
-use Rattle.rtp_ext.proofs.MappedIdLemmas.{no_ids-tells}
+use Rattle.rtp_ext.proofs.Common.{◌↔◌, ◌==◌, subst, eqb-true, eq-eqb, IsTrue, Slots, IsEmpty}
+use Rattle.rtp_ext.proofs.WalkLemmas.{IsEmpty-last, last-IsEmpty}
 use Rattle.rtp_ext.proofs.map.ExtensionMap.is_empty.Goals as goal
 
 pub returns : goal.returns
 returns c =
-    subst (λ (slots : spec.Slots). IsTrue c.is_empty.result ↔ spec.IsEmpty slots) c.self.view_is
-    (no_ids-tells c.self.inside.slots c.as_slice.result.now c.is_empty.result (c.as_slice.ensures.ids ∙ c.self.invariant.1) c.is_empty.ensures)
+    subst (λ (slots : Slots). IsTrue (c.self.inside.last == 0) ↔ IsEmpty slots) c.self.view_is (
+      λ none. IsEmpty-last c.self.inside.slots c.self.inside.last c.self.invariant.1 (eqb-true _ _ none),
+      λ empty. eq-eqb _ _ (last-IsEmpty c.self.inside.slots c.self.inside.last c.self.invariant.1 empty),
+    )
