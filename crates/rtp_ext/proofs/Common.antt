@@ -47,7 +47,7 @@ pub use Rattle.rtp_ext.specs.ExtensionMap.{Entry, Slots, IsEmpty, IsId, ListsIte
 pub use Rattle.rtp_ext.specs.IdChanges.{carries_id, ids_of, HasOtherIds, HasOtherIdsTo}
 pub use Rattle.rtp_ext.specs.KindsById.{entry_of_kind, slots_of, is_layers, layers_count, known_alone, known_entry, known_slots, is_long_item, has_long_data, has_empty}
 pub use Rattle.rtp_ext.specs.LastAllocation.{IsLastAllocation, last_is, none_is, EndsRow, EndsBefore, IsPastRow, IsReadTo, IsReadPastRow}
-pub use Rattle.rtp_ext.specs.MapSlots.{IsMapped, IsLastId, Puts, Swaps, mapped_ids, items_at, padded_ids}
+pub use Rattle.rtp_ext.specs.MapSlots.{IsMapped, IsLastId, Puts, Swaps, first_id, next_id, next_ids}
 pub use Rattle.rtp_ext.specs.Memory.{IsAllocation, HasAllocation, ReadUntilRefused, IsStopped}
 pub use Rattle.rtp_ext.specs.NewIds.{IsNewId, id_in_byte, byte_of_id, AreNewBytes, new_id, AreNewIds, CarriesExtensions, ids_in_bytes, IsRenamedId, AreRenamedIds, Renames}
 pub use Rattle.rtp_ext.specs.PutElement.{has_id, without, put_among, put_element, rewritten, row_to, IsSole}

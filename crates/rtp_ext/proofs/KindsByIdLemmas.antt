@@ -1,6 +1,7 @@
 -- The known extensions by their ids: what a table of kinds shows, and what the known extensions of a map read.
-use Rattle.rtp_ext.proofs.Common.{option_map, extension_of_kind, ◌≡◌, ℕ, ◌+◌, ◌-◌, suc, zero, List, [], ◌∷◌, length, map, replicate, set, get_or, Option, Some, None, All, arith, ap, refl, sym, ◌∙◌, subst, get_or-map, map-set, Extension, UnknownUri, VideoLayersAllocation, KnownKind, ExtensionValues, IsKnown, IsWellFormed, one_kind, Element, Entry, Slots, IsEmpty, IsId, entry_at, extension_at, extension_of, entry_of_kind, slots_of, known_alone, known_entry, known_slots, IsMapped, Carries, AreFields, last, none, AreValues, ReadElements, HasAllocation, ReadUntilRefused, All-weaker}
+use Rattle.rtp_ext.proofs.Common.{option_map, extension_of_kind, ◌≡◌, ℕ, ◌+◌, ◌-◌, suc, zero, List, [], ◌∷◌, length, map, replicate, set, get_or, Option, Some, None, All, arith, ap, refl, sym, ◌∙◌, subst, get_or-map, swap, swap_is, get_or_default, get_or-set_other, ◌≢◌, map-set, ◌<◌, is_some, true, false, unlocked, Extension, UnknownUri, VideoLayersAllocation, KnownKind, ExtensionValues, IsKnown, IsWellFormed, one_kind, Element, Entry, Slots, IsEmpty, IsId, entry_at, extension_at, extension_of, entry_of_kind, slots_of, known_alone, known_entry, known_slots, IsMapped, Carries, AreFields, last, none, AreValues, ReadElements, HasAllocation, ReadUntilRefused, All-weaker}
 use Rattle.rtp_ext.proofs.MapLemmas.{entry_at-map}
+use Rattle.rtp_ext.proofs.TableLemmas.{slots-long}
 
 -- ---- the table
 
@@ -22,6 +23,38 @@ kind_at kinds k kind is =
     of_entry None = refl
     of_entry (Some it) = refl
 
+-- the extension of any id
+pub kind_of_id : (kinds : List (Option KnownKind)) (id : ℕ) → get_or kinds 0 None ≡ None
+    → extension_at (slots_of kinds) id ≡ option_map extension_of_kind (get_or kinds id None)
+kind_of_id kinds zero padding = ap (option_map extension_of_kind) (sym padding)
+kind_of_id kinds (suc k) padding = ap extension_of (entry_at-kinds kinds k) ∙ of_entry (get_or kinds (suc k) None)
+  where
+    of_entry : (kind : Option KnownKind) → extension_of (entry_of_kind kind) ≡ option_map extension_of_kind kind
+    of_entry None = refl
+    of_entry (Some it) = refl
+
+-- an id that has a kind, and one that has none
+pub mapped-kind : (kinds : List (Option KnownKind)) (id : ℕ) (seen : Option KnownKind) → 0 < id → id < length kinds → is_some (get_or kinds id seen) ≡ true
+    → (entry : Entry) × (entry_at (slots_of kinds) id ≡ Some entry)
+mapped-kind kinds zero seen some within there = absurd (omega (arith, some))
+mapped-kind kinds (suc k) seen some within there =
+    let found = kind_of (get_or kinds (suc k) seen) there in
+    (unlocked (extension_of_kind found.0), entry_at-kinds kinds k ∙ ap entry_of_kind (get_or_default kinds (suc k) None seen within ∙ found.1))
+  where
+    kind_of : (kind : Option KnownKind) → is_some kind ≡ true → (found : KnownKind) × (kind ≡ Some found)
+    kind_of None there = cc
+    kind_of (Some kind) there = (kind, refl)
+
+pub unmapped-kind : (kinds : List (Option KnownKind)) (id : ℕ) (seen : Option KnownKind) → id < length kinds → is_some (get_or kinds id seen) ≡ false
+    → entry_at (slots_of kinds) id ≡ None
+unmapped-kind kinds zero seen within missing = refl
+unmapped-kind kinds (suc k) seen within missing =
+    entry_at-kinds kinds k ∙ ap entry_of_kind (get_or_default kinds (suc k) None seen within ∙ no_kind (get_or kinds (suc k) seen) missing)
+  where
+    no_kind : (kind : Option KnownKind) → is_some kind ≡ false → kind ≡ None
+    no_kind None missing = refl
+    no_kind (Some kind) missing = cc
+
 -- the slots are the old ones, except for that of the id
 pub slots_of-put : (kinds : List (Option KnownKind)) (id : ℕ) (kind : Option KnownKind) → IsId id
     → slots_of (set kinds id kind) ≡ set (slots_of kinds) (id - 1) (entry_of_kind kind)
@@ -31,11 +64,33 @@ slots_of-put (first ∷ kinds) (suc k) kind is_id =
     let index : k ≡ suc k - 1 = omega arith in
     map-set entry_of_kind kinds k kind ∙ ap (λ (i : ℕ). set (map entry_of_kind kinds) i (entry_of_kind kind)) index
 
+pub slots_of-others : (kinds : List (Option KnownKind)) (at id : ℕ) (kind : Option KnownKind) → at ≡ id
+    → (k : ℕ) → k ≢ id → entry_at (slots_of (set kinds at kind)) k ≡ entry_at (slots_of kinds) k
+slots_of-others kinds at id kind is zero other = refl
+slots_of-others kinds at id kind is (suc k) other =
+    entry_at-kinds (set kinds at kind) k ∙ ap entry_of_kind (get_or-set_other kinds at (suc k) kind None (λ here. other (here ∙ is))) ∙ sym (entry_at-kinds kinds k)
+
 pub slots_of-set_slots : (kinds old : List (Option KnownKind)) (at id : ℕ) (kind : Option KnownKind) → at ≡ id → kinds ≡ old → IsId id
     → slots_of (set kinds at kind) ≡ set (slots_of old) (id - 1) (entry_of_kind kind)
 slots_of-set_slots kinds old at id kind is shows is_id =
     ap (λ (n : ℕ). slots_of (set kinds n kind)) is ∙ slots_of-put kinds id kind is_id
     ∙ ap (λ (ks : List (Option KnownKind)). set (slots_of ks) (id - 1) (entry_of_kind kind)) shows
+
+-- the slot of an id's kind
+slot_at : (kinds : List (Option KnownKind)) (id : ℕ) → IsId id → entry_of_kind (get_or kinds id None) ≡ get_or (slots_of kinds) (id - 1) None
+slot_at kinds zero is_id = absurd (omega (arith, is_id.0))
+slot_at kinds (suc k) is_id =
+    let index : k ≡ suc k - 1 = omega arith in
+    sym (entry_at-kinds kinds k) ∙ ap (λ (i : ℕ). get_or (slots_of kinds) i None) index
+
+-- the kinds of two ids, each put in the other's place
+pub slots_of-swapped : (kinds : List (Option KnownKind)) (from to : ℕ) → length kinds ≡ 256 → IsId from → IsId to
+    → set (set (slots_of kinds) (from - 1) (entry_of_kind (get_or kinds to None))) (to - 1) (entry_of_kind (get_or kinds from None))
+    ≡ swap (slots_of kinds) (from - 1) (to - 1)
+slots_of-swapped kinds from to many is_from is_to =
+    ap (λ (slot : Option Entry). set (set (slots_of kinds) (from - 1) slot) (to - 1) (entry_of_kind (get_or kinds from None))) (slot_at kinds to is_to)
+    ∙ ap (set (set (slots_of kinds) (from - 1) (get_or (slots_of kinds) (to - 1) None)) (to - 1)) (slot_at kinds from is_from)
+    ∙ swap_is (slots_of kinds) (from - 1) (to - 1) None (omega (arith, is_from.0, is_from.1, slots-long kinds many)) (omega (arith, is_to.0, is_to.1, slots-long kinds many))
 
 kinds-none : (n : ℕ) → map entry_of_kind (replicate n None) ≡ replicate n None
 kinds-none zero = refl

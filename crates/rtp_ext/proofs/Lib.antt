@@ -17,9 +17,8 @@ pub mod MemoryLemmas
 mod MapLemmas
 pub mod ListingLemmas
 pub mod WalkLemmas
-mod MappedIdLemmas
 mod ReplacedLemmas
-mod ExchangedLemmas
+mod NextIdLemmas
 mod CopiedLemmas
 mod MemoryFacts
 -- The known extensions of a map, and walks over them.

@@ -28,13 +28,6 @@ pub record IsRenamedTo (map : Slots) (from to : Extension) (lowest : ℕ) (old n
   pub before : (id : ℕ) → id < passed → IsRenamedAt map from to lowest old new id
   pub after : (id : ℕ) → passed ≤ id → get_or new id 0 ≡ get_or old id 0
 
-pub IsRenamedTo-start : (map : Slots) (from to : Extension) (lowest : ℕ) (old : List ℕ) → length old ≡ 256 → IsRenamedTo map from to lowest old old 0
-IsRenamedTo-start map from to lowest old long = record {
-  long = long;
-  before = λ id below. absurd (omega (arith, below));
-  after = λ id above. refl;
-}
-
 -- the id 0 is mapped to nothing
 pub IsRenamedTo-first : (map : Slots) (from to : Extension) (lowest : ℕ) (old : List ℕ) → length old ≡ 256 → IsRenamedTo map from to lowest old old 1
 IsRenamedTo-first map from to lowest old long = record {

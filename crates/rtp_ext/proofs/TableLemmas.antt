@@ -1,5 +1,5 @@
--- What a table of kinds keeps in step with its entries: how many layer allocations there are.
-use Rattle.rtp_ext.proofs.Common.{◌≡◌, ◌≢◌, ℕ, ◌+◌, ◌-◌, ◌<◌, suc, zero, List, [], ◌∷◌, length, drop, set, get_or, Bool, true, false, Option, Some, None, arith, ap, refl, sym, ◌∙◌, lt-ltb, get_or-set_other, length-drop, nat_lt, map, ◌≤◌, if◌then◌else◌, from_bool, list_any, filter, length-map, length-set, KnownKind, items_from, entry_of_kind, slots_of, is_layers, has_long_data, layers_count}
+-- What a table of kinds keeps in step with its entries: how many ids are mapped, and how many to the layer allocation.
+use Rattle.rtp_ext.proofs.Common.{◌≡◌, ◌≢◌, ℕ, ◌+◌, ◌-◌, ◌<◌, suc, zero, List, [], ◌∷◌, length, drop, set, get_or, Bool, true, false, Option, Some, None, arith, ap, refl, sym, ◌∙◌, lt-ltb, get_or-set_other, length-drop, nat_lt, map, ◌≤◌, if◌then◌else◌, from_bool, list_any, filter, length-map, length-set, KnownKind, items_from, mapped_count, is_some, entry_of_kind, slots_of, is_layers, has_long_data, layers_count}
 use Rattle.rtp_values.specs.declared.known_kind.KnownKind.TheVariants as known
 
 -- ---- one entry is written
@@ -14,6 +14,41 @@ pub within_slots : (kinds : List (Option KnownKind)) (id : ℕ) → id ≢ 0 →
 within_slots kinds zero other within = absurd (other refl)
 within_slots kinds (suc k) other within = omega (arith, length-map (drop 1 kinds) entry_of_kind, length-drop 1 kinds)
 
+pub slots-long : (kinds : List (Option KnownKind)) → length kinds ≡ 256 → length (slots_of kinds) ≡ 255
+slots-long kinds many = omega (arith, many, length-map (drop 1 kinds) entry_of_kind, length-drop 1 kinds)
+
+-- ---- how many ids are mapped
+
+count-put : (passed : ℕ) (kinds : List (Option KnownKind)) (k : ℕ) (kind seen : Option KnownKind) → k < length kinds
+    → length (items_from passed (map entry_of_kind (set kinds k kind))) + from_bool (is_some (get_or kinds k seen))
+    ≡ length (items_from passed (map entry_of_kind kinds)) + from_bool (is_some kind)
+count-put passed [] k kind seen here = absurd (omega (arith, here))
+count-put passed (None ∷ kinds) zero None seen here = refl
+count-put passed (None ∷ kinds) zero (Some kind) seen here = omega arith
+count-put passed (Some first ∷ kinds) zero None seen here = omega arith
+count-put passed (Some first ∷ kinds) zero (Some kind) seen here = refl
+count-put passed (None ∷ kinds) (suc k) kind seen here = count-put (passed + 1) kinds k kind seen (omega (arith, here))
+count-put passed (Some first ∷ kinds) (suc k) kind seen here = omega (arith, count-put (passed + 1) kinds k kind seen (omega (arith, here)))
+
+-- a mapped id is counted, and the one before it is not any more
+pub mapped_count-put : (kinds : List (Option KnownKind)) (id : ℕ) (kind seen : Option KnownKind) → id ≢ 0 → id < length kinds
+    → mapped_count (slots_of (set kinds id kind)) + from_bool (is_some (get_or kinds id seen)) ≡ mapped_count (slots_of kinds) + from_bool (is_some kind)
+mapped_count-put kinds zero kind seen other within = absurd (other refl)
+mapped_count-put [] (suc k) kind seen other within = absurd (omega (arith, within))
+mapped_count-put (first ∷ kinds) (suc k) kind seen other within = count-put 0 kinds k kind seen (omega (arith, within))
+
+-- as it is read and written
+pub mapped_count-set : (kinds : List (Option KnownKind)) (kind seen : Option KnownKind) {read at id count : ℕ} {old : Option KnownKind} {is was : Bool} {more fewer : ℕ}
+    → read ≡ id → at ≡ id → id ≢ 0 → id < length kinds → old ≡ get_or kinds read seen → count ≡ mapped_count (slots_of kinds)
+    → is ≡ is_some kind → was ≡ is_some old → more ≡ from_bool is → fewer ≡ from_bool was
+    → mapped_count (slots_of (set kinds at kind)) + fewer ≡ count + more
+mapped_count-set kinds kind seen {read} {at} {id} {count} {old} read_is at_is some here old_is are is_is was_is more_is fewer_is =
+    let put = mapped_count-put kinds id kind seen some here in
+    let now = ap (λ (n : ℕ). mapped_count (slots_of (set kinds n kind))) at_is in
+    let gone = fewer_is ∙ ap from_bool (was_is ∙ ap is_some (old_is ∙ ap (λ (n : ℕ). get_or kinds n seen) read_is)) in
+    let come = more_is ∙ ap from_bool is_is in
+    omega (arith, put, now, gone, come, are)
+
 -- ---- how many layer allocations there are
 
 if-length : (b : Bool) (kind : Option KnownKind) (kinds : List (Option KnownKind)) → length (if b then kind ∷ kinds else kinds) ≡ from_bool b + length kinds
@@ -23,13 +58,13 @@ if-length false kind kinds = omega arith
 layers_count-cons : (kind : Option KnownKind) (kinds : List (Option KnownKind)) → layers_count (kind ∷ kinds) ≡ from_bool (is_layers kind) + layers_count kinds
 layers_count-cons kind kinds = if-length (is_layers kind) kind (filter is_layers kinds)
 
-pub is_layers-once : (b : Bool) → from_bool b ≤ 1
-is_layers-once true = omega arith
-is_layers-once false = omega arith
+pub once : (b : Bool) → from_bool b ≤ 1
+once true = omega arith
+once false = omega arith
 
 layers_count-few : (kinds : List (Option KnownKind)) → layers_count kinds ≤ length kinds
 layers_count-few [] = omega arith
-layers_count-few (kind ∷ kinds) = omega (arith, layers_count-cons kind kinds, is_layers-once (is_layers kind), layers_count-few kinds)
+layers_count-few (kind ∷ kinds) = omega (arith, layers_count-cons kind kinds, once (is_layers kind), layers_count-few kinds)
 
 pub layers_count-put : (kinds : List (Option KnownKind)) (k : ℕ) (kind seen : Option KnownKind) → k < length kinds
     → layers_count (set kinds k kind) + from_bool (is_layers (get_or kinds k seen)) ≡ layers_count kinds + from_bool (is_layers kind)
@@ -39,11 +74,11 @@ layers_count-put (first ∷ kinds) (suc k) kind seen here =
     omega (arith, layers_count-cons first (set kinds k kind), layers_count-cons first kinds, layers_count-put kinds k kind seen (omega (arith, here)))
 
 -- a kind is counted, and the one before it is not any more
-pub layers_count-set : (kinds : List (Option KnownKind)) (read at id layers : ℕ) (old kind seen : Option KnownKind) (is was : Bool) (more fewer : ℕ)
+pub layers_count-set : (kinds : List (Option KnownKind)) (kind seen : Option KnownKind) {read at id layers : ℕ} {old : Option KnownKind} {is was : Bool} {more fewer : ℕ}
     → read ≡ id → at ≡ id → id < length kinds → old ≡ get_or kinds read seen → layers ≡ layers_count kinds
     → is ≡ is_layers kind → was ≡ is_layers old → more ≡ from_bool is → fewer ≡ from_bool was
     → layers_count (set kinds at kind) + fewer ≡ layers + more
-layers_count-set kinds read at id layers old kind seen is was more fewer read_is at_is here old_is are is_is was_is more_is fewer_is =
+layers_count-set kinds kind seen {read} {at} {id} {layers} {old} read_is at_is here old_is are is_is was_is more_is fewer_is =
     let put = layers_count-put kinds id kind seen here in
     let now = ap (λ (n : ℕ). layers_count (set kinds n kind)) at_is in
     let gone = fewer_is ∙ ap from_bool (was_is ∙ ap is_layers (old_is ∙ ap (λ (n : ℕ). get_or kinds n seen) read_is)) in

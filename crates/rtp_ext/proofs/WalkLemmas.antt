@@ -1,53 +1,7 @@
 -- A walk over the slots of a map up to the highest mapped id.
-use Rattle.rtp_ext.proofs.Common.{◌≡◌, ◌⊎◌, inl, inr, ℕ, zero, suc, ◌+◌, ◌<◌, ◌≤◌, [], ◌∷◌, length, take, drop, get_or, Bool, true, false, Option, Some, None, arith, refl, sym, ap, ◌∙◌, ◌||◌, nat_lt, lt-ltb, le-ltb, list_any, option_map, cases_eq, cases_lt, get_or_past, get_or_default, is_some, drop_all, Extension, Entry, Slots, IsEmpty, entry_at, extension_at, extension_of, locked, items_from, known_entry, known_slots, HasNoIdAbove, IsMapped, IsLastId, Puts, Swaps}
-use Rattle.std.proofs.Math.Seq.{drop-cons}
-use Rattle.std.proofs.lemmas.List.{get_or-take, length-take}
-use Rattle.rtp_ext.proofs.ListingLemmas.{items_from-empty, length-items_from}
+use Rattle.rtp_ext.proofs.Common.{◌≡◌, ◌⊎◌, inl, inr, ℕ, zero, suc, ◌+◌, ◌<◌, ◌≤◌, [], ◌∷◌, length, take, get_or, Bool, true, false, Option, Some, None, arith, refl, sym, ap, ◌∙◌, ◌||◌, nat_lt, lt-ltb, le-ltb, list_any, option_map, cases_eq, cases_lt, get_or_default, is_some, Entry, Slots, IsEmpty, entry_at, locked, items_from, known_entry, known_slots, HasNoIdAbove, IsMapped, IsLastId, Puts, Swaps}
+use Rattle.rtp_ext.proofs.ListingLemmas.{items_from-empty}
 use Rattle.rtp_ext.proofs.MapLemmas.{entry_at-map, entry_at-slot}
-
--- the slots that are left begin with that of the next id
-split : (slots : Slots) (end at : ℕ) → at < length slots → at < end → drop at (take end slots) ≡ get_or slots at None ∷ drop (at + 1) (take end slots)
-split slots end at within below =
-    let next : suc at ≡ at + 1 = omega arith in
-    drop-cons (take end slots) at None (omega (arith, within, below, length-take end slots))
-    ∙ ap (λ (k : ℕ). get_or (take end slots) at None ∷ drop k (take end slots)) next
-    ∙ ap (λ slot. slot ∷ drop (at + 1) (take end slots)) (get_or-take end slots at None below)
-
-slot_at : (slots : Slots) (at : ℕ) → entry_at slots (at + 1) ≡ get_or slots at None
-slot_at slots at = let next : at + 1 ≡ suc at = omega arith in ap (entry_at slots) next
-
--- none is left
-pub walk-ended : (slots : Slots) (end at : ℕ) → (end ≤ at) ⊎ (length slots ≤ at) → items_from at (drop at (take end slots)) ≡ []
-walk-ended slots end at (inl past) = ap (items_from at) (drop_all at (take end slots) (omega (arith, past, length-take end slots)))
-walk-ended slots end at (inr past) = ap (items_from at) (drop_all at (take end slots) (omega (arith, past, length-take end slots)))
-
--- an id that is mapped to nothing is passed
-pub walk-pass : (slots : Slots) (end at : ℕ) → at < end → extension_at slots (at + 1) ≡ None
-    → items_from at (drop at (take end slots)) ≡ items_from (at + 1) (drop (at + 1) (take end slots))
-walk-pass slots end at below none = elim (cases_lt at (length slots)) [
-  | inl within ↦ ap (items_from at) (split slots end at within below) ∙ passed (get_or slots at None) (ap extension_of (sym (slot_at slots at)) ∙ none)
-  | inr past ↦ walk-ended slots end at (inr past) ∙ sym (walk-ended slots end (at + 1) (inr (omega (arith, past))))
-]
-  where
-    passed : (slot : Option Entry) → extension_of slot ≡ None
-        → items_from at (slot ∷ drop (at + 1) (take end slots)) ≡ items_from (at + 1) (drop (at + 1) (take end slots))
-    passed None is = refl
-    passed (Some entry) is = cc
-
--- the next one
-pub walk-next : (slots : Slots) (end at : ℕ) (extension : Extension) → at < end → extension_at slots (at + 1) ≡ Some extension
-    → items_from at (drop at (take end slots)) ≡ (at + 1, extension) ∷ items_from (at + 1) (drop (at + 1) (take end slots))
-walk-next slots end at extension below is = elim (cases_lt at (length slots)) [
-  | inl within ↦ ap (items_from at) (split slots end at within below) ∙ found (get_or slots at None) (ap extension_of (sym (slot_at slots at)) ∙ is)
-  | inr past ↦ let wrong = sym (ap extension_of (slot_at slots at ∙ get_or_past slots at None past)) ∙ is in cc
-]
-  where
-    found : (slot : Option Entry) → extension_of slot ≡ Some extension
-        → items_from at (slot ∷ drop (at + 1) (take end slots)) ≡ (at + 1, extension) ∷ items_from (at + 1) (drop (at + 1) (take end slots))
-    found None here = cc
-    found (Some entry) here =
-        let same : entry.extension ≡ extension = cc in
-        ap (λ (e : Extension). (at + 1, e) ∷ items_from (at + 1) (drop (at + 1) (take end slots))) same
 
 -- slots that are empty from an index on
 items_from-front : (n passed : ℕ) (left : Slots) → ((i : ℕ) → n ≤ i → get_or left i None ≡ None) → items_from passed (take n left) ≡ items_from passed left
@@ -60,10 +14,6 @@ items_from-front (suc n) passed (Some entry ∷ left) none =
 -- a walk that ends at the last mapped id has all of them
 pub walk-all : (slots : Slots) (end : ℕ) → HasNoIdAbove end slots → items_from 0 (take end slots) ≡ items_from 0 slots
 walk-all slots end none = items_from-front end 0 slots (λ i above. none (suc i) (omega arith))
-
--- at most as many are mapped as there are slots up to the end
-pub walk-most : (slots : Slots) (end : ℕ) → items_from 0 (take end slots) ≡ items_from 0 slots → length (items_from 0 slots) ≤ end
-walk-most slots end all = omega (arith, ap length all, length-items_from 0 (take end slots), length-take end slots)
 
 -- no known extension has an id above
 pub HasNoIdAbove-known : (slots : Slots) (last : ℕ) → HasNoIdAbove last slots → HasNoIdAbove last (known_slots slots)
@@ -100,6 +50,11 @@ IsLastId-put old new last after id entry is puts low here one = record {
     ]
   ];
 }
+
+-- the id of an entry that is put isn't above
+pub HasNoIdAbove-put : (old new : Slots) (last id : ℕ) (slot : Option Entry) → HasNoIdAbove last old → Puts old new id slot → id ≤ last → HasNoIdAbove last new
+HasNoIdAbove-put old new last id slot none puts low k above =
+    puts.others k (λ same. omega (arith, above, same, low)) ∙ none k above
 
 -- two entries are put in each other's place
 pub HasNoIdAbove-swapped : (old new : Slots) (last highest from to : ℕ) → HasNoIdAbove last old → Swaps old new from to

@@ -1,11 +1,9 @@
 -- The slots of a map as the code goes through them: that of id 1 is index 0.
-use Rattle.std.specs.Prelude.{◌≡◌, ◌≢◌, ℕ, ◌-◌, ◌<◌, List, ◌++◌, length, map, replicate, Option, Some, None}
-use Rattle.std.specs.Option.{option_map}
-use Rattle.std.specs.List.{filter_map}
+use Rattle.std.specs.Prelude.{◌≡◌, ◌≢◌, ℕ, ◌+◌, ◌<◌, List, [], ◌∷◌, drop, Option, Some, None}
 use Rattle.rtp_values.specs.declared.kind.Extension.{Extension}
 use Rattle.rtp_ext.specs.declared.slots.Mapping.{Mapping}
 use Rattle.rtp_ext.specs.declared.slots.Mapping.TheVariants as mapping
-use Rattle.rtp_ext.specs.ExtensionMap.{Entry, Slots, HasNoIdAbove, entry_at, extension_at, unlocked, locked, items_from}
+use Rattle.rtp_ext.specs.ExtensionMap.{Entry, Slots, HasNoIdAbove, entry_at, unlocked, locked, items_from}
 
 -- the entry in a slot
 abbrev pub entry_of : Mapping → Option Entry
@@ -33,14 +31,16 @@ pub record IsLastId (slots : Slots) (last : ℕ) : Type 0 where
   pub none_above : HasNoIdAbove last slots
   pub mapped : 0 < last → IsMapped slots last
 
--- the mapped ids, rising
-abbrev pub mapped_ids : Slots → List ℕ
-mapped_ids slots = map (λ item. item.0) (items_from 0 slots)
+-- the first id of a listing, and 0 where it is empty
+abbrev pub first_id : List (ℕ × Extension) → ℕ
+first_id [] = 0
+first_id (item ∷ items) = item.0
 
--- the extensions of some ids, each with its id
-abbrev pub items_at : Slots → List ℕ → List (ℕ × Extension)
-items_at slots ids = filter_map (λ id. option_map (λ extension. (id, extension)) (extension_at slots id)) ids
+-- the lowest mapped id above one, and 0 where there is none
+abbrev pub next_id : Slots → ℕ → ℕ
+next_id slots id = first_id (items_from id (drop id slots))
 
--- some ids, and zeros for those of the 255 that are left
-abbrev pub padded_ids : List ℕ → List ℕ
-padded_ids ids = ids ++ replicate (255 - length ids) 0
+-- the lowest mapped id above each, where this many were passed
+abbrev pub next_ids : ℕ → Slots → List ℕ
+next_ids passed [] = 0 ∷ []
+next_ids passed (slot ∷ left) = first_id (items_from passed (slot ∷ left)) ∷ next_ids (passed + 1) left

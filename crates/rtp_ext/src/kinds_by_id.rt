@@ -1,12 +1,12 @@
 //! The known extensions of a map by their ids.
 
-ghost use Rattle.std.specs.Prelude.{◌≡◌, ◌≢◌, ◌+◌, ◌-◌, ◌<◌, ◌≤◌, ◌∷◌, [], length, drop, replicate, None, IfSome, IfNone, slice_set};
+ghost use Rattle.std.specs.Prelude.{◌≡◌, ◌≢◌, ◌-◌, ◌≤◌, ◌∷◌, ℕ, [], drop, replicate, None, IfSome, IfNone, slice_set};
 ghost use Rattle.std.specs.Option.{option_map};
 ghost use Rattle.std.specs.List.{list_any, swap};
 ghost use Rattle.rtp_values.specs.KnownKind.{extension_of_kind};
-ghost use Rattle.rtp_ext.specs.ExtensionMap.{IsId, IsLowest, IsUnmapped, extension_at, items_from, mapped_count};
+ghost use Rattle.rtp_ext.specs.ExtensionMap.{IsId, IsLowest, IsUnmapped, Slots, entry_at, extension_at, items_from, mapped_count};
 ghost use Rattle.rtp_ext.specs.KindsById.{slots_of, entry_of_kind, is_layers, has_long_data};
-ghost use Rattle.rtp_ext.specs.MapSlots.{items_at, mapped_ids, padded_ids};
+ghost use Rattle.rtp_ext.specs.MapSlots.{next_ids};
 
 use super::map::MAX_ID;
 use rtp_values::KnownKind;
@@ -21,10 +21,11 @@ pub(super) const IDS: usize = MAX_ID as usize + 1;
 pub(super) struct KindsById {
     // What each id is mapped to, the id 0 to nothing.
     kinds: [Option<KnownKind>; IDS],
-    // The mapped ids, rising, so that a walk goes over these alone, with zeros behind them; and how many
-    // they are.
-    ids: [u8; MAX_ID as usize],
-    count: u8,
+    // The lowest mapped id above each id, so that a walk goes over the mapped ids alone, and 0 where
+    // there is none.
+    next: [u8; IDS],
+    // How many ids are mapped.
+    count: u16,
     // How many ids are mapped to the layer allocation, the one kind that may have more than 16
     // bytes of data.
     layers: u16,
@@ -33,8 +34,9 @@ pub(super) struct KindsById {
 impl Model for KindsById {
     ghost use Rattle.std.specs.Prelude.{◌≡◌, List, Option, None, length, slice_index_or};
     ghost use Rattle.rtp_values.specs.declared.known_kind.KnownKind.{KnownKind};
+    ghost use Rattle.rtp_ext.specs.ExtensionMap.{mapped_count};
     ghost use Rattle.rtp_ext.specs.KindsById.{slots_of, layers_count};
-    ghost use Rattle.rtp_ext.specs.MapSlots.{mapped_ids, padded_ids};
+    ghost use Rattle.rtp_ext.specs.MapSlots.{next_ids};
     ghost use Rattle.rtp_ext.specs.declared.kinds_by_id.TheConstants.{IDS};
     ghost use Rattle.std.proofs.Common.{sym};
 
@@ -44,22 +46,22 @@ impl Model for KindsById {
 
     ghost invariant = { λ table. (length table.kinds ≡ IDS)
         × (slice_index_or table.kinds 0 None ≡ None)
-        × (table.layers ≡ layers_count table.kinds)
-        × (table.ids ≡ padded_ids (mapped_ids (slots_of table.kinds)))
-        × (table.count ≡ length (mapped_ids (slots_of table.kinds))) };
+        × (table.next ≡ next_ids 0 (slots_of table.kinds))
+        × (table.count ≡ mapped_count (slots_of table.kinds))
+        × (table.layers ≡ layers_count table.kinds) };
 
     ghost inverse = { λ kinds. record {
       kinds = kinds;
-      ids = padded_ids (mapped_ids (slots_of kinds));
-      count = length (mapped_ids (slots_of kinds));
+      next = next_ids 0 (slots_of kinds);
+      count = mapped_count (slots_of kinds);
       layers = layers_count kinds;
     } };
 
     ghost inverse_ok = { λ table known i. record {
       kinds = table.kinds;
-      ids = sym known.3 i;
-      count = sym known.4 i;
-      layers = sym known.2 i;
+      next = sym known.2 i;
+      count = sym known.3 i;
+      layers = sym known.4 i;
     } };
 }
 
@@ -70,7 +72,7 @@ impl KindsById {
     {
         KindsById {
             kinds: [None; IDS],
-            ids: [0; MAX_ID as usize],
+            next: [0; IDS],
             count: 0,
             layers: 0,
         }
@@ -91,21 +93,20 @@ impl KindsById {
         self.kinds[usize::from(id)]
     }
 
-    // Maps the id to the kind, or to nothing, instead of what it was mapped to. The id 0, which is
-    // that of padding, changes nothing.
-    #[inline(always)]
+    // Maps the id to the kind, or to nothing, instead of what it was mapped to.
     pub(super) fn set(&mut self, id: u8, kind: Option<KnownKind>)
-        ensures { IsId id → slots_of self.new
-            ≡ slice_set (slots_of self.old) (id - 1) (entry_of_kind kind) }
+        requires { IsId id }
+        ensures { slots_of self.new ≡ slice_set (slots_of self.old) (id - 1) (entry_of_kind kind) }
     {
-        if id == 0 {
-            return;
-        }
         let old = self.kinds[usize::from(id)];
         self.kinds[usize::from(id)] = kind;
         self.layers += u16::from(is_layers(kind));
         self.layers -= u16::from(is_layers(old));
-        (self.ids, self.count) = mapped_ids(&self.kinds);
+        self.count += u16::from(kind.is_some());
+        self.count -= u16::from(old.is_some());
+        if kind.is_some() != old.is_some() {
+            set_next(&self.kinds, id, &mut self.next);
+        }
     }
 
     // Puts the kinds of two ids in each other's place.
@@ -114,40 +115,37 @@ impl KindsById {
         requires apart { from ≢ to }
         ensures { slots_of self.new ≡ swap (slots_of self.old) (from - 1) (to - 1) }
     {
-        self.kinds.swap(usize::from(from), usize::from(to));
-        (self.ids, self.count) = mapped_ids(&self.kinds);
+        let kind = self.kinds[usize::from(from)];
+        self.set(from, self.kinds[usize::from(to)]);
+        self.set(to, kind);
     }
 
-    // The lowest id that is mapped to the kind: the first, since the mapped ids rise.
+    // The lowest id that is mapped to the kind: the first, since the ids of a walk rise.
     pub(super) fn lowest_id(&self, kind: KnownKind) -> Option<u8>
         ensures found { IfSome result (IsLowest (slots_of self.now) (extension_of_kind kind)) }
         ensures valid { IfSome result IsId }
         ensures none { IfNone result (IsUnmapped (slots_of self.now) (extension_of_kind kind)) }
     {
-        let mut place = 0;
-        while let Some((id, found)) = self.item(place) {
+        let mut passed = 0;
+        while let Some((id, found)) = self.next(passed) {
             if found == kind {
                 return Some(id);
             }
-            place += 1;
+            passed = usize::from(id);
         }
         None
     }
 
-    // The id at this place among the mapped ids, which rise, and its kind.
+    // The lowest mapped id above this one, and its kind.
     #[inline(always)]
-    pub(super) fn item(&self, place: usize) -> Option<(u8, KnownKind)>
-        ensures some { IfSome result
-            (λ item. items_at (slots_of self.now) (drop place (mapped_ids (slots_of self.now)))
-            ≡ (item.0, extension_of_kind item.1) ∷ items_at (slots_of self.now)
-            (drop (place + 1) (mapped_ids (slots_of self.now)))) }
-        ensures none { IfNone result
-            (items_at (slots_of self.now) (drop place (mapped_ids (slots_of self.now))) ≡ []) }
-        ensures within { IfSome result (λ _. place < MAX_ID) }
+    pub(super) fn next(&self, id: usize) -> Option<(u8, KnownKind)>
+        ensures some { IfSome result (λ item. items_from id (drop id (slots_of self.now))
+            ≡ (item.0, extension_of_kind item.1) ∷ items_from item.0 (drop item.0 (slots_of self.now))) }
+        ensures none { IfNone result (items_from id (drop id (slots_of self.now)) ≡ []) }
     {
-        let id = *self.ids[..usize::from(self.count)].get(place)?;
-        // Each listed id is mapped.
-        Some((id, self.kinds[usize::from(id)].unwrap()))
+        let next = *self.next.get(id)?;
+        // Where there is none, it is 0, which has no kind.
+        Some((next, self.kinds[usize::from(next)]?))
     }
 
     // Whether a mapped kind may have more than 16 bytes of data.
@@ -167,19 +165,21 @@ fn is_layers(kind: Option<KnownKind>) -> bool
     matches!(kind, Some(KnownKind::VideoLayersAllocation))
 }
 
-// The ids that are mapped to a kind, rising, with zeros behind them, and how many they are.
-fn mapped_ids(kinds: &[Option<KnownKind>; IDS]) -> ([u8; MAX_ID as usize], u8)
-    ensures ids { result.0 ≡ padded_ids (mapped_ids (slots_of kinds.now)) }
-    ensures count { result.1 ≡ length (mapped_ids (slots_of kinds.now)) }
+// Sets the next ids of those below this one, which got a kind or lost it: down to the next mapped
+// one, as the others have theirs below it.
+fn set_next(kinds: &[Option<KnownKind>; IDS], id: u8, next: &mut [u8; IDS])
+    requires id { IsId id }
+    requires others { (old : Slots) × ((k : ℕ) → k ≢ id →
+        entry_at (slots_of kinds.now) k ≡ entry_at old k) × (next.old ≡ next_ids 0 old) }
+    ensures { next.new ≡ next_ids 0 (slots_of kinds.now) }
 {
-    let mut ids = [0; MAX_ID as usize];
-    let mut count = 0;
-    for id in 1..IDS {
-        if kinds[id].is_none() {
-            continue;
+    let mut below = usize::from(id);
+    let to = if kinds[below].is_some() { id } else { next[below] };
+    while below > 0 {
+        below -= 1;
+        next[below] = to;
+        if kinds[below].is_some() {
+            return;
         }
-        ids[count] = id as u8;
-        count += 1;
     }
-    (ids, count as u8)
 }

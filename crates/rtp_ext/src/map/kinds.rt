@@ -8,14 +8,13 @@ use rtp_values::KnownKind;
 impl Kinds for ExtensionMap {
     ghost use Rattle.std.specs.Prelude.{drop, refl};
     ghost use Rattle.rtp_ext.specs.KindsById.{known_slots};
-    ghost use Rattle.rtp_ext.specs.MapSlots.{items_at, mapped_ids};
+    ghost use Rattle.rtp_ext.specs.ExtensionMap.{items_from};
 
     ghost slots = { λ map. map };
 
     ghost known = { λ map. known_slots map };
 
-    ghost left = { λ map at end. items_at (known_slots map)
-        (drop at (mapped_ids (known_slots map))) };
+    ghost left = { λ map at end. items_from at (drop at (known_slots map)) };
 
     #[inline(always)]
     fn get(&self, id: u8) -> Option<KnownKind> {
@@ -29,9 +28,9 @@ impl Kinds for ExtensionMap {
 
     #[inline(always)]
     fn next(&self, at: &mut usize, _end: &mut usize) -> Option<(u8, KnownKind)> {
-        let item = self.kinds.item(*at)?;
-        *at += 1;
-        Some(item)
+        let (id, kind) = self.kinds.next(*at)?;
+        *at = usize::from(id);
+        Some((id, kind))
     }
 
     // An unknown extension too may have an id above 14.

@@ -1,25 +1,16 @@
-use Rattle.rtp_ext.proofs.Common.{◌≡◌, ◌-◌, ℕ, List, Option, None, sym, ap, ◌∙◌, length, get_or, swap, KnownKind, layers_count, slots_of}
-use Rattle.rtp_ext.proofs.ExchangedLemmas.{swapped_length, swapped_padding, swapped_layers, swapped_slots}
+use Rattle.rtp_ext.proofs.Common.{◌≡◌, ◌-◌, ℕ, List, Option, set, get_or, length, None, ap, sym, ◌∙◌, KnownKind, Slots, entry_of_kind, slots_of}
+use Rattle.rtp_ext.proofs.KindsByIdLemmas.{slots_of-swapped}
 use Rattle.rtp_ext.proofs.kinds_by_id.KindsById.exchange.Goals as goal
-
--- the kinds of the two ids are in each other's place
-swapped : (c : goal.After-self-3-1) → c.swap.new.self ≡ swap c.self.inside.kinds c.args.from c.args.to
-swapped c =
-    c.swap.ensures.after ∙ ap (λ (n : ℕ). swap c.self.inside.kinds n c.from-2.result) c.from.ensures
-    ∙ ap (swap c.self.inside.kinds c.args.from) c.from-2.ensures
-
-pub invariant_of-self : goal.invariant_of-self
-invariant_of-self c =
-    let kinds = c.self.inside.kinds in (
-      ap length (swapped c) ∙ swapped_length kinds c.self.invariant.0 c.args.from c.args.to c.requires.ids.0 c.requires.ids.1 c.requires.apart,
-      ap (λ (ks : List (Option KnownKind)). get_or ks 0 None) (swapped c)
-          ∙ swapped_padding kinds c.self.invariant.0 c.args.from c.args.to c.requires.ids.0 c.requires.ids.1 c.requires.apart c.self.invariant.1,
-      c.self.invariant.2 ∙ sym (ap layers_count (swapped c) ∙ swapped_layers kinds c.self.invariant.0 c.args.from c.args.to c.requires.ids.0 c.requires.ids.1 c.requires.apart),
-      c.mapped_ids.ensures.ids,
-      c.mapped_ids.ensures.count,
-    )
 
 pub returns : goal.returns
 returns c =
-    ap slots_of (swapped c) ∙ swapped_slots c.self.inside.kinds c.self.invariant.0 c.args.from c.args.to c.requires.ids.0 c.requires.ids.1 c.requires.apart
-    ∙ ap (λ (ks : List (Option KnownKind)). swap (slots_of ks) (c.args.from - 1) (c.args.to - 1)) c.self.view_is
+    let kinds = c.args.self.now in
+    let first : get_or c.self.inside.kinds c.from.result None ≡ get_or kinds c.args.from None =
+    ap (λ (n : ℕ). get_or c.self.inside.kinds n None) c.from.ensures ∙ ap (λ (ks : List (Option KnownKind)). get_or ks c.args.from None) c.self.view_is in
+    let second : get_or c.set.inside.kinds c.from-2.result None ≡ get_or kinds c.args.to None =
+    ap (λ (n : ℕ). get_or c.set.inside.kinds n None) c.from-2.ensures ∙ ap (λ (ks : List (Option KnownKind)). get_or ks c.args.to None) c.set.view_is in
+    c.set-3.ensures ∙ ap (λ (slots : Slots). set slots (c.args.to - 1) (entry_of_kind (get_or c.self.inside.kinds c.from.result None))) c.set-2.ensures
+    ∙ ap (λ (kind : Option KnownKind). set (set (slots_of kinds) (c.args.from - 1) (entry_of_kind kind)) (c.args.to - 1)
+    (entry_of_kind (get_or c.self.inside.kinds c.from.result None))) second
+    ∙ ap (λ (kind : Option KnownKind). set (set (slots_of kinds) (c.args.from - 1) (entry_of_kind (get_or kinds c.args.to None))) (c.args.to - 1) (entry_of_kind kind)) first
+    ∙ slots_of-swapped kinds c.args.from c.args.to (ap length (sym c.self.view_is) ∙ c.self.invariant.0) c.requires.ids.0 c.requires.ids.1

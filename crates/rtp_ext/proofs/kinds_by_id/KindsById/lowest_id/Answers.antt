@@ -1,10 +1,9 @@
-use Rattle.rtp_ext.proofs.Common.{◌≡◌, arith, rules, sym, ap, same_true, same_false, the_type, extension_of_kind, slots_of}
-use Rattle.rtp_ext.proofs.MappedIdLemmas.{items_at-mapped}
-use Rattle.rtp_ext.proofs.RenamedIdLemmas.{same_kind, AreLeft-start, AreLeft-next, IsLowest-left, IsUnmapped-left}
+use Rattle.rtp_ext.proofs.Common.{◌≡◌, length, arith, refl, rules, sym, ap, same_true, same_false, the_type, subst, ℕ, drop, items_from, extension_of_kind, slots_of}
+use Rattle.rtp_ext.proofs.RenamedIdLemmas.{AreLeft, same_kind, AreLeft-start, AreLeft-next, IsLowest-left, IsUnmapped-left}
 use Rattle.rtp_ext.proofs.kinds_by_id.KindsById.lowest_id.Goals as goal
 
 pub loop-id-init : goal.loop-id-init
-loop-id-init c = AreLeft-start (slots_of c.args.self.now) (extension_of_kind c.args.kind) _ (items_at-mapped (slots_of c.args.self.now))
+loop-id-init c = AreLeft-start (slots_of c.args.self.now) (extension_of_kind c.args.kind) _ refl
 
 pub returns-then-eq-clause-found : goal.returns-then-eq-clause-found
 returns-then-eq-clause-found c =
@@ -18,12 +17,15 @@ returns-then-eq-clause-valid c =
     (omega (arith, above), search rules)
 
 pub loop-id-smaller : goal.loop-id-smaller
-loop-id-smaller c = omega (arith, c.in-Some.ensures.within)
+loop-id-smaller c =
+    omega (arith, ap length c.in-Some.ensures.some,
+      ap (λ (id : ℕ). length (items_from id (drop id (slots_of c.args.self.now)))) c.from-passed.ensures)
 
 pub loop-id-preserved : goal.loop-id-preserved
 loop-id-preserved c =
-    AreLeft-next _ _ _ _ (c.in-Some.id, extension_of_kind c.in-Some.found) c.loop-id.invariant c.in-Some.ensures.some
-    (λ same. same_false the_type _ _ (sym c.if-eq.ensures) (same_kind c.in-Some.found c.args.kind same))
+    subst (λ (id : ℕ). AreLeft (slots_of c.args.self.now) (extension_of_kind c.args.kind) (items_from id (drop id (slots_of c.args.self.now)))) (sym c.from-passed.ensures)
+    (AreLeft-next _ _ _ _ (c.in-Some.id, extension_of_kind c.in-Some.found) c.loop-id.invariant c.in-Some.ensures.some
+    (λ same. same_false the_type _ _ (sym c.if-eq.ensures) (same_kind c.in-Some.found c.args.kind same)))
 
 pub returns-clause-none : goal.returns-clause-none
 returns-clause-none c = IsUnmapped-left _ _ _ c.loop-id.invariant c.in_default.ensures.none

@@ -13,7 +13,7 @@ invariant_of-self c =
       length-set slots k _ ∙ c.self.invariant.0,
       IsLastId-put slots _ c.self.inside.last c.max-self-inside.result c.args.id _ c.self.invariant.1
           (Puts-replaced slots slots k c.args.id _ _ refl index here c.from-new.ensures) (omega (arith, c.max-self-inside.ensures)) (omega (arith, c.max-self-inside.ensures)) (search rules),
-      known_slots-put slots _ _ k c.args.id _ _ c.self.invariant.2 index (c.set.ensures c.requires) c.known_kind.ensures,
+      known_slots-put slots _ _ k c.args.id _ _ c.self.invariant.2 index c.set.ensures c.known_kind.ensures,
     )
 
 pub returns : goal.returns
