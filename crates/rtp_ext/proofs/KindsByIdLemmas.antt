@@ -1,5 +1,5 @@
 -- The known extensions by their ids: what a table of kinds shows, and what the known extensions of a map read.
-use Rattle.rtp_ext.proofs.Common.{option_map, extension_of_kind, ◌≡◌, ℕ, ◌+◌, ◌-◌, suc, zero, List, [], ◌∷◌, length, map, replicate, set, get_or, Option, Some, None, All, arith, ap, refl, sym, ◌∙◌, subst, get_or-map, swap, swap_is, get_or_default, get_or-set_other, ◌≢◌, map-set, ◌<◌, is_some, true, false, unlocked, Extension, UnknownUri, VideoLayersAllocation, KnownKind, ExtensionValues, IsKnown, IsWellFormed, one_kind, Element, Entry, Slots, IsEmpty, IsId, entry_at, extension_at, extension_of, entry_of_kind, slots_of, known_alone, known_entry, known_slots, IsMapped, Carries, AreFields, last, none, AreValues, ReadElements, HasAllocation, ReadUntilRefused, All-weaker}
+use Rattle.rtp_ext.proofs.Common.{option_map, extension_of_kind, ◌≡◌, ℕ, ◌+◌, ◌-◌, suc, zero, List, [], ◌∷◌, length, map, replicate, set, get_or, Option, Some, None, All, arith, ap, refl, sym, ◌∙◌, subst, get_or-map, swap, swap_is, get_or_default, get_or-set_other, ◌≢◌, map-set, ◌<◌, is_some, true, false, unlocked, Extension, UnknownUri, VideoLayersAllocation, KnownKind, ExtensionValues, IsKnown, IsWellFormed, one_kind, Element, Entry, Slots, IsEmpty, IsId, entry_at, extension_at, extension_of, entry_of_kind, slots_of, known_alone, known_entry, known_slots, Carries, AreFields, last, none, AreValues, ReadElements, HasAllocation, ReadUntilRefused, All-weaker}
 use Rattle.rtp_ext.proofs.MapLemmas.{entry_at-map}
 use Rattle.rtp_ext.proofs.TableLemmas.{slots-long}
 
@@ -111,15 +111,6 @@ known_slots-empty (suc n) [] long empty = cc
 known_slots-empty (suc n) (slot ∷ slots) long empty =
     ap (λ (others : Slots). None ∷ others) (known_slots-empty n slots (omega (arith, long)) (later-IsEmpty slot slots empty))
     ∙ ap (λ (first : Option Entry). first ∷ known_slots slots) (sym (ap known_entry (empty 1)))
-
--- the kind of a mapped id
-from_entry : (kind : Option KnownKind) (entry : Entry) → entry_of_kind kind ≡ Some entry → (found : KnownKind) × (kind ≡ Some found)
-from_entry None entry is = cc
-from_entry (Some kind) entry is = (kind, refl)
-
-pub kind_there : (kinds : List (Option KnownKind)) (id : ℕ) → IsMapped (slots_of kinds) id → (kind : KnownKind) × (get_or kinds id None ≡ Some kind)
-kind_there kinds zero mapped = let found = mapped.1 in cc
-kind_there kinds (suc k) mapped = from_entry (get_or kinds (suc k) None) mapped.0 (sym (entry_at-kinds kinds k) ∙ mapped.1)
 
 -- ---- the known extensions of a map
 

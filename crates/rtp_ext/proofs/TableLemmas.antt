@@ -1,5 +1,5 @@
 -- What a table of kinds keeps in step with its entries: how many ids are mapped, and how many to the layer allocation.
-use Rattle.rtp_ext.proofs.Common.{◌≡◌, ◌≢◌, ℕ, ◌+◌, ◌-◌, ◌<◌, suc, zero, List, [], ◌∷◌, length, drop, set, get_or, Bool, true, false, Option, Some, None, arith, ap, refl, sym, ◌∙◌, lt-ltb, get_or-set_other, length-drop, nat_lt, map, ◌≤◌, if◌then◌else◌, from_bool, list_any, filter, length-map, length-set, KnownKind, items_from, mapped_count, is_some, entry_of_kind, slots_of, is_layers, has_long_data, layers_count}
+use Rattle.rtp_ext.proofs.Common.{◌≡◌, ◌≢◌, ℕ, ◌+◌, ◌<◌, suc, zero, List, [], ◌∷◌, length, drop, set, get_or, Bool, true, false, Option, Some, None, arith, ap, refl, sym, ◌∙◌, lt-ltb, get_or-set_other, length-drop, nat_lt, map, ◌≤◌, if◌then◌else◌, from_bool, list_any, filter, length-map, length-set, KnownKind, items_from, mapped_count, is_some, entry_of_kind, slots_of, is_layers, has_long_data, layers_count}
 use Rattle.rtp_values.specs.declared.known_kind.KnownKind.TheVariants as known
 
 -- ---- one entry is written
@@ -9,10 +9,6 @@ set-length kinds id kind many = length-set kinds id kind ∙ many
 
 pub set-padding : (kinds : List (Option KnownKind)) (id : ℕ) (kind : Option KnownKind) → id ≢ 0 → get_or kinds 0 None ≡ None → get_or (set kinds id kind) 0 None ≡ None
 set-padding kinds id kind other padding = get_or-set_other kinds id 0 kind None (λ same. other (sym same)) ∙ padding
-
-pub within_slots : (kinds : List (Option KnownKind)) (id : ℕ) → id ≢ 0 → id < length kinds → id - 1 < length (slots_of kinds)
-within_slots kinds zero other within = absurd (other refl)
-within_slots kinds (suc k) other within = omega (arith, length-map (drop 1 kinds) entry_of_kind, length-drop 1 kinds)
 
 pub slots-long : (kinds : List (Option KnownKind)) → length kinds ≡ 256 → length (slots_of kinds) ≡ 255
 slots-long kinds many = omega (arith, many, length-map (drop 1 kinds) entry_of_kind, length-drop 1 kinds)

@@ -1,7 +1,7 @@
 -- A walk over the slots of a map up to the highest mapped id.
-use Rattle.rtp_ext.proofs.Common.{◌≡◌, ◌⊎◌, inl, inr, ℕ, zero, suc, ◌+◌, ◌<◌, ◌≤◌, [], ◌∷◌, length, take, get_or, Bool, true, false, Option, Some, None, arith, refl, sym, ap, ◌∙◌, ◌||◌, nat_lt, lt-ltb, le-ltb, list_any, option_map, cases_eq, cases_lt, get_or_default, is_some, Entry, Slots, IsEmpty, entry_at, locked, items_from, known_entry, known_slots, HasNoIdAbove, IsMapped, IsLastId, Puts, Swaps}
+use Rattle.rtp_ext.proofs.Common.{◌≡◌, ◌⊎◌, inl, inr, ℕ, zero, suc, ◌+◌, ◌<◌, ◌≤◌, [], ◌∷◌, length, take, get_or, Bool, true, false, Option, Some, None, arith, refl, sym, ap, ◌∙◌, ◌||◌, nat_lt, lt-ltb, le-ltb, list_any, option_map, cases_eq, cases_lt, get_or_default, is_some, Entry, Slots, IsEmpty, entry_at, locked, items_from, HasNoIdAbove, IsMapped, IsLastId, Puts, Swaps}
 use Rattle.rtp_ext.proofs.ListingLemmas.{items_from-empty}
-use Rattle.rtp_ext.proofs.MapLemmas.{entry_at-map, entry_at-slot}
+use Rattle.rtp_ext.proofs.MapLemmas.{entry_at-slot}
 
 -- slots that are empty from an index on
 items_from-front : (n passed : ℕ) (left : Slots) → ((i : ℕ) → n ≤ i → get_or left i None ≡ None) → items_from passed (take n left) ≡ items_from passed left
@@ -14,10 +14,6 @@ items_from-front (suc n) passed (Some entry ∷ left) none =
 -- a walk that ends at the last mapped id has all of them
 pub walk-all : (slots : Slots) (end : ℕ) → HasNoIdAbove end slots → items_from 0 (take end slots) ≡ items_from 0 slots
 walk-all slots end none = items_from-front end 0 slots (λ i above. none (suc i) (omega arith))
-
--- no known extension has an id above
-pub HasNoIdAbove-known : (slots : Slots) (last : ℕ) → HasNoIdAbove last slots → HasNoIdAbove last (known_slots slots)
-HasNoIdAbove-known slots last none id above = entry_at-map known_entry slots id refl ∙ ap known_entry (none id above)
 
 -- ---- the highest mapped id
 
@@ -50,11 +46,6 @@ IsLastId-put old new last after id entry is puts low here one = record {
     ]
   ];
 }
-
--- the id of an entry that is put isn't above
-pub HasNoIdAbove-put : (old new : Slots) (last id : ℕ) (slot : Option Entry) → HasNoIdAbove last old → Puts old new id slot → id ≤ last → HasNoIdAbove last new
-HasNoIdAbove-put old new last id slot none puts low k above =
-    puts.others k (λ same. omega (arith, above, same, low)) ∙ none k above
 
 -- two entries are put in each other's place
 pub HasNoIdAbove-swapped : (old new : Slots) (last highest from to : ℕ) → HasNoIdAbove last old → Swaps old new from to
