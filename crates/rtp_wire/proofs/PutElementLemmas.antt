@@ -29,14 +29,6 @@ use Rattle.rtp_wire.proofs.PartsLemmas.{no_other_form}
 
 -- ---- causes that come one after the other
 
--- the first of causes is the first of more of them, where no others come before a place
-pub first-of_more : (P Q : NotPut → Type 0) (n : ℕ) → ((cause : NotPut) → P cause → Q cause) → ((cause : NotPut) → P cause → put_place cause < n)
-    → ((cause : NotPut) → put_place cause < n → Q cause → P cause) → (cause : NotPut) → IsFirstBy put_place P cause → IsFirstBy put_place Q cause
-first-of_more P Q n to places from cause first = record {
-  applies = to cause first.applies;
-  none_before = λ earlier before fact. let place = places cause first.applies in first.none_before earlier before (from earlier (omega (arith, before, place)) fact);
-}
-
 -- causes that apply together have the same first one
 pub cause-to : {A : Type 0} (P Q : NotPut → Type 0) → ((cause : NotPut) → P cause → Q cause) → ((cause : NotPut) → Q cause → P cause) → (result : Result A NotPut)
     → IfErr result (IsFirstBy put_place P) → IfErr result (IsFirstBy put_place Q)
@@ -45,21 +37,24 @@ cause-to {A} P Q to from result fact =
     (λ cause first. record { applies = to cause first.applies; none_before = λ earlier before fact. first.none_before earlier before (from earlier fact) }) fact
 
 -- where they stand in the order of looking
-pub form-places : (bytes : List ℕ) (element : Element) (allowed : Option ExtensionsForm) (cause : NotPut) → StopsForm bytes element allowed cause → put_place cause < 7
+form-places : (bytes : List ℕ) (element : Element) (allowed : Option ExtensionsForm) (cause : NotPut) → StopsForm bytes element allowed cause → put_place cause < 7
 form-places bytes element allowed OtherForm fact = omega arith
 form-places bytes element allowed LongId fact = omega arith
 form-places bytes element allowed OneByteOnly fact = omega arith
 form-places bytes element allowed cause fact = absurd fact
 
+-- the first of them is the first of more causes, of which no others come before
+pub first-form : (bytes found : List ℕ) (element : Element) (allowed : Option ExtensionsForm) (Q : NotPut → Type 0) (cause : NotPut) → found ≡ bytes
+    → ((cause : NotPut) → StopsForm bytes element allowed cause → Q cause) → ((cause : NotPut) → put_place cause < 7 → Q cause → StopsForm bytes element allowed cause)
+    → IsFirstBy put_place (StopsForm found element allowed) cause → IsFirstBy put_place Q cause
+first-form bytes found element allowed Q cause same to from stops =
+    let first = subst (λ (b : List ℕ). IsFirstBy put_place (StopsForm b element allowed) cause) same stops in
+    let place = form-places bytes element allowed cause first.applies in
+    record { applies = to cause first.applies; none_before = λ earlier before fact. first.none_before earlier before (from earlier (omega (arith, before, place)) fact) }
+
 -- ---- why an element isn't put
 
 module _ (packet : RtpPacketBuf) (element : Element) (allowed : Option ExtensionsForm) where
-  abbrev buf : List ℕ
-  buf = packet.buf.now
-
-  abbrev len : ℕ
-  len = packet.len
-
   abbrev bytes : List ℕ
   bytes = bytes_of packet
 
@@ -67,28 +62,23 @@ module _ (packet : RtpPacketBuf) (element : Element) (allowed : Option Extension
   parts = parts_within packet
 
   module _ (above : 1 ≤ element.0) (short : length element.1 ≤ 255) where
-    -- none applies before the packet is looked at
-    pub none_before_packet : (cause : NotPut) → put_place cause < 3 → AppliesToPut buf len element allowed cause → ⊥
-    none_before_packet CutPacket before fact = let within = packet.room in omega (arith, fact)
-    none_before_packet ZeroId before fact = omega (arith, above, fact)
-    none_before_packet LongData before fact = omega (arith, short, fact)
-    none_before_packet cause before fact = omega arith
-
     -- its block has no form that can carry it
-    pub form-to_put : (cause : NotPut) → StopsForm bytes element allowed cause → AppliesToPut buf len element allowed cause
+    pub form-to_put : (cause : NotPut) → StopsForm bytes element allowed cause → AppliesToPut packet.buf.now packet.len element allowed cause
     form-to_put OtherForm fact = fact
     form-to_put LongId fact = fact
     form-to_put OneByteOnly fact = fact
     form-to_put cause fact = absurd fact
 
-    pub put-to_form : (cause : NotPut) → put_place cause < 7 → AppliesToPut buf len element allowed cause → StopsForm bytes element allowed cause
+    pub put-to_form : (cause : NotPut) → put_place cause < 7 → AppliesToPut packet.buf.now packet.len element allowed cause → StopsForm bytes element allowed cause
+    put-to_form CutPacket before fact = let within = packet.room in omega (arith, fact)
+    put-to_form ZeroId before fact = omega (arith, above, fact)
+    put-to_form LongData before fact = omega (arith, short, fact)
     put-to_form (NotAPacket cause) before fact = absurd (no_packet bytes cause parts fact.applies (is_packet packet))
     put-to_form OtherForm before fact = fact
     put-to_form LongId before fact = fact
     put-to_form OneByteOnly before fact = fact
     put-to_form LongBlock before fact = omega arith
     put-to_form (NoRoom needed) before fact = omega arith
-    put-to_form cause before fact = absurd (none_before_packet cause (omega arith) fact)
 
     module _ (no_other : parts.other_block ≡ None) (form : ExtensionsForm) (some : allowed_form allowed (needed_form (form_of_block parts.block) element) ≡ Some form) (writable : IsWritable form element) where
       pub form-of : (others : PacketParts) → IsPacket bytes others → allowed_form allowed (needed_form (form_of_block others.block) element) ≡ Some form
@@ -136,14 +126,14 @@ module _ (packet : RtpPacketBuf) (element : Element) (allowed : Option Extension
       carries-all : CarriesNot bytes form element.0 (element ∷ []) → ⊥
       carries-all has = has.uncarried (carried has.parts has.elements has.is_packet has.are_elements)
 
-      pub rewriting-to_put : (cause : NotPut) → StopsRewriting bytes (length buf) form element.0 (element ∷ []) cause → AppliesToPut buf len element allowed cause
+      pub rewriting-to_put : (cause : NotPut) → StopsRewriting bytes (length packet.buf.now) form element.0 (element ∷ []) cause → AppliesToPut packet.buf.now packet.len element allowed cause
       rewriting-to_put LongId fact = absurd (carries-all fact.1)
       rewriting-to_put OneByteOnly fact = absurd (carries-all fact)
       rewriting-to_put LongBlock fact = (growth-of fact.0, fact.1)
       rewriting-to_put (NoRoom needed) fact = (growth-of fact.0, fact.1, fact.2)
       rewriting-to_put cause fact = absurd fact
 
-      pub put-to_rewriting : (cause : NotPut) → AppliesToPut buf len element allowed cause → StopsRewriting bytes (length buf) form element.0 (element ∷ []) cause
+      pub put-to_rewriting : (cause : NotPut) → AppliesToPut packet.buf.now packet.len element allowed cause → StopsRewriting bytes (length packet.buf.now) form element.0 (element ∷ []) cause
       put-to_rewriting OtherForm fact = absurd (no_other_form bytes parts (is_packet packet) no_other fact)
       put-to_rewriting LongId fact = absurd (no_long_id (form_of_block parts.block) allowed element form some fact)
       put-to_rewriting OneByteOnly fact = absurd (none-some form (sym fact.2 ∙ form-of fact.0 fact.1))

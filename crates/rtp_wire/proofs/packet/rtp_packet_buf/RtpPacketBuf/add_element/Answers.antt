@@ -14,7 +14,7 @@ use Rattle.rtp_wire.specs.RewrittenBlock.{StopsForm, RewritesBlock, IsPlan}
 use Rattle.rtp_wire.proofs.PacketBufLemmas.{is_packet}
 use Rattle.rtp_wire.proofs.PartsLemmas.{no_other_form}
 use Rattle.rtp_wire.proofs.PutPlanLemmas.{IsWritable-allowed}
-use Rattle.rtp_wire.proofs.PutElementLemmas.{first-of_more, form-places, cause-to}
+use Rattle.rtp_wire.proofs.PutElementLemmas.{first-form, cause-to}
 use Rattle.rtp_wire.proofs.RemadeLemmas.{RemakesBlock-rewritten}
 use Rattle.rtp_wire.proofs.RemadePacketLemmas.{form-to_adding, adding-to_form, to-adding, from-adding}
 use Rattle.rtp_wire.proofs.packet.rtp_packet_buf.RtpPacketBuf.add_element.Goals as goal
@@ -22,28 +22,21 @@ use Rattle.rtp_wire.proofs.packet.rtp_packet_buf.RtpPacketBuf.add_element.Goals.
 
 -- ---- the form
 
-first-form : (c : After-form_with) (cause : _) → IsFirstBy put_place (StopsForm (bytes_of c.args.self.now) (c.args.id, c.args.data.now) c.args.allowed) cause
+first : (c : After-form_with) (cause : _) → IsFirstBy put_place (StopsForm c.as_packet-packet.result.datagram.now (c.args.id, c.args.data.now) c.args.allowed) cause
     → IsFirstBy put_place
     (KeepsFromAdding (bytes_of c.args.self.now) (length c.args.self.now.buf.now) (form_of_block (parts_within c.args.self.now).block) (c.args.id, c.args.data.now) c.args.allowed) cause
-first-form c cause first =
-    let element : Element = (c.args.id, c.args.data.now) in
-    first-of_more (StopsForm (bytes_of c.args.self.now) element c.args.allowed)
-    (KeepsFromAdding (bytes_of c.args.self.now) (length c.args.self.now.buf.now) (form_of_block (parts_within c.args.self.now).block) element c.args.allowed) 7
-    (form-to_adding c.args.self.now (length c.args.self.now.buf.now) element c.args.allowed) (form-places (bytes_of c.args.self.now) element c.args.allowed)
-    (adding-to_form c.args.self.now (length c.args.self.now.buf.now) element c.args.allowed c.in_ok-check_element.ensures.fits.0 c.in_ok-check_element.ensures.fits.1) cause first
+first c cause =
+    let fits = c.in_ok-check_element.ensures.fits in
+    first-form (bytes_of c.args.self.now) _ (c.args.id, c.args.data.now) c.args.allowed _ cause c.as_packet-packet.ensures.bytes
+    (form-to_adding c.args.self.now (length c.args.self.now.buf.now) (c.args.id, c.args.data.now) c.args.allowed)
+    (adding-to_form c.args.self.now (length c.args.self.now.buf.now) (c.args.id, c.args.data.now) c.args.allowed fits.0 fits.1)
 
 pub returns-in_err-form-clause-cause : goal.returns-in_err-form-clause-cause
-returns-in_err-form-clause-cause c =
-    let found =
-    first-form (goal.at.returns-in_err-form-clause-cause c).After-form_with c.in_err-form.field-0.0
-    (subst (λ (bytes : List ℕ). IsFirstBy put_place (StopsForm bytes (c.args.id, c.args.data.now) c.args.allowed) c.in_err-form.field-0.0) c.as_packet-packet.ensures.bytes c.in_err-form.ensures.cause) in
-    search rules
+returns-in_err-form-clause-cause c = let found = first (goal.at.returns-in_err-form-clause-cause c).After-form_with c.in_err-form.field-0.0 c.in_err-form.ensures.cause in search rules
 
 pub returns-in_err-form-clause-refused : goal.returns-in_err-form-clause-refused
 returns-in_err-form-clause-refused c =
-    let found =
-    first-form (goal.at.returns-in_err-form-clause-refused c).After-form_with c.in_err-form.field-0.0
-    (subst (λ (bytes : List ℕ). IsFirstBy put_place (StopsForm bytes (c.args.id, c.args.data.now) c.args.allowed) c.in_err-form.field-0.0) c.as_packet-packet.ensures.bytes c.in_err-form.ensures.cause) in
+    let found = first (goal.at.returns-in_err-form-clause-refused c).After-form_with c.in_err-form.field-0.0 c.in_err-form.ensures.cause in
     (λ _. (c.in_err-form.field-0.0, found.applies), λ _. c.from_residual-in_err-form.ensures.0)
 
 -- ---- what is rewritten

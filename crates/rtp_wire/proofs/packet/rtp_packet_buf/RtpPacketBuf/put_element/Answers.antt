@@ -12,35 +12,25 @@ use Rattle.rtp_wire.specs.RewrittenBlock.{StopsForm, IsRewritten, RewritesBlock,
 use Rattle.rtp_wire.proofs.PacketBufLemmas.{IsKept, IsKept-laid, IsKept-new, held, kept-parts, length-bytes}
 use Rattle.rtp_wire.proofs.PutPlanLemmas.{IsWritable-allowed, plan-of}
 use Rattle.rtp_wire.proofs.RewrittenLemmas.{are-in_packet, new-rewritten, none_at_all, short-kept}
-use Rattle.rtp_wire.proofs.PutElementLemmas.{first-of_more, cause-to, form-places, form-to_put, put-to_form, form-of, carried, growth-of, of-growth, rewriting-to_put, put-to_rewriting, PutsElement-rewritten, PutsElement-front}
+use Rattle.rtp_wire.proofs.PutElementLemmas.{first-form, cause-to, form-to_put, put-to_form, form-of, carried, growth-of, of-growth, rewriting-to_put, put-to_rewriting, PutsElement-rewritten, PutsElement-front}
 use Rattle.rtp_wire.proofs.packet.rtp_packet_buf.RtpPacketBuf.put_element.Goals as goal
 use Rattle.rtp_wire.proofs.packet.rtp_packet_buf.RtpPacketBuf.put_element.Goals.{After-form_with, After-set}
 
 -- ---- the form
 
-first-form : (c : After-form_with) (cause : NotPut) → IsFirstBy put_place (StopsForm (bytes_of c.args.self.now) (c.args.id, c.args.data.now) c.args.allowed) cause
+first : (c : After-form_with) (cause : NotPut) → IsFirstBy put_place (StopsForm c.as_packet-packet.result.datagram.now (c.args.id, c.args.data.now) c.args.allowed) cause
     → IsFirstBy put_place (AppliesToPut c.args.self.now.buf.now c.args.self.now.len (c.args.id, c.args.data.now) c.args.allowed) cause
-first-form c cause first =
-    let self = c.args.self.now in
-    let element : Element = (c.args.id, c.args.data.now) in
+first c cause =
     let fits = c.in_ok-check_element.ensures.fits in
-    first-of_more (StopsForm (bytes_of self) element c.args.allowed) (AppliesToPut self.buf.now self.len element c.args.allowed) 7
-    (form-to_put self element c.args.allowed fits.0 fits.1)
-    (form-places (bytes_of self) element c.args.allowed)
-    (put-to_form self element c.args.allowed fits.0 fits.1) cause first
+    first-form (bytes_of c.args.self.now) _ (c.args.id, c.args.data.now) c.args.allowed _ cause c.as_packet-packet.ensures.bytes
+    (form-to_put c.args.self.now (c.args.id, c.args.data.now) c.args.allowed fits.0 fits.1) (put-to_form c.args.self.now (c.args.id, c.args.data.now) c.args.allowed fits.0 fits.1)
 
 pub returns-in_err-form-clause-cause : goal.returns-in_err-form-clause-cause
-returns-in_err-form-clause-cause c =
-    let found =
-    first-form (goal.at.returns-in_err-form-clause-cause c).After-form_with c.in_err-form.field-0.0
-    (subst (λ (bytes : List ℕ). IsFirstBy put_place (StopsForm bytes (c.args.id, c.args.data.now) c.args.allowed) c.in_err-form.field-0.0) c.as_packet-packet.ensures.bytes c.in_err-form.ensures.cause) in
-    search rules
+returns-in_err-form-clause-cause c = let found = first (goal.at.returns-in_err-form-clause-cause c).After-form_with c.in_err-form.field-0.0 c.in_err-form.ensures.cause in search rules
 
 pub returns-in_err-form-clause-refused : goal.returns-in_err-form-clause-refused
 returns-in_err-form-clause-refused c =
-    let found =
-    first-form (goal.at.returns-in_err-form-clause-refused c).After-form_with c.in_err-form.field-0.0
-    (subst (λ (bytes : List ℕ). IsFirstBy put_place (StopsForm bytes (c.args.id, c.args.data.now) c.args.allowed) c.in_err-form.field-0.0) c.as_packet-packet.ensures.bytes c.in_err-form.ensures.cause) in
+    let found = first (goal.at.returns-in_err-form-clause-refused c).After-form_with c.in_err-form.field-0.0 c.in_err-form.ensures.cause in
     (λ _. (c.in_err-form.field-0.0, found.applies), λ _. c.from_residual-in_err-form.ensures.0)
 
 -- ---- the plan
@@ -76,12 +66,10 @@ module _ (c : After-set) where
       ∙ ap (λ (f : ExtensionsForm). Some f) (sym c.new-plan.ensures.form)
 
   writable : IsWritable form element
-  writable =
-      IsWritable-allowed (form_of_block parts.block) c.args.allowed element form above (let fits = c.ranges.id.fits in omega arith) short some
+  writable = IsWritable-allowed (form_of_block parts.block) c.args.allowed element form above (let fits = c.ranges.id.fits in omega arith) short some
 
   abbrev grown : IsRewritten bytes form c.args.id (element ∷ []) → IsGrowth bytes element c.args.allowed
-  grown =
-      growth-of self element c.args.allowed above short planned.no_other form some writable
+  grown = growth-of self element c.args.allowed above short planned.no_other form some writable
 
   abbrev rewritten : IsRewritten bytes form c.args.id (element ∷ [])
   rewritten =
@@ -90,12 +78,10 @@ module _ (c : After-set) where
       parts planned.survey_is.elements planned.is_packet (are-in_packet bytes parts c.args.id c.new-plan.result planned (element ∷ []) (writable, tt)))
 
   to-put : (cause : NotPut) → StopsRewriting bytes (length self.buf.now) form c.args.id (element ∷ []) cause → AppliesToPut self.buf.now self.len element c.args.allowed cause
-  to-put =
-      rewriting-to_put self element c.args.allowed above short planned.no_other form some writable
+  to-put = rewriting-to_put self element c.args.allowed above short planned.no_other form some writable
 
   from-put : (cause : NotPut) → AppliesToPut self.buf.now self.len element c.args.allowed cause → StopsRewriting bytes (length self.buf.now) form c.args.id (element ∷ []) cause
-  from-put =
-      put-to_rewriting self element c.args.allowed above short planned.no_other form some writable
+  from-put = put-to_rewriting self element c.args.allowed above short planned.no_other form some writable
 
   -- the buffer, which is as it was where nothing is set in place
   same-buffer : c.set.result ≡ false → c.set.new.datagram ++ drop self.len self.buf.now ≡ self.buf.now
