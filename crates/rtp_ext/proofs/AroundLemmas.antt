@@ -137,10 +137,15 @@ module _ (form : ExtensionsForm) (body : List ℕ) (id : ℕ) (survey : Survey) 
   pub read_within : survey.end ≤ length body
   read_within = omega (arith, is.read.at_is, ap length is.read.body_is, length-append is.read.passed is.read.left)
 
+  -- the bytes up to there have the elements of the body
+  pub read_elements : (elements : List Element) → AreElements form body elements → AreElements form (take survey.end body) elements
+  read_elements elements are =
+      subst (λ b. AreElements form b elements) (sym read_front)
+      (AreElements-whole form is.read.passed elements (subst (AreWhole form is.read.passed) (AreElements-same form body is.elements elements is.are_elements are) read_whole))
+
   split_read : HasNone (without 0 is.elements) id → IsSplit form id body survey.end survey.end
   split_read none =
-      split_none form body id survey.end is.elements is.are_elements
-      (subst (λ b. AreElements form b is.elements) (sym read_front) (AreElements-whole form is.read.passed is.elements read_whole))
+      split_none form body id survey.end is.elements is.are_elements (read_elements is.elements is.are_elements)
       (subst (λ b. AreElements form b []) (sym read_rest) is.none_left) read_within none
 
 -- by a survey, around what goes last

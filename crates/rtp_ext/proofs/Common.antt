@@ -50,7 +50,7 @@ pub use Rattle.rtp_ext.specs.LastAllocation.{IsLastAllocation, last_is, none_is,
 pub use Rattle.rtp_ext.specs.MapSlots.{IsMapped, IsLastId, Puts, Swaps, first_id, next_id, next_ids}
 pub use Rattle.rtp_ext.specs.Memory.{IsAllocation, HasAllocation, ReadUntilRefused, IsStopped}
 pub use Rattle.rtp_ext.specs.NewIds.{IsNewId, id_in_byte, byte_of_id, AreNewBytes, new_id, AreNewIds, CarriesExtensions, ids_in_bytes, IsRenamedId, AreRenamedIds, Renames}
-pub use Rattle.rtp_ext.specs.PutElement.{has_id, without, put_among, put_element, rewritten, row_to, IsSole}
+pub use Rattle.rtp_ext.specs.PutElement.{has_id, without, put_among, put_element, rewritten_elements, row_to, IsSole}
 pub use Rattle.rtp_ext.specs.WrittenBlock.{needs_two, form_of, written_elements, image_values, fields_of_items, mapped_fields, TakesAtMost17Each, HasFewData}
 pub use Rattle.rtp_ext.specs.declared.form.ExtensionsForm.{ExtensionsForm}
 pub use Rattle.rtp_ext.specs.declared.form.ExtensionsForm.TheVariants.{OneByte, TwoByte}

@@ -3,11 +3,10 @@
 -- The element takes the place of the last one of its id, and those of the id before that go; where there is none of the id it comes last. All others stay, in order, but those of the id 0, which is padding's and no extension's: where such an element of the one-byte form has length bits, a receiver that reads as 4.2 says ends there. The form stays where it serves; a body that is made anew is its elements in a row, and zeros. What stands where reading ends, an element that is cut short or what follows the id 15, is no element, and goes where the body is made anew.
 use Rattle.std.specs.Prelude.{◌≡◌, ℕ, ◌-◌, ◌==◌, if◌then◌else◌, List, [], ◌∷◌, ◌++◌, length, replicate, Bool, not, Option, Some, None}
 use Rattle.std.specs.List.{filter, list_any}
-use Rattle.std.specs.Borrow.{Bor}
 use Rattle.rtp_ext.specs.declared.form.ExtensionsForm.{ExtensionsForm}
 use Rattle.rtp_ext.specs.declared.form.ExtensionsForm.TheVariants.{OneByte, TwoByte}
 use Rattle.rtp_ext.specs.Elements.{Element, elements_bytes}
-use Rattle.rtp_ext.specs.ElementsInARow.{serves_one_byte, elements_added}
+use Rattle.rtp_ext.specs.ElementsInARow.{serves_one_byte}
 use Rattle.rtp_ext.specs.ElementsInPlace.{HasNone}
 
 -- whether an element has the id
@@ -30,9 +29,9 @@ put_among id comes (element ∷ elements) =
 abbrev pub put_element : Element → List Element → List Element
 put_element new elements = put_among new.0 (new ∷ []) elements
 
--- the elements of a body once it is rewritten: those of the id 0 go, and those of the id that goes, and the one that comes, if one does, is put in place of the last one that goes; where the id that goes is 0, no others go, and what comes is last
-abbrev pub rewritten : ℕ → Option (ℕ × Bor (List ℕ)) → List Element → List Element
-rewritten goes comes elements = put_among goes (elements_added comes) (without 0 elements)
+-- the elements of a body once it is rewritten: those of the id 0 go, and those of the id that goes, and those that come, one or none, are put in place of the last one that goes; where the id that goes is 0, no others go, and what comes is last
+abbrev pub rewritten_elements : ℕ → List Element → List Element → List Element
+rewritten_elements goes comes elements = put_among goes comes (without 0 elements)
 
 -- the form that a block of this form, or none, needs for the element: the two-byte form where it has that, or the one-byte form can't carry the element
 abbrev pub needed_form : Option ExtensionsForm → Element → ExtensionsForm

@@ -8,7 +8,7 @@ ghost use Rattle.rtp_base.specs.Overwriting.{overwritten};
 ghost use Rattle.rtp_ext.specs.Elements.{Element, AreElements, elements_bytes};
 ghost use Rattle.rtp_ext.specs.ElementsInARow.{IsWritable, elements_added};
 ghost use Rattle.rtp_ext.specs.BodySurvey.{IsSurvey, HasRows, others, other_form, start_around, end_around};
-ghost use Rattle.rtp_ext.specs.PutElement.{rewritten, row_to};
+ghost use Rattle.rtp_ext.specs.PutElement.{rewritten_elements, row_to};
 
 use super::ExtensionsForm;
 use super::form::element_header_len;
@@ -123,7 +123,7 @@ fn others_len(
         IfNone result (AllByRecursion (IsWritable new_form) (others goes elements) → ⊥) }
 {
     if changes_form(form, new_form, survey) {
-        return row_len(form, new_form, body, goes);
+        return row_len(form, new_form, &body[..survey.end], goes);
     }
     Some(survey.others_len)
 }
@@ -144,15 +144,15 @@ pub fn rewritten_len(
     requires survey { IsSurvey form body.now goes survey.now }
     requires writable { IfSome comes (λ element. IsWritable new_form (element.0, element.1.now)) }
     ensures length { (elements : List Element) → AreElements form body.now elements →
-        IfSome result (λ len. len
-        ≡ length (elements_bytes new_form (rewritten goes comes.entry elements))) }
+        IfSome result (λ len. len ≡ length (elements_bytes new_form
+        (rewritten_elements goes (elements_added comes.entry) elements))) }
     ensures carried { (elements : List Element) → AreElements form body.now elements →
         IfSome result (λ len. AllByRecursion (IsWritable new_form)
-        (rewritten goes comes.entry elements)) }
+        (rewritten_elements goes (elements_added comes.entry) elements)) }
     ensures few { IfSome result (λ len. len ≤ 2 * length body.now + 257) }
     ensures none { (elements : List Element) → AreElements form body.now elements →
         IfNone result (AllByRecursion (IsWritable new_form)
-        (rewritten goes comes.entry elements) → ⊥) }
+        (rewritten_elements goes (elements_added comes.entry) elements) → ⊥) }
 {
     let Some(len) = others_len(form, new_form, body, survey, goes) else {
         return None;
@@ -169,43 +169,6 @@ fn put_alone(form: ExtensionsForm, body: &mut [u8], comes: Option<(u8, &[u8])>)
 {
     put_added(form, body, 0, comes);
     clear_after(body, added_len(form, comes));
-}
-
-// Rewrites a body as `rewrite_body` does, of which any bytes may be elements.
-#[inline(always)]
-fn rewrite_rows(
-    form: ExtensionsForm,
-    new_form: ExtensionsForm,
-    body: &mut [u8],
-    body_len: usize,
-    survey: &Survey,
-    goes: u8,
-    comes: Option<(u8, &[u8])>,
-)
-    requires within { body_len ≤ length body.old }
-    requires survey { IsSurvey form (take body_len body.old) goes survey.now }
-    requires carried { (elements : List Element) →
-        AreElements form (take body_len body.old) elements →
-        AllByRecursion (IsWritable new_form) (rewritten goes comes elements) }
-    requires writable { IfSome comes (λ element. IsWritable new_form (element.0, element.1.now)) }
-    requires room { (elements : List Element) → AreElements form (take body_len body.old) elements →
-        length (elements_bytes new_form (rewritten goes comes elements)) ≤ length body.old }
-    ensures row { (elements : List Element) → AreElements form (take body_len body.old) elements →
-        body.new ≡ row_to new_form (rewritten goes comes.entry elements) (length body.old) }
-    ensures elements { (elements : List Element) →
-        AreElements form (take body_len body.old) elements →
-        AreElements new_form body.new (rewritten goes comes.entry elements) }
-{
-    let (start, end) = survey.around(goes);
-    let (front, count) = put_in_rows(form, body, body_len, survey, goes, start, end);
-    let (front, at, count) = if changes_form(form, new_form, survey) {
-        let (front, count) = change_rows(form, body, front, end, count);
-        (front, front, count)
-    } else {
-        (front, end, count)
-    };
-    let len = put_between(new_form, body, front, at, count, comes);
-    clear_after(body, len);
 }
 
 /// Rewrites a body in a form that can carry its elements (RFC 8285, 4.2 and 4.3): without those of
@@ -226,19 +189,30 @@ pub fn rewrite_body(
     requires survey { IsSurvey form (take body_len body.old) goes survey.now }
     requires carried { (elements : List Element) →
         AreElements form (take body_len body.old) elements →
-        AllByRecursion (IsWritable new_form) (rewritten goes comes elements) }
+        AllByRecursion (IsWritable new_form) (rewritten_elements goes (elements_added comes) elements) }
     requires writable { IfSome comes (λ element. IsWritable new_form (element.0, element.1.now)) }
     requires room { (elements : List Element) → AreElements form (take body_len body.old) elements →
-        length (elements_bytes new_form (rewritten goes comes elements)) ≤ length body.old }
+        length (elements_bytes new_form (rewritten_elements goes (elements_added comes) elements))
+        ≤ length body.old }
     ensures row { (elements : List Element) → AreElements form (take body_len body.old) elements →
-        body.new ≡ row_to new_form (rewritten goes comes.entry elements) (length body.old) }
+        body.new ≡ row_to new_form (rewritten_elements goes (elements_added comes.entry) elements)
+        (length body.old) }
     ensures elements { (elements : List Element) →
         AreElements form (take body_len body.old) elements →
-        AreElements new_form body.new (rewritten goes comes.entry elements) }
+        AreElements new_form body.new (rewritten_elements goes (elements_added comes.entry) elements) }
 {
     if body_len == 0 {
         put_alone(new_form, body, comes);
-    } else {
-        rewrite_rows(form, new_form, body, body_len, survey, goes, comes);
+        return;
     }
+    let (start, end) = survey.around(goes);
+    let (front, count) = put_in_rows(form, body, body_len, survey, goes, start, end);
+    let (front, at, count) = if changes_form(form, new_form, survey) {
+        let (front, count) = change_rows(form, body, front, end, count);
+        (front, front, count)
+    } else {
+        (front, end, count)
+    };
+    let len = put_between(new_form, body, front, at, count, comes);
+    clear_after(body, len);
 }

@@ -1,11 +1,10 @@
 -- A packet in a buffer, and what the buffer keeps of its header: how long it is, and which form its block has.
-use Rattle.std.proofs.Common.{◌≡◌, ℕ, zero, suc, ◌+◌, ◌-◌, ◌/◌, ◌<◌, ◌≤◌, false, List, ◌++◌, length, take, drop, Option, None, Some, refl, sym, ap, subst, ◌∙◌, arith, length-append, length-drop, length-take-le, take_at}
+use Rattle.std.proofs.Common.{◌≡◌, ℕ, zero, suc, ◌+◌, ◌-◌, ◌/◌, ◌<◌, ◌≤◌, true, false, List, ◌++◌, length, take, drop, Option, None, Some, refl, sym, ap, subst, ◌∙◌, arith, length-append, length-drop, length-take-le, take_at}
 use Rattle.std.specs.Prelude.{slice_index}
 use Rattle.std.specs.Int.{w16, to_be_bytes}
 use Rattle.std.proofs.lemmas.List.{take-append-drop, take-append-le, drop-append-le}
 use Rattle.rtp_ext.specs.declared.form.ExtensionsForm.{ExtensionsForm}
 use Rattle.rtp_ext.specs.Elements.{Element}
-use Rattle.rtp_ext.specs.PutElement.{needed_form, allowed_form}
 use Rattle.rtp_wire.specs.declared.packet.rtp_packet_buf.RtpPacketBuf.{RtpPacketBuf}
 use Rattle.rtp_wire.specs.declared.packet.retransmission.RetransmissionFields.{RetransmissionFields}
 use Rattle.rtp_wire.specs.declared.packet.retransmission.OriginalFields.{OriginalFields}
@@ -14,7 +13,7 @@ use Rattle.rtp_wire.specs.ChangedPacket.{ChangesOnly, HasUnpadded}
 use Rattle.rtp_wire.specs.Packet.{PacketParts, IsPacket, header_len_of}
 use Rattle.rtp_wire.specs.PacketBuf.{bytes_of, parts_within}
 use Rattle.rtp_wire.specs.PartsAt.{HasLayout, form_in, header_end}
-use Rattle.rtp_wire.specs.PutIntoPacket.{form_of_block, compact_block, PutsElement, Compacts}
+use Rattle.rtp_wire.specs.PutIntoPacket.{form_of_block, compact_block, Compacts}
 use Rattle.rtp_wire.specs.Retransmission.{IsBlockUnder, Sends, Restores}
 use Rattle.rtp_wire.proofs.ChangedPackets.{HasHeader-laid_out, HasLayout-header}
 use Rattle.rtp_wire.proofs.HeaderFound.{HasHeader, IsWhole-header}
@@ -162,14 +161,14 @@ module _ (packet : RtpPacketBuf) where
   -- ---- the buffer changes
 
   module _ (buf : List ℕ) (len : ℕ) (room : len ≤ length buf) where
-    pub IsKept-put : (element : Element) (allowed form : Option ExtensionsForm) → form ≡ allowed_form allowed (needed_form packet.form element) → packet.len ≤ len
-        → PutsElement (bytes_of packet) element allowed buf len → IsKept buf len (packet.header_len + (len - packet.len)) form
-    IsKept-put element allowed form form-is more has =
-        let growth = has.growth in
-        let kept = kept-parts growth.parts growth.is_packet in
-        IsKept-parts buf len (packet.header_len + (len - packet.len)) form _ room has.is_packet
-        (omega (arith, kept.0, length-packet (bytes_of packet) growth.parts growth.is_packet, length-bytes, length-packet (take len buf) _ has.is_packet, length-take-le len buf room))
-        (form-is ∙ ap (λ (f : Option ExtensionsForm). allowed_form allowed (needed_form f element)) kept.1 ∙ growth.form_is)
+    -- its block is a new one, and the payload stays
+    pub IsKept-new : (parts : PacketParts) (form : ExtensionsForm) (body : List ℕ) (header_len : ℕ) → IsPacket (bytes_of packet) parts
+        → IsPacket (take len buf) (record parts { has_extension = true; block = Some (form, body) }) → header_len + packet.len ≡ packet.header_len + len → IsKept buf len header_len (Some form)
+    IsKept-new parts form body header_len was is longer =
+        let new : PacketParts = record parts { has_extension = true; block = Some (form, body) } in
+        let kept = kept-parts parts was in
+        IsKept-parts buf len header_len (Some form) new room is
+        (omega (arith, kept.0, longer, length-packet (bytes_of packet) parts was, length-bytes, length-packet (take len buf) new is, length-take-le len buf room)) refl
 
     pub IsKept-sent : (stream : RetransmissionFields) (ids : ℕ → Option ℕ) → Sends stream ids packet.buf.now packet.len buf len → IsKept buf len packet.header_len packet.form
     IsKept-sent stream ids has =

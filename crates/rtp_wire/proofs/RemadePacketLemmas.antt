@@ -1,5 +1,5 @@
 -- A packet in a buffer whose block is made anew: what the buffer then keeps of it, and why it may not be.
-use Rattle.std.proofs.Common.{◌≡◌, ℕ, ◌+◌, ◌-◌, ◌<◌, ◌≤◌, true, false, List, [], ◌∷◌, length, take, Option, Some, refl, sym, ap, subst, ◌∙◌, arith, length-take-le}
+use Rattle.std.proofs.Common.{◌≡◌, ℕ, ◌-◌, ◌<◌, ◌≤◌, true, false, List, [], ◌∷◌, length, Option, Some, sym, ap, subst, ◌∙◌, arith}
 use Rattle.std.specs.Prelude.{is_some}
 use Rattle.std.proofs.lemmas.Option.{none-some, same_Some}
 use Rattle.rtp_ext.specs.declared.form.ExtensionsForm.{ExtensionsForm}
@@ -13,28 +13,12 @@ use Rattle.rtp_wire.specs.Packet.{HasOtherForm}
 use Rattle.rtp_wire.specs.PacketBuf.{bytes_of, parts_within}
 use Rattle.rtp_wire.specs.PutIntoPacket.{form_of_block, put_place}
 use Rattle.rtp_wire.specs.RemadeBlock.{IsTooLong, HasNoRoom, IsInOther, KeepsFromForm, form_with, KeepsFromAdding}
-use Rattle.rtp_wire.specs.RewrittenBlock.{StopsForm, RewritesBlock, CarriesNot, StopsRewriting}
-use Rattle.rtp_wire.proofs.PacketBufLemmas.{IsKept, IsKept-parts, is_packet, kept-parts, length-bytes}
-use Rattle.rtp_wire.proofs.PartsLemmas.{some_there, none_there, no_other_form, length-packet}
+use Rattle.rtp_wire.specs.RewrittenBlock.{StopsForm, CarriesNot, StopsRewriting}
+use Rattle.rtp_wire.proofs.PacketBufLemmas.{is_packet, kept-parts}
+use Rattle.rtp_wire.proofs.PartsLemmas.{some_there, none_there, no_other_form}
 use Rattle.rtp_wire.proofs.RewrittenLemmas.{long-uncarried, each-among}
 use Rattle.rtp_wire.proofs.RemadeLemmas.{remade-of, of-remade, of-uncarried, uncarried-of}
 use Rattle.rtp_wire.proofs.PutPlanLemmas.{no_long_id, carried-with}
-
--- what is kept of the packet
-pub IsKept-rewritten : (packet : RtpPacketBuf) (form : ExtensionsForm) (added : List Element) (new : List ℕ) (len : ℕ) → RewritesBlock (bytes_of packet) form 0 added new len → packet.len ≤ len → len ≤ length new
-    → IsKept new len (packet.header_len + (len - packet.len)) (Some form)
-IsKept-rewritten packet form added new len has longer room =
-    let kept = kept-parts packet has.rewritten.parts has.rewritten.is_packet in
-    let within = packet.within in
-    IsKept-parts new len (packet.header_len + (len - packet.len)) (Some form) _ room has.is_packet
-    (omega (
-      arith,
-      kept.0,
-      length-packet (bytes_of packet) has.rewritten.parts has.rewritten.is_packet,
-      length-bytes packet,
-      length-packet (take len new) _ has.is_packet,
-      length-take-le len new room,
-    )) refl
 
 -- ---- the causes
 

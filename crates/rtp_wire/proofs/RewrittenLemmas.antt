@@ -7,7 +7,7 @@ use Rattle.rtp_ext.specs.declared.form.ExtensionsForm.{ExtensionsForm}
 use Rattle.rtp_ext.specs.declared.form.ExtensionsForm.TheVariants.{OneByte, TwoByte}
 use Rattle.rtp_ext.specs.Elements.{Element, IsElement, AreElements, elements_bytes}
 use Rattle.rtp_ext.specs.ElementsInARow.{IsWritable}
-use Rattle.rtp_ext.specs.PutElement.{has_id, without, put_among}
+use Rattle.rtp_ext.specs.PutElement.{rewritten_elements, has_id, without, put_among}
 use Rattle.rtp_ext.proofs.AnewLemmas.{writable_without, AreElements-each, without-each, among-each}
 use Rattle.rtp_ext.proofs.NarrowLemmas.{wide_each}
 use Rattle.rtp_ext.specs.WrittenBlock.{whole_words}
@@ -19,7 +19,7 @@ use Rattle.rtp_wire.specs.Packet.{PacketParts, header_len_of, block_len}
 use Rattle.rtp_wire.specs.PacketElements.{AreElementsOf}
 use Rattle.rtp_wire.specs.PutIntoPacket.{body_of_block, put_place, IsLongId}
 use Rattle.rtp_wire.specs.RemadeBlock.{HasLongIds, HasUncarried}
-use Rattle.rtp_wire.specs.RewrittenBlock.{rewritten_elements, IsRewritten, CarriesNot, StopsRewriting, IsPlan}
+use Rattle.rtp_wire.specs.RewrittenBlock.{IsRewritten, CarriesNot, StopsRewriting, IsPlan}
 use Rattle.rtp_wire.proofs.PacketLemmas.{one_packet}
 use Rattle.rtp_wire.proofs.HeaderLemmas.{one_list}
 use Rattle.rtp_wire.proofs.PutPlanLemmas.{whole-words, block-elements}

@@ -1,14 +1,14 @@
 -- An element that is put into a packet, which grows where it lies, and a packet that is made as short as its elements allow (RFC 3550, 5.3.1; RFC 8285, 4.1.2, 4.2 and 4.3).
 --
 -- The fixed fields but X, the CSRC list and the payload stay. The block gets the form that `allowed_form` says, and the elements that `put_element` says, of which none has the id 0, which is padding's; its body never becomes shorter.
-use Rattle.std.specs.Prelude.{◌≡◌, ℕ, ◌+◌, ◌*◌, ◌<◌, List, [], length, take, drop, max, true, Option, Some, None, option_map}
+use Rattle.std.specs.Prelude.{◌≡◌, ℕ, ◌+◌, ◌*◌, ◌<◌, List, [], ◌∷◌, length, take, drop, max, true, Option, Some, None, option_map}
 use Rattle.std.specs.Int.{w16, to_be_bytes}
 use Rattle.rtp_ext.specs.declared.form.ExtensionsForm.{ExtensionsForm}
 use Rattle.rtp_ext.specs.declared.form.ExtensionsForm.TheVariants.{OneByte, TwoByte}
 use Rattle.rtp_ext.specs.Form.{form_word}
 use Rattle.rtp_ext.specs.Elements.{Element, AreElements, elements_bytes}
 use Rattle.rtp_ext.specs.ElementsInPlace.{SetsLast}
-use Rattle.rtp_ext.specs.PutElement.{without, put_element, needed_form, allowed_form, row_to, IsSole}
+use Rattle.rtp_ext.specs.PutElement.{without, rewritten_elements, needed_form, allowed_form, row_to, IsSole}
 use Rattle.rtp_ext.specs.WrittenBlock.{whole_words, filled}
 use Rattle.rtp_wire.specs.declared.packet.not_put.NotPut.{NotPut}
 use Rattle.rtp_wire.specs.declared.packet.not_put.NotPut.TheVariants.{CutPacket, ZeroId, LongData, NotAPacket, OtherForm, LongId, OneByteOnly, LongBlock, NoRoom}
@@ -28,7 +28,7 @@ body_of_block (Some block) = block.1
 
 -- the elements that a block has once the element is put among them: those of the id 0 go
 abbrev pub elements_with : Element → List Element → List Element
-elements_with element elements = put_element element (without 0 elements)
+elements_with element elements = rewritten_elements element.0 (element ∷ []) elements
 
 -- what a packet becomes once the element is put into it: the form of its block, of those that are allowed; how many bytes the body has, the elements in whole words, but no fewer than before; and how many the packet has
 pub record IsGrowth (bytes : List ℕ) (element : Element) (allowed : Option ExtensionsForm) : Type 0 where

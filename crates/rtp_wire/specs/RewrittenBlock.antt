@@ -8,7 +8,7 @@ use Rattle.rtp_ext.specs.declared.form.ExtensionsForm.{ExtensionsForm}
 use Rattle.rtp_ext.specs.Form.{form_word}
 use Rattle.rtp_ext.specs.Elements.{Element, AreElements, elements_bytes}
 use Rattle.rtp_ext.specs.ElementsInARow.{IsWritable}
-use Rattle.rtp_ext.specs.PutElement.{without, put_among, needed_form, allowed_form, row_to}
+use Rattle.rtp_ext.specs.PutElement.{rewritten_elements, needed_form, allowed_form, row_to}
 use Rattle.rtp_ext.specs.BodySurvey.{IsSurvey}
 use Rattle.rtp_ext.specs.WrittenBlock.{whole_words}
 use Rattle.rtp_wire.specs.declared.packet.not_put.NotPut.{NotPut}
@@ -32,10 +32,6 @@ StopsForm bytes element allowed OtherForm = HasOtherForm bytes
 StopsForm bytes element allowed LongId = IsLongId allowed element.0
 StopsForm bytes element allowed OneByteOnly = (parts : PacketParts) × IsPacket bytes parts × (allowed_form allowed (needed_form (form_of_block parts.block) element) ≡ None)
 StopsForm bytes element allowed cause = ⊥
-
--- the elements that a block then has: those of the id, and of the id 0, go, and these come
-abbrev pub rewritten_elements : ℕ → List Element → List Element → List Element
-rewritten_elements goes comes elements = put_among goes comes (without 0 elements)
 
 -- a packet whose elements, but for those that go, the form can carry, and what it becomes once its block is rewritten in the form: how many bytes the body has, the elements in whole words, but no fewer than before; and how many the packet has
 pub record IsRewritten (bytes : List ℕ) (form : ExtensionsForm) (goes : ℕ) (comes : List Element) : Type 0 where

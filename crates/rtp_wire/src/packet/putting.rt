@@ -1,10 +1,10 @@
 //! Elements that are put into a packet, which grows where it lies.
 
-ghost use Rattle.std.specs.Prelude.{◌≡◌, ◌↔◌, ◌≤◌, length, take, drop, IsErr, IfOk, IfErr, OnErr};
+ghost use Rattle.std.specs.Prelude.{◌≡◌, ◌↔◌, ◌≤◌, length, take, drop, IsErr, IfOk, IfErr, OnOk, OnErr};
 ghost use Rattle.rtp_wire.specs.PutIntoPacket.{PutsElement, AppliesToPut, IsFirstNotPut};
 
 use super::rewriting::{Plan, check_element, form_with};
-use super::{NotPut, RtpPacket};
+use super::{NotPut, RtpPacket, RtpPacketBuf};
 use rtp_ext::ExtensionsForm;
 
 /// Puts an element into the packet in the first `len` bytes of the buffer, and returns how many bytes the
@@ -77,10 +77,49 @@ pub fn put_element_copy<const COPY: usize>(
     }
     check_element(id, data)?;
     let packet = RtpPacket::parse(&buf[..len])?;
-    let form = form_with(&packet, id, data, allowed)?;
-    let plan = Plan::new(&packet, form, id);
-    if plan.set(&mut buf[..len], id, data) {
-        return Ok(len);
+    let header_len = packet.header_len;
+    let form = packet.form;
+    let mut packet = RtpPacketBuf::new(buf, len, header_len, form);
+    packet.put_element(id, data, allowed)?;
+    Ok(packet.len)
+}
+
+impl RtpPacketBuf<'_> {
+    ghost use Rattle.rtp_wire.specs.PacketBuf.{whole_of, len_of, bytes_of, StaysWhole};
+
+    /// Gives the packet one element of this id, 1 to 255, with these data, of at most 255 bytes, as
+    /// [`put_element`] does: it grows where it must (RFC 3550, 5.3.1; RFC 8285, 4.2 and 4.3). `allowed`
+    /// is the form that alone is allowed, if one is.
+    ///
+    /// The packet `90 60 00 05 00 00 00 64 00 00 00 2C BE DE 00 01 10 AA 00 00 01` (hexadecimal), in
+    /// a buffer of 25 bytes or more, gets the data `07 08` of id 2: it then is
+    /// `90 60 00 05 00 00 00 64 00 00 00 2C BE DE 00 02 10 AA 21 07 08 00 00 00 01`.
+    #[inline(always)]
+    pub fn put_element(
+        &mut self,
+        id: u8,
+        data: &[u8],
+        allowed: Option<ExtensionsForm>,
+    ) -> Result<(), NotPut>
+        ensures put { OnOk result (PutsElement (bytes_of self.old) (id, «data».now) allowed
+            (whole_of self.new).now (len_of self.new)) }
+        ensures length { OnOk result (len_of self.old ≤ len_of self.new) }
+        ensures behind { OnOk result (drop (len_of self.new) (whole_of self.new).now
+            ≡ drop (len_of self.new) (whole_of self.old).now) }
+        ensures cause { IfErr result (IsFirstNotPut
+            (AppliesToPut (whole_of self.old).now (len_of self.old) (id, «data».now) allowed)) }
+        ensures refused { IsErr result ↔ ((cause : NotPut)
+            × AppliesToPut (whole_of self.old).now (len_of self.old) (id, «data».now) allowed cause) }
+        ensures unchanged { OnErr result (StaysWhole self.old self.new) }
+        ensures same_buffer { (whole_of self.new).ghost_name ≡ (whole_of self.old).ghost_name }
+    {
+        check_element(id, data)?;
+        let packet = self.as_packet();
+        let form = form_with(&packet, id, data, allowed)?;
+        let plan = Plan::new(&packet, form, id);
+        if plan.set(&mut self.buf[..self.len], id, data) {
+            return Ok(());
+        }
+        self.rewrite(&plan, id, Some((id, data)))
     }
-    plan.rewrite(buf, len, id, Some((id, data)))
 }

@@ -2,11 +2,9 @@
 //! own.
 
 ghost use Rattle.std.specs.Prelude.{◌≡◌, ◌↔◌, length, drop, None, [], ◌∷◌, IsTrue, IsErr, IfErr, IfSome, OnOk, OnErr};
-ghost use Rattle.rtp_ext.specs.ElementsInARow.{IsWritable, elements_added};
 ghost use Rattle.rtp_wire.specs.declared.packet.not_put.NotPut.{NotPut};
 ghost use Rattle.rtp_wire.specs.PutIntoPacket.{form_of_block, IsFirstNotPut};
 ghost use Rattle.rtp_wire.specs.RemadeBlock.{RemakesBlock, IsInOther, KeepsFromForm, form_with, KeepsFromAdding};
-ghost use Rattle.rtp_wire.specs.RewrittenBlock.{RewritesBlock, StopsRewriting};
 
 use super::rewriting::{Plan, check_element};
 use super::{NotPut, RtpPacketBuf, rewriting};
@@ -25,29 +23,6 @@ fn is_in_other(was: Option<ExtensionsForm>, form: ExtensionsForm) -> bool
 
 impl<'a> RtpPacketBuf<'a> {
     ghost use Rattle.rtp_wire.specs.PacketBuf.{whole_of, len_of, bytes_of, parts_within, StaysWhole};
-
-    // Rewrites the block in this form, with this element behind its own, if one is given.
-    fn rewrite(&mut self, form: ExtensionsForm, added: Option<(u8, &[u8])>) -> Result<(), NotPut>
-        requires no_other { (parts_within self.old).other_block ≡ None }
-        requires writable { IfSome added (λ element. IsWritable form (element.0, element.1.now)) }
-        ensures rewritten { OnOk result (RewritesBlock (bytes_of self.old) form 0
-            (elements_added added.entry) (whole_of self.new).now (len_of self.new)) }
-        ensures behind { OnOk result (drop (len_of self.new) (whole_of self.new).now
-            ≡ drop (len_of self.new) (whole_of self.old).now) }
-        ensures cause { IfErr result (IsFirstNotPut (StopsRewriting (bytes_of self.old)
-            (length (whole_of self.old).now) form 0 (elements_added added.entry))) }
-        ensures refused { IsErr result ↔ ((cause : NotPut) × StopsRewriting (bytes_of self.old)
-            (length (whole_of self.old).now) form 0 (elements_added added.entry) cause) }
-        ensures unchanged { OnErr result (StaysWhole self.old self.new) }
-        ensures same_buffer { (whole_of self.new).ghost_name ≡ (whole_of self.old).ghost_name }
-    {
-        let plan = Plan::new(&self.as_packet(), form, 0);
-        let len = plan.rewrite(self.buf, self.len, 0, added)?;
-        self.header_len += len - self.len;
-        self.len = len;
-        self.form = Some(form);
-        Ok(())
-    }
 
     /// Makes a block of the other form one of this form: its elements stay, in order, and the
     /// payload moves where the body grows (RFC 3550, 5.3.1; RFC 8285, 4.2 and 4.3). In the two-byte
@@ -78,13 +53,15 @@ impl<'a> RtpPacketBuf<'a> {
         ensures unchanged { OnErr result (StaysWhole self.old self.new) }
         ensures same_buffer { (whole_of self.new).ghost_name ≡ (whole_of self.old).ghost_name }
     {
-        if self.as_packet().has_other_form() {
+        let packet = self.as_packet();
+        if packet.has_other_form() {
             return Err(NotPut::OtherForm);
         }
         if !is_in_other(self.form, form) {
             return Ok(());
         }
-        self.rewrite(form, None)
+        let plan = Plan::new(&packet, form, 0);
+        self.rewrite(&plan, 0, None)
     }
 
     /// Puts an element behind all others, of which those of its id stay: an id may have several
@@ -118,7 +95,9 @@ impl<'a> RtpPacketBuf<'a> {
         ensures same_buffer { (whole_of self.new).ghost_name ≡ (whole_of self.old).ghost_name }
     {
         check_element(id, data)?;
-        let form = rewriting::form_with(&self.as_packet(), id, data, allowed)?;
-        self.rewrite(form, Some((id, data)))
+        let packet = self.as_packet();
+        let form = rewriting::form_with(&packet, id, data, allowed)?;
+        let plan = Plan::new(&packet, form, 0);
+        self.rewrite(&plan, 0, Some((id, data)))
     }
 }

@@ -13,7 +13,7 @@ ghost use Rattle.rtp_wire.specs.RewrittenBlock.{StopsElement, StopsForm, IsRewri
 
 use super::resizing::{announce, resize};
 use super::rtp_packet::sources_end;
-use super::{NotPut, RtpPacket};
+use super::{NotPut, RtpPacket, RtpPacketBuf};
 use crate::header::{BLOCK_HEADER_LEN, in_words};
 use rtp_ext::{
     Elements, ExtensionsForm, MAX_ID_ONE_BYTE_FORM, Survey, form_to_put, rewrite_body,
@@ -225,39 +225,46 @@ impl Plan {
             comes,
         );
     }
+}
 
-    // Rewrites the block of the packet in the first bytes of the buffer: the elements of the id, and
-    // those of the id 0, go, and the one that is given comes in place of the last of the id, or as the
-    // last of all. Returns how many bytes the packet then has. The body never becomes shorter.
+impl RtpPacketBuf<'_> {
+    ghost use Rattle.rtp_wire.specs.PacketBuf.{whole_of, len_of, bytes_of, parts_within, StaysWhole};
+
+    // Rewrites the block as it is planned: the elements of the id, and those of the id 0, go, and the
+    // one that is given comes in place of the last of the id, or as the last of all. The body never
+    // becomes shorter.
     #[inline(always)]
     pub(super) fn rewrite(
-        &self,
-        buf: &mut [u8],
-        len: usize,
+        &mut self,
+        plan: &Plan,
         goes: u8,
         comes: Option<(u8, &[u8])>,
-    ) -> Result<usize, NotPut>
-        requires within { len ≤ length buf.old }
-        requires plan { IsPlan (take len buf.old) (parts_at (take len buf.old)) goes
-            self.now }
+    ) -> Result<(), NotPut>
+        requires plan { IsPlan (bytes_of self.old) (parts_within self.old) goes plan.now }
         requires writable { IfSome comes
-            (λ element. IsWritable self.now.new_form (element.0, element.1.now)) }
-        ensures rewritten { IfOk result (RewritesBlock (take len buf.old) self.now.new_form goes
-            (elements_added comes.entry) buf.new) }
-        ensures within { IfOk result (λ new_len. (len ≤ new_len) × (new_len ≤ length buf.old)) }
-        ensures behind { IfOk result (λ new_len. drop new_len buf.new ≡ drop new_len buf.old) }
-        ensures cause { IfErr result (IsFirstNotPut (StopsRewriting (take len buf.old)
-            (length buf.old) self.now.new_form goes (elements_added comes.entry))) }
-        ensures refused { IsErr result ↔ ((cause : NotPut) × StopsRewriting (take len buf.old)
-            (length buf.old) self.now.new_form goes (elements_added comes.entry) cause) }
-        ensures unchanged { OnErr result (buf.new ≡ buf.old) }
+            (λ element. IsWritable plan.now.new_form (element.0, element.1.now)) }
+        ensures rewritten { OnOk result (RewritesBlock (bytes_of self.old) plan.now.new_form goes
+            (elements_added comes.entry) (whole_of self.new).now (len_of self.new)) }
+        ensures longer { OnOk result (len_of self.old ≤ len_of self.new) }
+        ensures behind { OnOk result (drop (len_of self.new) (whole_of self.new).now
+            ≡ drop (len_of self.new) (whole_of self.old).now) }
+        ensures cause { IfErr result (IsFirstNotPut (StopsRewriting (bytes_of self.old)
+            (length (whole_of self.old).now) plan.now.new_form goes (elements_added comes.entry))) }
+        ensures refused { IsErr result ↔ ((cause : NotPut) × StopsRewriting (bytes_of self.old)
+            (length (whole_of self.old).now) plan.now.new_form goes (elements_added comes.entry)
+            cause) }
+        ensures unchanged { OnErr result (StaysWhole self.old self.new) }
+        ensures same_buffer { (whole_of self.new).ghost_name ≡ (whole_of self.old).ghost_name }
     {
-        let body_len = self.new_body_len(&buf[..len], goes, comes)?;
-        let new_len = self.block_at + BLOCK_HEADER_LEN + body_len + (len - self.payload_at);
-        if new_len > buf.len() {
-            return Err(NotPut::NoRoom { needed: new_len });
+        let body_len = plan.new_body_len(self.as_bytes(), goes, comes)?;
+        let len = plan.block_at + BLOCK_HEADER_LEN + body_len + (self.len - plan.payload_at);
+        if len > self.buf.len() {
+            return Err(NotPut::NoRoom { needed: len });
         }
-        self.make(buf, len, body_len, goes, comes);
-        Ok(new_len)
+        plan.make(self.buf, self.len, body_len, goes, comes);
+        self.header_len += len - self.len;
+        self.len = len;
+        self.form = Some(plan.new_form);
+        Ok(())
     }
 }

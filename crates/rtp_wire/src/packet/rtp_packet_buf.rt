@@ -2,20 +2,19 @@
 
 ghost use Rattle.std.specs.Prelude.{◌≡◌, ◌↔◌, ℕ, ◌/◌, ◌<◌, ◌≤◌, Option, length, take, drop, slice_index, IsErr, IfOk, IfErr, OnOk, OnErr};
 ghost use Rattle.rtp_ext.specs.NewIds.{new_id};
-ghost use Rattle.rtp_wire.specs.declared.packet.not_put.NotPut.{NotPut};
 ghost use Rattle.rtp_wire.specs.declared.packet.not_in_buffer.NotInBuffer.{NotInBuffer};
 ghost use Rattle.rtp_wire.specs.declared.packet.not_retransmitted.NotRetransmitted.{NotRetransmitted};
 ghost use Rattle.rtp_wire.specs.declared.packet.retransmission.RetransmissionFields.{RetransmissionFields};
 ghost use Rattle.rtp_wire.specs.Packet.{PacketParts, IsPacket};
 ghost use Rattle.rtp_wire.specs.PartsAt.{form_in, header_end, HasLayout};
-ghost use Rattle.rtp_wire.specs.PutIntoPacket.{PutsElement, AppliesToPut, IsFirstNotPut, Compacts};
+ghost use Rattle.rtp_wire.specs.PutIntoPacket.{Compacts};
 ghost use Rattle.rtp_wire.specs.Retransmission.{IsRetransmissionOf, IsRestored, IsPacketWith, Sends, Restores, KeepsFromSending, KeepsFromRestoring, IsFirstOf};
 
 use super::{
-    NotInBuffer, NotPut, NotRetransmitted, OriginalFields, RetransmissionFields, RtpPacket,
-    compact, from_retransmission, put_element, to_retransmission,
+    NotInBuffer, NotRetransmitted, OriginalFields, RetransmissionFields, RtpPacket, compact,
+    from_retransmission, to_retransmission,
 };
-use rtp_ext::{ExtensionsForm, NewIds, form_to_put};
+use rtp_ext::{ExtensionsForm, NewIds};
 
 /// An RTP packet in the first bytes of a buffer, into whose other bytes it may grow (RFC 3550, 5.1;
 /// RFC 8285, 4). Each call that changes the length of the packet keeps count of it; one that is
@@ -131,39 +130,6 @@ impl<'a> RtpPacketBuf<'a> {
             form: _,
         } = self;
         buf
-    }
-
-    /// Gives the packet one element of this id, 1 to 255, with these data, of at most 255 bytes, as
-    /// [`put_element`](super::put_element) does: it grows where it must (RFC 3550, 5.3.1; RFC 8285,
-    /// 4.2 and 4.3). `allowed` is the form that alone is allowed, if one is.
-    ///
-    /// The packet `90 60 00 05 00 00 00 64 00 00 00 2C BE DE 00 01 10 AA 00 00 01` (hexadecimal), in
-    /// a buffer of 25 bytes or more, gets the data `07 08` of id 2: it then is
-    /// `90 60 00 05 00 00 00 64 00 00 00 2C BE DE 00 02 10 AA 21 07 08 00 00 00 01`.
-    pub fn put_element(
-        &mut self,
-        id: u8,
-        data: &[u8],
-        allowed: Option<ExtensionsForm>,
-    ) -> Result<(), NotPut>
-        ensures put { OnOk result (PutsElement (bytes_of self.old) (id, «data».now) allowed
-            (whole_of self.new).now (len_of self.new)) }
-        ensures length { OnOk result (len_of self.old ≤ len_of self.new) }
-        ensures behind { OnOk result (drop (len_of self.new) (whole_of self.new).now
-            ≡ drop (len_of self.new) (whole_of self.old).now) }
-        ensures cause { IfErr result (IsFirstNotPut
-            (AppliesToPut (whole_of self.old).now (len_of self.old) (id, «data».now) allowed)) }
-        ensures refused { IsErr result ↔ ((cause : NotPut)
-            × AppliesToPut (whole_of self.old).now (len_of self.old) (id, «data».now) allowed cause) }
-        ensures unchanged { OnErr result (StaysWhole self.old self.new) }
-        ensures same_buffer { (whole_of self.new).ghost_name ≡ (whole_of self.old).ghost_name }
-    {
-        let form = form_to_put(self.form, allowed, id, data);
-        let len = put_element(self.buf, self.len, id, data, allowed)?;
-        self.header_len += len - self.len;
-        self.form = form;
-        self.len = len;
-        Ok(())
     }
 
     /// Makes the packet as short as its elements allow, as [`compact`](super::compact) does: call it

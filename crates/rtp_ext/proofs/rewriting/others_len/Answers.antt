@@ -1,8 +1,21 @@
 use Rattle.rtp_ext.proofs.Common.{◌≡◌, length, sym, ap, ◌∙◌, inl, inr, ◌⊎◌, Element, AreElements, elements_bytes, others, List}
 use Rattle.rtp_ext.proofs.LastPlaceLemmas.{AreElements-same}
 use Rattle.rtp_ext.proofs.RewrittenLemmas.{others-writable, stays-bytes, stays-writable}
+use Rattle.rtp_ext.proofs.AroundLemmas.{read_elements}
 use Rattle.rtp_ext.proofs.rewriting.others_len.Goals as goal
 use Rattle.rtp_ext.proofs.rewriting.others_len.Goals.{Else-changes_form}
+
+pub returns-then-changes_form-clause-length : goal.returns-then-changes_form-clause-length
+returns-then-changes_form-clause-length c = λ elements are.
+    c.row_len.ensures.length elements (read_elements c.args.form c.args.body.now c.args.goes c.args.survey.now c.requires.survey elements are)
+
+pub returns-then-changes_form-clause-carried : goal.returns-then-changes_form-clause-carried
+returns-then-changes_form-clause-carried c = λ elements are.
+    c.row_len.ensures.carried elements (read_elements c.args.form c.args.body.now c.args.goes c.args.survey.now c.requires.survey elements are)
+
+pub returns-then-changes_form-clause-none : goal.returns-then-changes_form-clause-none
+returns-then-changes_form-clause-none c = λ elements are.
+    c.row_len.ensures.none elements (read_elements c.args.form c.args.body.now c.args.goes c.args.survey.now c.requires.survey elements are)
 
 counted : (c : Else-changes_form) (elements : List Element) → AreElements c.args.form c.args.body.now elements → c.args.survey.now.others_len ≡ length (elements_bytes c.args.form (others c.args.goes elements))
 counted c elements are =

@@ -8,7 +8,7 @@ use Rattle.rtp_base.specs.Overwriting.{overwritten}
 use Rattle.rtp_ext.specs.Form.{form_word}
 use Rattle.rtp_ext.specs.Elements.{Element, AreElements, elements_bytes}
 use Rattle.rtp_ext.specs.ElementsInARow.{IsWritable, elements_added}
-use Rattle.rtp_ext.specs.PutElement.{row_to}
+use Rattle.rtp_ext.specs.PutElement.{rewritten_elements, row_to}
 use Rattle.rtp_ext.specs.BodySurvey.{IsSurvey}
 use Rattle.rtp_ext.proofs.LastPlaceLemmas.{AreElements-same}
 use Rattle.rtp_wire.specs.declared.packet.rewriting.Plan.{Plan}
@@ -17,7 +17,7 @@ use Rattle.rtp_wire.specs.Packet.{header_len_of}
 use Rattle.rtp_wire.specs.PartsAt.{parts_at}
 use Rattle.rtp_wire.specs.PutIntoPacket.{body_of_block}
 use Rattle.rtp_wire.specs.GrowingPacket.{with_extension_bit}
-use Rattle.rtp_wire.specs.RewrittenBlock.{rewritten_elements, IsRewritten, IsPlan}
+use Rattle.rtp_wire.specs.RewrittenBlock.{IsRewritten, IsPlan}
 use Rattle.rtp_wire.proofs.ResizedLemmas.{len-is, take-body}
 use Rattle.rtp_wire.proofs.GrowthLemmas.{IsLaid, IsLaid-announced, IsLaid-new, middle-laid, length-middle, IsPacket-new, behind-new, word-new, written-new}
 use Rattle.rtp_wire.proofs.PutPlanLemmas.{plan-of, body-elements}
