@@ -35,7 +35,7 @@ elements-announced (Some block) elements form some are = let same : block.0 ≡ 
 module _ (bytes : List ℕ) (parts : PacketParts) (is : IsPacket bytes parts) (form : ExtensionsForm) (some : form_of_block parts.block ≡ Some form)
     (block_at payload_at : ℕ) (block-is : block_at ≡ sources_end bytes) (payload-is : payload_at ≡ header_len_of parts) (count n : ℕ) (row : List ℕ)
     (taken : IsCompacted form (take (payload_at - (block_at + 4)) (drop (block_at + 4) bytes)) row count)
-    (low : count ≤ n) (high : n < count + 4) (multiple : n % 4 ≡ 0) where
+    (words : n ≡ whole_words count) where
   abbrev moved : List ℕ
   moved = put_mid (block_at + 4) (payload_at - (block_at + 4)) bytes row
 
@@ -55,7 +55,7 @@ module _ (bytes : List ℕ) (parts : PacketParts) (is : IsPacket bytes parts) (f
   row-is = taken.new_is ∙ ap (row_to form kept) length-body
 
   n-is : n ≡ whole_words (length (elements_bytes form kept))
-  n-is = omega (arith, taken.len_is)
+  n-is = words ∙ ap whole_words taken.len_is
 
   body-whole : length body % 4 ≡ 0
   body-whole = whole-announced parts.has_extension parts.block parts.other_block is.part is.part_is
@@ -149,7 +149,7 @@ module _ (bytes : List ℕ) (parts : PacketParts) (is : IsPacket bytes parts) (f
         let packet : IsPacket (take (block_at + 4 + n + (length bytes - payload_at)) laid) (record parts { has_extension = true; block = Some (form, middle) }) =
         subst (λ (xs : List ℕ). IsPacket (take (block_at + 4 + n + (length bytes - payload_at)) xs) (record parts { has_extension = true; block = Some (form, middle) })) same-laid
         (IsPacket-laid moved (length bytes) between is-front (omega (arith, length-moved)) block_at start-front payload_at payload-front n room form laid is-laid middle long
-        (block_at + 4 + n + (length bytes - payload_at)) (no_other-announced parts.has_extension parts.block parts.other_block is.part form is.part_is some) size multiple few) in
+        (block_at + 4 + n + (length bytes - payload_at)) (no_other-announced parts.has_extension parts.block parts.other_block is.part form is.part_is some) size (omega (arith, words)) few) in
         let start : sources_end (take (length bytes) moved) + 2 ≡ sources_end bytes + 2 = omega (arith, start-front, block-is) in
         let word : take (sources_end (take (length bytes) moved) + 2) (put_mid (block_at + 4) (block_at + 4 + n - (block_at + 4)) laid middle) ≡ take (sources_end (take (length bytes) moved) + 2) moved =
         word-laid moved (length bytes) between is-front (omega (arith, length-moved)) block_at start-front payload_at payload-front n room form laid is-laid middle long refl in

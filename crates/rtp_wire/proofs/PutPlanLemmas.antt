@@ -47,15 +47,6 @@ body-elements None elements new_form form is are =
 body-elements (Some block) elements new_form form is are = subst (λ (f : ExtensionsForm). AreElements f block.1 elements) (sym is) are
 
 -- a length that is rounded up to whole words
-pub words-low : (n whole : ℕ) → whole ≡ whole_words n → n ≤ whole
-words-low n whole is = omega (arith, is)
-
-pub words-high : (n whole : ℕ) → whole ≡ whole_words n → whole < n + 4
-words-high n whole is = omega (arith, is)
-
-pub words-whole : (n whole : ℕ) → whole ≡ whole_words n → whole % 4 ≡ 0
-words-whole n whole is = omega (arith, is)
-
 pub whole-words : (n : ℕ) → (whole_words n % 4 ≡ 0) × (n ≤ whole_words n)
 whole-words n = (omega arith, omega arith)
 

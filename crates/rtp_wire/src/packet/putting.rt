@@ -84,7 +84,7 @@ pub fn put_element_copy<const COPY: usize>(
     Ok(packet.len)
 }
 
-impl RtpPacketBuf<'_> {
+impl<'a> RtpPacketBuf<'a> {
     ghost use Rattle.rtp_wire.specs.PacketBuf.{whole_of, len_of, bytes_of, StaysWhole};
 
     /// Gives the packet one element of this id, 1 to 255, with these data, of at most 255 bytes, as

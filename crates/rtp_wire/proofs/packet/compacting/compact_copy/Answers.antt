@@ -1,5 +1,5 @@
 use Rattle.rtp_wire.proofs.Common.{◌+◌, ◌≤◌, length, arith, rules, refl, sym, ◌∙◌, whole_words, parts_of}
-use Rattle.rtp_wire.proofs.PutPlanLemmas.{short-body, words-low, words-high, words-whole}
+use Rattle.rtp_wire.proofs.PutPlanLemmas.{short-body, whole-words}
 use Rattle.rtp_wire.proofs.SetInPlaceLemmas.{body-ends}
 use Rattle.rtp_wire.proofs.CompactLemmas.{n-within, room, length-moved, Compacts-made, Compacts-nothing}
 use Rattle.rtp_wire.proofs.packet.compacting.compact_copy.Goals as goal
@@ -26,17 +26,17 @@ pub resize-requires-clause-room : goal.resize-requires-clause-room
 resize-requires-clause-room g c =
     room c.args.datagram.now (parts_of c.in_ok-packet.packet) c.in_ok-packet.ensures.found c.in-Some.form (sym c.form-form.ensures ∙ c.in-Some.is)
     c.sources_end-block_at.result c.header_len-payload_at.result c.sources_end-block_at.ensures c.header_len-payload_at.ensures c.compact_body-elements_len.result c.in_words-body_len.result
-    c.compact_body-elements_len.new.body c.compact_body-elements_len.ensures (words-low _ _ c.in_words-body_len.ensures) (words-high _ _ c.in_words-body_len.ensures) (words-whole _ _ c.in_words-body_len.ensures)
+    c.compact_body-elements_len.new.body c.compact_body-elements_len.ensures c.in_words-body_len.ensures
 
 pub in_words-body_len-requires : goal.in_words-body_len-requires
 in_words-body_len-requires g c =
     omega (
       arith,
-      words-low c.compact_body-elements_len.result _ refl,
+      (whole-words c.compact_body-elements_len.result).1,
       short-body c.in_ok-packet.packet,
       n-within c.args.datagram.now (parts_of c.in_ok-packet.packet) c.in_ok-packet.ensures.found c.in-Some.form (sym c.form-form.ensures ∙ c.in-Some.is)
           c.sources_end-block_at.result c.header_len-payload_at.result c.sources_end-block_at.ensures c.header_len-payload_at.ensures c.compact_body-elements_len.result (whole_words c.compact_body-elements_len.result)
-          c.compact_body-elements_len.new.body c.compact_body-elements_len.ensures (words-low _ _ refl) (words-high _ _ refl) (words-whole _ _ refl),
+          c.compact_body-elements_len.new.body c.compact_body-elements_len.ensures refl,
     )
 
 pub resize-requires-clause-few : goal.resize-requires-clause-few
@@ -46,7 +46,7 @@ resize-requires-clause-few g c =
       short-body c.in_ok-packet.packet,
       n-within c.args.datagram.now (parts_of c.in_ok-packet.packet) c.in_ok-packet.ensures.found c.in-Some.form (sym c.form-form.ensures ∙ c.in-Some.is)
           c.sources_end-block_at.result c.header_len-payload_at.result c.sources_end-block_at.ensures c.header_len-payload_at.ensures c.compact_body-elements_len.result c.in_words-body_len.result
-          c.compact_body-elements_len.new.body c.compact_body-elements_len.ensures (words-low _ _ c.in_words-body_len.ensures) (words-high _ _ c.in_words-body_len.ensures) (words-whole _ _ c.in_words-body_len.ensures),
+          c.compact_body-elements_len.new.body c.compact_body-elements_len.ensures c.in_words-body_len.ensures,
     )
 
 pub overflow_add-result-2 : goal.overflow_add-result-2
@@ -57,7 +57,7 @@ overflow_add-result-2 g c =
     let within =
     n-within c.args.datagram.now (parts_of c.in_ok-packet.packet) c.in_ok-packet.ensures.found c.in-Some.form (sym c.form-form.ensures ∙ c.in-Some.is)
     c.sources_end-block_at.result c.header_len-payload_at.result c.sources_end-block_at.ensures c.header_len-payload_at.ensures c.compact_body-elements_len.result c.in_words-body_len.result
-    c.compact_body-elements_len.new.body c.compact_body-elements_len.ensures (words-low _ _ c.in_words-body_len.ensures) (words-high _ _ c.in_words-body_len.ensures) (words-whole _ _ c.in_words-body_len.ensures) in
+    c.compact_body-elements_len.new.body c.compact_body-elements_len.ensures c.in_words-body_len.ensures in
     omega (arith, ends.0, ends.2, within, c.header_len-payload_at.type_inv)
 
 pub overflow_sub-result : goal.overflow_sub-result
@@ -69,13 +69,13 @@ pub returns-clause-compacted : goal.returns-clause-compacted
 returns-clause-compacted g c =
     Compacts-made c.args.datagram.now (parts_of c.in_ok-packet.packet) c.in_ok-packet.ensures.found c.in-Some.form (sym c.form-form.ensures ∙ c.in-Some.is)
     c.sources_end-block_at.result c.header_len-payload_at.result c.sources_end-block_at.ensures c.header_len-payload_at.ensures c.compact_body-elements_len.result c.in_words-body_len.result
-    c.compact_body-elements_len.new.body c.compact_body-elements_len.ensures (words-low _ _ c.in_words-body_len.ensures) (words-high _ _ c.in_words-body_len.ensures) (words-whole _ _ c.in_words-body_len.ensures)
+    c.compact_body-elements_len.new.body c.compact_body-elements_len.ensures c.in_words-body_len.ensures
     c.resize.new.buf c.resize.ensures (omega (
       arith,
       short-body c.in_ok-packet.packet,
       n-within c.args.datagram.now (parts_of c.in_ok-packet.packet) c.in_ok-packet.ensures.found c.in-Some.form (sym c.form-form.ensures ∙ c.in-Some.is)
           c.sources_end-block_at.result c.header_len-payload_at.result c.sources_end-block_at.ensures c.header_len-payload_at.ensures c.compact_body-elements_len.result c.in_words-body_len.result
-          c.compact_body-elements_len.new.body c.compact_body-elements_len.ensures (words-low _ _ c.in_words-body_len.ensures) (words-high _ _ c.in_words-body_len.ensures) (words-whole _ _ c.in_words-body_len.ensures),
+          c.compact_body-elements_len.new.body c.compact_body-elements_len.ensures c.in_words-body_len.ensures,
     ))
 
 pub returns-clause-within : goal.returns-clause-within
@@ -84,8 +84,8 @@ returns-clause-within g c =
       arith,
       room c.args.datagram.now (parts_of c.in_ok-packet.packet) c.in_ok-packet.ensures.found c.in-Some.form (sym c.form-form.ensures ∙ c.in-Some.is)
           c.sources_end-block_at.result c.header_len-payload_at.result c.sources_end-block_at.ensures c.header_len-payload_at.ensures c.compact_body-elements_len.result c.in_words-body_len.result
-          c.compact_body-elements_len.new.body c.compact_body-elements_len.ensures (words-low _ _ c.in_words-body_len.ensures) (words-high _ _ c.in_words-body_len.ensures) (words-whole _ _ c.in_words-body_len.ensures),
+          c.compact_body-elements_len.new.body c.compact_body-elements_len.ensures c.in_words-body_len.ensures,
       length-moved c.args.datagram.now (parts_of c.in_ok-packet.packet) c.in_ok-packet.ensures.found c.in-Some.form (sym c.form-form.ensures ∙ c.in-Some.is)
           c.sources_end-block_at.result c.header_len-payload_at.result c.sources_end-block_at.ensures c.header_len-payload_at.ensures c.compact_body-elements_len.result c.in_words-body_len.result
-          c.compact_body-elements_len.new.body c.compact_body-elements_len.ensures (words-low _ _ c.in_words-body_len.ensures) (words-high _ _ c.in_words-body_len.ensures) (words-whole _ _ c.in_words-body_len.ensures),
+          c.compact_body-elements_len.new.body c.compact_body-elements_len.ensures c.in_words-body_len.ensures,
     )
