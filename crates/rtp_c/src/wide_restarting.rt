@@ -66,46 +66,6 @@ fn bounds_of(stored: &StoredWideRestarting, words: &[u64]) -> RestartingBounds
     }
 }
 
-// The highest number taken in the epoch.
-    pub highest: u64,
-    /// A packet of the stream is less than this above the highest number taken; 0 stands for 3,000.
-    pub max_dropout: u16,
-    /// A packet of the stream is less than this below the highest number taken; 0 stands for 3,000,
-    /// or for the size of the window where that is more.
-    pub max_misorder: u16,
-    /// The 16 bits of the number after the last packet outside of the stream.
-    pub next: u16,
-    /// With how many packets in a row, each with the number after that of the one before, a new
-    /// source is valid; 0 is the same as 1.
-    pub min_sequential: u8,
-    /// How many packets outside of the stream came last in such a row, at most 255.
-    pub in_row: u8,
-    /// 0 where nothing is taken yet, and 1 afterwards.
-    pub started: u8,
-}
-
-// MAX_DROPOUT, and MAX_MISORDER.
-fn max_dropout(stored: &StoredWideRestarting) -> u64
-    ensures is { result
-        ≡ if stored.now.max_dropout == 0 then 3000 else stored.now.max_dropout }
-    ensures some { 0 < result }
-{
-    if stored.max_dropout == 0 {
-        return u64::from(MAX_DROPOUT);
-    }
-    u64::from(stored.max_dropout)
-}
-
-fn max_misorder(stored: &StoredWideRestarting, words: &[u64]) -> u64
-    requires { length words.now ≤ 512 }
-    ensures { result ≡ (bounds_with stored.now words.now).max_misorder }
-{
-    if stored.max_misorder == 0 {
-        return u64::from(MAX_DROPOUT).max(WORD * words.len() as u64);
-    }
-    u64::from(stored.max_misorder)
-}
-
 /// The verdict on the next packet of the source, by its sequence number, where nothing is
 /// authenticated (RFC 3550, appendix A.1), with a window of these words: 1 to 512. `OK`: it is of
 /// the stream and is taken, or it is the first one of the source. `RESTARTED`: the sender has

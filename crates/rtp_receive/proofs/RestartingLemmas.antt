@@ -133,67 +133,36 @@ first_not_refused count taken low first = never first.highest first.verdict_is
 -- ---- a packet outside of the stream
 
 -- where nothing is taken yet the receiver starts at the count that it was given
-starts_there : (size : ℕ) (state : ReceiverState) (count found : ℕ) (taken : Numbers) → HoldsOf size state count taken → IsNothing taken
-    → ((c : ℕ) → state ≡ Start c → found ≡ c) → found ≡ count
-starts_there size (Start start) count found taken holds nothing empty = empty start refl ∙ holds.0
-starts_there size (Window window) count found taken holds nothing empty = absurd (not_nothing taken window.greatest holds.top nothing)
+pub starts_there : (size : ℕ) (state : ReceiverState) (count found : ℕ) (taken : Numbers) → HoldsOf size state count taken → ((c : ℕ) → state ≡ Start c → found ≡ c)
+    → IsNothing taken → count ≡ found
+starts_there size (Start start) count found taken holds empty nothing = sym (empty start refl ∙ holds.0)
+starts_there size (Window window) count found taken holds empty nothing = absurd (not_nothing taken window.greatest holds.top nothing)
 
-first_there : (size : ℕ) (state : ReceiverState) (count found low : ℕ) (taken : Numbers) (highest : Option ℕ) → HoldsOf size state count taken → IsHighest taken highest
-    → ((c : ℕ) → state ≡ Start c → found ≡ c) → first_number found highest low ≡ first_number count highest low
-first_there size state count found low taken None holds nothing empty = ap (λ c. 65536 * c + low % 65536) (starts_there size state count found taken holds nothing empty)
-first_there size state count found low taken (Some h) holds top empty = refl
+first_there : (count found low : ℕ) (taken : Numbers) (highest : Option ℕ) → IsHighest taken highest → (IsNothing taken → count ≡ found) → first_number found highest low ≡ first_number count highest low
+first_there count found low taken None none same = ap (λ c. 65536 * c + low % 65536) (sym (same none))
+first_there count found low taken (Some h) top same = refl
 
-module _ (bounds : Bounds) (count : ℕ) (taken : Numbers) (Lead : ℕ → Type 0) (low : ℕ) where
+module _ (bounds : Bounds) (count found : ℕ) (taken : Numbers) (highest : Option ℕ) (Lead : ℕ → Type 0) (low : ℕ)
+    (top : IsHighest taken highest) (same : IsNothing taken → count ≡ found) where
   -- the packet that begins an epoch by its row does so
-  pub Begins-from : (highest : Option ℕ) (number : ℕ) → IsHighest taken highest → BeginsAt bounds.min_sequential count highest Lead low number
-      → Begins bounds count taken Lead low (announced highest number)
-  Begins-from highest number top begins = record {
-    is_first = record { highest = highest; is_highest = top; fits = subst (λ (n : ℕ). n < 2 ^ 64) begins.number_is begins.fits; verdict_is = ap (announced highest) begins.number_is };
-    lead = begins.lead;
-  }
-
-  -- and no other does
-  pub Begins-to : (highest : Option ℕ) (verdict : RestartingVerdict) → IsHighest taken highest → Begins bounds count taken Lead low verdict
-      → BeginsAt bounds.min_sequential count highest Lead low (first_number count highest low)
-  Begins-to highest verdict top begins =
-      let same : begins.is_first.highest ≡ highest = one_highest taken begins.is_first.highest highest begins.is_first.is_highest top in
+  pub Begins-from : (number : ℕ) → BeginsAt bounds.min_sequential found highest Lead low number → Begins bounds count taken Lead low (announced highest number)
+  Begins-from number begins =
+      let is : number ≡ first_number count highest low = begins.number_is ∙ first_there count found low taken highest top same in
       record {
-        number_is = refl;
-        fits = subst (λ (h : Option ℕ). first_number count h low < 2 ^ 64) same begins.is_first.fits;
-        lead = subst (λ (h : Option ℕ). Lead (leading_after bounds.min_sequential h)) same begins.lead;
-      }
-
-  -- the same by another count, where the first number is the same
-  Begins-by : (found : ℕ) (verdict : RestartingVerdict) → ((h : Option ℕ) → IsHighest taken h → first_number found h low ≡ first_number count h low)
-      → Begins bounds found taken Lead low verdict → Begins bounds count taken Lead low verdict
-  Begins-by found verdict same begins =
-      let is = same begins.is_first.highest begins.is_first.is_highest in
-      record {
-        is_first = record {
-          highest = begins.is_first.highest;
-          is_highest = begins.is_first.is_highest;
-          fits = subst (λ (n : ℕ). n < 2 ^ 64) is begins.is_first.fits;
-          verdict_is = begins.is_first.verdict_is ∙ ap (announced begins.is_first.highest) is;
-        };
+        is_first = record { highest = highest; is_highest = top; fits = subst (λ (n : ℕ). n < 2 ^ 64) is begins.fits; verdict_is = ap (announced highest) is };
         lead = begins.lead;
       }
 
--- where a packet is by the count that the receiver tells, it is by each that it holds numbers with
-pub placed_there : (bounds : Bounds) (size : ℕ) (state : ReceiverState) (count found : ℕ) (taken : Numbers) (Lead : ℕ → Type 0) (low : ℕ) (verdict : RestartingVerdict)
-    → HoldsOf size state count taken → ((c : ℕ) → state ≡ Start c → found ≡ c) → IsPlaced bounds found taken Lead low verdict → IsPlaced bounds count taken Lead low verdict
-placed_there bounds size state count found taken Lead low verdict holds empty placed =
-    let there : (h : Option ℕ) → IsHighest taken h → first_number found h low ≡ first_number count h low =
-    λ h top. first_there size state count found low taken h holds top empty in
-    elim placed [
-      | inl of_stream ↦ inl of_stream
-      | inr outside ↦ inr (record {
-        outside = outside.outside;
-        judged = elim outside.judged [
-          | inl begins ↦ inl (Begins-by bounds count taken Lead low found verdict there begins)
-          | inr refused ↦ inr (refused.0, λ v begins. refused.1 v (Begins-by bounds found taken Lead low count v (λ h top. sym (there h top)) begins))
-        ];
-      })
-    ]
+  -- and no other does
+  pub Begins-to : (verdict : RestartingVerdict) → Begins bounds count taken Lead low verdict
+      → BeginsAt bounds.min_sequential found highest Lead low (first_number count highest low)
+  Begins-to verdict begins =
+      let one : begins.is_first.highest ≡ highest = one_highest taken begins.is_first.highest highest begins.is_first.is_highest top in
+      record {
+        number_is = sym (first_there count found low taken highest top same);
+        fits = subst (λ (h : Option ℕ). first_number count h low < 2 ^ 64) one begins.is_first.fits;
+        lead = subst (λ (h : Option ℕ). Lead (leading_after bounds.min_sequential h)) one begins.lead;
+      }
 
 -- ---- once the window is asked
 

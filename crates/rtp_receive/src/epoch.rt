@@ -2,7 +2,7 @@
 
 ghost use Rattle.std.specs.Prelude.{◌≡◌, ◌↔◌, ◌+◌, ◌*◌, ◌%◌, ◌^◌, ◌<◌, ◌≤◌, ℕ, suc, Some, None};
 ghost use Rattle.rtp_base.specs.Window.{Numbers};
-ghost use Rattle.rtp_receive.specs.Receiver.{IsHighest};
+ghost use Rattle.rtp_receive.specs.Receiver.{IsNothing, IsHighest};
 ghost use Rattle.rtp_receive.specs.Restarting.{leading_after, first_number, BeginsAt, IsPlaced};
 ghost use Rattle.rtp_receive.specs.RestartingState.{bounds_at, Leads, Grows};
 
@@ -120,8 +120,9 @@ impl RestartingRow {
         rollover_count: u64,
     ) -> RestartingVerdict
         requires { rollover_count < 2 ^ 48 }
-        ensures placed { (size : ℕ) → (taken : Numbers) → IsHighest taken highest →
-            IsPlaced (bounds_at size bounds.now) rollover_count taken
+        ensures placed { (size count : ℕ) → (taken : Numbers) → IsHighest taken highest →
+            (IsNothing taken → count ≡ rollover_count) →
+            IsPlaced (bounds_at size bounds.now) count taken
             (Leads self.old.len self.old.next sequence_number) sequence_number result }
         ensures row { (size : ℕ) → (taken : Numbers) → IsHighest taken highest →
             Grows (bounds_at size bounds.now) taken sequence_number result
