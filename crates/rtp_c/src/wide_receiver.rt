@@ -3,13 +3,15 @@
 ghost use Rattle.std.specs.Prelude.{◌+◌, ◌≡◌, ◌≢◌, ◌↔◌, ◌^◌, ◌<◌, ◌≤◌, ◌/◌, ℕ, List, length, IsTrue, true, false};
 ghost use Rattle.rtp_base.specs.Ring.{ring_size};
 ghost use Rattle.rtp_base.specs.Window.{Numbers, including};
-ghost use Rattle.rtp_receive.specs.Receiver.{IsNothing, IsNumberOf, IsFreshOf};
+ghost use Rattle.rtp_receive.specs.Receiver.{IsNothing, IsHighest, IsNumberOf, IsFreshOf};
+ghost use Rattle.rtp_receive.specs.Restarting.{IsSettled, epoch_after};
+ghost use Rattle.rtp_receive.specs.declared.restarting_verdict.RestartingVerdict.TheVariants.{Taken, Restarted, Refused};
 ghost use Rattle.rtp_c.specs.Status.{ok, bad_field};
 ghost use Rattle.rtp_c.specs.StoredWideReceiver.{IsWindowLen, HoldsIn, unstarted, IsStartedIn, MovesBelowZeroIn, IsJudgedIn, IsReceivedAs, IsReceivedIn};
 
 use super::status::{BAD_FIELD, OK, REFUSED};
 use rtp_base::{SeqNo, ring_accepts, ring_restore, ring_start, ring_take};
-use rtp_wire::extend_u16;
+use rtp_wire::{RestartingVerdict, extend_u16};
 
 // The words of the largest window: 32,768 numbers, which 16 bits tell apart.
 const MOST_WORDS: usize = 512;
@@ -50,14 +52,6 @@ pub fn accepts(receiver: &StoredWideReceiver, words: &[u64], number: u64) -> boo
     number != receiver.highest && ring_accepts(words, highest, SeqNo::from(number))
 }
 
-// Whether the number is the next one after the highest and has its bit in the same word, as most
-// do.
-fn is_usual(highest: u64, number: u64) -> bool
-    ensures { IsTrue result ↔ ((number ≡ highest + 1) × (number / 64 ≡ highest / 64)) }
-{
-    number > highest && number - highest == 1 && number / 64 == highest / 64
-}
-
 // Takes the number where it may be taken, and returns whether it may.
 #[inline(always)]
 pub fn take(receiver: &mut StoredWideReceiver, words: &mut [u64], number: u64) -> bool
@@ -89,47 +83,51 @@ pub fn take(receiver: &mut StoredWideReceiver, words: &mut [u64], number: u64) -
     true
 }
 
-// Takes the number where it may be taken, and then writes it.
-#[inline(always)]
-fn receive_number(
-    receiver: &mut StoredWideReceiver,
-    words: &mut [u64],
-    number: u64,
-    written: &mut u64,
-) -> i32
-    requires { 0 < length words.old }
-    ensures received { (count : ℕ) (taken : Numbers) → HoldsIn receiver.old words.old count taken →
-        IsReceivedAs count taken number result written.new receiver.new words.new }
-    ensures below_zero { result ≡ ok →
-        MovesBelowZeroIn receiver.old words.old receiver.new words.new }
-    ensures unchanged { result ≢ ok → (receiver.new ≡ receiver.old)
-        × (words.new ≡ words.old) × (written.new ≡ written.old) }
+// The highest number taken.
+pub fn highest_of(receiver: &StoredWideReceiver) -> Option<SeqNo>
+    ensures { (words : List ℕ) (count : ℕ) (taken : Numbers) →
+        HoldsIn receiver.now words count taken → IsHighest taken result }
 {
-    if !take(receiver, words, number) {
-        return REFUSED;
+    if receiver.started == 0 {
+        return None;
     }
-    *written = number;
-    OK
+    Some(SeqNo::from(receiver.highest))
 }
 
-// Takes the number where it may be taken, and then writes it, out of line: what calls it stays short
-// for the usual number.
-#[inline(never)]
-fn receive_other(
+// The verdict on a packet of a sender that may start again, once the window is asked.
+pub fn settle(
     receiver: &mut StoredWideReceiver,
     words: &mut [u64],
-    number: u64,
-    written: &mut u64,
-) -> i32
+    verdict: RestartingVerdict,
+) -> RestartingVerdict
     requires { 0 < length words.old }
-    ensures received { (count : ℕ) (taken : Numbers) → HoldsIn receiver.old words.old count taken →
-        IsReceivedAs count taken number result written.new receiver.new words.new }
-    ensures below_zero { result ≡ ok →
+    ensures settled { (count : ℕ) (taken : Numbers) → HoldsIn receiver.old words.old count taken →
+        IsSettled (ring_size words.old) taken verdict result }
+    ensures epoch { (count : ℕ) (taken : Numbers) → HoldsIn receiver.old words.old count taken →
+        HoldsIn receiver.new words.new count (epoch_after taken result) }
+    ensures started { result ≢ Refused → IsStartedIn receiver.new words.new }
+    ensures refused { result ≡ Refused →
+        (receiver.new ≡ receiver.old) × (words.new ≡ words.old) }
+    ensures below_zero { (n : ℕ) → result ≡ Taken n →
         MovesBelowZeroIn receiver.old words.old receiver.new words.new }
-    ensures unchanged { result ≢ ok → (receiver.new ≡ receiver.old)
-        × (words.new ≡ words.old) × (written.new ≡ written.old) }
+    ensures again { (n : ℕ) → result ≡ Restarted n →
+        MovesBelowZeroIn (unstarted 1) words.old receiver.new words.new }
 {
-    receive_number(receiver, words, number, written)
+    match verdict {
+        RestartingVerdict::Taken(number) => {
+            if take(receiver, words, number.get()) {
+                verdict
+            } else {
+                RestartingVerdict::Refused
+            }
+        }
+        RestartingVerdict::Restarted(number) => {
+            receiver.started = 0;
+            take(receiver, words, number.get());
+            verdict
+        }
+        RestartingVerdict::Refused => verdict,
+    }
 }
 
 /// Makes the receiver one that has taken nothing yet, whose first packet has this rollover count:
@@ -246,13 +244,11 @@ pub extern "C" fn rtpw_wide_receiver_receive(
     ensures unchanged { result ≢ ok → (receiver.new ≡ receiver.old)
         × (words.new ≡ words.old) × (number.new ≡ number.old) }
 {
-    if !is_window(words) {
-        return BAD_FIELD;
-    }
     let extended = rtpw_wide_receiver_number_of(receiver, sequence_number);
-    if receiver.started != 0 && is_usual(receiver.highest, extended) {
-        receive_number(receiver, words, extended, number)
-    } else {
-        receive_other(receiver, words, extended, number)
+    let status = rtpw_wide_receiver_record(receiver, words, extended);
+    if status != OK {
+        return status;
     }
+    *number = extended;
+    OK
 }

@@ -14,8 +14,8 @@ use Rattle.rtp_receive.proofs.NearestLemmas.{only_near}
 use Rattle.rtp_receive.specs.declared.restarting.RestartingStreamReceiver.{RestartingStreamReceiver}
 use Rattle.rtp_receive.specs.declared.restarting_verdict.RestartingVerdict.{RestartingVerdict}
 use Rattle.rtp_receive.specs.declared.restarting_verdict.RestartingVerdict.TheVariants.{Taken, Restarted, Refused}
-use Rattle.rtp_receive.specs.Restarting.{Bounds, announced, first_number, IsOfStream, IsOutside, leading, leading_after, BeginsAt, IsFirst, Begins, IsRestartingVerdict, Arrival, epoch_after, taken_in, LeadUp, IsNext, IsRestartingRun, HasNoPair, IsOneEpoch}
-use Rattle.rtp_receive.specs.RestartingState.{bounds_of_size, HoldsEpochOf, Leads, RowLeadsOf, RowGrowsOf, RemembersOf}
+use Rattle.rtp_receive.specs.Restarting.{Bounds, announced, first_number, IsOfStream, IsOutside, leading, leading_after, BeginsAt, IsFirst, Begins, IsPlaced, IsSettled, IsRestartingVerdict, Arrival, epoch_after, taken_in, LeadUp, IsNext, IsRestartingRun, HasNoPair, IsOneEpoch}
+use Rattle.rtp_receive.specs.RestartingState.{bounds_of_size, HoldsEpochOf, Leads, Grows, RowLeadsOf, RowGrowsOf, RemembersOf}
 
 -- as many as must lead up to an epoch are few
 leading-few : (bounds : Bounds) (highest : Option ℕ) → bounds.min_sequential ≤ 255 → leading bounds highest ≤ 255
@@ -133,22 +133,21 @@ first_not_refused count taken low first = never first.highest first.verdict_is
 -- ---- a packet outside of the stream
 
 -- where nothing is taken yet the receiver starts at the count that it was given
-starts_there : (size : ℕ) (state : ReceiverState) (count found : ℕ) (taken : Numbers) → HoldsOf size state count taken → IsNothing taken
-    → ((c : ℕ) → state ≡ Start c → found ≡ c) → found ≡ count
-starts_there size (Start start) count found taken holds nothing empty = empty start refl ∙ holds.0
-starts_there size (Window window) count found taken holds nothing empty = absurd (not_nothing taken window.greatest holds.top nothing)
+pub starts_there : (size : ℕ) (state : ReceiverState) (count found : ℕ) (taken : Numbers) → HoldsOf size state count taken → ((c : ℕ) → state ≡ Start c → found ≡ c)
+    → IsNothing taken → count ≡ found
+starts_there size (Start start) count found taken holds empty nothing = sym (empty start refl ∙ holds.0)
+starts_there size (Window window) count found taken holds empty nothing = absurd (not_nothing taken window.greatest holds.top nothing)
 
-pub first_there : (size : ℕ) (state : ReceiverState) (count found low : ℕ) (taken : Numbers) (highest : Option ℕ) → HoldsOf size state count taken → IsHighest taken highest
-    → ((c : ℕ) → state ≡ Start c → found ≡ c) → first_number found highest low ≡ first_number count highest low
-first_there size state count found low taken None holds nothing empty = ap (λ c. 65536 * c + low % 65536) (starts_there size state count found taken holds nothing empty)
-first_there size state count found low taken (Some h) holds top empty = refl
+first_there : (count found low : ℕ) (taken : Numbers) (highest : Option ℕ) → IsHighest taken highest → (IsNothing taken → count ≡ found) → first_number found highest low ≡ first_number count highest low
+first_there count found low taken None none same = ap (λ c. 65536 * c + low % 65536) (sym (same none))
+first_there count found low taken (Some h) top same = refl
 
 module _ (bounds : Bounds) (count found : ℕ) (taken : Numbers) (highest : Option ℕ) (Lead : ℕ → Type 0) (low : ℕ)
-    (top : IsHighest taken highest) (there : first_number found highest low ≡ first_number count highest low) where
+    (top : IsHighest taken highest) (same : IsNothing taken → count ≡ found) where
   -- the packet that begins an epoch by its row does so
   pub Begins-from : (number : ℕ) → BeginsAt bounds.min_sequential found highest Lead low number → Begins bounds count taken Lead low (announced highest number)
   Begins-from number begins =
-      let is : number ≡ first_number count highest low = begins.number_is ∙ there in
+      let is : number ≡ first_number count highest low = begins.number_is ∙ first_there count found low taken highest top same in
       record {
         is_first = record { highest = highest; is_highest = top; fits = subst (λ (n : ℕ). n < 2 ^ 64) is begins.fits; verdict_is = ap (announced highest) is };
         lead = begins.lead;
@@ -158,12 +157,60 @@ module _ (bounds : Bounds) (count found : ℕ) (taken : Numbers) (highest : Opti
   pub Begins-to : (verdict : RestartingVerdict) → Begins bounds count taken Lead low verdict
       → BeginsAt bounds.min_sequential found highest Lead low (first_number count highest low)
   Begins-to verdict begins =
-      let same : begins.is_first.highest ≡ highest = one_highest taken begins.is_first.highest highest begins.is_first.is_highest top in
+      let one : begins.is_first.highest ≡ highest = one_highest taken begins.is_first.highest highest begins.is_first.is_highest top in
       record {
-        number_is = sym there;
-        fits = subst (λ (h : Option ℕ). first_number count h low < 2 ^ 64) same begins.is_first.fits;
-        lead = subst (λ (h : Option ℕ). Lead (leading_after bounds.min_sequential h)) same begins.lead;
+        number_is = sym (first_there count found low taken highest top same);
+        fits = subst (λ (h : Option ℕ). first_number count h low < 2 ^ 64) one begins.is_first.fits;
+        lead = subst (λ (h : Option ℕ). Lead (leading_after bounds.min_sequential h)) one begins.lead;
       }
+
+-- ---- once the window is asked
+
+pub taken_not_refused : (number : ℕ) → Taken number ≡ Refused → ⊥
+taken_not_refused number is = cc
+
+-- a packet outside of the stream that is taken is the first of all
+IsFirst-fresh : (size count : ℕ) (taken : Numbers) (low number : ℕ) → IsFirst count taken low (Taken number) → IsFreshOf size taken number
+IsFirst-fresh size count taken low number first = fresh first.highest first.is_highest first.verdict_is
+  where
+    fresh : (highest : Option ℕ) → IsHighest taken highest → Taken number ≡ announced highest (first_number count highest low) → IsFreshOf size taken number
+    fresh None none is = inl none
+    fresh (Some h) top is = absurd (cc)
+
+module _ (bounds : Bounds) (count : ℕ) (taken : Numbers) (Lead : ℕ → Type 0) (low : ℕ) where
+  -- what the window refuses is of the stream
+  refused_of_stream : (number : ℕ) → (IsFreshOf bounds.size taken number → ⊥) → IsPlaced bounds count taken Lead low (Taken number) → IsOfStream bounds taken low number
+  refused_of_stream number refused (inl placed) = let same : number ≡ placed.0 = (let is = placed.1 in cc) in rw same placed.2
+  refused_of_stream number refused (inr outside) = elim outside.judged [
+    | inl begins ↦ absurd (refused (IsFirst-fresh bounds.size count taken low number begins.is_first))
+    | inr never ↦ absurd (let is : Taken number ≡ Refused = never.0 in cc)
+  ]
+
+  pub settled-verdict : (placed verdict : RestartingVerdict) → IsPlaced bounds count taken Lead low placed → IsSettled bounds.size taken placed verdict
+      → IsRestartingVerdict bounds count taken Lead low verdict
+  settled-verdict (Taken number) verdict is (inl taken') = elim is [
+    | inl of_stream ↦
+        let same : number ≡ of_stream.0 = (let it = of_stream.1 in cc) in
+        inl (record { number = number; of_stream = rw same of_stream.2; judged = rw taken'.0 (refl, taken'.1) })
+    | inr outside ↦ inr (rw taken'.0 outside)
+  ]
+  settled-verdict (Taken number) verdict is (inr refused) =
+      inl (record { number = number; of_stream = refused_of_stream number refused.1 is; judged = rw refused.0 refused.1 })
+  settled-verdict (Restarted number) verdict (inl of_stream) same = absurd (let is = of_stream.1 in cc)
+  settled-verdict (Restarted number) verdict (inr outside) same = inr (rw same outside)
+  settled-verdict Refused verdict (inl of_stream) same = absurd (let is = of_stream.1 in cc)
+  settled-verdict Refused verdict (inr outside) same = inr (rw same outside)
+
+  pub settled-row : (placed verdict : RestartingVerdict) (old_in_row old_next in_row next : ℕ) → IsPlaced bounds count taken Lead low placed
+      → IsSettled bounds.size taken placed verdict → Grows bounds taken low placed old_in_row old_next in_row next
+      → Grows bounds taken low verdict old_in_row old_next in_row next
+  settled-row (Taken number) verdict old_in_row old_next in_row next is (inl same) grows = rw same.0 grows
+  settled-row (Taken number) verdict old_in_row old_next in_row next is (inr refused) grows = λ later k few. (
+    λ leads. absurd (taken_not_refused number ((grows later k few).0 leads).0),
+    λ parts. absurd (parts.1 number (refused_of_stream number refused.1 is)),
+  )
+  settled-row (Restarted number) verdict old_in_row old_next in_row next is same grows = rw same grows
+  settled-row Refused verdict old_in_row old_next in_row next is same grows = rw same grows
 
 -- what is answered to the first packet of all, and to one of a later epoch
 pub announced_new : (highest : Option ℕ) (number : ℕ) → is_some highest ≡ false → announced highest number ≡ Taken number
@@ -176,9 +223,6 @@ announced_again (Some h) number is = refl
 
 pub some_not_none : (number : ℕ) → ◌≡◌ {A = Option ℕ} (Some number) None → ⊥
 some_not_none number is = cc
-
-pub taken_not_refused : (number : ℕ) → Taken number ≡ Refused → ⊥
-taken_not_refused number is = cc
 
 pub restarted_not_refused : (number : ℕ) → Restarted number ≡ Refused → ⊥
 restarted_not_refused number is = cc
