@@ -178,9 +178,9 @@ def addresses(functions: List[Function]):
         check = "\n\t_ = *it // nil ends here" * (name[len("rtpw_"):] in NOT_NIL)
         yield f"func (it *{go_type(name)}) c() *{name} {{{check}\n\treturn (*{name})(unsafe.Pointer(it))\n}}\n"
     for name in dict.fromkeys(p.type for p in pointers if p.count):
-        at = "&values[0]" if name in SIZES else f"(*{name})(unsafe.Pointer(&values[0]))"
-        yield f"func {first_of(name)}(values []{go_type(name)}) *{type_of(name)} {{\n\tif len(values) == 0 {{"
-        yield f"\t\treturn nil\n\t}}\n\treturn {at}\n}}\n"
+        kind = go_type(name)
+        yield f"func {first_of(name)}(values []{kind}) *{type_of(name)} {{"
+        yield f"\treturn (*{type_of(name)})(unsafe.Pointer((*[0]{kind})(values)))\n}}\n"
 
 
 class Bound:

@@ -62,6 +62,7 @@ func (g *Group) ids() *NewIDs {
 
 // read reads the packet, and says of none of RTP on a port that both share that it is of RTCP.
 func (p *Packet) read(datagram []byte, m *Map) error {
+	datagram = datagram[:len(datagram):len(datagram)]
 	status := rtpw_read(first(datagram), uintptr(len(datagram)), m.orNone().c(), p.wholePacket.c())
 	if status == statusOK {
 		p.datagram = datagram
@@ -71,12 +72,14 @@ func (p *Packet) read(datagram []byte, m *Map) error {
 
 // parse reads the packet, whatever it looks like.
 func (p *Packet) parse(datagram []byte, m *Map) error {
+	datagram = datagram[:len(datagram):len(datagram)]
 	status := rtpw_read(first(datagram), uintptr(len(datagram)), m.orNone().c(), p.wholePacket.c())
-	if status == statusRTCP {
-		status = p.parseAlike(datagram, m)
-	}
-	if status == statusOK {
+	switch status {
+	case statusOK:
 		p.datagram = datagram
+		return nil
+	case statusRTCP:
+		status = p.parseAlike(datagram, m)
 	}
 	return errorOf(status)
 }
@@ -96,6 +99,7 @@ func (p *Packet) parseAlike(datagram []byte, m *Map) int32 {
 	}
 	p.unpaddedLen, p.paddingFits = parts.unpaddedLen, parts.paddingFits
 	p.bodyAt, p.bodyLen, p.profile, p.form = parts.bodyAt, parts.bodyLen, parts.profile, parts.form
+	p.datagram = datagram
 	return statusOK
 }
 
@@ -139,18 +143,21 @@ func (l *Layers) parse(datagram []byte, m *Map) error {
 func parseHeaders(buf []byte, m *Map, datagrams []datagramHeader) {
 	parseMany(buf, m, datagrams)
 	for i := range datagrams {
-		it := &datagrams[i]
-		if it.status == statusUnknownForm {
-			var packet Packet
-			own := buf[it.at : it.at+it.len]
-			it.status = read(own, m, &packet.wholePacket)
-			if it.status == statusRTCP {
-				it.status = packet.parseAlike(own, m)
-			}
-			if it.status == statusOK {
-				it.header = packet.header
-			}
+		if it := &datagrams[i]; it.status == statusUnknownForm {
+			it.parseOther(buf[it.at:it.at+it.len], m)
 		}
+	}
+}
+
+// parseOther reads one whose block has another form.
+func (d *datagramHeader) parseOther(datagram []byte, m *Map) {
+	var packet Packet
+	d.status = read(datagram, m, &packet.wholePacket)
+	if d.status == statusRTCP {
+		d.status = packet.parseAlike(datagram, m)
+	}
+	if d.status == statusOK {
+		d.header = packet.header
 	}
 }
 

@@ -9,7 +9,7 @@ import "fmt"
 // lent of its own memory, [Packet.CSRC] and [Packet.Values], is then that of the next packet.
 type Packet struct {
 	wholePacket
-	datagram []byte
+	datagram []byte // its capacity is its length
 }
 
 // wholePacket is rtpw_whole_packet in C.
@@ -50,7 +50,10 @@ type PacketFields struct {
 //
 // It returns the first Cause for which the datagram is no packet; nothing changes then.
 func (p *PacketFields) Parse(datagram []byte) error {
-	return errorOf(rtpw_packet_parse(first(datagram), uintptr(len(datagram)), p.c()))
+	if racing {
+		return errorOf(packetParse(datagram, p))
+	}
+	return errorsOf[text_packet_parse(first(datagram), uintptr(len(datagram)), p.c())&31]
 }
 
 // HeaderLen is how many bytes the header takes: 12 to 262,216.
@@ -133,8 +136,7 @@ func (p Packet) String() string {
 
 // Datagram is the whole datagram.
 func (p *Packet) Datagram() []byte {
-	size := len(p.datagram)
-	return p.datagram[:size:size]
+	return p.datagram
 }
 
 // HeaderLen is how many bytes the header takes: 12 to 262,216.
@@ -201,8 +203,7 @@ func (p *Packet) Header() *Header {
 // Payload is the payload with any padding, as the packet is sent on. What is played is [Packet.UnpaddedPayload]: of a
 // packet with P set the last bytes of this one are no media.
 func (p *Packet) Payload() []byte {
-	size := len(p.datagram)
-	return p.datagram[p.header.headerLen:size:size]
+	return p.datagram[p.header.headerLen:]
 }
 
 // UnpaddedPayload is the payload without its padding: the media. It is not ok where the padding's last byte counts more

@@ -164,10 +164,11 @@ func (b *RouteBatch) Reset() {
 // which none is set yet; later [RouteBatch.Fields] tells them.
 func (b *RouteBatch) Add(dataAt int) RoutedFields {
 	n := len(b.given)
-	if n == cap(b.given) {
+	if n < cap(b.given) {
+		b.given = b.given[:n+1]
+	} else {
 		b.given = append(b.given, routedHeader{})
 	}
-	b.given = b.given[:n+1]
 	r := &b.given[n]
 	*r = routedHeader{dataAt: dataAt}
 	return RoutedFields{b, n}

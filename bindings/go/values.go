@@ -326,13 +326,26 @@ func (v *ReadValues) HasLayers() bool {
 	return v.hasLayers
 }
 
-// textOf is the text that a zero ends.
-func textOf(room []byte) string {
-	n := 0
-	for n < len(room) && room[n] != 0 {
-		n++
+// ofOneByte has the text of each byte, one behind the other.
+var ofOneByte = func() string {
+	var all [256]byte
+	for i := range all {
+		all[i] = byte(i)
 	}
-	return string(room[:n])
+	return string(all[:])
+}()
+
+// textOf is the text that a zero ends. Of one character, as nearly each mid is, it is no copy.
+func textOf(room []byte) string {
+	if c := int(room[0]); room[1] == 0 && c != 0 {
+		return ofOneByte[c : c+1]
+	}
+	for n, c := range room {
+		if c == 0 {
+			return string(room[:n])
+		}
+	}
+	return string(room)
 }
 
 func setText(room []byte, text string, has *bool) error {

@@ -20,6 +20,7 @@ ARGUMENTS = ["DI", "SI", "DX", "CX", "R8", "R9"]
 RESULT = "AX"
 LOAD = {8: "MOVQ", 4: "MOVL", 2: "MOVWLZX", 1: "MOVBLZX"}
 STORE = {8: "MOVQ", 4: "MOVL", 2: "MOVW", 1: "MOVB"}
+IS_ODD = b"\x40\xf6\xc4\x08"  # test $8, %spl; of TESTB Go's assembler would say that it writes the stack pointer
 WORDS = ((8, "QUAD"), (4, "LONG"), (2, "WORD"), (1, "BYTE"))
 
 
@@ -190,13 +191,16 @@ def write_apart(out, linked, entry, frame):
 
 
 def write_call(out, linked, entry, frame, loads, rest, store):
-    """Calls the function, or what R11 has, with the stack pointer at a multiple of 16, whichever one it is here."""
+    """Calls the function, or what R11 has: one with places in the stack with the stack pointer at a multiple of 16, whichever
+    one it is here."""
     for load in loads:
         out.emit(load)
-    out.emit("\tMOVQ SP, AX")
-    out.emit("\tTESTB $8, AX")
-    out.emit("\tJNE odd")
-    for label, unaligned in ((None, 0), ("odd:", 1)):
+    ways = [(None, 0)]
+    if entry is None or linked.has_places(entry):
+        out.pending += IS_ODD
+        out.emit("\tJNE odd")
+        ways.append(("odd:", 1))
+    for label, unaligned in ways:
         out.emit(label)
         by = 8 * ((len(rest) + unaligned) % 2) - frame
         out.emit(f"\tADJSP ${by}" if by else None)
@@ -216,8 +220,9 @@ def write_repeated(out, linked, entry, frame, given, result, at_end, size):
     body, body_len, form, at, elements, count = (f"{place}(FP)" for place in given)
     for line in (f"MOVQ {body}, BX", f"MOVQ {body_len}, R12", f"MOVBLZX {form}, R13", f"MOVQ {at}, CX", f"MOVQ {elements}, R14"):
         out.emit("\t" + line)
-    for line in (f"MOVQ {count}, R15", "MOVQ SP, AX", "TESTB $8, AX", "JNE odd"):
-        out.emit("\t" + line)
+    out.emit(f"\tMOVQ {count}, R15")
+    out.pending += IS_ODD
+    out.emit("\tJNE odd")
     for suffix, unaligned in (("", 0), ("_odd", 1)):
         by = 8 * unaligned - frame
         out.emit("odd:" if unaligned else None)
