@@ -60,9 +60,14 @@ func (g *Group) ids() *NewIDs {
 	return g.IDs
 }
 
+// exact is the datagram in a slice without room for more: what is appended to it, or to a part of it, is a copy.
+func exact(datagram []byte) []byte {
+	return datagram[:len(datagram):len(datagram)]
+}
+
 // read reads the packet, and says of none of RTP on a port that both share that it is of RTCP.
 func (p *Packet) read(datagram []byte, m *Map) error {
-	datagram = datagram[:len(datagram):len(datagram)]
+	datagram = exact(datagram)
 	status := rtpw_read(first(datagram), uintptr(len(datagram)), m.orNone().c(), p.wholePacket.c())
 	if status == statusOK {
 		p.datagram = datagram
@@ -72,7 +77,7 @@ func (p *Packet) read(datagram []byte, m *Map) error {
 
 // parse reads the packet, whatever it looks like.
 func (p *Packet) parse(datagram []byte, m *Map) error {
-	datagram = datagram[:len(datagram):len(datagram)]
+	datagram = exact(datagram)
 	status := rtpw_read(first(datagram), uintptr(len(datagram)), m.orNone().c(), p.wholePacket.c())
 	switch status {
 	case statusOK:
