@@ -1570,6 +1570,19 @@ func rtpw_next_elements(body *byte, body_len uintptr, form byte, at uintptr, ele
 	return text_next_elements(body, body_len, form, at, elements, count)
 }
 
+//go:noescape
+func text_packet_read(datagram *byte, n uintptr, m *rtpw_map, packet *rtpw_packet, values *rtpw_values) int32
+
+func rtpw_packet_read(datagram *byte, n uintptr, m *rtpw_map, packet *rtpw_packet, values *rtpw_values) int32 {
+	if racing {
+		readsPacket(datagram, n)
+		reads(unsafe.Pointer(m), unsafe.Sizeof(*m))
+		writes(unsafe.Pointer(packet), unsafe.Sizeof(*packet))
+		writes(unsafe.Pointer(values), unsafe.Sizeof(*values))
+	}
+	return text_packet_read(datagram, n, m, packet, values)
+}
+
 // The functions with types of Go.
 
 func (it *PacketFields) c() *rtpw_packet {

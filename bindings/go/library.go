@@ -67,63 +67,49 @@ func exact(datagram []byte) []byte {
 
 // read reads the packet, and says of none of RTP on a port that both share that it is of RTCP.
 func (p *Packet) read(datagram []byte, m *Map) error {
-	datagram = exact(datagram)
-	status := rtpw_read(first(datagram), uintptr(len(datagram)), m.orNone().c(), p.wholePacket.c())
-	if status == statusOK {
-		p.datagram = datagram
+	if isRTCP(datagram) {
+		return ErrRTCP
 	}
-	return errorOf(status)
+	return p.parse(datagram, m)
 }
 
 // parse reads the packet, whatever it looks like.
 func (p *Packet) parse(datagram []byte, m *Map) error {
 	datagram = exact(datagram)
-	status := rtpw_read(first(datagram), uintptr(len(datagram)), m.orNone().c(), p.wholePacket.c())
-	switch status {
-	case statusOK:
-		p.datagram = datagram
-		return nil
-	case statusRTCP:
-		status = p.parseAlike(datagram, m)
+	status := rtpw_packet_read(first(datagram), uintptr(len(datagram)), m.orNone().c(), p.fields.c(), p.values.c())
+	if status != statusOK {
+		return errorOf(status)
 	}
-	return errorOf(status)
+	p.datagram = datagram
+	if p.fields.csrcCount|p.csrcCount != 0 || p.fields.form.hasElements() != p.hasValues {
+		p.parseOthers()
+	}
+	return nil
 }
 
-// parseAlike reads a packet that looks like RTCP, with a payload type of 64 to 95 on a port of its own.
-func (p *Packet) parseAlike(datagram []byte, m *Map) int32 {
-	var parts PacketFields
-	if status := packetParse(datagram, &parts); status != statusOK {
-		return status
+// parseOthers reads the contributing sources, and takes away what the packet before had and this one doesn't have.
+func (p *Packet) parseOthers() {
+	p.hasValues = p.fields.form.hasElements()
+	if !p.hasValues {
+		p.values = ReadValues{}
 	}
-	if parse(datagram, m, &p.header) != statusOK {
-		// The block has another form. The header is read from a copy that doesn't look so.
-		header := append([]byte(nil), datagram[:parts.payloadAt]...)
+	var whole wholePacket
+	if p.fields.csrcCount != 0 && parse(p.datagram, nil, &whole.header) != statusOK && read(p.datagram, nil, &whole) != statusOK {
+		// The block has another form, and the packet looks like RTCP: they are read from a copy that doesn't look so.
+		header := append([]byte(nil), p.datagram[:p.fields.payloadAt]...)
 		_ = setPayloadType(header, 0)
-		_ = read(header, m, &p.wholePacket)
-		p.header.PayloadType = parts.PayloadType
+		_ = read(header, nil, &whole)
 	}
-	p.unpaddedLen, p.paddingFits = parts.unpaddedLen, parts.paddingFits
-	p.bodyAt, p.bodyLen, p.profile, p.form = parts.bodyAt, parts.bodyLen, parts.profile, parts.form
-	p.datagram = datagram
-	return statusOK
+	p.csrc, p.csrcCount = whole.header.csrc, p.fields.csrcCount
 }
 
 // hasChanged is whether the datagram is no packet any more, or one with other fields, places or contributing sources.
 func (p *Packet) hasChanged() bool {
 	var now PacketFields
-	if packetParse(p.datagram, &now) != statusOK {
+	if packetParse(p.datagram, &now) != statusOK || now != p.fields {
 		return true
 	}
-	h := &p.header
-	if now != (PacketFields{
-		payloadAt: h.headerLen, payloadLen: len(p.datagram) - h.headerLen, unpaddedLen: p.unpaddedLen,
-		bodyAt: p.bodyAt, bodyLen: p.bodyLen, profile: p.profile, form: p.form, paddingFits: p.paddingFits,
-		Timestamp: h.Timestamp, SSRC: h.SSRC, SequenceNumber: h.SequenceNumber, PayloadType: h.PayloadType,
-		csrcCount: h.csrcCount, Marker: h.Marker, HasPadding: h.HasPadding,
-	}) {
-		return true
-	}
-	for i, source := range h.CSRC() {
+	for i, source := range p.CSRC() {
 		if at := 12 + 4*i; binary.BigEndian.Uint32(p.datagram[at:]) != source {
 			return true
 		}
@@ -157,12 +143,9 @@ func parseHeaders(buf []byte, m *Map, datagrams []datagramHeader) {
 // parseOther reads one whose block has another form.
 func (d *datagramHeader) parseOther(datagram []byte, m *Map) {
 	var packet Packet
-	d.status = read(datagram, m, &packet.wholePacket)
-	if d.status == statusRTCP {
-		d.status = packet.parseAlike(datagram, m)
-	}
-	if d.status == statusOK {
-		d.header = packet.header
+	d.status = packetParse(datagram, &packet.fields)
+	if packet.parse(datagram, m) == nil {
+		d.header = *packet.Header()
 	}
 }
 
@@ -237,7 +220,7 @@ func receiveRestartingPacket(
 	if err := p.read(datagram, m); err != nil {
 		return 0, Refused, err
 	}
-	return judge(r, words, p.header.SequenceNumber)
+	return judge(r, words, p.fields.SequenceNumber)
 }
 
 // standingIn is what the receiver knows of a number in its epoch, whose window is that of a wide receiver.

@@ -40,7 +40,7 @@ func (r *Receiver) ReceivePacket(datagram []byte, m *Map, p *Packet) (uint64, er
 	if err := p.read(datagram, m); err != nil {
 		return 0, err
 	}
-	return receiverReceive(r, p.header.SequenceNumber)
+	return receiverReceive(r, p.fields.SequenceNumber)
 }
 
 // CheckPacket reads the packet that the datagram is ([Packet.ParseMuxed]), and tests whether it may be taken: it
@@ -55,7 +55,7 @@ func (r *Receiver) CheckPacket(datagram []byte, m *Map, p *Packet) (uint64, erro
 	if err := p.read(datagram, m); err != nil {
 		return 0, err
 	}
-	number := r.NumberOf(p.header.SequenceNumber)
+	number := r.NumberOf(p.fields.SequenceNumber)
 	if !r.Accepts(number) {
 		return number, ErrRefused
 	}

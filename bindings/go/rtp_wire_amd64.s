@@ -2289,6 +2289,52 @@ done_odd:
 	MOVQ AX, ret+48(FP)
 	RET
 
+// rtpw_packet_parse, and rtpw_values_read where there are elements: it takes at most 456 bytes of the stack.
+TEXT ·text_packet_read(SB), NOSPLIT, $0-44
+	NO_LOCAL_POINTERS
+	MOVQ datagram+0(FP), DI
+	MOVQ n+8(FP), SI
+	MOVQ packet+24(FP), DX
+	LONG $0x08c4f640
+	JNE odd
+	CALL rtp_wire<>+94384(SB)
+	TESTL AX, AX
+	JNE done
+	MOVQ packet+24(FP), BX
+	MOVBLZX 55(BX), DX
+	LEAL -1(DX), CX
+	CMPL CX, $1
+	JHI done
+	MOVQ datagram+0(FP), DI
+	ADDQ 24(BX), DI
+	MOVQ 32(BX), SI
+	MOVQ m+16(FP), CX
+	MOVQ values+32(FP), R8
+	CALL rtp_wire<>+70976(SB)
+done:
+	MOVL AX, ret+40(FP)
+	RET
+odd:
+	ADJSP $8
+	CALL rtp_wire<>+94384(SB)
+	TESTL AX, AX
+	JNE done_odd
+	MOVQ packet+24(FP), BX
+	MOVBLZX 55(BX), DX
+	LEAL -1(DX), CX
+	CMPL CX, $1
+	JHI done_odd
+	MOVQ datagram+0(FP), DI
+	ADDQ 24(BX), DI
+	MOVQ 32(BX), SI
+	MOVQ m+16(FP), CX
+	MOVQ values+32(FP), R8
+	CALL rtp_wire<>+70976(SB)
+done_odd:
+	ADJSP $-8
+	MOVL AX, ret+40(FP)
+	RET
+
 // The library, and its constants.
 TEXT rtp_wire<>(SB), NOSPLIT|NOFRAME, $0-0
 	NO_LOCAL_POINTERS

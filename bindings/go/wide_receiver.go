@@ -36,7 +36,7 @@ func (r *WideReceiver) ReceivePacket(datagram []byte, m *Map, p *Packet) (uint64
 	if err := p.read(datagram, m); err != nil {
 		return 0, err
 	}
-	return wideReceiverReceive(&r.state, r.words, p.header.SequenceNumber)
+	return wideReceiverReceive(&r.state, r.words, p.fields.SequenceNumber)
 }
 
 // CheckPacket reads the packet that the datagram is, and tests whether it may be taken, as [Receiver.CheckPacket] does.
@@ -44,7 +44,7 @@ func (r *WideReceiver) CheckPacket(datagram []byte, m *Map, p *Packet) (uint64, 
 	if err := p.read(datagram, m); err != nil {
 		return 0, err
 	}
-	number := r.NumberOf(p.header.SequenceNumber)
+	number := r.NumberOf(p.fields.SequenceNumber)
 	if !r.Accepts(number) {
 		return number, ErrRefused
 	}

@@ -238,3 +238,28 @@ def write_repeated(out, linked, entry, frame, given, result, at_end, size):
         out.emit(f"\tADJSP ${-by}" if by else None)
         for line in (f"MOVQ {count}, AX", "SUBQ R15, AX", f"MOVQ AX, {result}(FP)", "RET"):
             out.emit("\t" + line)
+
+
+def write_joined(out, linked, entries, frame, given, result, fields):
+    """Calls the first function, and where it succeeds, and the block has one of the two forms with elements, the second one."""
+    datagram, size, kinds, packet, values = (f"{place}(FP)" for place in given)
+    form, body_at, body_len = (f"{at}(BX)" for at in fields)
+    for line in (f"MOVQ {datagram}, DI", f"MOVQ {size}, SI", f"MOVQ {packet}, DX"):
+        out.emit("\t" + line)
+    out.pending += IS_ODD
+    out.emit("\tJNE odd")
+    for suffix, unaligned in (("", 0), ("_odd", 1)):
+        by = 8 * unaligned - frame
+        out.emit("odd:" if unaligned else None)
+        out.emit(f"\tADJSP ${by}" if by else None)
+        for line in (f"CALL {linked.name}<>+{entries[0]}(SB)", "TESTL AX, AX", f"JNE done{suffix}", f"MOVQ {packet}, BX"):
+            out.emit("\t" + line)
+        for line in (f"MOVBLZX {form}, DX", "LEAL -1(DX), CX", "CMPL CX, $1", f"JHI done{suffix}", f"MOVQ {datagram}, DI"):
+            out.emit("\t" + line)
+        for line in (f"ADDQ {body_at}, DI", f"MOVQ {body_len}, SI", f"MOVQ {kinds}, CX", f"MOVQ {values}, R8"):
+            out.emit("\t" + line)
+        out.emit(f"\tCALL {linked.name}<>+{entries[1]}(SB)")
+        out.emit(f"done{suffix}:")
+        out.emit(f"\tADJSP ${-by}" if by else None)
+        for line in (f"MOVL AX, {result}(FP)", "RET"):
+            out.emit("\t" + line)
