@@ -326,19 +326,18 @@ func (v *ReadValues) HasLayers() bool {
 	return v.hasLayers
 }
 
-// ofOneByte has the text of each byte, one behind the other.
-var ofOneByte = func() string {
-	var all [256]byte
-	for i := range all {
-		all[i] = byte(i)
+// ofOneByte has the text of each byte.
+var ofOneByte = func() (texts [256]string) {
+	for i := range texts {
+		texts[i] = string([]byte{byte(i)})
 	}
-	return string(all[:])
+	return texts
 }()
 
 // textOf is the text that a zero ends. Of one character, as nearly each mid is, it is no copy.
 func textOf(room []byte) string {
-	if c := int(room[0]); room[1] == 0 && c != 0 {
-		return ofOneByte[c : c+1]
+	if c := room[0]; room[1] == 0 && c != 0 {
+		return ofOneByte[c]
 	}
 	for n, c := range room {
 		if c == 0 {
