@@ -229,10 +229,16 @@ func standingIn(r *rtpw_wide_restarting_receiver, words []uint64, number uint64)
 	return Standing(wideReceiverStandingOf(&epoch, words, number))
 }
 
+// make makes the header, where the buffer is too short in one that isn't.
 func (t *HeaderTemplate) make(datagram []byte, group *Group, data []byte) int32 {
-	return rtpw_make_template(first(datagram), uintptr(len(datagram)), group.ids().c(), first(data), uintptr(len(data)),
-		firstElement(group.Elements), uintptr(len(group.Elements)), uint8(group.Allowed), first(t.buf),
-		uintptr(len(t.buf)), t.made.c())
+	for {
+		status := rtpw_make_template(first(datagram), uintptr(len(datagram)), group.ids().c(), first(data), uintptr(len(data)),
+			firstElement(group.Elements), uintptr(len(group.Elements)), uint8(group.Allowed), first(t.buf),
+			uintptr(len(t.buf)), t.made.c())
+		if status != statusShortBuffer || !t.grow(datagram, len(group.Elements)) {
+			return status
+		}
+	}
 }
 
 // writeAll writes the headers of receivers, whose data may lie in the buffer.
@@ -240,12 +246,4 @@ func (t *HeaderTemplate) writeAll(data []byte, receivers []routedHeader, buf []b
 	data = apart(data, buf)
 	return rtpw_write_headers(t.made.c(), first(t.buf), uintptr(len(t.buf)), first(data), uintptr(len(data)),
 		firstRoutedHeader(receivers), uintptr(len(receivers)), first(buf), uintptr(len(buf)))
-}
-
-// route writes the header for a group, and then those of its receivers.
-func route(t *HeaderTemplate, datagram []byte, group *Group, data []byte, receivers []routedHeader, buf []byte) int32 {
-	if status := t.make(datagram, group, data); status != statusOK {
-		return status
-	}
-	return t.writeAll(data, receivers, buf)
 }
