@@ -1,8 +1,8 @@
 """What is made of the description for Go: the structs, the statuses, and the functions, as those of Go's assembler text
 and over these with types of Go.
 
-A function `rtpw_NAME` is text_NAME of the assembler text (generated/go/make), of which one repeats a call and one makes
-two, and in a program with a race detector it tells that what is read and what is written: a struct, all of an array, of a packet its
+A function `rtpw_NAME` is text_NAME of the assembler text (generated/go/make), of which one repeats a call and two make
+several, and in a program with a race detector it tells that what is read and what is written: a struct, all of an array, of a packet its
 header where that is read or changed, and the whole of it where its payload may move."""
 
 from dataclasses import replace
@@ -50,7 +50,7 @@ TELL_STATUS = {
     "read", "packet_parse", "parse", "parse_layers", "next_element", "make_from_group", "wide_restarting_receive",
     "set_payload_type", "values_read",
 }
-AS_IN_C = {"make_template", "packet_read", "write_headers"}
+AS_IN_C = {"make_template", "packet_read", "packet_read_muxed", "write_headers"}
 
 
 def functions_of(api: Api) -> List[Function]:
@@ -67,11 +67,14 @@ def repeated(api: Api) -> Function:
     return Function(once.name + "s", "size_t", (*given, elements, Parameter("count", "size_t", {}, False, False)))
 
 
-def joined(api: Api) -> Function:
-    """The call of packet_parse, and where the block has elements then that of values_read for its body."""
+def joined(api: Api) -> List[Tuple[Function, List[str]]]:
+    """The call of packet_parse, and where the block has elements then that of values_read for its body; and that on a port
+    that RTCP shares, behind the call of is_rtcp. With each the calls that it makes."""
     once, then = api.function["rtpw_packet_parse"], api.function["rtpw_values_read"]
     *given, packet = once.parameters
-    return Function("rtpw_packet_read", once.result, (*given, then.named["map"], packet, then.named["values"]))
+    parameters = (*given, then.named["map"], packet, then.named["values"])
+    calls = {"packet_read": [once.name, then.name], "packet_read_muxed": ["rtpw_is_rtcp", once.name, then.name]}
+    return [(Function("rtpw_" + name, once.result, parameters), those) for name, those in calls.items()]
 
 
 def structs_of(api: Api) -> List[Struct]:
@@ -262,7 +265,7 @@ def statuses(api: Api) -> str:
 
 
 def files(api: Api):
-    functions = [*functions_of(api), repeated(api), joined(api)]
+    functions = [*functions_of(api), repeated(api), *(it for it, _ in joined(api))]
     text = [MADE, "package rtpwire\n", 'import "unsafe"\n']
     text += ["// The statuses, the structs and the functions of rtp_wire.h.\n", statuses(api)]
     text += [*map(struct_of, structs_of(api)), *map(function_of, functions)]

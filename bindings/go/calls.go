@@ -1583,6 +1583,19 @@ func rtpw_packet_read(datagram *byte, n uintptr, m *rtpw_map, packet *rtpw_packe
 	return text_packet_read(datagram, n, m, packet, values)
 }
 
+//go:noescape
+func text_packet_read_muxed(datagram *byte, n uintptr, m *rtpw_map, packet *rtpw_packet, values *rtpw_values) int32
+
+func rtpw_packet_read_muxed(datagram *byte, n uintptr, m *rtpw_map, packet *rtpw_packet, values *rtpw_values) int32 {
+	if racing {
+		readsPacket(datagram, n)
+		reads(unsafe.Pointer(m), unsafe.Sizeof(*m))
+		writes(unsafe.Pointer(packet), unsafe.Sizeof(*packet))
+		writes(unsafe.Pointer(values), unsafe.Sizeof(*values))
+	}
+	return text_packet_read_muxed(datagram, n, m, packet, values)
+}
+
 // The functions with types of Go.
 
 func (it *PacketFields) c() *rtpw_packet {

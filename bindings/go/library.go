@@ -65,23 +65,21 @@ func exact(datagram []byte) []byte {
 	return datagram[:len(datagram):len(datagram)]
 }
 
-// read reads the packet, and says of none of RTP on a port that both share that it is of RTCP.
-func (p *Packet) read(datagram []byte, m *Map) error {
-	if isRTCP(datagram) {
-		return ErrRTCP
-	}
-	return p.parse(datagram, m)
-}
-
-// parse reads the packet, whatever it looks like.
-func (p *Packet) parse(datagram []byte, m *Map) error {
+// parse reads the packet: whatever it looks like, but on a port that RTP and RTCP share, where it tells RTCP.
+func (p *Packet) parse(datagram []byte, m *Map, muxed bool) error {
 	datagram = exact(datagram)
-	status := rtpw_packet_read(first(datagram), uintptr(len(datagram)), m.orNone().c(), p.fields.c(), p.values.c())
+	at, n, kinds := first(datagram), uintptr(len(datagram)), m.orNone().c()
+	var status int32
+	if muxed {
+		status = rtpw_packet_read_muxed(at, n, kinds, p.fields.c(), p.values.c())
+	} else {
+		status = rtpw_packet_read(at, n, kinds, p.fields.c(), p.values.c())
+	}
 	if status != statusOK {
 		return errorOf(status)
 	}
 	p.datagram = datagram
-	if p.fields.csrcCount|p.csrcCount != 0 || p.fields.form.hasElements() != p.hasValues {
+	if p.fields.csrcCount|p.csrcCount != 0 || p.fields.form != p.form {
 		p.parseOthers()
 	}
 	return nil
@@ -89,8 +87,8 @@ func (p *Packet) parse(datagram []byte, m *Map) error {
 
 // parseOthers reads the contributing sources, and takes away what the packet before had and this one doesn't have.
 func (p *Packet) parseOthers() {
-	p.hasValues = p.fields.form.hasElements()
-	if !p.hasValues {
+	p.form = p.fields.form
+	if !p.form.hasElements() {
 		p.values = ReadValues{}
 	}
 	var whole wholePacket
@@ -144,7 +142,7 @@ func parseHeaders(buf []byte, m *Map, datagrams []datagramHeader) {
 func (d *datagramHeader) parseOther(datagram []byte, m *Map) {
 	var packet Packet
 	d.status = packetParse(datagram, &packet.fields)
-	if packet.parse(datagram, m) == nil {
+	if packet.parse(datagram, m, false) == nil {
 		d.header = *packet.Header()
 	}
 }
@@ -217,7 +215,7 @@ func receiveRestarting(r *rtpw_wide_restarting_receiver, words []uint64, sequenc
 func receiveRestartingPacket(
 	r *rtpw_wide_restarting_receiver, words []uint64, datagram []byte, m *Map, p *Packet,
 ) (uint64, Verdict, error) {
-	if err := p.read(datagram, m); err != nil {
+	if err := p.parse(datagram, m, true); err != nil {
 		return 0, Refused, err
 	}
 	return judge(r, words, p.fields.SequenceNumber)

@@ -9,10 +9,10 @@ import "fmt"
 // lent of its own memory, [Packet.CSRC] and [Packet.Values], is then that of the next packet.
 type Packet struct {
 	fields    PacketFields
-	values    ReadValues // zero where hasValues is false
+	values    ReadValues // zero where the form has no elements
 	csrc      [15]uint32 // zero from csrcCount on
 	csrcCount uint8
-	hasValues bool
+	form      Form
 	datagram  []byte // its capacity is its length
 }
 
@@ -114,13 +114,13 @@ func (p *PacketFields) Payload(datagram []byte) []byte {
 //
 // It returns the first Cause for which the datagram is no packet; nothing changes then.
 func (p *Packet) Parse(datagram []byte, m *Map) error {
-	return p.parse(datagram, m)
+	return p.parse(datagram, m, false)
 }
 
 // ParseMuxed reads as [Packet.Parse] does from a port that RTP and RTCP share (RFC 5761), and returns [ErrRTCP] of RTCP
 // ([IsRTCP]), before any Cause: such a datagram isn't lost, nor taken for RTP. Nothing changes then.
 func (p *Packet) ParseMuxed(datagram []byte, m *Map) error {
-	return p.read(datagram, m)
+	return p.parse(datagram, m, true)
 }
 
 // HasChanged is whether the bytes of the datagram say other fields or contributing sources now than when the packet was

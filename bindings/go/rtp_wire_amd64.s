@@ -2289,14 +2289,14 @@ done_odd:
 	MOVQ AX, ret+48(FP)
 	RET
 
-// rtpw_packet_parse, and rtpw_values_read where there are elements: it takes at most 456 bytes of the stack.
+// rtpw_packet_parse, then rtpw_values_read: it takes at most 456 bytes of the stack.
 TEXT ·text_packet_read(SB), NOSPLIT, $0-44
 	NO_LOCAL_POINTERS
+	LONG $0x08c4f640
+	JNE odd
 	MOVQ datagram+0(FP), DI
 	MOVQ n+8(FP), SI
 	MOVQ packet+24(FP), DX
-	LONG $0x08c4f640
-	JNE odd
 	CALL rtp_wire<>+94384(SB)
 	TESTL AX, AX
 	JNE done
@@ -2316,6 +2316,70 @@ done:
 	RET
 odd:
 	ADJSP $8
+	MOVQ datagram+0(FP), DI
+	MOVQ n+8(FP), SI
+	MOVQ packet+24(FP), DX
+	CALL rtp_wire<>+94384(SB)
+	TESTL AX, AX
+	JNE done_odd
+	MOVQ packet+24(FP), BX
+	MOVBLZX 55(BX), DX
+	LEAL -1(DX), CX
+	CMPL CX, $1
+	JHI done_odd
+	MOVQ datagram+0(FP), DI
+	ADDQ 24(BX), DI
+	MOVQ 32(BX), SI
+	MOVQ m+16(FP), CX
+	MOVQ values+32(FP), R8
+	CALL rtp_wire<>+70976(SB)
+done_odd:
+	ADJSP $-8
+	MOVL AX, ret+40(FP)
+	RET
+
+// rtpw_is_rtcp, then rtpw_packet_parse, then rtpw_values_read: it takes at most 456 bytes of the stack.
+TEXT ·text_packet_read_muxed(SB), NOSPLIT, $0-44
+	NO_LOCAL_POINTERS
+	LONG $0x08c4f640
+	JNE odd
+	MOVQ datagram+0(FP), DI
+	MOVQ n+8(FP), SI
+	CALL rtp_wire<>+64944(SB)
+	TESTB AX, AX
+	MOVL $17, AX
+	JNE done
+	MOVQ datagram+0(FP), DI
+	MOVQ n+8(FP), SI
+	MOVQ packet+24(FP), DX
+	CALL rtp_wire<>+94384(SB)
+	TESTL AX, AX
+	JNE done
+	MOVQ packet+24(FP), BX
+	MOVBLZX 55(BX), DX
+	LEAL -1(DX), CX
+	CMPL CX, $1
+	JHI done
+	MOVQ datagram+0(FP), DI
+	ADDQ 24(BX), DI
+	MOVQ 32(BX), SI
+	MOVQ m+16(FP), CX
+	MOVQ values+32(FP), R8
+	CALL rtp_wire<>+70976(SB)
+done:
+	MOVL AX, ret+40(FP)
+	RET
+odd:
+	ADJSP $8
+	MOVQ datagram+0(FP), DI
+	MOVQ n+8(FP), SI
+	CALL rtp_wire<>+64944(SB)
+	TESTB AX, AX
+	MOVL $17, AX
+	JNE done_odd
+	MOVQ datagram+0(FP), DI
+	MOVQ n+8(FP), SI
+	MOVQ packet+24(FP), DX
 	CALL rtp_wire<>+94384(SB)
 	TESTL AX, AX
 	JNE done_odd

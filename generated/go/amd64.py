@@ -240,26 +240,29 @@ def write_repeated(out, linked, entry, frame, given, result, at_end, size):
             out.emit("\t" + line)
 
 
-def write_joined(out, linked, entries, frame, given, result, fields):
-    """Calls the first function, and where it succeeds, and the block has one of the two forms with elements, the second one."""
+def write_joined(out, linked, entries, frame, given, result, fields, rtcp):
+    """Calls the last function but one, and where it succeeds, and the block has one of the two forms with elements, the last
+    one; where there is one before these, it ends with the status rtcp where that one is true."""
     datagram, size, kinds, packet, values = (f"{place}(FP)" for place in given)
     form, body_at, body_len = (f"{at}(BX)" for at in fields)
-    for line in (f"MOVQ {datagram}, DI", f"MOVQ {size}, SI", f"MOVQ {packet}, DX"):
-        out.emit("\t" + line)
+    *is_rtcp, parse, read = (f"CALL {linked.name}<>+{entry}(SB)" for entry in entries)
+    bytes_given = [f"MOVQ {datagram}, DI", f"MOVQ {size}, SI"]
     out.pending += IS_ODD
     out.emit("\tJNE odd")
     for suffix, unaligned in (("", 0), ("_odd", 1)):
-        by = 8 * unaligned - frame
+        done, by = "done" + suffix, 8 * unaligned - frame
         out.emit("odd:" if unaligned else None)
         out.emit(f"\tADJSP ${by}" if by else None)
-        for line in (f"CALL {linked.name}<>+{entries[0]}(SB)", "TESTL AX, AX", f"JNE done{suffix}", f"MOVQ {packet}, BX"):
+        for call in is_rtcp:
+            for line in (*bytes_given, call, "TESTB AX, AX", f"MOVL ${rtcp}, AX", f"JNE {done}"):
+                out.emit("\t" + line)
+        for line in (*bytes_given, f"MOVQ {packet}, DX", parse, "TESTL AX, AX", f"JNE {done}", f"MOVQ {packet}, BX"):
             out.emit("\t" + line)
-        for line in (f"MOVBLZX {form}, DX", "LEAL -1(DX), CX", "CMPL CX, $1", f"JHI done{suffix}", f"MOVQ {datagram}, DI"):
+        for line in (f"MOVBLZX {form}, DX", "LEAL -1(DX), CX", "CMPL CX, $1", f"JHI {done}", f"MOVQ {datagram}, DI"):
             out.emit("\t" + line)
-        for line in (f"ADDQ {body_at}, DI", f"MOVQ {body_len}, SI", f"MOVQ {kinds}, CX", f"MOVQ {values}, R8"):
+        for line in (f"ADDQ {body_at}, DI", f"MOVQ {body_len}, SI", f"MOVQ {kinds}, CX", f"MOVQ {values}, R8", read):
             out.emit("\t" + line)
-        out.emit(f"\tCALL {linked.name}<>+{entries[1]}(SB)")
-        out.emit(f"done{suffix}:")
+        out.emit(f"{done}:")
         out.emit(f"\tADJSP ${-by}" if by else None)
         for line in (f"MOVL AX, {result}(FP)", "RET"):
             out.emit("\t" + line)

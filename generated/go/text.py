@@ -5,7 +5,7 @@ usage: text.py amd64|arm64 TEXT MEMORY FOLDER
 
 FOLDER/rtp_wire_ARCH.s gets the bytes that binutils make of TEXT and MEMORY, linked at address 0, as one symbol, and in
 front of it a function of Go for each of bindings/c/rtp_wire.h that Go's package calls (bindings/described/go.py), one that
-calls rtpw_next_element for one element after the other, and one that calls rtpw_packet_parse and rtpw_values_read. What it and what it calls take of the stack is known by the frame information and the call graph: on amd64 it doesn't ask for the stack where that is less
+calls rtpw_next_element for one element after the other, and two that call rtpw_packet_parse and rtpw_values_read. What it and what it calls take of the stack is known by the frame information and the call graph: on amd64 it doesn't ask for the stack where that is less
 than Go keeps for those that don't, and else it has a frame with room for all. FOLDER/*_ARCH.bytes and FOLDER/*_ARCH.sites
 have what is compared with what Go linked: these bytes, and the places that Go's linker fills in, with what it has to fill
 in where that is known.
@@ -90,12 +90,12 @@ class Text:
         self.processor.write_repeated(self, linked, *entries, frame, places, result, element.field["end"].at, element.size)
         self.emit("")
 
-    def in_two_calls(self, linked, it, first, then, packet):
-        """The function of Go that calls one of the library for the packet, and where its block has elements one for the body."""
-        given, entries, frame, result = self.joining(linked, it, [first, then], f"{first}, and {then} where there are elements")
-        insist([width for _, width in given] == [8] * 5, "other parameters of", first)
+    def in_one(self, linked, it, calls, packet, rtcp):
+        """The function of Go that calls those of the library for a packet and for the body of its block."""
+        given, entries, frame, result = self.joining(linked, it, calls, ", then ".join(calls))
+        insist([width for _, width in given] == [8] * 5, "other parameters of", *calls)
         fields = [packet.field[name].at for name in ("block_form", "body_at", "body_len")]
-        self.processor.write_joined(self, linked, entries, frame, [place for place, _ in given], result, fields)
+        self.processor.write_joined(self, linked, entries, frame, [place for place, _ in given], result, fields, rtcp)
         self.emit("")
 
     def library(self, linked):
@@ -141,7 +141,8 @@ def main():
     for it in functions:
         out.function(linked, it)
     out.repeating(linked, go.repeated(api), "rtpw_next_element", api.struct["rtpw_element"])
-    out.in_two_calls(linked, go.joined(api), "rtpw_packet_parse", "rtpw_values_read", api.struct["rtpw_packet"])
+    for it, calls in go.joined(api):
+        out.in_one(linked, it, calls, api.struct["rtpw_packet"], api.constants["RTPW_RTCP"])
     out.library(linked)
     out.flush()
     (Path(folder) / f"rtp_wire_{arch}.s").write_text("\n".join(out.lines).rstrip() + "\n")
