@@ -1,8 +1,8 @@
 """What is made of the description for Go: the structs, the statuses, and the functions, as those of Go's assembler text
 and over these with types of Go.
 
-A function `rtpw_NAME` is text_NAME of the assembler text (generated/go/make), of which one repeats a call, and in a
-program with a race detector it tells that what is read and what is written: a struct, all of an array, of a packet its
+A function `rtpw_NAME` is text_NAME of the assembler text (generated/go/make), of which one repeats a call and two make
+several, and in a program with a race detector it tells that what is read and what is written: a struct, all of an array, of a packet its
 header where that is read or changed, and the whole of it where its payload may move."""
 
 from dataclasses import replace
@@ -50,7 +50,7 @@ TELL_STATUS = {
     "read", "packet_parse", "parse", "parse_layers", "next_element", "make_from_group", "wide_restarting_receive",
     "set_payload_type", "values_read",
 }
-AS_IN_C = {"make_template", "write_headers"}
+AS_IN_C = {"make_template", "packet_read", "packet_read_muxed", "write_headers"}
 
 
 def functions_of(api: Api) -> List[Function]:
@@ -65,6 +65,16 @@ def repeated(api: Api) -> Function:
     *given, element = once.parameters
     elements = replace(element, name="elements", marks={**element.marks, "COUNT": ("count",)})
     return Function(once.name + "s", "size_t", (*given, elements, Parameter("count", "size_t", {}, False, False)))
+
+
+def joined(api: Api) -> List[Tuple[Function, List[str]]]:
+    """The call of packet_parse, and where the block has elements then that of values_read for its body; and that on a port
+    that RTCP shares, behind the call of is_rtcp. With each the calls that it makes."""
+    once, then = api.function["rtpw_packet_parse"], api.function["rtpw_values_read"]
+    *given, packet = once.parameters
+    parameters = (*given, then.named["map"], packet, then.named["values"])
+    calls = {"packet_read": [once.name, then.name], "packet_read_muxed": ["rtpw_is_rtcp", once.name, then.name]}
+    return [(Function("rtpw_" + name, once.result, parameters), those) for name, those in calls.items()]
 
 
 def structs_of(api: Api) -> List[Struct]:
@@ -178,9 +188,9 @@ def addresses(functions: List[Function]):
         check = "\n\t_ = *it // nil ends here" * (name[len("rtpw_"):] in NOT_NIL)
         yield f"func (it *{go_type(name)}) c() *{name} {{{check}\n\treturn (*{name})(unsafe.Pointer(it))\n}}\n"
     for name in dict.fromkeys(p.type for p in pointers if p.count):
-        at = "&values[0]" if name in SIZES else f"(*{name})(unsafe.Pointer(&values[0]))"
-        yield f"func {first_of(name)}(values []{go_type(name)}) *{type_of(name)} {{\n\tif len(values) == 0 {{"
-        yield f"\t\treturn nil\n\t}}\n\treturn {at}\n}}\n"
+        kind = go_type(name)
+        yield f"func {first_of(name)}(values []{kind}) *{type_of(name)} {{"
+        yield f"\treturn (*{type_of(name)})(unsafe.Pointer((*[0]{kind})(values)))\n}}\n"
 
 
 class Bound:
@@ -255,7 +265,7 @@ def statuses(api: Api) -> str:
 
 
 def files(api: Api):
-    functions = [*functions_of(api), repeated(api)]
+    functions = [*functions_of(api), repeated(api), *(it for it, _ in joined(api))]
     text = [MADE, "package rtpwire\n", 'import "unsafe"\n']
     text += ["// The statuses, the structs and the functions of rtp_wire.h.\n", statuses(api)]
     text += [*map(struct_of, structs_of(api)), *map(function_of, functions)]

@@ -137,6 +137,8 @@ class Struct(Named):
     align: int
     fields: Tuple[Field, ...]
 
+    field = property(lambda self: {it.name: it for it in self.fields})
+
 
 @dataclass
 class Api:

@@ -13,25 +13,19 @@ func PutElement(packet []byte, id uint8, data []byte, allowed Forms) ([]byte, er
 }
 
 // AddElement adds an element behind all others, as [AddElementIn] does, whose errors but ErrShortBuffer it returns. It
-// returns what the packet becomes, as [PutElement] does, where that has room and else in new memory. The packet that is
-// passed is used up: its bytes may have changed, and those behind it up to the slice's capacity. For several receivers, or
-// a history, copy it first.
+// returns what the packet becomes, and uses up the packet that is passed, as [PutElement] does.
 func AddElement(packet []byte, id uint8, data []byte, allowed Forms) ([]byte, error) {
 	return longer(packet, func(buf []byte) ([]byte, error) { return AddElementIn(buf, len(packet), id, data, allowed) })
 }
 
 // ChangeForm makes the packet's block one of this form, as [ChangeFormIn] does, whose errors but ErrShortBuffer it
-// returns. It returns what the packet becomes, as [PutElement] does, where that has room and else in new memory. The packet
-// that is passed is used up: its bytes may have changed, and those behind it up to the slice's capacity. For several
-// receivers, or a history, copy it first.
+// returns. It returns what the packet becomes, and uses up the packet that is passed, as [PutElement] does.
 func ChangeForm(packet []byte, form Form) ([]byte, error) {
 	return longer(packet, func(buf []byte) ([]byte, error) { return ChangeFormIn(buf, len(packet), form) })
 }
 
 // PutBlock gives the packet a block, as [PutBlockIn] does, whose errors but ErrShortBuffer it returns. It returns what the
-// packet becomes, as [PutElement] does, where that has room and else in new memory. The packet that is passed is used up:
-// its bytes may have changed, and those behind it up to the slice's capacity. For several receivers, or a history, copy it
-// first.
+// packet becomes, and uses up the packet that is passed, as [PutElement] does.
 func PutBlock(packet []byte, profile uint16, body []byte) ([]byte, error) {
 	change := func(buf []byte) ([]byte, error) { return PutBlockIn(buf, len(packet), profile, body) }
 	made, err := change(packet[:cap(packet)])
@@ -42,8 +36,7 @@ func PutBlock(packet []byte, profile uint16, body []byte) ([]byte, error) {
 }
 
 // ToRetransmission makes the packet a retransmission, as [ToRetransmissionIn] does, whose errors but ErrShortBuffer it
-// returns. It returns what the packet becomes, as [PutElement] does, where that has room and else in new memory. The packet
-// that is passed is used up: its bytes may have changed, and those behind it up to the slice's capacity. A packet of a
+// returns. It returns what the packet becomes, and uses up the packet that is passed, as [PutElement] does: one of a
 // history, which may be asked for again, is copied first.
 func ToRetransmission(packet []byte, ssrc uint32, payloadType uint8, number uint16, ids *NewIDs) ([]byte, error) {
 	return longer(packet, func(buf []byte) ([]byte, error) {

@@ -1570,6 +1570,32 @@ func rtpw_next_elements(body *byte, body_len uintptr, form byte, at uintptr, ele
 	return text_next_elements(body, body_len, form, at, elements, count)
 }
 
+//go:noescape
+func text_packet_read(datagram *byte, n uintptr, m *rtpw_map, packet *rtpw_packet, values *rtpw_values) int32
+
+func rtpw_packet_read(datagram *byte, n uintptr, m *rtpw_map, packet *rtpw_packet, values *rtpw_values) int32 {
+	if racing {
+		readsPacket(datagram, n)
+		reads(unsafe.Pointer(m), unsafe.Sizeof(*m))
+		writes(unsafe.Pointer(packet), unsafe.Sizeof(*packet))
+		writes(unsafe.Pointer(values), unsafe.Sizeof(*values))
+	}
+	return text_packet_read(datagram, n, m, packet, values)
+}
+
+//go:noescape
+func text_packet_read_muxed(datagram *byte, n uintptr, m *rtpw_map, packet *rtpw_packet, values *rtpw_values) int32
+
+func rtpw_packet_read_muxed(datagram *byte, n uintptr, m *rtpw_map, packet *rtpw_packet, values *rtpw_values) int32 {
+	if racing {
+		readsPacket(datagram, n)
+		reads(unsafe.Pointer(m), unsafe.Sizeof(*m))
+		writes(unsafe.Pointer(packet), unsafe.Sizeof(*packet))
+		writes(unsafe.Pointer(values), unsafe.Sizeof(*values))
+	}
+	return text_packet_read_muxed(datagram, n, m, packet, values)
+}
+
 // The functions with types of Go.
 
 func (it *PacketFields) c() *rtpw_packet {
@@ -1663,66 +1689,39 @@ func (it *PreparedGroup) c() *rtpw_group {
 }
 
 func first(values []byte) *byte {
-	if len(values) == 0 {
-		return nil
-	}
-	return &values[0]
+	return (*byte)(unsafe.Pointer((*[0]byte)(values)))
 }
 
 func firstElement(values []Place) *rtpw_element {
-	if len(values) == 0 {
-		return nil
-	}
-	return (*rtpw_element)(unsafe.Pointer(&values[0]))
+	return (*rtpw_element)(unsafe.Pointer((*[0]Place)(values)))
 }
 
 func firstInt8(values []int8) *int8 {
-	if len(values) == 0 {
-		return nil
-	}
-	return &values[0]
+	return (*int8)(unsafe.Pointer((*[0]int8)(values)))
 }
 
 func firstUint64(values []uint64) *uint64 {
-	if len(values) == 0 {
-		return nil
-	}
-	return &values[0]
+	return (*uint64)(unsafe.Pointer((*[0]uint64)(values)))
 }
 
 func firstDatagram(values []datagram) *rtpw_datagram {
-	if len(values) == 0 {
-		return nil
-	}
-	return (*rtpw_datagram)(unsafe.Pointer(&values[0]))
+	return (*rtpw_datagram)(unsafe.Pointer((*[0]datagram)(values)))
 }
 
 func firstDatagramHeader(values []datagramHeader) *rtpw_datagram_header {
-	if len(values) == 0 {
-		return nil
-	}
-	return (*rtpw_datagram_header)(unsafe.Pointer(&values[0]))
+	return (*rtpw_datagram_header)(unsafe.Pointer((*[0]datagramHeader)(values)))
 }
 
 func firstReceiver(values []Receiver) *rtpw_receiver {
-	if len(values) == 0 {
-		return nil
-	}
-	return (*rtpw_receiver)(unsafe.Pointer(&values[0]))
+	return (*rtpw_receiver)(unsafe.Pointer((*[0]Receiver)(values)))
 }
 
 func firstArrival(values []arrival) *rtpw_arrival {
-	if len(values) == 0 {
-		return nil
-	}
-	return (*rtpw_arrival)(unsafe.Pointer(&values[0]))
+	return (*rtpw_arrival)(unsafe.Pointer((*[0]arrival)(values)))
 }
 
 func firstRoutedHeader(values []routedHeader) *rtpw_routed_header {
-	if len(values) == 0 {
-		return nil
-	}
-	return (*rtpw_routed_header)(unsafe.Pointer(&values[0]))
+	return (*rtpw_routed_header)(unsafe.Pointer((*[0]routedHeader)(values)))
 }
 
 func version() uint32 {

@@ -120,5 +120,5 @@ var errorsOf = func() (errors [32]error) {
 }()
 
 func errorOf(status int32) error {
-	return errorsOf[uint(status)%uint(len(errorsOf))]
+	return errorsOf[uint32(status)%uint32(len(errorsOf))]
 }

@@ -33,7 +33,7 @@ func TestFaults(t *testing.T) {
 	element := []rtpwire.Place{{ID: 5, At: 0, Len: 3}}
 	var m rtpwire.Map
 	for name, it := range map[string]func(){
-		"text_read": func() { _ = new(rtpwire.Packet).Parse(bad, &m) },
+		"text_packet_read": func() { _ = new(rtpwire.Packet).Parse(bad, &m) },
 		"text_put_element": func() {
 			_, _ = rtpwire.PutElementIn(append(good, make([]byte, 9)...), len(good), 5, bad[:3], rtpwire.AnyForm)
 		},

@@ -60,61 +60,54 @@ func (g *Group) ids() *NewIDs {
 	return g.IDs
 }
 
-// read reads the packet, and says of none of RTP on a port that both share that it is of RTCP.
-func (p *Packet) read(datagram []byte, m *Map) error {
-	status := rtpw_read(first(datagram), uintptr(len(datagram)), m.orNone().c(), p.wholePacket.c())
-	if status == statusOK {
-		p.datagram = datagram
-	}
-	return errorOf(status)
+// exact is the datagram in a slice without room for more: what is appended to it, or to a part of it, is a copy.
+func exact(datagram []byte) []byte {
+	return datagram[:len(datagram):len(datagram)]
 }
 
-// parse reads the packet, whatever it looks like.
-func (p *Packet) parse(datagram []byte, m *Map) error {
-	status := rtpw_read(first(datagram), uintptr(len(datagram)), m.orNone().c(), p.wholePacket.c())
-	if status == statusRTCP {
-		status = p.parseAlike(datagram, m)
+// parse reads the packet: whatever it looks like, but on a port that RTP and RTCP share, where it tells RTCP.
+func (p *Packet) parse(datagram []byte, m *Map, muxed bool) error {
+	datagram = exact(datagram)
+	at, n, kinds := first(datagram), uintptr(len(datagram)), m.orNone().c()
+	var status int32
+	if muxed {
+		status = rtpw_packet_read_muxed(at, n, kinds, p.fields.c(), p.values.c())
+	} else {
+		status = rtpw_packet_read(at, n, kinds, p.fields.c(), p.values.c())
 	}
-	if status == statusOK {
-		p.datagram = datagram
+	if status != statusOK {
+		return errorOf(status)
 	}
-	return errorOf(status)
+	p.datagram = datagram
+	if p.fields.csrcCount|p.csrcCount != 0 || p.fields.form != p.form {
+		p.parseOthers()
+	}
+	return nil
 }
 
-// parseAlike reads a packet that looks like RTCP, with a payload type of 64 to 95 on a port of its own.
-func (p *Packet) parseAlike(datagram []byte, m *Map) int32 {
-	var parts PacketFields
-	if status := packetParse(datagram, &parts); status != statusOK {
-		return status
+// parseOthers reads the contributing sources, and takes away what the packet before had and this one doesn't have.
+func (p *Packet) parseOthers() {
+	p.form = p.fields.form
+	if !p.form.hasElements() {
+		p.values = ReadValues{}
 	}
-	if parse(datagram, m, &p.header) != statusOK {
-		// The block has another form. The header is read from a copy that doesn't look so.
-		header := append([]byte(nil), datagram[:parts.payloadAt]...)
+	var whole wholePacket
+	if p.fields.csrcCount != 0 && parse(p.datagram, nil, &whole.header) != statusOK && read(p.datagram, nil, &whole) != statusOK {
+		// The block has another form, and the packet looks like RTCP: they are read from a copy that doesn't look so.
+		header := append([]byte(nil), p.datagram[:p.fields.payloadAt]...)
 		_ = setPayloadType(header, 0)
-		_ = read(header, m, &p.wholePacket)
-		p.header.PayloadType = parts.PayloadType
+		_ = read(header, nil, &whole)
 	}
-	p.unpaddedLen, p.paddingFits = parts.unpaddedLen, parts.paddingFits
-	p.bodyAt, p.bodyLen, p.profile, p.form = parts.bodyAt, parts.bodyLen, parts.profile, parts.form
-	return statusOK
+	p.csrc, p.csrcCount = whole.header.csrc, p.fields.csrcCount
 }
 
 // hasChanged is whether the datagram is no packet any more, or one with other fields, places or contributing sources.
 func (p *Packet) hasChanged() bool {
 	var now PacketFields
-	if packetParse(p.datagram, &now) != statusOK {
+	if packetParse(p.datagram, &now) != statusOK || now != p.fields {
 		return true
 	}
-	h := &p.header
-	if now != (PacketFields{
-		payloadAt: h.headerLen, payloadLen: len(p.datagram) - h.headerLen, unpaddedLen: p.unpaddedLen,
-		bodyAt: p.bodyAt, bodyLen: p.bodyLen, profile: p.profile, form: p.form, paddingFits: p.paddingFits,
-		Timestamp: h.Timestamp, SSRC: h.SSRC, SequenceNumber: h.SequenceNumber, PayloadType: h.PayloadType,
-		csrcCount: h.csrcCount, Marker: h.Marker, HasPadding: h.HasPadding,
-	}) {
-		return true
-	}
-	for i, source := range h.CSRC() {
+	for i, source := range p.CSRC() {
 		if at := 12 + 4*i; binary.BigEndian.Uint32(p.datagram[at:]) != source {
 			return true
 		}
@@ -139,18 +132,18 @@ func (l *Layers) parse(datagram []byte, m *Map) error {
 func parseHeaders(buf []byte, m *Map, datagrams []datagramHeader) {
 	parseMany(buf, m, datagrams)
 	for i := range datagrams {
-		it := &datagrams[i]
-		if it.status == statusUnknownForm {
-			var packet Packet
-			own := buf[it.at : it.at+it.len]
-			it.status = read(own, m, &packet.wholePacket)
-			if it.status == statusRTCP {
-				it.status = packet.parseAlike(own, m)
-			}
-			if it.status == statusOK {
-				it.header = packet.header
-			}
+		if it := &datagrams[i]; it.status == statusUnknownForm {
+			it.parseOther(buf[it.at:it.at+it.len], m)
 		}
+	}
+}
+
+// parseOther reads one whose block has another form.
+func (d *datagramHeader) parseOther(datagram []byte, m *Map) {
+	var packet Packet
+	d.status = packetParse(datagram, &packet.fields)
+	if packet.parse(datagram, m, false) == nil {
+		d.header = *packet.Header()
 	}
 }
 
@@ -222,10 +215,10 @@ func receiveRestarting(r *rtpw_wide_restarting_receiver, words []uint64, sequenc
 func receiveRestartingPacket(
 	r *rtpw_wide_restarting_receiver, words []uint64, datagram []byte, m *Map, p *Packet,
 ) (uint64, Verdict, error) {
-	if err := p.read(datagram, m); err != nil {
+	if err := p.parse(datagram, m, true); err != nil {
 		return 0, Refused, err
 	}
-	return judge(r, words, p.header.SequenceNumber)
+	return judge(r, words, p.fields.SequenceNumber)
 }
 
 // standingIn is what the receiver knows of a number in its epoch, whose window is that of a wide receiver.
@@ -234,10 +227,16 @@ func standingIn(r *rtpw_wide_restarting_receiver, words []uint64, number uint64)
 	return Standing(wideReceiverStandingOf(&epoch, words, number))
 }
 
+// make makes the header, where the buffer is too short in one that isn't.
 func (t *HeaderTemplate) make(datagram []byte, group *Group, data []byte) int32 {
-	return rtpw_make_template(first(datagram), uintptr(len(datagram)), group.ids().c(), first(data), uintptr(len(data)),
-		firstElement(group.Elements), uintptr(len(group.Elements)), uint8(group.Allowed), first(t.buf),
-		uintptr(len(t.buf)), t.made.c())
+	for {
+		status := rtpw_make_template(first(datagram), uintptr(len(datagram)), group.ids().c(), first(data), uintptr(len(data)),
+			firstElement(group.Elements), uintptr(len(group.Elements)), uint8(group.Allowed), first(t.buf),
+			uintptr(len(t.buf)), t.made.c())
+		if status != statusShortBuffer || !t.grow(datagram, len(group.Elements)) {
+			return status
+		}
+	}
 }
 
 // writeAll writes the headers of receivers, whose data may lie in the buffer.
@@ -245,12 +244,4 @@ func (t *HeaderTemplate) writeAll(data []byte, receivers []routedHeader, buf []b
 	data = apart(data, buf)
 	return rtpw_write_headers(t.made.c(), first(t.buf), uintptr(len(t.buf)), first(data), uintptr(len(data)),
 		firstRoutedHeader(receivers), uintptr(len(receivers)), first(buf), uintptr(len(buf)))
-}
-
-// route writes the header for a group, and then those of its receivers.
-func route(t *HeaderTemplate, datagram []byte, group *Group, data []byte, receivers []routedHeader, buf []byte) int32 {
-	if status := t.make(datagram, group, data); status != statusOK {
-		return status
-	}
-	return t.writeAll(data, receivers, buf)
 }

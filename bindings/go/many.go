@@ -66,10 +66,11 @@ func (b *HeaderBatch) Reset() {
 // Add adds the datagram of so many bytes that begins there in the buffer. Datagrams may overlap.
 func (b *HeaderBatch) Add(at, length int) {
 	n := len(b.given)
-	if n == cap(b.given) {
+	if n < cap(b.given) {
+		b.given = b.given[:n+1]
+	} else {
 		b.given = append(b.given, datagramHeader{})
 	}
-	b.given = b.given[:n+1]
 	b.given[n].place = place{at, length}
 }
 
@@ -168,10 +169,11 @@ func (b *PacketBatch) Reset() {
 // Add adds the datagram of so many bytes that begins there in the buffer. Datagrams may overlap.
 func (b *PacketBatch) Add(at, length int) {
 	n := len(b.given)
-	if n == cap(b.given) {
+	if n < cap(b.given) {
+		b.given = b.given[:n+1]
+	} else {
 		b.given = append(b.given, datagram{})
 	}
-	b.given = b.given[:n+1]
 	b.given[n].place = place{at, length}
 }
 

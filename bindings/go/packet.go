@@ -8,8 +8,12 @@ import "fmt"
 // [Packet.Header]. Use one again for the next packet: the parts of the datagram that it lent stay as they are, and what it
 // lent of its own memory, [Packet.CSRC] and [Packet.Values], is then that of the next packet.
 type Packet struct {
-	wholePacket
-	datagram []byte
+	fields    PacketFields
+	values    ReadValues // zero where the form has no elements
+	csrc      [15]uint32 // zero from csrcCount on
+	csrcCount uint8
+	form      Form
+	datagram  []byte // its capacity is its length
 }
 
 // wholePacket is rtpw_whole_packet in C.
@@ -50,7 +54,10 @@ type PacketFields struct {
 //
 // It returns the first Cause for which the datagram is no packet; nothing changes then.
 func (p *PacketFields) Parse(datagram []byte) error {
-	return errorOf(rtpw_packet_parse(first(datagram), uintptr(len(datagram)), p.c()))
+	if racing {
+		return errorOf(packetParse(datagram, p))
+	}
+	return errorsOf[text_packet_parse(first(datagram), uintptr(len(datagram)), p.c())&31]
 }
 
 // HeaderLen is how many bytes the header takes: 12 to 262,216.
@@ -107,13 +114,13 @@ func (p *PacketFields) Payload(datagram []byte) []byte {
 //
 // It returns the first Cause for which the datagram is no packet; nothing changes then.
 func (p *Packet) Parse(datagram []byte, m *Map) error {
-	return p.parse(datagram, m)
+	return p.parse(datagram, m, false)
 }
 
 // ParseMuxed reads as [Packet.Parse] does from a port that RTP and RTCP share (RFC 5761), and returns [ErrRTCP] of RTCP
 // ([IsRTCP]), before any Cause: such a datagram isn't lost, nor taken for RTP. Nothing changes then.
 func (p *Packet) ParseMuxed(datagram []byte, m *Map) error {
-	return p.read(datagram, m)
+	return p.parse(datagram, m, true)
 }
 
 // HasChanged is whether the bytes of the datagram say other fields or contributing sources now than when the packet was
@@ -128,65 +135,64 @@ func (p *Packet) HasChanged() bool {
 // String says in a line what packet it is: its SSRC, payload type, sequence number and timestamp, and how many bytes the
 // header and the payload with any padding have.
 func (p Packet) String() string {
-	return fmt.Sprintf("%s, payload %d bytes", p.header, len(p.datagram)-p.header.headerLen)
+	return fmt.Sprintf("%s, payload %d bytes", p.Header(), p.fields.payloadLen)
 }
 
 // Datagram is the whole datagram.
 func (p *Packet) Datagram() []byte {
-	size := len(p.datagram)
-	return p.datagram[:size:size]
+	return p.datagram
 }
 
 // HeaderLen is how many bytes the header takes: 12 to 262,216.
 func (p *Packet) HeaderLen() int {
-	return p.header.headerLen
+	return p.fields.payloadAt
 }
 
 // SequenceNumber is the low 16 bits of the packet's number.
 func (p *Packet) SequenceNumber() uint16 {
-	return p.header.SequenceNumber
+	return p.fields.SequenceNumber
 }
 
 // Timestamp is the moment of the payload's first byte, in ticks of the payload's own clock.
 func (p *Packet) Timestamp() uint32 {
-	return p.header.Timestamp
+	return p.fields.Timestamp
 }
 
 // SSRC is the stream's source.
 func (p *Packet) SSRC() uint32 {
-	return p.header.SSRC
+	return p.fields.SSRC
 }
 
 // PayloadType says what the payload is, 0 to 127.
 func (p *Packet) PayloadType() uint8 {
-	return p.header.PayloadType
+	return p.fields.PayloadType
 }
 
 // Marker is M.
 func (p *Packet) Marker() bool {
-	return p.header.Marker
+	return p.fields.Marker
 }
 
 // HasPadding is P: whether there is padding at the end of the payload ([Packet.UnpaddedPayload]).
 func (p *Packet) HasPadding() bool {
-	return p.header.HasPadding
+	return p.fields.HasPadding
 }
 
 // HasExtension is X: whether there is a block of extensions ([Packet.Block]).
 func (p *Packet) HasExtension() bool {
-	return p.header.HasExtension
+	return p.fields.form != NoBlock
 }
 
 // CSRC is the contributing sources, at most 15, in order: those that were read, not bytes of the datagram. They are a part
 // of the Packet, so that they change when it is used again: copy them to keep them.
 func (p *Packet) CSRC() []uint32 {
-	return p.header.CSRC()
+	return p.csrc[:p.csrcCount:p.csrcCount]
 }
 
 // Values are what the elements of the block say under the map that the packet was read with: none without a block, or in a
 // block of another form. They are a part of the Packet, so that they change when it is used again: copy them to keep them.
 func (p *Packet) Values() *ReadValues {
-	return &p.header.Values.ReadValues
+	return &p.values
 }
 
 // Header is a copy of the header, to be changed and written. It takes no memory where the compiler sees that it isn't kept.
@@ -194,15 +200,17 @@ func (p *Packet) Values() *ReadValues {
 // known and of a block of another form aren't in it. To send a packet on with all of its elements, change it where it lies
 // ([Fields], [Renumber]).
 func (p *Packet) Header() *Header {
-	header := p.header
-	return &header
+	f := &p.fields
+	return &Header{
+		f.payloadAt, f.Timestamp, f.SSRC, p.csrc, f.SequenceNumber, f.PayloadType, p.csrcCount, f.Marker, f.HasPadding,
+		f.form != NoBlock, Values{p.values},
+	}
 }
 
 // Payload is the payload with any padding, as the packet is sent on. What is played is [Packet.UnpaddedPayload]: of a
 // packet with P set the last bytes of this one are no media.
 func (p *Packet) Payload() []byte {
-	size := len(p.datagram)
-	return p.datagram[p.header.headerLen:size:size]
+	return p.datagram[p.fields.payloadAt:]
 }
 
 // UnpaddedPayload is the payload without its padding: the media. It is not ok where the padding's last byte counts more
@@ -210,24 +218,20 @@ func (p *Packet) Payload() []byte {
 // nothing is taken away, and P of a packet without a payload takes nothing away either. Of SRTP the padding is encrypted:
 // decrypt first.
 func (p *Packet) UnpaddedPayload() (payload []byte, ok bool) {
-	if !p.paddingFits {
-		return nil, false
-	}
-	end := p.header.headerLen + p.unpaddedLen
-	return p.datagram[p.header.headerLen:end:end], true
+	return p.fields.UnpaddedPayload(p.datagram)
 }
 
 // Block is the form and the body of the extension block, after the four bytes of its header. Where there is none (X is
 // clear) the form is NoBlock. Of a block of OtherForm [Packet.BlockProfile] says more.
 func (p *Packet) Block() (Form, []byte) {
-	return p.form, p.datagram[p.bodyAt:p.header.headerLen:p.header.headerLen]
+	return p.fields.Block(p.datagram)
 }
 
 // BlockProfile is the 16 bits that the extension block begins with, those of a form or others, which the block's
 // profile defines (RFC 3550, 5.3.1): 0xABAC of ONVIF's cameras, say, and 0xC0DE and 0xC2DE of Cryptex (RFC 9335).
 // It is 0 where there is no block.
 func (p *Packet) BlockProfile() uint16 {
-	return p.profile
+	return p.fields.profile
 }
 
 // PeekSSRC is where a packet has its SSRC, to find the Receiver of a datagram before [Receiver.ReceivePacket] reads

@@ -57,9 +57,10 @@ func (b *RouteBatch) RoutePrepared(datagram []byte, group *PreparedGroup, data, 
 
 // makePrepared makes the header, where the buffer is too short in one that isn't.
 func (t *HeaderTemplate) makePrepared(datagram []byte, group *PreparedGroup) int32 {
-	status := makeFromGroup(group, datagram, t.buf, &t.made)
-	for status == statusShortBuffer && t.grow(datagram, int(group.count)) {
-		status = makeFromGroup(group, datagram, t.buf, &t.made)
+	for {
+		status := makeFromGroup(group, datagram, t.buf, &t.made)
+		if status != statusShortBuffer || !t.grow(datagram, int(group.count)) {
+			return status
+		}
 	}
-	return status
 }

@@ -37,10 +37,10 @@ func NewReceiver(rolloverCount uint64) (*Receiver, error) {
 // old to tell: then only p is changed, to what was read. A stream with payload types 64 to 95, on a port of its own, is
 // read by [Packet.Parse] and then judged by its number: [Receiver.Receive].
 func (r *Receiver) ReceivePacket(datagram []byte, m *Map, p *Packet) (uint64, error) {
-	if err := p.read(datagram, m); err != nil {
+	if err := p.parse(datagram, m, true); err != nil {
 		return 0, err
 	}
-	return receiverReceive(r, p.header.SequenceNumber)
+	return receiverReceive(r, p.fields.SequenceNumber)
 }
 
 // CheckPacket reads the packet that the datagram is ([Packet.ParseMuxed]), and tests whether it may be taken: it
@@ -52,10 +52,10 @@ func (r *Receiver) ReceivePacket(datagram []byte, m *Map, p *Packet) (uint64, er
 // the number is told too. A stream with payload types 64 to 95, on a port of its own, is read by [Packet.Parse], and
 // [Receiver.NumberOf] and [Receiver.Accepts] check its number.
 func (r *Receiver) CheckPacket(datagram []byte, m *Map, p *Packet) (uint64, error) {
-	if err := p.read(datagram, m); err != nil {
+	if err := p.parse(datagram, m, true); err != nil {
 		return 0, err
 	}
-	number := r.NumberOf(p.header.SequenceNumber)
+	number := r.NumberOf(p.fields.SequenceNumber)
 	if !r.Accepts(number) {
 		return number, ErrRefused
 	}

@@ -17,7 +17,8 @@ func plain(number uint16) []byte {
 // A value that is used again is as one that is new.
 func TestNothingOfTheLastPacketStays(t *testing.T) {
 	m := everyKind(t)
-	datagrams := [][]byte{everyValue, sample(), camera(), plain(5)}
+	mixed := []byte{0x82, 96, 0, 5, 0, 0, 0, 1, 0, 0, 0, 7, 0, 0, 0, 8, 0, 0, 0, 9, 'h', 'i'}
+	datagrams := [][]byte{everyValue, sample(), camera(), plain(5), mixed}
 	for _, first := range datagrams {
 		for _, second := range datagrams {
 			packet, fresh := parsed(t, first, m), parsed(t, second, m)

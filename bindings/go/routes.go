@@ -62,11 +62,7 @@ const mostHeader = 12 + 15*4 + 4 + 4*65535
 // bytes of data, ErrOtherForm, ErrLongID, [ErrFormNotAllowed] or ErrLongBlock. No header is made then.
 func (t *HeaderTemplate) Make(datagram []byte, group *Group, data []byte) error {
 	t.claim()
-	status := t.make(datagram, group, data)
-	for status == statusShortBuffer && t.grow(datagram, len(group.Elements)) {
-		status = t.make(datagram, group, data)
-	}
-	return t.ended(status)
+	return t.ended(t.make(datagram, group, data))
 }
 
 // grow gives the buffer the room that any header of such a datagram takes, and is whether it hadn't it.
@@ -164,10 +160,11 @@ func (b *RouteBatch) Reset() {
 // which none is set yet; later [RouteBatch.Fields] tells them.
 func (b *RouteBatch) Add(dataAt int) RoutedFields {
 	n := len(b.given)
-	if n == cap(b.given) {
+	if n < cap(b.given) {
+		b.given = b.given[:n+1]
+	} else {
 		b.given = append(b.given, routedHeader{})
 	}
-	b.given = b.given[:n+1]
 	r := &b.given[n]
 	*r = routedHeader{dataAt: dataAt}
 	return RoutedFields{b, n}
@@ -255,9 +252,9 @@ func (b *RouteBatch) Write(t *HeaderTemplate, data, buf []byte) error {
 // It returns the errors of Make. Nothing is written then, and Len is 0.
 func (b *RouteBatch) Route(datagram []byte, group *Group, data, buf []byte) error {
 	b.buf, b.written = nil, nil
-	status := route(&b.own, datagram, group, data, b.given, buf)
-	for status == statusShortBuffer && b.own.grow(datagram, len(group.Elements)) {
-		status = route(&b.own, datagram, group, data, b.given, buf)
+	status := b.own.make(datagram, group, data)
+	if status == statusOK {
+		status = b.own.writeAll(data, b.given, buf)
 	}
 	return b.ended(buf, status)
 }

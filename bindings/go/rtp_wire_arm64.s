@@ -1298,6 +1298,70 @@ done:
 	MOVD R0, ret+48(FP)
 	RET
 
+// rtpw_packet_parse, then rtpw_values_read: it takes at most 288 bytes of the stack.
+TEXT ·text_packet_read(SB), 0, $304-44
+	NO_LOCAL_POINTERS
+	MOVD datagram+0(FP), R19
+	MOVD m+16(FP), R20
+	MOVD packet+24(FP), R21
+	MOVD values+32(FP), R22
+	MOVD n+8(FP), R23
+	ADD $304, RSP
+	MOVD R19, R0
+	MOVD R23, R1
+	MOVD R21, R2
+	CALL rtp_wire<>+89796(SB)
+	CBNZW R0, done
+	MOVBU 55(R21), R2
+	SUBW $1, R2, R3
+	CMPW $1, R3
+	BHI done
+	MOVD 24(R21), R0
+	ADD R19, R0
+	MOVD 32(R21), R1
+	MOVD R20, R3
+	MOVD R22, R4
+	CALL rtp_wire<>+63392(SB)
+done:
+	SUB $304, RSP
+	MOVW R0, ret+40(FP)
+	RET
+
+// rtpw_is_rtcp, then rtpw_packet_parse, then rtpw_values_read: it takes at most 288 bytes of the stack.
+TEXT ·text_packet_read_muxed(SB), 0, $304-44
+	NO_LOCAL_POINTERS
+	MOVD datagram+0(FP), R19
+	MOVD m+16(FP), R20
+	MOVD packet+24(FP), R21
+	MOVD values+32(FP), R22
+	MOVD n+8(FP), R23
+	ADD $304, RSP
+	MOVD R19, R0
+	MOVD R23, R1
+	CALL rtp_wire<>+57968(SB)
+	ANDW $255, R0, R3
+	MOVD $17, R0
+	CBNZW R3, done
+	MOVD R19, R0
+	MOVD R23, R1
+	MOVD R21, R2
+	CALL rtp_wire<>+89796(SB)
+	CBNZW R0, done
+	MOVBU 55(R21), R2
+	SUBW $1, R2, R3
+	CMPW $1, R3
+	BHI done
+	MOVD 24(R21), R0
+	ADD R19, R0
+	MOVD 32(R21), R1
+	MOVD R20, R3
+	MOVD R22, R4
+	CALL rtp_wire<>+63392(SB)
+done:
+	SUB $304, RSP
+	MOVW R0, ret+40(FP)
+	RET
+
 // The library, and its constants.
 TEXT rtp_wire<>(SB), NOSPLIT|NOFRAME, $0-0
 	NO_LOCAL_POINTERS

@@ -160,8 +160,8 @@ func TestWhatIsLent(t *testing.T) {
 	same(t, "shared", datagram[35], byte(9))
 
 	read := packet.Header()
-	_ = append(packet.CSRC(), 7)
-	same(t, "header after an append", packet.Header(), read)
+	_, _ = append(packet.CSRC(), 7), append(read.CSRC(), 8)
+	same(t, "header after an append", []any{packet.Header(), read}, []any{parsed(t, sample(), nil).Header(), parsed(t, sample(), nil).Header()})
 	packet.CSRC()[0] = 5
 	same(t, "shared", []any{packet.CSRC(), read.CSRC(), datagram[15]}, []any{[]uint32{5, 2}, []uint32{1, 2}, byte(1)})
 

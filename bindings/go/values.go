@@ -326,13 +326,25 @@ func (v *ReadValues) HasLayers() bool {
 	return v.hasLayers
 }
 
-// textOf is the text that a zero ends.
-func textOf(room []byte) string {
-	n := 0
-	for n < len(room) && room[n] != 0 {
-		n++
+// ofOneByte has the text of each byte.
+var ofOneByte = func() (texts [256]string) {
+	for i := range texts {
+		texts[i] = string([]byte{byte(i)})
 	}
-	return string(room[:n])
+	return texts
+}()
+
+// textOf is the text that a zero ends. Of one character, as nearly each mid is, it is no copy.
+func textOf(room []byte) string {
+	if c := room[0]; room[1] == 0 && c != 0 {
+		return ofOneByte[c]
+	}
+	for n, c := range room {
+		if c == 0 {
+			return string(room[:n])
+		}
+	}
+	return string(room)
 }
 
 func setText(room []byte, text string, has *bool) error {

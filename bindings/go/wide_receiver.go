@@ -33,18 +33,18 @@ func NewWideReceiver(words int, rolloverCount uint64) (*WideReceiver, error) {
 
 // ReceivePacket reads the packet that the datagram is, and takes it, as [Receiver.ReceivePacket] does.
 func (r *WideReceiver) ReceivePacket(datagram []byte, m *Map, p *Packet) (uint64, error) {
-	if err := p.read(datagram, m); err != nil {
+	if err := p.parse(datagram, m, true); err != nil {
 		return 0, err
 	}
-	return wideReceiverReceive(&r.state, r.words, p.header.SequenceNumber)
+	return wideReceiverReceive(&r.state, r.words, p.fields.SequenceNumber)
 }
 
 // CheckPacket reads the packet that the datagram is, and tests whether it may be taken, as [Receiver.CheckPacket] does.
 func (r *WideReceiver) CheckPacket(datagram []byte, m *Map, p *Packet) (uint64, error) {
-	if err := p.read(datagram, m); err != nil {
+	if err := p.parse(datagram, m, true); err != nil {
 		return 0, err
 	}
-	number := r.NumberOf(p.header.SequenceNumber)
+	number := r.NumberOf(p.fields.SequenceNumber)
 	if !r.Accepts(number) {
 		return number, ErrRefused
 	}

@@ -20,6 +20,7 @@ ARGUMENTS = ["DI", "SI", "DX", "CX", "R8", "R9"]
 RESULT = "AX"
 LOAD = {8: "MOVQ", 4: "MOVL", 2: "MOVWLZX", 1: "MOVBLZX"}
 STORE = {8: "MOVQ", 4: "MOVL", 2: "MOVW", 1: "MOVB"}
+IS_ODD = b"\x40\xf6\xc4\x08"  # test $8, %spl; of TESTB Go's assembler would say that it writes the stack pointer
 WORDS = ((8, "QUAD"), (4, "LONG"), (2, "WORD"), (1, "BYTE"))
 
 
@@ -190,13 +191,16 @@ def write_apart(out, linked, entry, frame):
 
 
 def write_call(out, linked, entry, frame, loads, rest, store):
-    """Calls the function, or what R11 has, with the stack pointer at a multiple of 16, whichever one it is here."""
+    """Calls the function, or what R11 has: one with places in the stack with the stack pointer at a multiple of 16, whichever
+    one it is here."""
     for load in loads:
         out.emit(load)
-    out.emit("\tMOVQ SP, AX")
-    out.emit("\tTESTB $8, AX")
-    out.emit("\tJNE odd")
-    for label, unaligned in ((None, 0), ("odd:", 1)):
+    ways = [(None, 0)]
+    if entry is None or linked.has_places(entry):
+        out.pending += IS_ODD
+        out.emit("\tJNE odd")
+        ways.append(("odd:", 1))
+    for label, unaligned in ways:
         out.emit(label)
         by = 8 * ((len(rest) + unaligned) % 2) - frame
         out.emit(f"\tADJSP ${by}" if by else None)
@@ -216,8 +220,9 @@ def write_repeated(out, linked, entry, frame, given, result, at_end, size):
     body, body_len, form, at, elements, count = (f"{place}(FP)" for place in given)
     for line in (f"MOVQ {body}, BX", f"MOVQ {body_len}, R12", f"MOVBLZX {form}, R13", f"MOVQ {at}, CX", f"MOVQ {elements}, R14"):
         out.emit("\t" + line)
-    for line in (f"MOVQ {count}, R15", "MOVQ SP, AX", "TESTB $8, AX", "JNE odd"):
-        out.emit("\t" + line)
+    out.emit(f"\tMOVQ {count}, R15")
+    out.pending += IS_ODD
+    out.emit("\tJNE odd")
     for suffix, unaligned in (("", 0), ("_odd", 1)):
         by = 8 * unaligned - frame
         out.emit("odd:" if unaligned else None)
@@ -232,4 +237,32 @@ def write_repeated(out, linked, entry, frame, given, result, at_end, size):
         out.emit(f"done{suffix}:")
         out.emit(f"\tADJSP ${-by}" if by else None)
         for line in (f"MOVQ {count}, AX", "SUBQ R15, AX", f"MOVQ AX, {result}(FP)", "RET"):
+            out.emit("\t" + line)
+
+
+def write_joined(out, linked, entries, frame, given, result, fields, rtcp):
+    """Calls the last function but one, and where it succeeds, and the block has one of the two forms with elements, the last
+    one; where there is one before these, it ends with the status rtcp where that one is true."""
+    datagram, size, kinds, packet, values = (f"{place}(FP)" for place in given)
+    form, body_at, body_len = (f"{at}(BX)" for at in fields)
+    *is_rtcp, parse, read = (f"CALL {linked.name}<>+{entry}(SB)" for entry in entries)
+    bytes_given = [f"MOVQ {datagram}, DI", f"MOVQ {size}, SI"]
+    out.pending += IS_ODD
+    out.emit("\tJNE odd")
+    for suffix, unaligned in (("", 0), ("_odd", 1)):
+        done, by = "done" + suffix, 8 * unaligned - frame
+        out.emit("odd:" if unaligned else None)
+        out.emit(f"\tADJSP ${by}" if by else None)
+        for call in is_rtcp:
+            for line in (*bytes_given, call, "TESTB AX, AX", f"MOVL ${rtcp}, AX", f"JNE {done}"):
+                out.emit("\t" + line)
+        for line in (*bytes_given, f"MOVQ {packet}, DX", parse, "TESTL AX, AX", f"JNE {done}", f"MOVQ {packet}, BX"):
+            out.emit("\t" + line)
+        for line in (f"MOVBLZX {form}, DX", "LEAL -1(DX), CX", "CMPL CX, $1", f"JHI {done}", f"MOVQ {datagram}, DI"):
+            out.emit("\t" + line)
+        for line in (f"ADDQ {body_at}, DI", f"MOVQ {body_len}, SI", f"MOVQ {kinds}, CX", f"MOVQ {values}, R8", read):
+            out.emit("\t" + line)
+        out.emit(f"{done}:")
+        out.emit(f"\tADJSP ${-by}" if by else None)
+        for line in (f"MOVL AX, {result}(FP)", "RET"):
             out.emit("\t" + line)

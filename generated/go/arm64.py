@@ -148,3 +148,26 @@ def write_repeated(out, linked, entry, frame, given, result, at_end, size):
     out.emit("done:")
     for line in (f"SUB ${frame}, RSP", f"MOVD {count}, R0", "SUB R23, R0", f"MOVD R0, {result}(FP)", "RET"):
         out.emit("\t" + line)
+
+
+def write_joined(out, linked, entries, frame, given, result, fields, rtcp):
+    """Calls the last function but one, and where it succeeds, and the block has one of the two forms with elements, the last
+    one; where there is one before these, it ends with the status rtcp where that one is true."""
+    datagram, size, kinds, packet, values = (f"{place}(FP)" for place in given)
+    form, body_at, body_len = (f"{at}(R21)" for at in fields)
+    *is_rtcp, parse, read = (f"CALL {linked.name}<>+{entry}(SB)" for entry in entries)
+    for line in (f"MOVD {datagram}, R19", f"MOVD {kinds}, R20", f"MOVD {packet}, R21", f"MOVD {values}, R22", f"MOVD {size}, R23"):
+        out.emit("\t" + line)
+    out.emit(f"\tADD ${frame}, RSP")
+    for call in is_rtcp:
+        for line in ("MOVD R19, R0", "MOVD R23, R1", call, "ANDW $255, R0, R3", f"MOVD ${rtcp}, R0", "CBNZW R3, done"):
+            out.emit("\t" + line)
+    for line in ("MOVD R19, R0", "MOVD R23, R1", "MOVD R21, R2", parse, "CBNZW R0, done", f"MOVBU {form}, R2"):
+        out.emit("\t" + line)
+    for line in ("SUBW $1, R2, R3", "CMPW $1, R3", "BHI done", f"MOVD {body_at}, R0", "ADD R19, R0", f"MOVD {body_len}, R1"):
+        out.emit("\t" + line)
+    for line in ("MOVD R20, R3", "MOVD R22, R4", read):
+        out.emit("\t" + line)
+    out.emit("done:")
+    for line in (f"SUB ${frame}, RSP", f"MOVW R0, {result}(FP)", "RET"):
+        out.emit("\t" + line)

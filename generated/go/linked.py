@@ -108,9 +108,11 @@ class Linked:
         self.taken = self.processor.taken(self, frames)
 
     def read_calls(self):
-        self.calls = defaultdict(list)
+        self.calls, self.with_places = defaultdict(list), set()
         for it in self.instructions:
             begin = self.function_of.get(it.at)
+            if "%rsp" in it.words:
+                self.with_places.add(begin)
             to = None if begin is None else self.processor.target_of(it)
             if to is not None:
                 is_call = self.processor.is_call(it)
@@ -128,6 +130,10 @@ class Linked:
             calls = ((to, by) for to, by in self.calls[begin])
             self.depths[begin] = max([self.frame(begin) + self.processor.RED_ZONE, *(by + self.depth(to, above + (begin,)) for to, by in calls)])
         return self.depths[begin]
+
+    def has_places(self, begin):
+        """Whether a function, or one that it calls, has anything in the stack but registers that it saves."""
+        return begin in self.with_places or any(self.has_places(to) for to, _ in self.calls[begin])
 
     def frame(self, begin):
         """The most that a function takes by itself."""
