@@ -4,11 +4,11 @@
 usage: text.py amd64|arm64 TEXT MEMORY FOLDER
 
 FOLDER/rtp_wire_ARCH.s gets the bytes that binutils make of TEXT and MEMORY, linked at address 0, as one symbol, and in
-front of it a function of Go for each of bindings/c/rtp_wire.h that Go's package calls (bindings/described/go.py), and one
-that calls rtpw_next_element for one element after the other. What it and what it calls take of the stack is known by the frame information and the call graph: on amd64 it doesn't ask for the stack where that is less
-than Go keeps for those that don't, and else it has a frame with room for all. FOLDER/*_ARCH.bytes and FOLDER/*_ARCH.sites
-have what is compared with what Go linked: these bytes, and the places that Go's linker fills in, with what it has to fill
-in where that is known.
+front of it a function of Go for each of bindings/c/rtp_wire.h that Go's package calls (bindings/described/go.py). What it
+and what it calls take of the stack is known by the frame information and the call graph: on amd64 it doesn't ask for the
+stack where that is less than Go keeps for those that don't, and else it has a frame with room for all. FOLDER/*_ARCH.bytes
+and FOLDER/*_ARCH.sites have what is compared with what Go linked: these bytes, and the places that Go's linker fills in,
+with what it has to fill in where that is known.
 
 On amd64 Go is told at each instruction how far the caller's frame is. Of a function that doesn't ask for its stack its
 linker takes no frame as large as those of two of the library have. Each of these, which no other calls, stands behind the
@@ -28,7 +28,7 @@ import amd64
 import arm64
 from described import go
 from described.header import SIZES, read
-from linked import Linked, Refused, insist, run
+from linked import Linked, Refused, run
 
 
 class Text:
@@ -68,20 +68,6 @@ class Text:
             p.write_apart(self, linked, entry, frame)
             entry = None
         p.write_call(self, linked, entry, frame, loads, rest, store)
-        self.emit("")
-
-    def repeating(self, linked, it, once, element):
-        """The function of Go that calls one of the library again and again, from the end of each element on."""
-        given, end = go.places_of(it)
-        p, entry = self.processor, linked.address[once]
-        need = linked.depths[entry] + p.RETURN_ADDRESS
-        frame = p.frame_for(need, 0)
-        self.emit(f"// {once}, once for each element: it takes at most {need} bytes of the stack.")
-        self.emit(f"TEXT ·{go.text_of(it)}(SB), {0 if frame else 'NOSPLIT'}, ${frame}-{end + 8}")
-        self.emit("\tNO_LOCAL_POINTERS")
-        insist([width for _, width in given] == [8, 8, 1, 8, 8, 8], "other parameters of", once)
-        at_end = next(field.at for field in element.fields if field.name == "end")
-        p.write_repeated(self, linked, entry, frame, [place for place, _ in given], f"ret+{end}", at_end, element.size)
         self.emit("")
 
     def library(self, linked):
@@ -126,7 +112,6 @@ def main():
     out.lines += ["", "//go:build gc", "", '#include "textflag.h"', '#include "funcdata.h"', ""]
     for it in functions:
         out.function(linked, it)
-    out.repeating(linked, go.repeated(api), "rtpw_next_element", next(it for it in api.structs if it.name == "rtpw_element"))
     out.library(linked)
     out.flush()
     (Path(folder) / f"rtp_wire_{arch}.s").write_text("\n".join(out.lines).rstrip() + "\n")
