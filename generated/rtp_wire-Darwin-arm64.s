@@ -4,8 +4,8 @@
  * kit: rattle-kit-13f logic dac8208d650f15bf
  * proved for: x86_64-unknown-linux-gnu
  * compiled for: arm64-apple-macosx11.0.0
- * sources: 37fab6e09a20af966c39c8e622aacf088c3813575c03d6150f37115fc6cf2018
- * text: 651b8b50e44c380498cfa0ae30e98b82feb804b669c312e722b86260f7797d2b
+ * sources: a9a22890dc1864b20bf5bd6ee9b8d15572bb3c0c21b0d91a9de684c80e427114
+ * text: 3a310e6ad22916b09d2eb1fbdfe6236cad7b95337112c88cf0c292dc97a10997
  * SPDX-License-Identifier: MIT OR Apache-2.0
  * Copyright (c) 2026 The rtp-wire developers (NOTICE)
  */
@@ -19687,6 +19687,175 @@ _rtpw_next_element:
 	ret
 	.cfi_endproc
 
+	.globl	_rtpw_next_elements
+	.p2align	2
+_rtpw_next_elements:
+	.cfi_startproc
+	stp	x24,x23,[sp,#-64]!
+	stp	x22,x21,[sp,#16]
+	stp	x20,x19,[sp,#32]
+	stp	x29,x30,[sp,#48]
+	.cfi_def_cfa_offset 64
+	.cfi_offset w30,-8
+	.cfi_offset w29,-16
+	.cfi_offset w19,-24
+	.cfi_offset w20,-32
+	.cfi_offset w21,-40
+	.cfi_offset w22,-48
+	.cfi_offset w23,-56
+	.cfi_offset w24,-64
+	mov	w8,#4096
+	cmp	x0,#0
+	csel	x9,x8,xzr,eq
+	add	x19,x0,x9
+	cmp	x4,#0
+	csel	x8,x8,xzr,eq
+	and	w9,w2,#0xff
+	cmp	w9,#2
+	b.eq	1f
+	mov	x0,#0
+	cmp	w9,#1
+	b.ne	2f
+	mov	x0,#0
+	cmp	x3,x1
+	b.hi	2f
+	cbz	x5,2f
+	mov	x0,#0
+	add	x8,x8,x4
+	add	x20,x8,#25
+3:
+	subs	x8,x1,x3
+	b.eq	2f
+	add	x10,x19,x3
+	ldrb	w9,[x10]
+	cbnz	w9,4f
+	cmp	x8,#2
+	b.eq	5f
+	cmp	x8,#1
+	b.eq	2f
+	cmp	x8,#3
+	b.hi	6f
+	ldrb	w9,[x10,#1]
+	cbnz	w9,6f
+	ldrb	w9,[x10,#2]
+	cbnz	w9,6f
+	b	2f
+5:
+	ldrb	w9,[x10,#1]
+	cbz	w9,2f
+6:
+	mov	x22,x1
+	mov	x23,x5
+	mov	x21,x0
+	sub	x1,x8,#1
+	add	x0,x10,#1
+	bl	_rtp_ext.elements.skip_zeros
+	cbz	x1,5f
+	mov	x8,x1
+	ldrb	w9,[x0]
+	mov	x0,x21
+	mov	x5,x23
+	mov	x1,x22
+4:
+	cmp	w9,#239
+	and	w10,w9,#0xf
+	add	w10,w10,#2
+	ccmp	x10,x8,#2,ls
+	b.hi	2f
+	sub	x11,x10,#1
+	sub	x8,x10,x8
+	add	x3,x8,x1
+	sub	x8,x3,x11
+	stur	x8,[x20,#-25]
+	stur	x11,[x20,#-17]
+	lsr	w8,w9,#4
+	stur	x3,[x20,#-9]
+	sturb	w8,[x20,#-1]
+	str	wzr,[x20]
+	stur	wzr,[x20,#3]
+	add	x0,x0,#1
+	add	x20,x20,#32
+	cmp	x5,x0
+	b.ne	3b
+	b	3f
+1:
+	mov	x0,#0
+	cmp	x3,x1
+	b.hi	2f
+	cbz	x5,2f
+	mov	x0,#0
+	add	x8,x8,x4
+	add	x20,x8,#25
+1:
+	subs	x9,x1,x3
+	b.eq	2f
+	add	x8,x19,x3
+	ldrb	w10,[x8]
+	cbnz	w10,4f
+	cmp	x9,#2
+	b.eq	6f
+	cmp	x9,#1
+	b.eq	2f
+	cmp	x9,#3
+	b.hi	7f
+	ldrb	w10,[x8,#1]
+	cbnz	w10,7f
+	ldrb	w10,[x8,#2]
+	cbnz	w10,7f
+	b	2f
+6:
+	ldrb	w10,[x8,#1]
+	cbz	w10,2f
+7:
+	mov	x22,x1
+	mov	x23,x5
+	mov	x21,x0
+	sub	x1,x9,#1
+	add	x0,x8,#1
+	bl	_rtp_ext.elements.skip_zeros
+	cbz	x1,5f
+	mov	x8,x0
+	mov	x9,x1
+	mov	x0,x21
+	mov	x5,x23
+	mov	x1,x22
+4:
+	cmp	x9,#2
+	b.lo	2f
+	ldrb	w10,[x8,#1]
+	add	x11,x10,#2
+	subs	x9,x11,x9
+	b.hi	2f
+	ldrb	w8,[x8]
+	add	x3,x9,x1
+	sub	x9,x3,x10
+	stur	x9,[x20,#-25]
+	stur	x10,[x20,#-17]
+	stur	x3,[x20,#-9]
+	sturb	w8,[x20,#-1]
+	str	wzr,[x20]
+	stur	wzr,[x20,#3]
+	add	x0,x0,#1
+	add	x20,x20,#32
+	cmp	x5,x0
+	b.ne	1b
+3:
+	mov	x0,x5
+2:
+	ldp	x29,x30,[sp,#48]
+	ldp	x20,x19,[sp,#32]
+	ldp	x22,x21,[sp,#16]
+	ldp	x24,x23,[sp],#64
+	ret
+5:
+	mov	x0,x21
+	ldp	x29,x30,[sp,#48]
+	ldp	x20,x19,[sp,#32]
+	ldp	x22,x21,[sp,#16]
+	ldp	x24,x23,[sp],#64
+	ret
+	.cfi_endproc
+
 	.globl	_rtpw_pad
 	.p2align	2
 _rtpw_pad:
@@ -19778,12 +19947,12 @@ _rtpw_pad:
 
 	.section	__TEXT,__literal8,8byte_literals
 	.p2align	3,0x0
-lrtp_CPI98_0:
+lrtp_CPI99_0:
 	.short	65529
 	.short	65530
 	.short	0
 	.short	0
-lrtp_CPI98_1:
+lrtp_CPI99_1:
 	.short	255
 	.short	1
 	.short	63
@@ -19810,14 +19979,14 @@ _rtpw_read_dependency_descriptor:
 	mov.h	v1[2],v0[0]
 	bic.4h	v1,#255,lsl #8
 Lrtp_loh150:
-	adrp	x9,lrtp_CPI98_0@PAGE
+	adrp	x9,lrtp_CPI99_0@PAGE
 Lrtp_loh151:
-	ldr	d0,[x9,lrtp_CPI98_0@PAGEOFF]
+	ldr	d0,[x9,lrtp_CPI99_0@PAGEOFF]
 	ushl.4h	v0,v1,v0
 Lrtp_loh152:
-	adrp	x9,lrtp_CPI98_1@PAGE
+	adrp	x9,lrtp_CPI99_1@PAGE
 Lrtp_loh153:
-	ldr	d1,[x9,lrtp_CPI98_1@PAGEOFF]
+	ldr	d1,[x9,lrtp_CPI99_1@PAGEOFF]
 	ldurh	w8,[x8,#1]
 	rev	w8,w8
 	lsr	w8,w8,#16
@@ -20777,12 +20946,12 @@ _rtpw_write_original:
 
 	.section	__TEXT,__literal16,16byte_literals
 	.p2align	4,0x0
-lrtp_CPI121_0:
+lrtp_CPI122_0:
 	.long	4294967272
 	.long	4294967280
 	.long	4294967288
 	.long	0
-lrtp_CPI121_1:
+lrtp_CPI122_1:
 	.long	4294967280
 	.long	4294967288
 	.long	0
@@ -20810,9 +20979,9 @@ _rtpw_write_report:
 	add	x11,x4,x11
 	dup.4s	v0,w1
 Lrtp_loh154:
-	adrp	x12,lrtp_CPI121_0@PAGE
+	adrp	x12,lrtp_CPI122_0@PAGE
 Lrtp_loh155:
-	ldr	q1,[x12,lrtp_CPI121_0@PAGEOFF]
+	ldr	q1,[x12,lrtp_CPI122_0@PAGEOFF]
 	ushl.4s	v0,v0,v1
 	ldr	d1,[x8,#8]
 	zip1.4s	v2,v1,v1
@@ -20829,9 +20998,9 @@ Lrtp_loh155:
 	dup.4s	v4,v3[3]
 	mov.s	v4[3],w3
 Lrtp_loh156:
-	adrp	x8,lrtp_CPI121_1@PAGE
+	adrp	x8,lrtp_CPI122_1@PAGE
 Lrtp_loh157:
-	ldr	q5,[x8,lrtp_CPI121_1@PAGEOFF]
+	ldr	q5,[x8,lrtp_CPI122_1@PAGEOFF]
 	ushl.4s	v1,v1,v5
 	ushl.4s	v2,v2,v5
 	ushl.4s	v3,v3,v5
@@ -22288,7 +22457,7 @@ _rtpw_parse_many:
 
 	.section	__TEXT,__literal16,16byte_literals
 	.p2align	4,0x0
-lrtp_CPI133_0:
+lrtp_CPI134_0:
 	.byte	0
 	.byte	8
 	.byte	16
@@ -22431,9 +22600,9 @@ _rtpw_prepare_group:
 	zip1.2d	v3,v6,v5
 	ld1.d	{ v4 }[1],[x17]
 Lrtp_loh158:
-	adrp	x17,lrtp_CPI133_0@PAGE
+	adrp	x17,lrtp_CPI134_0@PAGE
 Lrtp_loh159:
-	ldr	q0,[x17,lrtp_CPI133_0@PAGEOFF]
+	ldr	q0,[x17,lrtp_CPI134_0@PAGEOFF]
 	tbl.16b	v0,{ v1,v2,v3,v4 },v0
 	str	d0,[x14],#8
 	add	x13,x13,#256
@@ -25713,7 +25882,7 @@ _rtpw_set_timestamp:
 
 	.section	__TEXT,__literal16,16byte_literals
 	.p2align	4,0x0
-lrtp_CPI150_0:
+lrtp_CPI151_0:
 	.quad	1
 	.quad	0
 	.section	__TEXT,__text,regular,pure_instructions
@@ -25757,9 +25926,9 @@ _rtpw_receiver_record:
 1:
 	str	x1,[x0]
 Lrtp_loh160:
-	adrp	x8,lrtp_CPI150_0@PAGE
+	adrp	x8,lrtp_CPI151_0@PAGE
 Lrtp_loh161:
-	ldr	q0,[x8,lrtp_CPI150_0@PAGEOFF]
+	ldr	q0,[x8,lrtp_CPI151_0@PAGEOFF]
 	stur	q0,[x0,#8]
 	mov	w8,#1
 	strb	w8,[x0,#24]
@@ -26042,7 +26211,7 @@ _rtpw_restarting_receive:
 
 	.section	__TEXT,__literal16,16byte_literals
 	.p2align	4,0x0
-lrtp_CPI153_0:
+lrtp_CPI154_0:
 	.byte	0
 	.byte	8
 	.byte	16
@@ -26956,9 +27125,9 @@ _rtpw_make_from_group:
 	ushr.2d	v16,v4,#32
 	stp	q5,q6,[x11],#32
 Lrtp_loh162:
-	adrp	x15,lrtp_CPI153_0@PAGE
+	adrp	x15,lrtp_CPI154_0@PAGE
 Lrtp_loh163:
-	ldr	q5,[x15,lrtp_CPI153_0@PAGEOFF]
+	ldr	q5,[x15,lrtp_CPI154_0@PAGEOFF]
 	tbl.16b	v5,{ v16,v17,v18,v19 },v5
 	str	d5,[x13],#8
 	uzp2.4s	v1,v2,v1
@@ -26978,7 +27147,7 @@ Lrtp_loh163:
 
 	.section	__TEXT,__literal16,16byte_literals
 	.p2align	4,0x0
-lrtp_CPI154_0:
+lrtp_CPI155_0:
 	.byte	0
 	.byte	8
 	.byte	16
@@ -27693,9 +27862,9 @@ _rtpw_make_template:
 	ushr.2d	v16,v4,#32
 	stp	q5,q6,[x11],#32
 Lrtp_loh164:
-	adrp	x15,lrtp_CPI154_0@PAGE
+	adrp	x15,lrtp_CPI155_0@PAGE
 Lrtp_loh165:
-	ldr	q5,[x15,lrtp_CPI154_0@PAGEOFF]
+	ldr	q5,[x15,lrtp_CPI155_0@PAGEOFF]
 	tbl.16b	v5,{ v16,v17,v18,v19 },v5
 	str	d5,[x13],#8
 	uzp2.4s	v1,v2,v1
@@ -29329,7 +29498,7 @@ _rtpw_read_many:
 
 	.section	__TEXT,__literal16,16byte_literals
 	.p2align	4,0x0
-lrtp_CPI170_0:
+lrtp_CPI171_0:
 	.byte	104
 	.byte	116
 	.byte	116
@@ -29346,7 +29515,7 @@ lrtp_CPI170_0:
 	.byte	98
 	.byte	114
 	.byte	116
-lrtp_CPI170_1:
+lrtp_CPI171_1:
 	.byte	99
 	.byte	46
 	.byte	111
@@ -29363,7 +29532,7 @@ lrtp_CPI170_1:
 	.byte	101
 	.byte	110
 	.byte	116
-lrtp_CPI170_2:
+lrtp_CPI171_2:
 	.byte	115
 	.byte	47
 	.byte	114
@@ -29380,7 +29549,7 @@ lrtp_CPI170_2:
 	.byte	97
 	.byte	98
 	.byte	115
-lrtp_CPI170_3:
+lrtp_CPI171_3:
 	.byte	120
 	.byte	116
 	.byte	47
@@ -29397,7 +29566,7 @@ lrtp_CPI170_3:
 	.byte	105
 	.byte	109
 	.byte	101
-lrtp_CPI170_4:
+lrtp_CPI171_4:
 	.byte	117
 	.byte	114
 	.byte	110
@@ -29414,7 +29583,7 @@ lrtp_CPI170_4:
 	.byte	109
 	.byte	115
 	.byte	58
-lrtp_CPI170_5:
+lrtp_CPI171_5:
 	.byte	114
 	.byte	116
 	.byte	112
@@ -29431,7 +29600,7 @@ lrtp_CPI170_5:
 	.byte	112
 	.byte	45
 	.byte	54
-lrtp_CPI170_6:
+lrtp_CPI171_6:
 	.byte	116
 	.byte	112
 	.byte	45
@@ -29448,7 +29617,7 @@ lrtp_CPI170_6:
 	.byte	45
 	.byte	54
 	.byte	52
-lrtp_CPI170_7:
+lrtp_CPI171_7:
 	.byte	114
 	.byte	116
 	.byte	112
@@ -29465,7 +29634,7 @@ lrtp_CPI170_7:
 	.byte	112
 	.byte	45
 	.byte	53
-lrtp_CPI170_8:
+lrtp_CPI171_8:
 	.byte	116
 	.byte	112
 	.byte	45
@@ -29482,7 +29651,7 @@ lrtp_CPI170_8:
 	.byte	45
 	.byte	53
 	.byte	54
-lrtp_CPI170_9:
+lrtp_CPI171_9:
 	.byte	115
 	.byte	47
 	.byte	114
@@ -29499,7 +29668,7 @@ lrtp_CPI170_9:
 	.byte	112
 	.byte	108
 	.byte	97
-lrtp_CPI170_10:
+lrtp_CPI171_10:
 	.byte	120
 	.byte	116
 	.byte	47
@@ -29649,30 +29818,30 @@ Lrtp_loh183:
 	b	5f
 11:
 Lrtp_loh184:
-	adrp	x8,lrtp_CPI170_0@PAGE
+	adrp	x8,lrtp_CPI171_0@PAGE
 Lrtp_loh185:
-	ldr	q2,[x8,lrtp_CPI170_0@PAGEOFF]
+	ldr	q2,[x8,lrtp_CPI171_0@PAGEOFF]
 	ldp	q0,q1,[x19]
 	cmeq.16b	v2,v0,v2
 	mvn.16b	v2,v2
 Lrtp_loh186:
-	adrp	x8,lrtp_CPI170_1@PAGE
+	adrp	x8,lrtp_CPI171_1@PAGE
 Lrtp_loh187:
-	ldr	q3,[x8,lrtp_CPI170_1@PAGEOFF]
+	ldr	q3,[x8,lrtp_CPI171_1@PAGEOFF]
 	cmeq.16b	v3,v1,v3
 	orn.16b	v3,v2,v3
 	ldr	q2,[x19,#32]
 Lrtp_loh188:
-	adrp	x8,lrtp_CPI170_2@PAGE
+	adrp	x8,lrtp_CPI171_2@PAGE
 Lrtp_loh189:
-	ldr	q4,[x8,lrtp_CPI170_2@PAGEOFF]
+	ldr	q4,[x8,lrtp_CPI171_2@PAGEOFF]
 	cmeq.16b	v4,v2,v4
 	orn.16b	v4,v3,v4
 	ldur	q3,[x19,#42]
 Lrtp_loh190:
-	adrp	x8,lrtp_CPI170_3@PAGE
+	adrp	x8,lrtp_CPI171_3@PAGE
 Lrtp_loh191:
-	ldr	q5,[x8,lrtp_CPI170_3@PAGEOFF]
+	ldr	q5,[x8,lrtp_CPI171_3@PAGEOFF]
 	cmeq.16b	v5,v3,v5
 	orn.16b	v4,v4,v5
 	umaxv.16b	b4,v4
@@ -29789,27 +29958,27 @@ Lrtp_loh205:
 	ldur	q3,[x19,#42]
 12:
 Lrtp_loh206:
-	adrp	x8,lrtp_CPI170_0@PAGE
+	adrp	x8,lrtp_CPI171_0@PAGE
 Lrtp_loh207:
-	ldr	q4,[x8,lrtp_CPI170_0@PAGEOFF]
+	ldr	q4,[x8,lrtp_CPI171_0@PAGEOFF]
 	cmeq.16b	v0,v0,v4
 Lrtp_loh208:
-	adrp	x8,lrtp_CPI170_1@PAGE
+	adrp	x8,lrtp_CPI171_1@PAGE
 Lrtp_loh209:
-	ldr	q4,[x8,lrtp_CPI170_1@PAGEOFF]
+	ldr	q4,[x8,lrtp_CPI171_1@PAGEOFF]
 	cmeq.16b	v1,v1,v4
 	mvn.16b	v1,v1
 	orn.16b	v0,v1,v0
 Lrtp_loh210:
-	adrp	x8,lrtp_CPI170_9@PAGE
+	adrp	x8,lrtp_CPI171_9@PAGE
 Lrtp_loh211:
-	ldr	q1,[x8,lrtp_CPI170_9@PAGEOFF]
+	ldr	q1,[x8,lrtp_CPI171_9@PAGEOFF]
 	cmeq.16b	v1,v2,v1
 	orn.16b	v0,v0,v1
 Lrtp_loh212:
-	adrp	x8,lrtp_CPI170_10@PAGE
+	adrp	x8,lrtp_CPI171_10@PAGE
 Lrtp_loh213:
-	ldr	q1,[x8,lrtp_CPI170_10@PAGEOFF]
+	ldr	q1,[x8,lrtp_CPI171_10@PAGEOFF]
 	cmeq.16b	v1,v3,v1
 	orn.16b	v0,v0,v1
 	umaxv.16b	b0,v0
@@ -29819,22 +29988,22 @@ Lrtp_loh213:
 	b	4b
 20:
 Lrtp_loh214:
-	adrp	x8,lrtp_CPI170_4@PAGE
+	adrp	x8,lrtp_CPI171_4@PAGE
 Lrtp_loh215:
-	ldr	q0,[x8,lrtp_CPI170_4@PAGEOFF]
+	ldr	q0,[x8,lrtp_CPI171_4@PAGEOFF]
 	ldp	q2,q1,[x19]
 	cmeq.16b	v0,v2,v0
 Lrtp_loh216:
-	adrp	x8,lrtp_CPI170_5@PAGE
+	adrp	x8,lrtp_CPI171_5@PAGE
 Lrtp_loh217:
-	ldr	q2,[x8,lrtp_CPI170_5@PAGEOFF]
+	ldr	q2,[x8,lrtp_CPI171_5@PAGEOFF]
 	cmeq.16b	v2,v1,v2
 	mvn.16b	v3,v2
 	ldur	q2,[x19,#17]
 Lrtp_loh218:
-	adrp	x8,lrtp_CPI170_6@PAGE
+	adrp	x8,lrtp_CPI171_6@PAGE
 Lrtp_loh219:
-	ldr	q4,[x8,lrtp_CPI170_6@PAGEOFF]
+	ldr	q4,[x8,lrtp_CPI171_6@PAGEOFF]
 	cmeq.16b	v4,v2,v4
 	orn.16b	v3,v3,v4
 	orn.16b	v3,v3,v0
@@ -29842,15 +30011,15 @@ Lrtp_loh219:
 	fmov	w8,s3
 	tbz	w8,#0,4f
 Lrtp_loh220:
-	adrp	x8,lrtp_CPI170_7@PAGE
+	adrp	x8,lrtp_CPI171_7@PAGE
 Lrtp_loh221:
-	ldr	q3,[x8,lrtp_CPI170_7@PAGEOFF]
+	ldr	q3,[x8,lrtp_CPI171_7@PAGEOFF]
 	cmeq.16b	v1,v1,v3
 	mvn.16b	v1,v1
 Lrtp_loh222:
-	adrp	x8,lrtp_CPI170_8@PAGE
+	adrp	x8,lrtp_CPI171_8@PAGE
 Lrtp_loh223:
-	ldr	q3,[x8,lrtp_CPI170_8@PAGEOFF]
+	ldr	q3,[x8,lrtp_CPI171_8@PAGEOFF]
 	cmeq.16b	v2,v2,v3
 	orn.16b	v1,v1,v2
 	orn.16b	v0,v1,v0
@@ -30453,7 +30622,7 @@ _rtpw_read_color_space:
 
 	.section	__TEXT,__literal8,8byte_literals
 	.p2align	3,0x0
-lrtp_CPI173_0:
+lrtp_CPI174_0:
 	.short	0
 	.short	65530
 	.short	65531
@@ -30507,9 +30676,9 @@ _rtpw_read_frame_marking:
 	umov.b	w14,v0[0]
 	dup.4h	v1,w14
 Lrtp_loh264:
-	adrp	x14,lrtp_CPI173_0@PAGE
+	adrp	x14,lrtp_CPI174_0@PAGE
 Lrtp_loh265:
-	ldr	d2,[x14,lrtp_CPI173_0@PAGEOFF]
+	ldr	d2,[x14,lrtp_CPI174_0@PAGEOFF]
 	zip1.8b	v0,v0,v0
 	bic.4h	v0,#255,lsl #8
 	bic.4h	v1,#255,lsl #8
@@ -30598,7 +30767,7 @@ _rtpw_read_timing:
 
 	.section	__TEXT,__literal16,16byte_literals
 	.p2align	4,0x0
-lrtp_CPI175_0:
+lrtp_CPI176_0:
 	.byte	1
 	.byte	2
 	.byte	4
@@ -30692,9 +30861,9 @@ _rtpw_left_out:
 	cmeq.16b	v0,v0,v2
 	bic.16b	v0,v1,v0
 Lrtp_loh266:
-	adrp	x10,lrtp_CPI175_0@PAGE
+	adrp	x10,lrtp_CPI176_0@PAGE
 Lrtp_loh267:
-	ldr	q1,[x10,lrtp_CPI175_0@PAGEOFF]
+	ldr	q1,[x10,lrtp_CPI176_0@PAGEOFF]
 	and.16b	v0,v0,v1
 	ext.16b	v1,v0,v0,#8
 	zip1.16b	v0,v0,v1
@@ -30927,9 +31096,9 @@ Lrtp_loh267:
 2:
 	ldr	q0,[x20]
 Lrtp_loh268:
-	adrp	x9,lrtp_CPI175_0@PAGE
+	adrp	x9,lrtp_CPI176_0@PAGE
 Lrtp_loh269:
-	ldr	q1,[x9,lrtp_CPI175_0@PAGEOFF]
+	ldr	q1,[x9,lrtp_CPI176_0@PAGEOFF]
 	cmeq.16b	v0,v0,#0
 	bic.16b	v0,v1,v0
 	ext.16b	v1,v0,v0,#8
@@ -31191,7 +31360,7 @@ Lrtp_loh271:
 
 	.section	__TEXT,__literal16,16byte_literals
 	.p2align	4,0x0
-lrtp_CPI176_0:
+lrtp_CPI177_0:
 	.byte	1
 	.byte	2
 	.byte	4
@@ -31286,9 +31455,9 @@ _rtpw_left_out_layers:
 	cmeq.16b	v0,v0,v2
 	bic.16b	v0,v1,v0
 Lrtp_loh272:
-	adrp	x9,lrtp_CPI176_0@PAGE
+	adrp	x9,lrtp_CPI177_0@PAGE
 Lrtp_loh273:
-	ldr	q1,[x9,lrtp_CPI176_0@PAGEOFF]
+	ldr	q1,[x9,lrtp_CPI177_0@PAGEOFF]
 	and.16b	v0,v0,v1
 	ext.16b	v1,v0,v0,#8
 	zip1.16b	v0,v0,v1
@@ -31541,9 +31710,9 @@ Lrtp_loh273:
 4:
 	ldr	q0,[x8]
 Lrtp_loh274:
-	adrp	x9,lrtp_CPI176_0@PAGE
+	adrp	x9,lrtp_CPI177_0@PAGE
 Lrtp_loh275:
-	ldr	q1,[x9,lrtp_CPI176_0@PAGEOFF]
+	ldr	q1,[x9,lrtp_CPI177_0@PAGEOFF]
 	cmeq.16b	v0,v0,#0
 	bic.16b	v0,v1,v0
 	ext.16b	v1,v0,v0,#8
@@ -31816,7 +31985,7 @@ Lrtp_loh277:
 
 	.section	__TEXT,__literal16,16byte_literals
 	.p2align	4,0x0
-lrtp_CPI177_0:
+lrtp_CPI178_0:
 	.byte	1
 	.byte	2
 	.byte	4
@@ -31900,9 +32069,9 @@ _rtpw_wire_len:
 	cmeq.16b	v0,v0,v2
 	bic.16b	v0,v1,v0
 Lrtp_loh278:
-	adrp	x10,lrtp_CPI177_0@PAGE
+	adrp	x10,lrtp_CPI178_0@PAGE
 Lrtp_loh279:
-	ldr	q1,[x10,lrtp_CPI177_0@PAGEOFF]
+	ldr	q1,[x10,lrtp_CPI178_0@PAGEOFF]
 	and.16b	v0,v0,v1
 	ext.16b	v1,v0,v0,#8
 	zip1.16b	v0,v0,v1
@@ -32108,9 +32277,9 @@ Lrtp_loh279:
 2:
 	ldr	q0,[x0]
 Lrtp_loh280:
-	adrp	x13,lrtp_CPI177_0@PAGE
+	adrp	x13,lrtp_CPI178_0@PAGE
 Lrtp_loh281:
-	ldr	q1,[x13,lrtp_CPI177_0@PAGEOFF]
+	ldr	q1,[x13,lrtp_CPI178_0@PAGEOFF]
 	cmeq.16b	v0,v0,#0
 	bic.16b	v0,v1,v0
 	ext.16b	v1,v0,v0,#8
@@ -32274,7 +32443,7 @@ Lrtp_loh281:
 
 	.section	__TEXT,__literal16,16byte_literals
 	.p2align	4,0x0
-lrtp_CPI178_0:
+lrtp_CPI179_0:
 	.byte	1
 	.byte	2
 	.byte	4
@@ -32361,9 +32530,9 @@ _rtpw_wire_len_layers:
 	cmeq.16b	v0,v0,v2
 	bic.16b	v0,v1,v0
 Lrtp_loh282:
-	adrp	x9,lrtp_CPI178_0@PAGE
+	adrp	x9,lrtp_CPI179_0@PAGE
 Lrtp_loh283:
-	ldr	q1,[x9,lrtp_CPI178_0@PAGEOFF]
+	ldr	q1,[x9,lrtp_CPI179_0@PAGEOFF]
 	and.16b	v0,v0,v1
 	ext.16b	v1,v0,v0,#8
 	zip1.16b	v0,v0,v1
@@ -32584,9 +32753,9 @@ Lrtp_loh283:
 3:
 	ldr	q0,[x0]
 Lrtp_loh284:
-	adrp	x8,lrtp_CPI178_0@PAGE
+	adrp	x8,lrtp_CPI179_0@PAGE
 Lrtp_loh285:
-	ldr	q1,[x8,lrtp_CPI178_0@PAGEOFF]
+	ldr	q1,[x8,lrtp_CPI179_0@PAGEOFF]
 	cmeq.16b	v0,v0,#0
 	bic.16b	v0,v1,v0
 	ext.16b	v1,v0,v0,#8
@@ -32747,7 +32916,7 @@ Lrtp_loh285:
 
 	.section	__TEXT,__literal16,16byte_literals
 	.p2align	4,0x0
-lrtp_CPI179_0:
+lrtp_CPI180_0:
 	.byte	1
 	.byte	2
 	.byte	4
@@ -32845,9 +33014,9 @@ _rtpw_write_layers:
 	cmeq.16b	v0,v0,v2
 	bic.16b	v0,v1,v0
 Lrtp_loh286:
-	adrp	x9,lrtp_CPI179_0@PAGE
+	adrp	x9,lrtp_CPI180_0@PAGE
 Lrtp_loh287:
-	ldr	q1,[x9,lrtp_CPI179_0@PAGEOFF]
+	ldr	q1,[x9,lrtp_CPI180_0@PAGEOFF]
 	and.16b	v0,v0,v1
 	ext.16b	v1,v0,v0,#8
 	zip1.16b	v0,v0,v1
@@ -33117,9 +33286,9 @@ Lrtp_loh287:
 4:
 	ldr	q0,[x0]
 Lrtp_loh288:
-	adrp	x8,lrtp_CPI179_0@PAGE
+	adrp	x8,lrtp_CPI180_0@PAGE
 Lrtp_loh289:
-	ldr	q1,[x8,lrtp_CPI179_0@PAGEOFF]
+	ldr	q1,[x8,lrtp_CPI180_0@PAGEOFF]
 	cmeq.16b	v0,v0,#0
 	bic.16b	v0,v1,v0
 	ext.16b	v1,v0,v0,#8
@@ -33825,7 +33994,7 @@ _rtpw_write_headers:
 
 	.section	__TEXT,__literal16,16byte_literals
 	.p2align	4,0x0
-lrtp_CPI183_0:
+lrtp_CPI184_0:
 	.byte	1
 	.byte	2
 	.byte	4
@@ -33908,9 +34077,9 @@ _rtpw_write:
 	cmeq.16b	v0,v0,v2
 	bic.16b	v0,v1,v0
 Lrtp_loh290:
-	adrp	x10,lrtp_CPI183_0@PAGE
+	adrp	x10,lrtp_CPI184_0@PAGE
 Lrtp_loh291:
-	ldr	q1,[x10,lrtp_CPI183_0@PAGEOFF]
+	ldr	q1,[x10,lrtp_CPI184_0@PAGEOFF]
 	and.16b	v0,v0,v1
 	ext.16b	v1,v0,v0,#8
 	zip1.16b	v0,v0,v1

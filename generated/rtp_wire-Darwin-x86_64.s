@@ -4,8 +4,8 @@
  * kit: rattle-kit-13f logic dac8208d650f15bf
  * proved for: x86_64-unknown-linux-gnu
  * compiled for: x86_64-apple-macosx11.0.0
- * sources: 37fab6e09a20af966c39c8e622aacf088c3813575c03d6150f37115fc6cf2018
- * text: 15f4e5774440a5e35765eb1621e2b0c7e392a18fd350f067c5d047e9eb00c88e
+ * sources: a9a22890dc1864b20bf5bd6ee9b8d15572bb3c0c21b0d91a9de684c80e427114
+ * text: 49d99345690e75fe5f04000b95b21e41758bd1bb5cbd610bb5d63d73f279c2d5
  * SPDX-License-Identifier: MIT OR Apache-2.0
  * Copyright (c) 2026 The rtp-wire developers (NOTICE)
  */
@@ -21984,6 +21984,196 @@ _rtpw_next_element:
 	retq
 	.cfi_endproc
 
+	.globl	_rtpw_next_elements
+	.p2align	4
+_rtpw_next_elements:
+	.cfi_startproc
+	pushq	%r15
+	.cfi_def_cfa_offset 16
+	pushq	%r14
+	.cfi_def_cfa_offset 24
+	pushq	%r13
+	.cfi_def_cfa_offset 32
+	pushq	%r12
+	.cfi_def_cfa_offset 40
+	pushq	%rbx
+	.cfi_def_cfa_offset 48
+	.cfi_offset %rbx,-48
+	.cfi_offset %r12,-40
+	.cfi_offset %r13,-32
+	.cfi_offset %r14,-24
+	.cfi_offset %r15,-16
+	xorl	%ebx,%ebx
+	testq	%rdi,%rdi
+	sete	%bl
+	shll	$12,%ebx
+	addq	%rdi,%rbx
+	xorl	%eax,%eax
+	testq	%r8,%r8
+	sete	%al
+	shll	$12,%eax
+	cmpb	$2,%dl
+	je	1f
+	movzbl	%dl,%edx
+	cmpl	$1,%edx
+	jne	2f
+	cmpq	%rsi,%rcx
+	seta	%dl
+	testq	%r9,%r9
+	sete	%dil
+	orb	%dl,%dil
+	jne	2f
+	leaq	(%rax,%r8),%r14
+	addq	$25,%r14
+	xorl	%eax,%eax
+3:
+	movq	%rsi,%rdx
+	subq	%rcx,%rdx
+	je	4f
+	movzbl	(%rbx,%rcx),%edi
+	testb	%dil,%dil
+	jne	5f
+	cmpq	$2,%rdx
+	je	6f
+	cmpq	$1,%rdx
+	je	4f
+	cmpq	$3,%rdx
+	ja	7f
+	cmpb	$0,1(%rbx,%rcx)
+	jne	7f
+	cmpb	$0,2(%rbx,%rcx)
+	jne	7f
+	jmp	4f
+6:
+	cmpb	$0,1(%rbx,%rcx)
+	je	4f
+7:
+	movq	%rsi,%r12
+	movq	%r9,%r13
+	movq	%rax,%r15
+	decq	%rdx
+	leaq	(%rbx,%rcx),%rdi
+	incq	%rdi
+	movq	%rdx,%rsi
+	callq	_rtp_ext.elements.skip_zeros
+	testq	%rdx,%rdx
+	je	6f
+	movzbl	(%rax),%edi
+	movq	%r15,%rax
+	movq	%r13,%r9
+	movq	%r12,%rsi
+5:
+	cmpb	$-17,%dil
+	ja	4f
+	movl	%edi,%ecx
+	andb	$15,%cl
+	addb	$2,%cl
+	movzbl	%cl,%r8d
+	movq	%r8,%rcx
+	subq	%rdx,%rcx
+	ja	4f
+	shrb	$4,%dil
+	decq	%r8
+	addq	%rsi,%rcx
+	movq	%rcx,%rdx
+	subq	%r8,%rdx
+	movq	%rdx,-25(%r14)
+	movq	%r8,-17(%r14)
+	movq	%rcx,-9(%r14)
+	movb	%dil,-1(%r14)
+	movl	$0,(%r14)
+	movl	$0,3(%r14)
+	incq	%rax
+	addq	$32,%r14
+	cmpq	%rax,%r9
+	jne	3b
+	jmp	3f
+1:
+	cmpq	%rsi,%rcx
+	seta	%dl
+	testq	%r9,%r9
+	sete	%dil
+	orb	%dl,%dil
+	je	1f
+2:
+	xorl	%eax,%eax
+4:
+	popq	%rbx
+	popq	%r12
+	popq	%r13
+	popq	%r14
+	popq	%r15
+	retq
+1:
+	leaq	(%rax,%r8),%r14
+	addq	$25,%r14
+	xorl	%eax,%eax
+1:
+	movq	%rsi,%rdx
+	subq	%rcx,%rdx
+	je	4b
+	addq	%rbx,%rcx
+	cmpb	$0,(%rcx)
+	jne	2f
+	cmpq	$2,%rdx
+	je	5f
+	cmpq	$1,%rdx
+	je	4b
+	cmpq	$3,%rdx
+	ja	7f
+	cmpb	$0,1(%rcx)
+	jne	7f
+	cmpb	$0,2(%rcx)
+	jne	7f
+	jmp	4b
+5:
+	cmpb	$0,1(%rcx)
+	je	4b
+7:
+	movq	%rsi,%r12
+	movq	%r9,%r13
+	movq	%rax,%r15
+	decq	%rdx
+	incq	%rcx
+	movq	%rcx,%rdi
+	movq	%rdx,%rsi
+	callq	_rtp_ext.elements.skip_zeros
+	testq	%rdx,%rdx
+	je	6f
+	movq	%rax,%rcx
+	movq	%r15,%rax
+	movq	%r13,%r9
+	movq	%r12,%rsi
+2:
+	cmpq	$2,%rdx
+	jb	4b
+	movzbl	1(%rcx),%r8d
+	leaq	2(%r8),%rdi
+	subq	%rdx,%rdi
+	ja	4b
+	movzbl	(%rcx),%ecx
+	addq	%rsi,%rdi
+	movq	%rdi,%rdx
+	subq	%r8,%rdx
+	movq	%rdx,-25(%r14)
+	movq	%r8,-17(%r14)
+	movq	%rdi,-9(%r14)
+	movb	%cl,-1(%r14)
+	movl	$0,(%r14)
+	movl	$0,3(%r14)
+	incq	%rax
+	addq	$32,%r14
+	movq	%rdi,%rcx
+	cmpq	%rax,%r9
+	jne	1b
+3:
+	movq	%r9,%rax
+	jmp	4b
+6:
+	movq	%r15,%rax
+	jmp	4b
+	.cfi_endproc
+
 	.globl	_rtpw_pad
 	.p2align	4
 _rtpw_pad:
@@ -26951,28 +27141,28 @@ _rtp_proved_put_element:
 	.cfi_endproc
 	.p2align	2
 	.data_region jt32
-L134_0_set_247 = 7b-3f
-L134_0_set_218 = 4b-3f
-L134_0_set_217 = 18b-3f
-L134_0_set_216 = 17b-3f
-L134_0_set_215 = 8b-3f
+L135_0_set_247 = 7b-3f
+L135_0_set_218 = 4b-3f
+L135_0_set_217 = 18b-3f
+L135_0_set_216 = 17b-3f
+L135_0_set_215 = 8b-3f
 3:
-	.long	L134_0_set_247
-	.long	L134_0_set_218
-	.long	L134_0_set_217
-	.long	L134_0_set_216
-	.long	L134_0_set_215
-L134_1_set_247 = 7b-25f
-L134_1_set_244 = 26b-25f
-L134_1_set_243 = 22b-25f
-L134_1_set_242 = 16b-25f
-L134_1_set_241 = 14b-25f
+	.long	L135_0_set_247
+	.long	L135_0_set_218
+	.long	L135_0_set_217
+	.long	L135_0_set_216
+	.long	L135_0_set_215
+L135_1_set_247 = 7b-25f
+L135_1_set_244 = 26b-25f
+L135_1_set_243 = 22b-25f
+L135_1_set_242 = 16b-25f
+L135_1_set_241 = 14b-25f
 25:
-	.long	L134_1_set_247
-	.long	L134_1_set_244
-	.long	L134_1_set_243
-	.long	L134_1_set_242
-	.long	L134_1_set_241
+	.long	L135_1_set_247
+	.long	L135_1_set_244
+	.long	L135_1_set_243
+	.long	L135_1_set_242
+	.long	L135_1_set_241
 	.end_data_region
 
 	.globl	_rtpw_remove_block
@@ -32791,126 +32981,126 @@ _rtpw_kind_of_uri:
 	.cfi_endproc
 	.p2align	2
 	.data_region jt32
-L169_0_set_5 = 10b-8f
-L169_0_set_2 = 9b-8f
-L169_0_set_25 = 28b-8f
-L169_0_set_11 = 15b-8f
-L169_0_set_13 = 17b-8f
-L169_0_set_15 = 19b-8f
-L169_0_set_16 = 20b-8f
-L169_0_set_20 = 25b-8f
-L169_0_set_19 = 24b-8f
-L169_0_set_10 = 14b-8f
-L169_0_set_14 = 18b-8f
-L169_0_set_12 = 16b-8f
-L169_0_set_9 = 12b-8f
-L169_0_set_17 = 21b-8f
-L169_0_set_28 = 30b-8f
-L169_0_set_18 = 22b-8f
-L169_0_set_41 = 3b-8f
-L169_0_set_27 = 26b-8f
+L170_0_set_5 = 10b-8f
+L170_0_set_2 = 9b-8f
+L170_0_set_25 = 28b-8f
+L170_0_set_11 = 15b-8f
+L170_0_set_13 = 17b-8f
+L170_0_set_15 = 19b-8f
+L170_0_set_16 = 20b-8f
+L170_0_set_20 = 25b-8f
+L170_0_set_19 = 24b-8f
+L170_0_set_10 = 14b-8f
+L170_0_set_14 = 18b-8f
+L170_0_set_12 = 16b-8f
+L170_0_set_9 = 12b-8f
+L170_0_set_17 = 21b-8f
+L170_0_set_28 = 30b-8f
+L170_0_set_18 = 22b-8f
+L170_0_set_41 = 3b-8f
+L170_0_set_27 = 26b-8f
 8:
-	.long	L169_0_set_5
-	.long	L169_0_set_2
-	.long	L169_0_set_2
-	.long	L169_0_set_2
-	.long	L169_0_set_2
-	.long	L169_0_set_2
-	.long	L169_0_set_2
-	.long	L169_0_set_25
-	.long	L169_0_set_11
-	.long	L169_0_set_13
-	.long	L169_0_set_2
-	.long	L169_0_set_2
-	.long	L169_0_set_2
-	.long	L169_0_set_2
-	.long	L169_0_set_2
-	.long	L169_0_set_2
-	.long	L169_0_set_2
-	.long	L169_0_set_15
-	.long	L169_0_set_2
-	.long	L169_0_set_16
-	.long	L169_0_set_2
-	.long	L169_0_set_2
-	.long	L169_0_set_2
-	.long	L169_0_set_2
-	.long	L169_0_set_2
-	.long	L169_0_set_2
-	.long	L169_0_set_2
-	.long	L169_0_set_2
-	.long	L169_0_set_20
-	.long	L169_0_set_2
-	.long	L169_0_set_19
-	.long	L169_0_set_10
-	.long	L169_0_set_14
-	.long	L169_0_set_2
-	.long	L169_0_set_12
-	.long	L169_0_set_9
-	.long	L169_0_set_2
-	.long	L169_0_set_17
-	.long	L169_0_set_2
-	.long	L169_0_set_28
-	.long	L169_0_set_2
-	.long	L169_0_set_2
-	.long	L169_0_set_2
-	.long	L169_0_set_2
-	.long	L169_0_set_18
-	.long	L169_0_set_2
-	.long	L169_0_set_2
-	.long	L169_0_set_41
-	.long	L169_0_set_2
-	.long	L169_0_set_2
-	.long	L169_0_set_2
-	.long	L169_0_set_2
-	.long	L169_0_set_2
-	.long	L169_0_set_2
-	.long	L169_0_set_2
-	.long	L169_0_set_2
-	.long	L169_0_set_2
-	.long	L169_0_set_2
-	.long	L169_0_set_2
-	.long	L169_0_set_2
-	.long	L169_0_set_2
-	.long	L169_0_set_27
-L169_1_set_25 = 28b-27f
-L169_1_set_2 = 9b-27f
-L169_1_set_32 = 33b-27f
-L169_1_set_39 = 1b-27f
-L169_1_set_28 = 30b-27f
+	.long	L170_0_set_5
+	.long	L170_0_set_2
+	.long	L170_0_set_2
+	.long	L170_0_set_2
+	.long	L170_0_set_2
+	.long	L170_0_set_2
+	.long	L170_0_set_2
+	.long	L170_0_set_25
+	.long	L170_0_set_11
+	.long	L170_0_set_13
+	.long	L170_0_set_2
+	.long	L170_0_set_2
+	.long	L170_0_set_2
+	.long	L170_0_set_2
+	.long	L170_0_set_2
+	.long	L170_0_set_2
+	.long	L170_0_set_2
+	.long	L170_0_set_15
+	.long	L170_0_set_2
+	.long	L170_0_set_16
+	.long	L170_0_set_2
+	.long	L170_0_set_2
+	.long	L170_0_set_2
+	.long	L170_0_set_2
+	.long	L170_0_set_2
+	.long	L170_0_set_2
+	.long	L170_0_set_2
+	.long	L170_0_set_2
+	.long	L170_0_set_20
+	.long	L170_0_set_2
+	.long	L170_0_set_19
+	.long	L170_0_set_10
+	.long	L170_0_set_14
+	.long	L170_0_set_2
+	.long	L170_0_set_12
+	.long	L170_0_set_9
+	.long	L170_0_set_2
+	.long	L170_0_set_17
+	.long	L170_0_set_2
+	.long	L170_0_set_28
+	.long	L170_0_set_2
+	.long	L170_0_set_2
+	.long	L170_0_set_2
+	.long	L170_0_set_2
+	.long	L170_0_set_18
+	.long	L170_0_set_2
+	.long	L170_0_set_2
+	.long	L170_0_set_41
+	.long	L170_0_set_2
+	.long	L170_0_set_2
+	.long	L170_0_set_2
+	.long	L170_0_set_2
+	.long	L170_0_set_2
+	.long	L170_0_set_2
+	.long	L170_0_set_2
+	.long	L170_0_set_2
+	.long	L170_0_set_2
+	.long	L170_0_set_2
+	.long	L170_0_set_2
+	.long	L170_0_set_2
+	.long	L170_0_set_2
+	.long	L170_0_set_27
+L170_1_set_25 = 28b-27f
+L170_1_set_2 = 9b-27f
+L170_1_set_32 = 33b-27f
+L170_1_set_39 = 1b-27f
+L170_1_set_28 = 30b-27f
 27:
-	.long	L169_1_set_25
-	.long	L169_1_set_2
-	.long	L169_1_set_2
-	.long	L169_1_set_2
-	.long	L169_1_set_2
-	.long	L169_1_set_2
-	.long	L169_1_set_2
-	.long	L169_1_set_2
-	.long	L169_1_set_2
-	.long	L169_1_set_2
-	.long	L169_1_set_32
-	.long	L169_1_set_2
-	.long	L169_1_set_2
-	.long	L169_1_set_2
-	.long	L169_1_set_2
-	.long	L169_1_set_2
-	.long	L169_1_set_2
-	.long	L169_1_set_2
-	.long	L169_1_set_2
-	.long	L169_1_set_2
-	.long	L169_1_set_2
-	.long	L169_1_set_2
-	.long	L169_1_set_2
-	.long	L169_1_set_2
-	.long	L169_1_set_2
-	.long	L169_1_set_39
-	.long	L169_1_set_2
-	.long	L169_1_set_2
-	.long	L169_1_set_2
-	.long	L169_1_set_2
-	.long	L169_1_set_2
-	.long	L169_1_set_2
-	.long	L169_1_set_28
+	.long	L170_1_set_25
+	.long	L170_1_set_2
+	.long	L170_1_set_2
+	.long	L170_1_set_2
+	.long	L170_1_set_2
+	.long	L170_1_set_2
+	.long	L170_1_set_2
+	.long	L170_1_set_2
+	.long	L170_1_set_2
+	.long	L170_1_set_2
+	.long	L170_1_set_32
+	.long	L170_1_set_2
+	.long	L170_1_set_2
+	.long	L170_1_set_2
+	.long	L170_1_set_2
+	.long	L170_1_set_2
+	.long	L170_1_set_2
+	.long	L170_1_set_2
+	.long	L170_1_set_2
+	.long	L170_1_set_2
+	.long	L170_1_set_2
+	.long	L170_1_set_2
+	.long	L170_1_set_2
+	.long	L170_1_set_2
+	.long	L170_1_set_2
+	.long	L170_1_set_39
+	.long	L170_1_set_2
+	.long	L170_1_set_2
+	.long	L170_1_set_2
+	.long	L170_1_set_2
+	.long	L170_1_set_2
+	.long	L170_1_set_2
+	.long	L170_1_set_28
 	.end_data_region
 
 	.globl	_rtpw_uri_of_kind
@@ -33933,33 +34123,33 @@ _rtpw_left_out:
 	.cfi_endproc
 	.p2align	2
 	.data_region jt32
-L174_0_set_79 = 7b-6f
-L174_0_set_73 = 3b-6f
-L174_0_set_94 = 14b-6f
-L174_0_set_96 = 15b-6f
-L174_0_set_86 = 10b-6f
-L174_0_set_100 = 17b-6f
-L174_0_set_102 = 18b-6f
-L174_0_set_98 = 16b-6f
-L174_0_set_106 = 22b-6f
-L174_0_set_92 = 13b-6f
-L174_0_set_104 = 21b-6f
-L174_0_set_84 = 8b-6f
-L174_0_set_90 = 12b-6f
+L175_0_set_79 = 7b-6f
+L175_0_set_73 = 3b-6f
+L175_0_set_94 = 14b-6f
+L175_0_set_96 = 15b-6f
+L175_0_set_86 = 10b-6f
+L175_0_set_100 = 17b-6f
+L175_0_set_102 = 18b-6f
+L175_0_set_98 = 16b-6f
+L175_0_set_106 = 22b-6f
+L175_0_set_92 = 13b-6f
+L175_0_set_104 = 21b-6f
+L175_0_set_84 = 8b-6f
+L175_0_set_90 = 12b-6f
 6:
-	.long	L174_0_set_79
-	.long	L174_0_set_73
-	.long	L174_0_set_94
-	.long	L174_0_set_96
-	.long	L174_0_set_86
-	.long	L174_0_set_100
-	.long	L174_0_set_102
-	.long	L174_0_set_98
-	.long	L174_0_set_106
-	.long	L174_0_set_92
-	.long	L174_0_set_104
-	.long	L174_0_set_84
-	.long	L174_0_set_90
+	.long	L175_0_set_79
+	.long	L175_0_set_73
+	.long	L175_0_set_94
+	.long	L175_0_set_96
+	.long	L175_0_set_86
+	.long	L175_0_set_100
+	.long	L175_0_set_102
+	.long	L175_0_set_98
+	.long	L175_0_set_106
+	.long	L175_0_set_92
+	.long	L175_0_set_104
+	.long	L175_0_set_84
+	.long	L175_0_set_90
 	.end_data_region
 
 	.section	__TEXT,__literal16,16byte_literals
@@ -34565,37 +34755,37 @@ _rtpw_left_out_layers:
 	.cfi_endproc
 	.p2align	2
 	.data_region jt32
-L175_0_set_78 = 6b-5f
-L175_0_set_99 = 17b-5f
-L175_0_set_93 = 14b-5f
-L175_0_set_95 = 15b-5f
-L175_0_set_85 = 8b-5f
-L175_0_set_102 = 18b-5f
-L175_0_set_104 = 19b-5f
-L175_0_set_97 = 16b-5f
-L175_0_set_108 = 23b-5f
-L175_0_set_91 = 13b-5f
-L175_0_set_106 = 22b-5f
-L175_0_set_83 = 7b-5f
-L175_0_set_89 = 12b-5f
-L175_0_set_75 = 2b-5f
-L175_0_set_74 = 3b-5f
+L176_0_set_78 = 6b-5f
+L176_0_set_99 = 17b-5f
+L176_0_set_93 = 14b-5f
+L176_0_set_95 = 15b-5f
+L176_0_set_85 = 8b-5f
+L176_0_set_102 = 18b-5f
+L176_0_set_104 = 19b-5f
+L176_0_set_97 = 16b-5f
+L176_0_set_108 = 23b-5f
+L176_0_set_91 = 13b-5f
+L176_0_set_106 = 22b-5f
+L176_0_set_83 = 7b-5f
+L176_0_set_89 = 12b-5f
+L176_0_set_75 = 2b-5f
+L176_0_set_74 = 3b-5f
 5:
-	.long	L175_0_set_78
-	.long	L175_0_set_99
-	.long	L175_0_set_93
-	.long	L175_0_set_95
-	.long	L175_0_set_85
-	.long	L175_0_set_102
-	.long	L175_0_set_104
-	.long	L175_0_set_97
-	.long	L175_0_set_108
-	.long	L175_0_set_91
-	.long	L175_0_set_106
-	.long	L175_0_set_83
-	.long	L175_0_set_89
-	.long	L175_0_set_75
-	.long	L175_0_set_74
+	.long	L176_0_set_78
+	.long	L176_0_set_99
+	.long	L176_0_set_93
+	.long	L176_0_set_95
+	.long	L176_0_set_85
+	.long	L176_0_set_102
+	.long	L176_0_set_104
+	.long	L176_0_set_97
+	.long	L176_0_set_108
+	.long	L176_0_set_91
+	.long	L176_0_set_106
+	.long	L176_0_set_83
+	.long	L176_0_set_89
+	.long	L176_0_set_75
+	.long	L176_0_set_74
 	.end_data_region
 
 	.section	__TEXT,__literal16,16byte_literals

@@ -4,8 +4,8 @@
  * kit: rattle-kit-13f logic dac8208d650f15bf
  * proved for: x86_64-unknown-linux-gnu
  * compiled for: aarch64-unknown-linux-gnu
- * sources: 37fab6e09a20af966c39c8e622aacf088c3813575c03d6150f37115fc6cf2018
- * text: 5a04033d2679fdb437468955fbdbba0bfd048a0f751cab93bd7a8fae5f4a7d80
+ * sources: a9a22890dc1864b20bf5bd6ee9b8d15572bb3c0c21b0d91a9de684c80e427114
+ * text: 74174e2f01a521f0f152a0c4a6879c5fccdf4e9063586795769b98c0a3c0819c
  * SPDX-License-Identifier: MIT OR Apache-2.0
  * Copyright (c) 2026 The rtp-wire developers (NOTICE)
  */
@@ -19421,6 +19421,173 @@ rtpw_next_element:
 	.size	rtpw_next_element,.-rtpw_next_element
 	.cfi_endproc
 
+	.section	.text.rtpw_next_elements,"ax",@progbits
+	.globl	rtpw_next_elements
+	.p2align	2
+	.type	rtpw_next_elements,@function
+rtpw_next_elements:
+	.cfi_startproc
+	stp	x30,x23,[sp,#-48]!
+	stp	x22,x21,[sp,#16]
+	stp	x20,x19,[sp,#32]
+	.cfi_def_cfa_offset 48
+	.cfi_offset w19,-8
+	.cfi_offset w20,-16
+	.cfi_offset w21,-24
+	.cfi_offset w22,-32
+	.cfi_offset w23,-40
+	.cfi_offset w30,-48
+	cmp	x0,#0
+	mov	w8,#4096
+	and	w9,w2,#0xff
+	csel	x10,x8,xzr,eq
+	cmp	x4,#0
+	csel	x8,x8,xzr,eq
+	cmp	w9,#2
+	add	x19,x0,x10
+	b.eq	1f
+	cmp	w9,#1
+	mov	x0,xzr
+	b.ne	2f
+	cmp	x3,x1
+	mov	x0,xzr
+	b.hi	2f
+	cbz	x5,2f
+	add	x8,x8,x4
+	mov	x0,xzr
+	add	x20,x8,#25
+3:
+	subs	x8,x1,x3
+	b.eq	2f
+	add	x10,x19,x3
+	ldrb	w9,[x10]
+	cbnz	w9,4f
+	cmp	x8,#2
+	b.eq	5f
+	cmp	x8,#1
+	b.eq	2f
+	cmp	x8,#3
+	b.hi	6f
+	ldrb	w9,[x10,#1]
+	cbnz	w9,6f
+	ldrb	w9,[x10,#2]
+	cbnz	w9,6f
+	b	2f
+5:
+	ldrb	w9,[x10,#1]
+	cbz	w9,2f
+6:
+	mov	x22,x1
+	mov	x21,x0
+	sub	x1,x8,#1
+	add	x0,x10,#1
+	mov	x23,x5
+	bl	"rtp_ext::elements::skip_zeros"
+	cbz	x1,5f
+	ldrb	w9,[x0]
+	mov	x8,x1
+	mov	x0,x21
+	mov	x5,x23
+	mov	x1,x22
+4:
+	cmp	w9,#239
+	b.hi	2f
+	and	w10,w9,#0xf
+	add	w10,w10,#2
+	subs	x8,x10,x8
+	b.hi	2f
+	sub	x10,x10,#1
+	add	x3,x8,x1
+	lsr	w8,w9,#4
+	sub	x9,x3,x10
+	add	x0,x0,#1
+	stur	x10,[x20,#-17]
+	stur	x3,[x20,#-9]
+	cmp	x5,x0
+	stur	x9,[x20,#-25]
+	sturb	w8,[x20,#-1]
+	str	wzr,[x20]
+	stur	wzr,[x20,#3]
+	add	x20,x20,#32
+	b.ne	3b
+	b	3f
+1:
+	cmp	x3,x1
+	mov	x0,xzr
+	b.hi	2f
+	cbz	x5,2f
+	add	x8,x8,x4
+	mov	x0,xzr
+	add	x20,x8,#25
+1:
+	subs	x9,x1,x3
+	b.eq	2f
+	add	x8,x19,x3
+	ldrb	w10,[x8]
+	cbnz	w10,4f
+	cmp	x9,#2
+	b.eq	6f
+	cmp	x9,#1
+	b.eq	2f
+	cmp	x9,#3
+	b.hi	7f
+	ldrb	w10,[x8,#1]
+	cbnz	w10,7f
+	ldrb	w10,[x8,#2]
+	cbnz	w10,7f
+	b	2f
+6:
+	ldrb	w10,[x8,#1]
+	cbz	w10,2f
+7:
+	mov	x22,x1
+	mov	x21,x0
+	sub	x1,x9,#1
+	add	x0,x8,#1
+	mov	x23,x5
+	bl	"rtp_ext::elements::skip_zeros"
+	cbz	x1,5f
+	mov	x9,x1
+	mov	x8,x0
+	mov	x0,x21
+	mov	x5,x23
+	mov	x1,x22
+4:
+	cmp	x9,#2
+	b.lo	2f
+	ldrb	w10,[x8,#1]
+	add	x11,x10,#2
+	subs	x9,x11,x9
+	b.hi	2f
+	ldrb	w8,[x8]
+	add	x3,x9,x1
+	add	x0,x0,#1
+	sub	x9,x3,x10
+	stur	x10,[x20,#-17]
+	cmp	x5,x0
+	stur	x3,[x20,#-9]
+	stur	x9,[x20,#-25]
+	sturb	w8,[x20,#-1]
+	str	wzr,[x20]
+	stur	wzr,[x20,#3]
+	add	x20,x20,#32
+	b.ne	1b
+3:
+	mov	x0,x5
+2:
+	ldp	x20,x19,[sp,#32]
+	ldp	x22,x21,[sp,#16]
+	ldp	x30,x23,[sp],#48
+	ret
+5:
+	mov	x0,x21
+	ldp	x20,x19,[sp,#32]
+	ldp	x22,x21,[sp,#16]
+	ldp	x30,x23,[sp],#48
+	ret
+	.size	rtpw_next_elements,.-rtpw_next_elements
+	.cfi_endproc
+
 	.section	.text.rtpw_pad,"ax",@progbits
 	.globl	rtpw_pad
 	.p2align	2
@@ -19517,12 +19684,12 @@ rtpw_pad:
 
 	.section	.rodata.cst8,"aM",@progbits,8
 	.p2align	3,0x0
-.Lrtp_CPI98_0:
+.Lrtp_CPI99_0:
 	.hword	65529
 	.hword	65530
 	.hword	0
 	.hword	0
-.Lrtp_CPI98_1:
+.Lrtp_CPI99_1:
 	.hword	255
 	.hword	1
 	.hword	63
@@ -19545,7 +19712,7 @@ rtpw_read_dependency_descriptor:
 	mov	w0,wzr
 	csel	x9,x9,xzr,eq
 	add	x8,x8,x9
-	adrp	x9,.Lrtp_CPI98_0
+	adrp	x9,.Lrtp_CPI99_0
 	ld1	{ v0.b }[0],[x8]
 	ldurh	w8,[x8,#1]
 	rev	w8,w8
@@ -19553,11 +19720,11 @@ rtpw_read_dependency_descriptor:
 	lsr	w8,w8,#16
 	strh	w8,[x2]
 	mov	v1.h[2],v0.h[0]
-	ldr	d0,[x9,:lo12:.Lrtp_CPI98_0]
-	adrp	x9,.Lrtp_CPI98_1
+	ldr	d0,[x9,:lo12:.Lrtp_CPI99_0]
+	adrp	x9,.Lrtp_CPI99_1
 	bic	v1.4h,#255,lsl #8
 	ushl	v0.4h,v1.4h,v0.4h
-	ldr	d1,[x9,:lo12:.Lrtp_CPI98_1]
+	ldr	d1,[x9,:lo12:.Lrtp_CPI99_1]
 	and	v0.8b,v0.8b,v1.8b
 	uzp1	v0.8b,v0.8b,v0.8b
 	stur	s0,[x2,#2]
@@ -20586,12 +20753,12 @@ rtpw_write_original:
 
 	.section	.rodata.cst16,"aM",@progbits,16
 	.p2align	4,0x0
-.Lrtp_CPI121_0:
+.Lrtp_CPI122_0:
 	.word	4294967272
 	.word	4294967280
 	.word	4294967288
 	.word	0
-.Lrtp_CPI121_1:
+.Lrtp_CPI122_1:
 	.word	4294967280
 	.word	4294967288
 	.word	0
@@ -20622,13 +20789,13 @@ rtpw_write_report:
 	cmp	x4,#0
 	csel	x10,x11,xzr,eq
 	cmp	w9,w12
-	adrp	x11,.Lrtp_CPI121_1
+	adrp	x11,.Lrtp_CPI122_1
 	mov	v1.s[3],w2
 	csel	w9,w9,w12,lt
-	ldr	q6,[x11,:lo12:.Lrtp_CPI121_1]
+	ldr	q6,[x11,:lo12:.Lrtp_CPI122_1]
 	fmov	s3,w9
 	mov	v2.s[2],v0.s[0]
-	adrp	x9,.Lrtp_CPI121_0
+	adrp	x9,.Lrtp_CPI122_0
 	add	x10,x4,x10
 	lsr	w11,w3,#8
 	strb	w8,[x10,#4]
@@ -20641,7 +20808,7 @@ rtpw_write_report:
 	strb	w3,[x10,#23]
 	ext	v0.16b,v3.16b,v0.16b,#4
 	mov	v4.s[3],w3
-	ldr	q3,[x9,:lo12:.Lrtp_CPI121_0]
+	ldr	q3,[x9,:lo12:.Lrtp_CPI122_0]
 	lsr	w9,w3,#16
 	ushl	v3.4s,v5.4s,v3.4s
 	strb	w9,[x10,#21]
@@ -22071,7 +22238,7 @@ rtpw_parse_many:
 
 	.section	.rodata.cst16,"aM",@progbits,16
 	.p2align	4,0x0
-.Lrtp_CPI133_0:
+.Lrtp_CPI134_0:
 	.byte	0
 	.byte	8
 	.byte	16
@@ -22199,13 +22366,13 @@ rtpw_prepare_group:
 	ldr	q7,[x13,#16]
 	zip1	v1.2d,v6.2d,v5.2d
 	ldur	q18,[x13,#-16]
-	adrp	x6,.Lrtp_CPI133_0
+	adrp	x6,.Lrtp_CPI134_0
 	subs	x16,x16,#8
 	ld1	{ v0.b }[2],[x17]
 	sub	x17,x13,#32
 	zip1	v2.2d,v17.2d,v16.2d
 	zip1	v3.2d,v18.2d,v7.2d
-	ldr	q5,[x6,:lo12:.Lrtp_CPI133_0]
+	ldr	q5,[x6,:lo12:.Lrtp_CPI134_0]
 	ld1	{ v4.d }[1],[x5]
 	ld1	{ v0.b }[3],[x17]
 	add	x17,x13,#32
@@ -25411,7 +25578,7 @@ rtpw_set_timestamp:
 
 	.section	.rodata.cst16,"aM",@progbits,16
 	.p2align	4,0x0
-.Lrtp_CPI150_0:
+.Lrtp_CPI151_0:
 	.xword	1
 	.xword	0
 	.section	.text.rtpw_receiver_record,"ax",@progbits
@@ -25438,9 +25605,9 @@ rtpw_receiver_record:
 	b.ne	4f
 	b	5f
 1:
-	adrp	x8,.Lrtp_CPI150_0
+	adrp	x8,.Lrtp_CPI151_0
 	str	x1,[x0]
-	ldr	q0,[x8,:lo12:.Lrtp_CPI150_0]
+	ldr	q0,[x8,:lo12:.Lrtp_CPI151_0]
 	stur	q0,[x0,#8]
 	b	4f
 2:
@@ -25754,7 +25921,7 @@ rtpw_restarting_receive:
 
 	.section	.rodata.cst16,"aM",@progbits,16
 	.p2align	4,0x0
-.Lrtp_CPI153_0:
+.Lrtp_CPI154_0:
 	.byte	0
 	.byte	8
 	.byte	16
@@ -26639,9 +26806,9 @@ rtpw_make_from_group:
 	add	x13,x15,#71
 1:
 	ldp	q2,q1,[x11,#32]
-	adrp	x15,.Lrtp_CPI153_0
+	adrp	x15,.Lrtp_CPI154_0
 	ldp	q4,q3,[x11],#64
-	ldr	q7,[x15,:lo12:.Lrtp_CPI153_0]
+	ldr	q7,[x15,:lo12:.Lrtp_CPI154_0]
 	adds	x12,x12,#8
 	uzp2	v5.4s,v2.4s,v1.4s
 	ushr	v19.2d,v1.2d,#32
@@ -26674,7 +26841,7 @@ rtpw_make_from_group:
 
 	.section	.rodata.cst16,"aM",@progbits,16
 	.p2align	4,0x0
-.Lrtp_CPI154_0:
+.Lrtp_CPI155_0:
 	.byte	0
 	.byte	8
 	.byte	16
@@ -27459,9 +27626,9 @@ rtpw_make_template:
 	and	x14,x8,#0x18
 2:
 	ldp	q2,q1,[x12,#32]
-	adrp	x15,.Lrtp_CPI154_0
+	adrp	x15,.Lrtp_CPI155_0
 	ldp	q4,q3,[x12],#64
-	ldr	q7,[x15,:lo12:.Lrtp_CPI154_0]
+	ldr	q7,[x15,:lo12:.Lrtp_CPI155_0]
 	subs	x14,x14,#8
 	uzp2	v5.4s,v2.4s,v1.4s
 	ushr	v19.2d,v1.2d,#32
@@ -29068,7 +29235,7 @@ rtpw_read_many:
 
 	.section	.rodata.cst16,"aM",@progbits,16
 	.p2align	4,0x0
-.Lrtp_CPI170_0:
+.Lrtp_CPI171_0:
 	.byte	104
 	.byte	116
 	.byte	116
@@ -29085,7 +29252,7 @@ rtpw_read_many:
 	.byte	98
 	.byte	114
 	.byte	116
-.Lrtp_CPI170_1:
+.Lrtp_CPI171_1:
 	.byte	99
 	.byte	46
 	.byte	111
@@ -29102,7 +29269,7 @@ rtpw_read_many:
 	.byte	101
 	.byte	110
 	.byte	116
-.Lrtp_CPI170_2:
+.Lrtp_CPI171_2:
 	.byte	115
 	.byte	47
 	.byte	114
@@ -29119,7 +29286,7 @@ rtpw_read_many:
 	.byte	97
 	.byte	98
 	.byte	115
-.Lrtp_CPI170_3:
+.Lrtp_CPI171_3:
 	.byte	120
 	.byte	116
 	.byte	47
@@ -29136,7 +29303,7 @@ rtpw_read_many:
 	.byte	105
 	.byte	109
 	.byte	101
-.Lrtp_CPI170_4:
+.Lrtp_CPI171_4:
 	.byte	117
 	.byte	114
 	.byte	110
@@ -29153,7 +29320,7 @@ rtpw_read_many:
 	.byte	109
 	.byte	115
 	.byte	58
-.Lrtp_CPI170_5:
+.Lrtp_CPI171_5:
 	.byte	114
 	.byte	116
 	.byte	112
@@ -29170,7 +29337,7 @@ rtpw_read_many:
 	.byte	112
 	.byte	45
 	.byte	54
-.Lrtp_CPI170_6:
+.Lrtp_CPI171_6:
 	.byte	116
 	.byte	112
 	.byte	45
@@ -29187,7 +29354,7 @@ rtpw_read_many:
 	.byte	45
 	.byte	54
 	.byte	52
-.Lrtp_CPI170_7:
+.Lrtp_CPI171_7:
 	.byte	114
 	.byte	116
 	.byte	112
@@ -29204,7 +29371,7 @@ rtpw_read_many:
 	.byte	112
 	.byte	45
 	.byte	53
-.Lrtp_CPI170_8:
+.Lrtp_CPI171_8:
 	.byte	116
 	.byte	112
 	.byte	45
@@ -29221,7 +29388,7 @@ rtpw_read_many:
 	.byte	45
 	.byte	53
 	.byte	54
-.Lrtp_CPI170_9:
+.Lrtp_CPI171_9:
 	.byte	115
 	.byte	47
 	.byte	114
@@ -29238,7 +29405,7 @@ rtpw_read_many:
 	.byte	112
 	.byte	108
 	.byte	97
-.Lrtp_CPI170_10:
+.Lrtp_CPI171_10:
 	.byte	120
 	.byte	116
 	.byte	47
@@ -29366,17 +29533,17 @@ rtpw_kind_of_uri:
 	tbnz	w0,#0,4f
 	b	5f
 11:
-	adrp	x8,.Lrtp_CPI170_0
+	adrp	x8,.Lrtp_CPI171_0
 	ldp	q0,q1,[x19]
-	ldr	q2,[x8,:lo12:.Lrtp_CPI170_0]
-	adrp	x8,.Lrtp_CPI170_1
-	ldr	q3,[x8,:lo12:.Lrtp_CPI170_1]
-	adrp	x8,.Lrtp_CPI170_2
+	ldr	q2,[x8,:lo12:.Lrtp_CPI171_0]
+	adrp	x8,.Lrtp_CPI171_1
+	ldr	q3,[x8,:lo12:.Lrtp_CPI171_1]
+	adrp	x8,.Lrtp_CPI171_2
 	cmeq	v2.16b,v0.16b,v2.16b
-	ldr	q5,[x8,:lo12:.Lrtp_CPI170_2]
-	adrp	x8,.Lrtp_CPI170_3
+	ldr	q5,[x8,:lo12:.Lrtp_CPI171_2]
+	adrp	x8,.Lrtp_CPI171_3
 	cmeq	v3.16b,v1.16b,v3.16b
-	ldr	q6,[x8,:lo12:.Lrtp_CPI170_3]
+	ldr	q6,[x8,:lo12:.Lrtp_CPI171_3]
 	mvn	v4.16b,v2.16b
 	ldr	q2,[x19,#32]
 	cmeq	v5.16b,v2.16b,v5.16b
@@ -29488,19 +29655,19 @@ rtpw_kind_of_uri:
 	ldr	q2,[x19,#32]
 	ldur	q3,[x19,#42]
 12:
-	adrp	x8,.Lrtp_CPI170_1
-	ldr	q4,[x8,:lo12:.Lrtp_CPI170_1]
-	adrp	x8,.Lrtp_CPI170_0
+	adrp	x8,.Lrtp_CPI171_1
+	ldr	q4,[x8,:lo12:.Lrtp_CPI171_1]
+	adrp	x8,.Lrtp_CPI171_0
 	cmeq	v1.16b,v1.16b,v4.16b
-	ldr	q4,[x8,:lo12:.Lrtp_CPI170_0]
-	adrp	x8,.Lrtp_CPI170_9
+	ldr	q4,[x8,:lo12:.Lrtp_CPI171_0]
+	adrp	x8,.Lrtp_CPI171_9
 	cmeq	v0.16b,v0.16b,v4.16b
-	ldr	q4,[x8,:lo12:.Lrtp_CPI170_9]
-	adrp	x8,.Lrtp_CPI170_10
+	ldr	q4,[x8,:lo12:.Lrtp_CPI171_9]
+	adrp	x8,.Lrtp_CPI171_10
 	mvn	v1.16b,v1.16b
 	orn	v0.16b,v1.16b,v0.16b
 	cmeq	v1.16b,v2.16b,v4.16b
-	ldr	q2,[x8,:lo12:.Lrtp_CPI170_10]
+	ldr	q2,[x8,:lo12:.Lrtp_CPI171_10]
 	orn	v0.16b,v0.16b,v1.16b
 	cmeq	v1.16b,v3.16b,v2.16b
 	orn	v0.16b,v0.16b,v1.16b
@@ -29514,15 +29681,15 @@ rtpw_kind_of_uri:
 	add	sp,sp,#64
 	ret
 5:
-	adrp	x8,.Lrtp_CPI170_5
+	adrp	x8,.Lrtp_CPI171_5
 	ldr	q0,[x19,#16]
-	ldr	q1,[x8,:lo12:.Lrtp_CPI170_5]
-	adrp	x8,.Lrtp_CPI170_6
-	ldr	q3,[x8,:lo12:.Lrtp_CPI170_6]
-	adrp	x8,.Lrtp_CPI170_4
+	ldr	q1,[x8,:lo12:.Lrtp_CPI171_5]
+	adrp	x8,.Lrtp_CPI171_6
+	ldr	q3,[x8,:lo12:.Lrtp_CPI171_6]
+	adrp	x8,.Lrtp_CPI171_4
 	cmeq	v2.16b,v0.16b,v1.16b
 	ldur	q1,[x19,#17]
-	ldr	q5,[x8,:lo12:.Lrtp_CPI170_4]
+	ldr	q5,[x8,:lo12:.Lrtp_CPI171_4]
 	cmeq	v3.16b,v1.16b,v3.16b
 	mvn	v4.16b,v2.16b
 	ldr	q2,[x19]
@@ -29532,11 +29699,11 @@ rtpw_kind_of_uri:
 	umaxv	b3,v3.16b
 	fmov	w8,s3
 	tbz	w8,#0,22f
-	adrp	x8,.Lrtp_CPI170_7
-	ldr	q3,[x8,:lo12:.Lrtp_CPI170_7]
-	adrp	x8,.Lrtp_CPI170_8
+	adrp	x8,.Lrtp_CPI171_7
+	ldr	q3,[x8,:lo12:.Lrtp_CPI171_7]
+	adrp	x8,.Lrtp_CPI171_8
 	cmeq	v0.16b,v0.16b,v3.16b
-	ldr	q3,[x8,:lo12:.Lrtp_CPI170_8]
+	ldr	q3,[x8,:lo12:.Lrtp_CPI171_8]
 	cmeq	v1.16b,v1.16b,v3.16b
 	mvn	v0.16b,v0.16b
 	orn	v0.16b,v0.16b,v1.16b
@@ -29935,7 +30102,7 @@ rtpw_read_color_space:
 
 	.section	.rodata.cst8,"aM",@progbits,8
 	.p2align	3,0x0
-.Lrtp_CPI173_0:
+.Lrtp_CPI174_0:
 	.hword	0
 	.hword	65530
 	.hword	65531
@@ -29999,9 +30166,9 @@ rtpw_read_frame_marking:
 	strb	w9,[x2,#7]
 	strb	w10,[x2,#8]
 	dup	v1.4h,w13
-	adrp	x13,.Lrtp_CPI173_0
+	adrp	x13,.Lrtp_CPI174_0
 	bic	v0.4h,#255,lsl #8
-	ldr	d2,[x13,:lo12:.Lrtp_CPI173_0]
+	ldr	d2,[x13,:lo12:.Lrtp_CPI174_0]
 	strb	w8,[x2,#9]
 	ushr	v0.4h,v0.4h,#7
 	bic	v1.4h,#255,lsl #8
@@ -30080,7 +30247,7 @@ rtpw_read_timing:
 
 	.section	.rodata.cst16,"aM",@progbits,16
 	.p2align	4,0x0
-.Lrtp_CPI175_0:
+.Lrtp_CPI176_0:
 	.byte	1
 	.byte	2
 	.byte	4
@@ -30165,7 +30332,7 @@ rtpw_left_out:
 	movi	v3.16b,#198
 	movi	v4.16b,#230
 	movi	v5.16b,#246
-	adrp	x10,.Lrtp_CPI175_0
+	adrp	x10,.Lrtp_CPI176_0
 	orr	v0.16b,v1.16b,v0.16b
 	add	v0.16b,v0.16b,v2.16b
 	add	v2.16b,v1.16b,v3.16b
@@ -30175,7 +30342,7 @@ rtpw_left_out:
 	cmeq	v1.16b,v1.16b,v3.16b
 	and	v0.16b,v2.16b,v0.16b
 	bic	v0.16b,v0.16b,v1.16b
-	ldr	q1,[x10,:lo12:.Lrtp_CPI175_0]
+	ldr	q1,[x10,:lo12:.Lrtp_CPI176_0]
 	and	v0.16b,v0.16b,v1.16b
 	ext	v1.16b,v0.16b,v0.16b,#8
 	zip1	v0.16b,v0.16b,v1.16b
@@ -30404,8 +30571,8 @@ rtpw_left_out:
 	b	1f
 2:
 	ldr	q0,[x20]
-	adrp	x9,.Lrtp_CPI175_0
-	ldr	q1,[x9,:lo12:.Lrtp_CPI175_0]
+	adrp	x9,.Lrtp_CPI176_0
+	ldr	q1,[x9,:lo12:.Lrtp_CPI176_0]
 	cmeq	v0.16b,v0.16b,#0
 	bic	v0.16b,v1.16b,v0.16b
 	ext	v1.16b,v0.16b,v0.16b,#8
@@ -30659,7 +30826,7 @@ rtpw_left_out:
 
 	.section	.rodata.cst16,"aM",@progbits,16
 	.p2align	4,0x0
-.Lrtp_CPI176_0:
+.Lrtp_CPI177_0:
 	.byte	1
 	.byte	2
 	.byte	4
@@ -30745,7 +30912,7 @@ rtpw_left_out_layers:
 	movi	v3.16b,#198
 	movi	v4.16b,#230
 	movi	v5.16b,#246
-	adrp	x9,.Lrtp_CPI176_0
+	adrp	x9,.Lrtp_CPI177_0
 	orr	v0.16b,v1.16b,v0.16b
 	add	v0.16b,v0.16b,v2.16b
 	add	v2.16b,v1.16b,v3.16b
@@ -30755,7 +30922,7 @@ rtpw_left_out_layers:
 	cmeq	v1.16b,v1.16b,v3.16b
 	and	v0.16b,v2.16b,v0.16b
 	bic	v0.16b,v0.16b,v1.16b
-	ldr	q1,[x9,:lo12:.Lrtp_CPI176_0]
+	ldr	q1,[x9,:lo12:.Lrtp_CPI177_0]
 	and	v0.16b,v0.16b,v1.16b
 	ext	v1.16b,v0.16b,v0.16b,#8
 	zip1	v0.16b,v0.16b,v1.16b
@@ -31005,8 +31172,8 @@ rtpw_left_out_layers:
 	b	1f
 4:
 	ldr	q0,[x8]
-	adrp	x9,.Lrtp_CPI176_0
-	ldr	q1,[x9,:lo12:.Lrtp_CPI176_0]
+	adrp	x9,.Lrtp_CPI177_0
+	ldr	q1,[x9,:lo12:.Lrtp_CPI177_0]
 	cmeq	v0.16b,v0.16b,#0
 	bic	v0.16b,v1.16b,v0.16b
 	ext	v1.16b,v0.16b,v0.16b,#8
@@ -31271,7 +31438,7 @@ rtpw_left_out_layers:
 
 	.section	.rodata.cst16,"aM",@progbits,16
 	.p2align	4,0x0
-.Lrtp_CPI177_0:
+.Lrtp_CPI178_0:
 	.byte	1
 	.byte	2
 	.byte	4
@@ -31344,7 +31511,7 @@ rtpw_wire_len:
 	movi	v3.16b,#198
 	movi	v4.16b,#230
 	movi	v5.16b,#246
-	adrp	x10,.Lrtp_CPI177_0
+	adrp	x10,.Lrtp_CPI178_0
 	orr	v0.16b,v1.16b,v0.16b
 	add	v0.16b,v0.16b,v2.16b
 	add	v2.16b,v1.16b,v3.16b
@@ -31354,7 +31521,7 @@ rtpw_wire_len:
 	cmeq	v1.16b,v1.16b,v3.16b
 	and	v0.16b,v2.16b,v0.16b
 	bic	v0.16b,v0.16b,v1.16b
-	ldr	q1,[x10,:lo12:.Lrtp_CPI177_0]
+	ldr	q1,[x10,:lo12:.Lrtp_CPI178_0]
 	and	v0.16b,v0.16b,v1.16b
 	ext	v1.16b,v0.16b,v0.16b,#8
 	zip1	v0.16b,v0.16b,v1.16b
@@ -31555,8 +31722,8 @@ rtpw_wire_len:
 	b	3f
 2:
 	ldr	q0,[x0]
-	adrp	x13,.Lrtp_CPI177_0
-	ldr	q1,[x13,:lo12:.Lrtp_CPI177_0]
+	adrp	x13,.Lrtp_CPI178_0
+	ldr	q1,[x13,:lo12:.Lrtp_CPI178_0]
 	cmeq	v0.16b,v0.16b,#0
 	bic	v0.16b,v1.16b,v0.16b
 	ext	v1.16b,v0.16b,v0.16b,#8
@@ -31716,7 +31883,7 @@ rtpw_wire_len:
 
 	.section	.rodata.cst16,"aM",@progbits,16
 	.p2align	4,0x0
-.Lrtp_CPI178_0:
+.Lrtp_CPI179_0:
 	.byte	1
 	.byte	2
 	.byte	4
@@ -31793,7 +31960,7 @@ rtpw_wire_len_layers:
 	movi	v3.16b,#198
 	movi	v4.16b,#230
 	movi	v5.16b,#246
-	adrp	x9,.Lrtp_CPI178_0
+	adrp	x9,.Lrtp_CPI179_0
 	orr	v0.16b,v1.16b,v0.16b
 	add	v0.16b,v0.16b,v2.16b
 	add	v2.16b,v1.16b,v3.16b
@@ -31803,7 +31970,7 @@ rtpw_wire_len_layers:
 	cmeq	v1.16b,v1.16b,v3.16b
 	and	v0.16b,v2.16b,v0.16b
 	bic	v0.16b,v0.16b,v1.16b
-	ldr	q1,[x9,:lo12:.Lrtp_CPI178_0]
+	ldr	q1,[x9,:lo12:.Lrtp_CPI179_0]
 	and	v0.16b,v0.16b,v1.16b
 	ext	v1.16b,v0.16b,v0.16b,#8
 	zip1	v0.16b,v0.16b,v1.16b
@@ -32021,8 +32188,8 @@ rtpw_wire_len_layers:
 	b	1f
 3:
 	ldr	q0,[x0]
-	adrp	x8,.Lrtp_CPI178_0
-	ldr	q1,[x8,:lo12:.Lrtp_CPI178_0]
+	adrp	x8,.Lrtp_CPI179_0
+	ldr	q1,[x8,:lo12:.Lrtp_CPI179_0]
 	cmeq	v0.16b,v0.16b,#0
 	bic	v0.16b,v1.16b,v0.16b
 	ext	v1.16b,v0.16b,v0.16b,#8
@@ -32180,7 +32347,7 @@ rtpw_wire_len_layers:
 
 	.section	.rodata.cst16,"aM",@progbits,16
 	.p2align	4,0x0
-.Lrtp_CPI179_0:
+.Lrtp_CPI180_0:
 	.byte	1
 	.byte	2
 	.byte	4
@@ -32269,7 +32436,7 @@ rtpw_write_layers:
 	movi	v3.16b,#198
 	movi	v4.16b,#230
 	movi	v5.16b,#246
-	adrp	x9,.Lrtp_CPI179_0
+	adrp	x9,.Lrtp_CPI180_0
 	orr	v0.16b,v1.16b,v0.16b
 	add	v0.16b,v0.16b,v2.16b
 	add	v2.16b,v1.16b,v3.16b
@@ -32279,7 +32446,7 @@ rtpw_write_layers:
 	cmeq	v1.16b,v1.16b,v3.16b
 	and	v0.16b,v2.16b,v0.16b
 	bic	v0.16b,v0.16b,v1.16b
-	ldr	q1,[x9,:lo12:.Lrtp_CPI179_0]
+	ldr	q1,[x9,:lo12:.Lrtp_CPI180_0]
 	and	v0.16b,v0.16b,v1.16b
 	ext	v1.16b,v0.16b,v0.16b,#8
 	zip1	v0.16b,v0.16b,v1.16b
@@ -32546,8 +32713,8 @@ rtpw_write_layers:
 	b	7f
 4:
 	ldr	q0,[x0]
-	adrp	x8,.Lrtp_CPI179_0
-	ldr	q1,[x8,:lo12:.Lrtp_CPI179_0]
+	adrp	x8,.Lrtp_CPI180_0
+	ldr	q1,[x8,:lo12:.Lrtp_CPI180_0]
 	cmeq	v0.16b,v0.16b,#0
 	bic	v0.16b,v1.16b,v0.16b
 	ext	v1.16b,v0.16b,v0.16b,#8
@@ -33249,7 +33416,7 @@ rtpw_write_headers:
 
 	.section	.rodata.cst16,"aM",@progbits,16
 	.p2align	4,0x0
-.Lrtp_CPI183_0:
+.Lrtp_CPI184_0:
 	.byte	1
 	.byte	2
 	.byte	4
@@ -33323,7 +33490,7 @@ rtpw_write:
 	movi	v3.16b,#198
 	movi	v4.16b,#230
 	movi	v5.16b,#246
-	adrp	x10,.Lrtp_CPI183_0
+	adrp	x10,.Lrtp_CPI184_0
 	orr	v0.16b,v1.16b,v0.16b
 	add	v0.16b,v0.16b,v2.16b
 	add	v2.16b,v1.16b,v3.16b
@@ -33333,7 +33500,7 @@ rtpw_write:
 	cmeq	v1.16b,v1.16b,v3.16b
 	and	v0.16b,v2.16b,v0.16b
 	bic	v0.16b,v0.16b,v1.16b
-	ldr	q1,[x10,:lo12:.Lrtp_CPI183_0]
+	ldr	q1,[x10,:lo12:.Lrtp_CPI184_0]
 	and	v0.16b,v0.16b,v1.16b
 	ext	v1.16b,v0.16b,v0.16b,#8
 	zip1	v0.16b,v0.16b,v1.16b

@@ -4,8 +4,8 @@
  * kit: rattle-kit-13f logic dac8208d650f15bf
  * proved for: x86_64-unknown-linux-gnu
  * compiled for: riscv64-unknown-linux-gnu
- * sources: 37fab6e09a20af966c39c8e622aacf088c3813575c03d6150f37115fc6cf2018
- * text: f4b97aaf8d858a93a36fb0a34777d5650adc0eb4113a22d00e6d0c71658fd5c8
+ * sources: a9a22890dc1864b20bf5bd6ee9b8d15572bb3c0c21b0d91a9de684c80e427114
+ * text: bc24f619dae05b6d46d84ab49a0f9ddfe9ae5d44af709c4b3dca2ccc2261357e
  * SPDX-License-Identifier: MIT OR Apache-2.0
  * Copyright (c) 2026 The rtp-wire developers (NOTICE)
  */
@@ -24827,6 +24827,272 @@ rtpw_next_element:
 	.cfi_def_cfa_offset 0
 	ret
 	.size	rtpw_next_element,.-rtpw_next_element
+	.cfi_endproc
+
+	.section	.text.rtpw_next_elements,"ax",@progbits
+	.globl	rtpw_next_elements
+	.p2align	1
+	.type	rtpw_next_elements,@function
+rtpw_next_elements:
+	.cfi_startproc
+	addi	sp,sp,-64
+	.cfi_def_cfa_offset 64
+	sd	ra,56(sp)
+	sd	s0,48(sp)
+	sd	s1,40(sp)
+	sd	s2,32(sp)
+	sd	s3,24(sp)
+	sd	s4,16(sp)
+	sd	s5,8(sp)
+	.cfi_offset ra,-8
+	.cfi_offset s0,-16
+	.cfi_offset s1,-24
+	.cfi_offset s2,-32
+	.cfi_offset s3,-40
+	.cfi_offset s4,-48
+	.cfi_offset s5,-56
+	.cfi_remember_state
+	seqz	s0,a0
+	seqz	a6,a4
+	zext.b	s1,a2
+	slli	s0,s0,12
+	add	s2,a0,s0
+	li	a0,2
+	slli	a2,a6,12
+	beq	s1,a0,1f
+	li	a0,1
+	bne	s1,a0,2f
+	li	a0,0
+	bltu	a1,a3,3f
+	beqz	a5,3f
+	li	a0,0
+	add	a2,a2,a4
+	addi	s1,a2,25
+4:
+	sub	a2,a1,a3
+	beqz	a2,3f
+	add	a3,a3,s2
+	lbu	s0,0(a3)
+	bnez	s0,5f
+	li	a4,2
+	beq	a2,a4,6f
+	li	a4,1
+	beq	a2,a4,3f
+	li	a4,3
+	bltu	a4,a2,7f
+	lbu	a4,1(a3)
+	bnez	a4,7f
+	lbu	a4,2(a3)
+	bnez	a4,7f
+	j	3f
+6:
+	lbu	a4,1(a3)
+	beqz	a4,3f
+7:
+	mv	s4,a1
+	mv	s5,a5
+	mv	s3,a0
+	addi	a1,a2,-1
+	addi	a0,a3,1
+	call	rtp_ext.elements.skip_zeros
+	beqz	a1,6f
+	mv	a2,a1
+	lbu	s0,0(a0)
+	mv	a0,s3
+	mv	a5,s5
+	mv	a1,s4
+5:
+	li	a3,239
+	bltu	a3,s0,3f
+	andi	a3,s0,15
+	addi	a3,a3,2
+	bltu	a2,a3,3f
+	srli	a6,s0,4
+	addi	a7,a3,-1
+	sub	a3,a3,a2
+	sb	zero,3(s1)
+	sb	zero,4(s1)
+	sb	zero,5(s1)
+	sb	zero,6(s1)
+	addi	a0,a0,1
+	add	a3,a3,a1
+	srli	t0,a7,56
+	srli	a4,a7,16
+	srli	s0,a7,8
+	srli	t1,a7,32
+	sb	a6,-1(s1)
+	sb	zero,0(s1)
+	sb	zero,1(s1)
+	sb	zero,2(s1)
+	sub	a2,a3,a7
+	sb	t1,-13(s1)
+	sb	s0,-12(s1)
+	sb	a4,-11(s1)
+	sb	t0,-10(s1)
+	sb	a7,-17(s1)
+	sb	s0,-16(s1)
+	sb	a4,-15(s1)
+	sb	s0,-14(s1)
+	srli	a6,a3,56
+	srli	a7,a3,48
+	srli	a4,a3,40
+	srli	s0,a3,32
+	srli	t0,a3,24
+	srli	t1,a3,16
+	srli	t2,a3,8
+	srli	t3,a2,56
+	srli	t4,a2,48
+	srli	t5,a2,40
+	srli	t6,a2,32
+	sb	s0,-5(s1)
+	sb	a4,-4(s1)
+	sb	a7,-3(s1)
+	sb	a6,-2(s1)
+	srli	a6,a2,24
+	sb	a3,-9(s1)
+	sb	t2,-8(s1)
+	sb	t1,-7(s1)
+	sb	t0,-6(s1)
+	srli	s0,a2,16
+	sb	t6,-21(s1)
+	sb	t5,-20(s1)
+	sb	t4,-19(s1)
+	sb	t3,-18(s1)
+	srli	a4,a2,8
+	sb	a2,-25(s1)
+	sb	a4,-24(s1)
+	sb	s0,-23(s1)
+	sb	a6,-22(s1)
+	addi	s1,s1,32
+	bne	a5,a0,4b
+	j	4f
+1:
+	li	a0,0
+	bltu	a1,a3,3f
+	beqz	a5,3f
+	li	a0,0
+	add	a2,a2,a4
+	addi	s1,a2,25
+1:
+	sub	a2,a1,a3
+	beqz	a2,3f
+	add	a4,s2,a3
+	lbu	a3,0(a4)
+	bnez	a3,5f
+	li	a3,2
+	beq	a2,a3,7f
+	li	a3,1
+	beq	a2,a3,3f
+	li	a3,3
+	bltu	a3,a2,8f
+	lbu	a3,1(a4)
+	bnez	a3,8f
+	lbu	a3,2(a4)
+	bnez	a3,8f
+	j	3f
+7:
+	lbu	a3,1(a4)
+	beqz	a3,3f
+8:
+	mv	s4,a1
+	mv	s0,a5
+	mv	s3,a0
+	addi	a1,a2,-1
+	addi	a0,a4,1
+	call	rtp_ext.elements.skip_zeros
+	beqz	a1,6f
+	mv	a4,a0
+	mv	a2,a1
+	mv	a0,s3
+	mv	a5,s0
+	mv	a1,s4
+5:
+	li	a3,2
+	bltu	a2,a3,3f
+	lbu	s0,1(a4)
+	addi	a3,s0,2
+	bltu	a2,a3,3f
+	lbu	a6,0(a4)
+	sub	a3,a3,a2
+	sb	zero,-13(s1)
+	sb	zero,-12(s1)
+	sb	zero,-11(s1)
+	sb	zero,-10(s1)
+	sb	s0,-17(s1)
+	sb	zero,-16(s1)
+	sb	zero,-15(s1)
+	sb	zero,-14(s1)
+	sb	zero,3(s1)
+	sb	zero,4(s1)
+	sb	zero,5(s1)
+	sb	zero,6(s1)
+	addi	a0,a0,1
+	add	a3,a3,a1
+	sub	a2,a3,s0
+	srli	a7,a3,56
+	srli	t0,a3,48
+	srli	s0,a3,40
+	srli	a4,a3,32
+	srli	t1,a3,24
+	srli	t2,a3,16
+	srli	t3,a3,8
+	srli	t4,a2,56
+	srli	t5,a2,48
+	srli	t6,a2,40
+	srli	s3,a2,32
+	sb	a4,-5(s1)
+	sb	s0,-4(s1)
+	sb	t0,-3(s1)
+	sb	a7,-2(s1)
+	srli	a7,a2,24
+	sb	a3,-9(s1)
+	sb	t3,-8(s1)
+	sb	t2,-7(s1)
+	sb	t1,-6(s1)
+	srli	s0,a2,16
+	sb	s3,-21(s1)
+	sb	t6,-20(s1)
+	sb	t5,-19(s1)
+	sb	t4,-18(s1)
+	srli	a4,a2,8
+	sb	a2,-25(s1)
+	sb	a4,-24(s1)
+	sb	s0,-23(s1)
+	sb	a7,-22(s1)
+	sb	a6,-1(s1)
+	sb	zero,0(s1)
+	sb	zero,1(s1)
+	sb	zero,2(s1)
+	addi	s1,s1,32
+	bne	a5,a0,1b
+4:
+	mv	a0,a5
+	j	3f
+2:
+	li	a0,0
+3:
+	ld	ra,56(sp)
+	ld	s0,48(sp)
+	ld	s1,40(sp)
+	ld	s2,32(sp)
+	ld	s3,24(sp)
+	ld	s4,16(sp)
+	ld	s5,8(sp)
+	.cfi_restore ra
+	.cfi_restore s0
+	.cfi_restore s1
+	.cfi_restore s2
+	.cfi_restore s3
+	.cfi_restore s4
+	.cfi_restore s5
+	addi	sp,sp,64
+	.cfi_def_cfa_offset 0
+	ret
+6:
+	.cfi_restore_state
+	mv	a0,s3
+	j	3b
+	.size	rtpw_next_elements,.-rtpw_next_elements
 	.cfi_endproc
 
 	.section	.text.rtpw_pad,"ax",@progbits

@@ -4,8 +4,8 @@
  * kit: rattle-kit-13f logic dac8208d650f15bf
  * proved for: x86_64-unknown-linux-gnu
  * compiled for: x86_64-pc-windows-gnu
- * sources: 37fab6e09a20af966c39c8e622aacf088c3813575c03d6150f37115fc6cf2018
- * text: 156ffc967091c0526e9dfe297f9b8a220ead40323aaf29c788b304733a21f038
+ * sources: a9a22890dc1864b20bf5bd6ee9b8d15572bb3c0c21b0d91a9de684c80e427114
+ * text: a6633c5db6b0bd26f56757ed5a8ba52345c726367129c7678ecfdae5b8aece34
  * SPDX-License-Identifier: MIT OR Apache-2.0
  * Copyright (c) 2026 The rtp-wire developers (NOTICE)
  */
@@ -22086,6 +22086,200 @@ rtpw_next_element:
 	popq	%rdi
 	popq	%rsi
 	retq
+	.seh_endproc
+
+	.def	rtpw_next_elements;
+	.scl	2;
+	.type	32;
+	.endef
+	.section	.text$rtpw_next_elements,"xr"
+	.globl	rtpw_next_elements
+	.p2align	4
+rtpw_next_elements:
+.seh_proc rtpw_next_elements
+	pushq	%r15
+	.seh_pushreg %r15
+	pushq	%r14
+	.seh_pushreg %r14
+	pushq	%rsi
+	.seh_pushreg %rsi
+	pushq	%rdi
+	.seh_pushreg %rdi
+	pushq	%rbx
+	.seh_pushreg %rbx
+	subq	$32,%rsp
+	.seh_stackalloc 32
+	.seh_endprologue
+	movq	120(%rsp),%rsi
+	movq	112(%rsp),%rax
+	xorl	%edi,%edi
+	testq	%rcx,%rcx
+	sete	%dil
+	shll	$12,%edi
+	addq	%rcx,%rdi
+	xorl	%ecx,%ecx
+	testq	%rax,%rax
+	sete	%cl
+	shll	$12,%ecx
+	cmpb	$2,%r8b
+	je	1f
+	movzbl	%r8b,%r8d
+	cmpl	$1,%r8d
+	jne	2f
+	cmpq	%rdx,%r9
+	seta	%r8b
+	testq	%rsi,%rsi
+	sete	%r10b
+	orb	%r8b,%r10b
+	jne	2f
+	leaq	(%rcx,%rax),%rbx
+	addq	$25,%rbx
+	xorl	%eax,%eax
+3:
+	movq	%rdx,%r8
+	subq	%r9,%r8
+	je	4f
+	movzbl	(%rdi,%r9),%ecx
+	testb	%cl,%cl
+	jne	5f
+	cmpq	$2,%r8
+	je	6f
+	cmpq	$1,%r8
+	je	4f
+	cmpq	$3,%r8
+	ja	7f
+	cmpb	$0,1(%rdi,%r9)
+	jne	7f
+	cmpb	$0,2(%rdi,%r9)
+	jne	7f
+	jmp	4f
+6:
+	cmpb	$0,1(%rdi,%r9)
+	je	4f
+7:
+	movq	%rdx,%r15
+	movq	%rax,%r14
+	decq	%r8
+	leaq	(%rdi,%r9),%rcx
+	incq	%rcx
+	movq	%r8,%rdx
+	callq	rtp_ext.elements.skip_zeros
+	testq	%rdx,%rdx
+	je	6f
+	movq	%rdx,%r8
+	movzbl	(%rax),%ecx
+	movq	%r14,%rax
+	movq	%r15,%rdx
+5:
+	cmpb	$-17,%cl
+	ja	4f
+	movl	%ecx,%r9d
+	andb	$15,%r9b
+	addb	$2,%r9b
+	movzbl	%r9b,%r10d
+	movq	%r10,%r9
+	subq	%r8,%r9
+	ja	4f
+	shrb	$4,%cl
+	decq	%r10
+	addq	%rdx,%r9
+	movq	%r9,%r8
+	subq	%r10,%r8
+	movq	%r8,-25(%rbx)
+	movq	%r10,-17(%rbx)
+	movq	%r9,-9(%rbx)
+	movb	%cl,-1(%rbx)
+	movl	$0,(%rbx)
+	movl	$0,3(%rbx)
+	incq	%rax
+	addq	$32,%rbx
+	cmpq	%rax,%rsi
+	jne	3b
+	jmp	3f
+1:
+	cmpq	%rdx,%r9
+	seta	%r8b
+	testq	%rsi,%rsi
+	sete	%r10b
+	orb	%r8b,%r10b
+	je	1f
+2:
+	xorl	%eax,%eax
+4:
+	addq	$32,%rsp
+	popq	%rbx
+	popq	%rdi
+	popq	%rsi
+	popq	%r14
+	popq	%r15
+	retq
+1:
+	leaq	(%rcx,%rax),%rbx
+	addq	$25,%rbx
+	xorl	%eax,%eax
+1:
+	movq	%rdx,%r8
+	subq	%r9,%r8
+	je	4b
+	addq	%rdi,%r9
+	cmpb	$0,(%r9)
+	jne	2f
+	cmpq	$2,%r8
+	je	5f
+	cmpq	$1,%r8
+	je	4b
+	cmpq	$3,%r8
+	ja	7f
+	cmpb	$0,1(%r9)
+	jne	7f
+	cmpb	$0,2(%r9)
+	jne	7f
+	jmp	4b
+5:
+	cmpb	$0,1(%r9)
+	je	4b
+7:
+	movq	%rdx,%r15
+	movq	%rax,%r14
+	decq	%r8
+	incq	%r9
+	movq	%r9,%rcx
+	movq	%r8,%rdx
+	callq	rtp_ext.elements.skip_zeros
+	testq	%rdx,%rdx
+	je	6f
+	movq	%rax,%r9
+	movq	%rdx,%r8
+	movq	%r14,%rax
+	movq	%r15,%rdx
+2:
+	cmpq	$2,%r8
+	jb	4b
+	movzbl	1(%r9),%r10d
+	leaq	2(%r10),%rcx
+	subq	%r8,%rcx
+	ja	4b
+	movzbl	(%r9),%r8d
+	addq	%rdx,%rcx
+	movq	%rcx,%r9
+	subq	%r10,%r9
+	movq	%r9,-25(%rbx)
+	movq	%r10,-17(%rbx)
+	movq	%rcx,-9(%rbx)
+	movb	%r8b,-1(%rbx)
+	movl	$0,(%rbx)
+	movl	$0,3(%rbx)
+	incq	%rax
+	addq	$32,%rbx
+	movq	%rcx,%r9
+	cmpq	%rax,%rsi
+	jne	1b
+3:
+	movq	%rsi,%rax
+	jmp	4b
+6:
+	movq	%r14,%rax
+	jmp	4b
 	.seh_endproc
 
 	.def	rtpw_pad;

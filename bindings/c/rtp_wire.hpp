@@ -266,6 +266,10 @@ inline result<rtpw_element> next_element(bytes body, std::uint8_t form, std::siz
         return ::rtpw_next_element(body.data(), body.size(), form, at, it);
     });
 }
+inline std::size_t next_elements(bytes body, std::uint8_t form, std::size_t at, span<rtpw_element> elements)
+        noexcept {
+    return ::rtpw_next_elements(body.data(), body.size(), form, at, elements.data(), elements.size());
+}
 inline result<rtpw_element> last_element(bytes body, std::uint8_t form, std::uint8_t id) noexcept {
     return result<rtpw_element>([&](rtpw_element *it) {
         return ::rtpw_last_element(body.data(), body.size(), form, id, it);

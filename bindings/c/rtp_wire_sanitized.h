@@ -615,6 +615,12 @@ static inline void rtpw_sanitizer_wrote_headers(const rtpw_routed_header *receiv
     }
 }
 
+/* So many elements have been found, for which the bytes from the offset on were looked at. */
+static inline void rtpw_sanitizer_walked(const uint8_t *body, size_t body_len, size_t at, const rtpw_element *elements,
+                                         size_t count, size_t found) {
+    rtpw_sanitizer_reads(body + at, (found == count ? elements[count - 1].end : body_len) - at);
+}
+
 /* ---- The calls ---- */
 
 static inline bool rtpw_sanitized_is_rtcp(const uint8_t *datagram, size_t len) {
@@ -808,6 +814,17 @@ RTPW_CHECKED static inline int32_t rtpw_sanitized_next_element(const uint8_t *bo
     return status;
 }
 #define rtpw_next_element rtpw_sanitized_next_element
+static inline size_t rtpw_sanitized_next_elements(const uint8_t *body, size_t body_len, uint8_t form, size_t at,
+        rtpw_element *elements, size_t count) {
+    size_t status;
+    RTPW_SANITIZER_ROOM(elements, count * sizeof *elements);
+    RTPW_SANITIZER_ROOM(body, body_len);
+    status = rtpw_next_elements(body, body_len, form, at, elements, count);
+    rtpw_sanitizer_wrote(elements, status * sizeof *elements);
+    if (at < body_len && count != 0) { rtpw_sanitizer_walked(body, body_len, at, elements, count, status); }
+    return status;
+}
+#define rtpw_next_elements rtpw_sanitized_next_elements
 RTPW_CHECKED static inline int32_t rtpw_sanitized_last_element(const uint8_t *body, size_t body_len, uint8_t form,
         uint8_t id, rtpw_element *element) {
     int32_t status;

@@ -1,11 +1,10 @@
 """What is made of the description for Go: the structs, the statuses, and the functions, as those of Go's assembler text
 and over these with types of Go.
 
-A function `rtpw_NAME` is text_NAME of the assembler text (generated/go/make), of which one repeats a call and two make
-several, and in a program with a race detector it tells that what is read and what is written: a struct, all of an array, of a packet its
+A function `rtpw_NAME` is text_NAME of the assembler text (generated/go/make), of which two make several calls, and in a
+program with a race detector it tells that what is read and what is written: a struct, all of an array, of a packet its
 header where that is read or changed, and the whole of it where its payload may move."""
 
-from dataclasses import replace
 from typing import List, Tuple
 
 from .header import SIZES, Api, Function, Parameter, Struct
@@ -50,21 +49,12 @@ TELL_STATUS = {
     "read", "packet_parse", "parse", "parse_layers", "next_element", "make_from_group", "wide_restarting_receive",
     "set_payload_type", "values_read",
 }
-AS_IN_C = {"make_template", "packet_read", "packet_read_muxed", "write_headers"}
+AS_IN_C = {"make_template", "next_elements", "packet_read", "packet_read_muxed", "write_headers"}
 
 
 def functions_of(api: Api) -> List[Function]:
     """Those that Go's package calls."""
     return [it for it in api.functions if it.short not in LEFT_OUT]
-
-
-def repeated(api: Api) -> Function:
-    """The call of next_element for one element after the other, as many as there is room for: it tells how many there
-    were."""
-    once = api.function["rtpw_next_element"]
-    *given, element = once.parameters
-    elements = replace(element, name="elements", marks={**element.marks, "COUNT": ("count",)})
-    return Function(once.name + "s", "size_t", (*given, elements, Parameter("count", "size_t", {}, False, False)))
 
 
 def joined(api: Api) -> List[Tuple[Function, List[str]]]:
@@ -265,7 +255,7 @@ def statuses(api: Api) -> str:
 
 
 def files(api: Api):
-    functions = [*functions_of(api), repeated(api), *(it for it, _ in joined(api))]
+    functions = [*functions_of(api), *(it for it, _ in joined(api))]
     text = [MADE, "package rtpwire\n", 'import "unsafe"\n']
     text += ["// The statuses, the structs and the functions of rtp_wire.h.\n", statuses(api)]
     text += [*map(struct_of, structs_of(api)), *map(function_of, functions)]

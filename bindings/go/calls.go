@@ -564,6 +564,19 @@ func rtpw_next_element(body *byte, body_len uintptr, form byte, at uintptr, elem
 }
 
 //go:noescape
+func text_next_elements(body *byte, body_len uintptr, form byte, at uintptr, elements *rtpw_element, count uintptr) uintptr
+
+func rtpw_next_elements(body *byte, body_len uintptr, form byte, at uintptr, elements *rtpw_element, count uintptr) uintptr {
+	if racing {
+		reads(unsafe.Pointer(body), body_len*unsafe.Sizeof(*body))
+		found := text_next_elements(body, body_len, form, at, elements, count)
+		writes(unsafe.Pointer(elements), found*unsafe.Sizeof(*elements))
+		return found
+	}
+	return text_next_elements(body, body_len, form, at, elements, count)
+}
+
+//go:noescape
 func text_last_element(body *byte, body_len uintptr, form byte, id byte, element *rtpw_element) int32
 
 func rtpw_last_element(body *byte, body_len uintptr, form byte, id byte, element *rtpw_element) int32 {
@@ -1558,19 +1571,6 @@ func rtpw_write_headers(made *rtpw_template, header *byte, header_size uintptr, 
 }
 
 //go:noescape
-func text_next_elements(body *byte, body_len uintptr, form byte, at uintptr, elements *rtpw_element, count uintptr) uintptr
-
-func rtpw_next_elements(body *byte, body_len uintptr, form byte, at uintptr, elements *rtpw_element, count uintptr) uintptr {
-	if racing {
-		reads(unsafe.Pointer(body), body_len*unsafe.Sizeof(*body))
-		found := text_next_elements(body, body_len, form, at, elements, count)
-		writes(unsafe.Pointer(elements), found*unsafe.Sizeof(*elements))
-		return found
-	}
-	return text_next_elements(body, body_len, form, at, elements, count)
-}
-
-//go:noescape
 func text_packet_read(datagram *byte, n uintptr, m *rtpw_map, packet *rtpw_packet, values *rtpw_values) int32
 
 func rtpw_packet_read(datagram *byte, n uintptr, m *rtpw_map, packet *rtpw_packet, values *rtpw_values) int32 {
@@ -2214,8 +2214,4 @@ func prepareGroup(ids *NewIDs, elements []Place, allowed Forms, group *PreparedG
 
 func makeFromGroup(group *PreparedGroup, datagram []byte, buf []byte, made *template) int32 {
 	return rtpw_make_from_group(group.c(), first(datagram), uintptr(len(datagram)), first(buf), uintptr(len(buf)), made.c())
-}
-
-func nextElements(body []byte, form Form, at int, elements []Place) int {
-	return int(rtpw_next_elements(first(body), uintptr(len(body)), uint8(form), uintptr(at), firstElement(elements), uintptr(len(elements))))
 }

@@ -154,20 +154,21 @@ func (p *Place) next(body []byte, form Form) bool {
 
 // appendPlaces appends the places of the elements: as many as there is room for in each call.
 func appendPlaces(places []Place, form Form, body []byte) []Place {
-	at := 0
-	for form.hasElements() {
-		if len(places) == cap(places) {
-			places = append(places, make([]Place, 8)...)[:len(places)]
-		}
+	if !form.hasElements() {
+		return places
+	}
+	for at := 0; ; {
 		room := places[len(places):cap(places)]
-		count := nextElements(body, form, at, room)
+		count := int(rtpw_next_elements(first(body), uintptr(len(body)), uint8(form), uintptr(at), firstElement(room), uintptr(len(room))))
 		places = places[:len(places)+count]
 		if count < len(room) {
-			break
+			return places
 		}
-		at = room[count-1].end
+		if count != 0 {
+			at = room[count-1].end
+		}
+		places = append(places, make([]Place, 8)...)[:len(places)]
 	}
-	return places
 }
 
 // parseValue lets the data be those of the one element of a body.

@@ -33,7 +33,7 @@ static rtpw_packet parts;
 static rtpw_whole_packet whole;
 static rtpw_header header, written;
 static rtpw_values values;
-static rtpw_element element;
+static rtpw_element element, listed[8];
 static rtpw_layers layers, given_layers;
 static rtpw_map map, other_map, layers_map;
 static rtpw_new_ids ids, repaired_ids;
@@ -102,6 +102,7 @@ static uint8_t body[BODY_LEN];
     X(rtpw_parse_layers, rtpw_parse_layers(packet, sizeof packet, &map, &header, &layers))                            \
     X(rtpw_values_read, rtpw_values_read(packet + BODY_AT, BODY_LEN, RTPW_ONE_BYTE_FORM, &map, &values))              \
     X(rtpw_next_element, rtpw_next_element(packet + BODY_AT, BODY_LEN, RTPW_ONE_BYTE_FORM, 0, &element))              \
+    X(rtpw_next_elements, rtpw_next_elements(packet + BODY_AT, BODY_LEN, RTPW_ONE_BYTE_FORM, 0, listed, 8))            \
     X(rtpw_last_element, rtpw_last_element(packet + BODY_AT, BODY_LEN, RTPW_ONE_BYTE_FORM, 3, &element))              \
     X(rtpw_set_marker, rtpw_set_marker(packet, sizeof packet, false))                                                 \
     X(rtpw_set_payload_type, rtpw_set_payload_type(packet, sizeof packet, 111))                                       \

@@ -1,4 +1,4 @@
-/* rtpw_next_element, rtpw_last_element */
+/* rtpw_next_element, rtpw_next_elements, rtpw_last_element */
 #include "hostile.h"
 
 #include "../c/rtp_wire.h"
@@ -22,6 +22,27 @@ static void expect(int32_t status, int32_t expected_status, const rtpw_element *
     CHECK(memcmp(body, copy, len) == 0);
 }
 
+/* as many as there is room for, from the offset on */
+static void several(uint8_t form, size_t at, bool is_within) {
+    static memory listed;
+    if (listed.size == 0) {
+        listed = memory_of(9 * sizeof(rtpw_element));
+    }
+    size_t count = random_below(9);
+    rtpw_element *elements = block_in(&listed, count * sizeof *elements), before[9];
+    fill(elements, count * sizeof *elements);
+    memcpy(before, elements, count * sizeof *elements);
+    size_t found_count = rtpw_next_elements(body, len, form, at, elements, count);
+    found it = {0, 0, 0, 0};
+    size_t i = 0;
+    for (; i < count && is_within && walk_on(copy, len, form, at, &it); i++) {
+        expect(RTPW_OK, RTPW_OK, &elements[i], &before[i], &it);
+        at = elements[i].end;
+    }
+    CHECK(found_count == i);
+    CHECK(memcmp(&elements[i], &before[i], (count - i) * sizeof *elements) == 0);
+}
+
 void elements_round(void) {
     static memory bodies, elements;
     if (bodies.size == 0) {
@@ -40,6 +61,7 @@ void elements_round(void) {
 
     /* a walk, from a random offset at times */
     size_t at = random_u64() % 2 == 0 ? 0 : random_below(len + 3);
+    several(form, at, is_form && at <= len);
     int32_t status;
     int steps = 0;
     do {

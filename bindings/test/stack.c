@@ -20,7 +20,7 @@ bool uses_malloc;
 static uint8_t datagram[12 + 60 + 4 + 262140 + 8];
 static rtpw_packet packet;
 static rtpw_whole_packet whole;
-static rtpw_element element;
+static rtpw_element element, listed[8];
 static rtpw_fields fields = {2, 3, 1, 96, 1, 1, 1, 1, 1, 1};
 static rtpw_receiver receiver;
 static rtpw_wide_receiver wide;
@@ -146,6 +146,9 @@ static void remove_block(void) {
 static void put_block(void) {
     count = few_elements();
     status = rtpw_put_block(datagram, sizeof datagram, &count, 0xABAC, bytes, sizeof bytes);
+}
+static void next_elements(void) {
+    (void)rtpw_next_elements(datagram + 76, 262140, RTPW_ONE_BYTE_FORM, 0, listed, 8);
 }
 static void next_element(void) { status = rtpw_next_element(datagram + 76, 262140, RTPW_ONE_BYTE_FORM, 0, &element); }
 static void last_element(void) { status = rtpw_last_element(datagram + 76, 262140, RTPW_ONE_BYTE_FORM, 5, &element); }
@@ -304,7 +307,7 @@ int main(void) {
         CALL(set_timestamp), CALL(set_ssrc), CALL(set_fields), CALL(set_csrc), CALL(set_element),
         CALL(remove_element), CALL(put_element), CALL(compact),
         CALL(add_element), CALL(change_form), CALL(remove_block), CALL(put_block),
-        CALL(next_element), CALL(last_element), CALL(receiver_start), CALL(receiver_number_of),
+        CALL(next_element), CALL(next_elements), CALL(last_element), CALL(receiver_start), CALL(receiver_number_of),
         CALL(receiver_accepts), CALL(receiver_record), CALL(receiver_receive), CALL(wide_receiver_start),
         CALL(wide_receiver_number_of), CALL(wide_receiver_accepts), CALL(wide_receiver_record),
         CALL(wide_receiver_receive), CALL(restarting_receive), CALL(wide_restarting_receive),

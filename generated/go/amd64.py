@@ -212,34 +212,6 @@ def write_call(out, linked, entry, frame, loads, rest, store):
         out.emit(f"\tADJSP ${-by}" if by else None)
         out.emit(store)
         out.emit("\tRET")
-
-
-def write_repeated(out, linked, entry, frame, given, result, at_end, size):
-    """Calls the function for each element, from where the one before ends, until it has none, the body ends, or there is no
-    room left: with registers that it leaves as they are."""
-    body, body_len, form, at, elements, count = (f"{place}(FP)" for place in given)
-    for line in (f"MOVQ {body}, BX", f"MOVQ {body_len}, R12", f"MOVBLZX {form}, R13", f"MOVQ {at}, CX", f"MOVQ {elements}, R14"):
-        out.emit("\t" + line)
-    out.emit(f"\tMOVQ {count}, R15")
-    out.pending += IS_ODD
-    out.emit("\tJNE odd")
-    for suffix, unaligned in (("", 0), ("_odd", 1)):
-        by = 8 * unaligned - frame
-        out.emit("odd:" if unaligned else None)
-        out.emit(f"\tADJSP ${by}" if by else None)
-        out.emit(f"next{suffix}:")
-        for line in ("CMPQ CX, R12", f"JEQ done{suffix}", "TESTQ R15, R15", f"JEQ done{suffix}"):
-            out.emit("\t" + line)
-        for line in ("MOVQ BX, DI", "MOVQ R12, SI", "MOVL R13, DX", "MOVQ R14, R8", f"CALL {linked.name}<>+{entry}(SB)"):
-            out.emit("\t" + line)
-        for line in ("TESTL AX, AX", f"JNE done{suffix}", f"MOVQ {at_end}(R14), CX", f"ADDQ ${size}, R14", "DECQ R15", f"JMP next{suffix}"):
-            out.emit("\t" + line)
-        out.emit(f"done{suffix}:")
-        out.emit(f"\tADJSP ${-by}" if by else None)
-        for line in (f"MOVQ {count}, AX", "SUBQ R15, AX", f"MOVQ AX, {result}(FP)", "RET"):
-            out.emit("\t" + line)
-
-
 def write_joined(out, linked, entries, frame, given, result, fields, rtcp):
     """Calls the last function but one, and where it succeeds, and the block has one of the two forms with elements, the last
     one; where there is one before these, it ends with the status rtcp where that one is true."""

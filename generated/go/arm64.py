@@ -128,28 +128,6 @@ def write_call(out, linked, entry, frame, loads, rest, store):
     out.emit(f"\tSUB ${rise}, RSP")
     out.emit(store)
     out.emit("\tRET")
-
-
-def write_repeated(out, linked, entry, frame, given, result, at_end, size):
-    """Calls the function for each element, from where the one before ends, until it has none, the body ends, or there is no
-    room left: with registers that it leaves as they are."""
-    body, body_len, form, at, elements, count = (f"{place}(FP)" for place in given)
-    for line in (f"MOVD {body}, R19", f"MOVD {body_len}, R20", f"MOVBU {form}, R21", f"MOVD {at}, R3", f"MOVD {elements}, R22"):
-        out.emit("\t" + line)
-    for line in (f"MOVD {count}, R23", f"ADD ${frame}, RSP"):
-        out.emit("\t" + line)
-    out.emit("next:")
-    for line in ("CMP R20, R3", "BEQ done", "CBZ R23, done"):
-        out.emit("\t" + line)
-    for line in ("MOVD R19, R0", "MOVD R20, R1", "MOVD R21, R2", "MOVD R22, R4", f"CALL {linked.name}<>+{entry}(SB)"):
-        out.emit("\t" + line)
-    for line in ("CBNZW R0, done", f"MOVD {at_end}(R22), R3", f"ADD ${size}, R22", "SUB $1, R23", "JMP next"):
-        out.emit("\t" + line)
-    out.emit("done:")
-    for line in (f"SUB ${frame}, RSP", f"MOVD {count}, R0", "SUB R23, R0", f"MOVD R0, {result}(FP)", "RET"):
-        out.emit("\t" + line)
-
-
 def write_joined(out, linked, entries, frame, given, result, fields, rtcp):
     """Calls the last function but one, and where it succeeds, and the block has one of the two forms with elements, the last
     one; where there is one before these, it ends with the status rtcp where that one is true."""

@@ -4,11 +4,11 @@
 usage: text.py amd64|arm64 TEXT MEMORY FOLDER
 
 FOLDER/rtp_wire_ARCH.s gets the bytes that binutils make of TEXT and MEMORY, linked at address 0, as one symbol, and in
-front of it a function of Go for each of bindings/c/rtp_wire.h that Go's package calls (bindings/described/go.py), one that
-calls rtpw_next_element for one element after the other, and two that call rtpw_packet_parse and rtpw_values_read. What it and what it calls take of the stack is known by the frame information and the call graph: on amd64 it doesn't ask for the stack where that is less
-than Go keeps for those that don't, and else it has a frame with room for all. FOLDER/*_ARCH.bytes and FOLDER/*_ARCH.sites
-have what is compared with what Go linked: these bytes, and the places that Go's linker fills in, with what it has to fill
-in where that is known.
+front of it a function of Go for each of bindings/c/rtp_wire.h that Go's package calls (bindings/described/go.py), and two
+that call rtpw_packet_parse and rtpw_values_read. What it and what it calls take of the stack is known by the frame
+information and the call graph: on amd64 it doesn't ask for the stack where that is less than Go keeps for those that
+don't, and else it has a frame with room for all. FOLDER/*_ARCH.bytes and FOLDER/*_ARCH.sites have what is compared with
+what Go linked: these bytes, and the places that Go's linker fills in, with what it has to fill in where that is known.
 
 On amd64 Go is told at each instruction how far the caller's frame is. Of a function that doesn't ask for its stack its
 linker takes no frame as large as those of two of the library have. Each of these, which no other calls, stands behind the
@@ -28,7 +28,7 @@ import amd64
 import arm64
 from described import go
 from described.header import SIZES, read
-from linked import Linked, Refused, insist, run
+from linked import Linked, Refused, run
 
 
 class Text:
@@ -70,32 +70,19 @@ class Text:
         p.write_call(self, linked, entry, frame, loads, rest, store)
         self.emit("")
 
-    def joining(self, linked, it, calls, said):
-        """Begins the function of Go that makes these calls: what it is given, where each of them is, its frame, and its result."""
+    def in_one(self, linked, it, calls, packet, rtcp):
+        """The function of Go that calls those of the library for a packet and for the body of its block."""
         given, end = go.places_of(it)
+        insist([width for _, width in given] == [8] * 5, "other parameters of", *calls)
         end = -(-end // 8) * 8
         entries = [linked.address[name] for name in calls]
         need = max(linked.depths[entry] for entry in entries) + self.processor.RETURN_ADDRESS
         frame, size = self.processor.frame_for(need, 0), SIZES[it.result]
-        self.emit(f"// {said}: it takes at most {need} bytes of the stack.")
+        self.emit(f"// {', then '.join(calls)}: it takes at most {need} bytes of the stack.")
         self.emit(f"TEXT ·{go.text_of(it)}(SB), {0 if frame else 'NOSPLIT'}, ${frame}-{end + size}")
         self.emit("\tNO_LOCAL_POINTERS")
-        return given, entries, frame, f"ret+{end}"
-
-    def repeating(self, linked, it, once, element):
-        """The function of Go that calls one of the library again and again, from the end of each element on."""
-        given, entries, frame, result = self.joining(linked, it, [once], f"{once}, once for each element")
-        insist([width for _, width in given] == [8, 8, 1, 8, 8, 8], "other parameters of", once)
-        places = [place for place, _ in given]
-        self.processor.write_repeated(self, linked, *entries, frame, places, result, element.field["end"].at, element.size)
-        self.emit("")
-
-    def in_one(self, linked, it, calls, packet, rtcp):
-        """The function of Go that calls those of the library for a packet and for the body of its block."""
-        given, entries, frame, result = self.joining(linked, it, calls, ", then ".join(calls))
-        insist([width for _, width in given] == [8] * 5, "other parameters of", *calls)
         fields = [packet.field[name].at for name in ("block_form", "body_at", "body_len")]
-        self.processor.write_joined(self, linked, entries, frame, [place for place, _ in given], result, fields, rtcp)
+        self.processor.write_joined(self, linked, entries, frame, [place for place, _ in given], f"ret+{end}", fields, rtcp)
         self.emit("")
 
     def library(self, linked):
@@ -140,7 +127,6 @@ def main():
     out.lines += ["", "//go:build gc", "", '#include "textflag.h"', '#include "funcdata.h"', ""]
     for it in functions:
         out.function(linked, it)
-    out.repeating(linked, go.repeated(api), "rtpw_next_element", api.struct["rtpw_element"])
     for it, calls in go.joined(api):
         out.in_one(linked, it, calls, api.struct["rtpw_packet"], api.constants["RTPW_RTCP"])
     out.library(linked)

@@ -149,6 +149,23 @@ static void elements_are_set(void) {
     CHECK(memcmp(bytes, SAMPLE, 24) == 0);
 }
 
+/* The three elements of the body, told at once. */
+static void elements_are_listed(const uint8_t *body) {
+    rtpw_element each[5] = {{0}};
+    each[3].end = 77;
+    CHECK(rtpw_next_elements(body, 8, RTPW_ONE_BYTE_FORM, 0, each, 5) == 3);
+    CHECK(each[0].id == 1 && each[0].data_at == 1 && each[0].data_len == 1 && each[0].end == 2);
+    CHECK(each[1].id == 2 && each[1].data_at == 3 && each[1].data_len == 2 && each[1].end == 5);
+    CHECK(each[2].id == 1 && each[2].data_at == 6 && each[2].data_len == 1 && each[2].end == 7);
+    CHECK(each[3].end == 77);
+    CHECK(rtpw_next_elements(body, 8, RTPW_ONE_BYTE_FORM, 2, each, 1) == 1 && each[0].end == 5 && each[1].end == 5);
+    CHECK(rtpw_next_elements(body, 8, RTPW_ONE_BYTE_FORM, 5, each, 0) == 0);
+    CHECK(rtpw_next_elements(body, 8, RTPW_ONE_BYTE_FORM, 8, each, 5) == 0);
+    CHECK(rtpw_next_elements(body, 8, RTPW_ONE_BYTE_FORM, 9, each, 5) == 0);
+    CHECK(rtpw_next_elements(body, 8, RTPW_OTHER_FORM, 0, each, 5) == 0);
+    CHECK(each[0].end == 5 && each[2].end == 7);
+}
+
 static void elements_are_found(void) {
     const uint8_t *body = SAMPLE + 24;
     rtpw_element element = {0};
@@ -171,6 +188,7 @@ static void elements_are_found(void) {
     CHECK(element.id == 1 && element.data_at == 6 && element.data_len == 1 && element.end == 7);
     CHECK(rtpw_last_element(body, 8, RTPW_ONE_BYTE_FORM, 3, &element) == RTPW_NONE);
     CHECK(rtpw_last_element(body, 8, 0xFF, 1, &element) == RTPW_BAD_FIELD);
+    elements_are_listed(body);
     /* the same bytes in the two-byte form: the header 10 AA announces 170 bytes, which are not there */
     CHECK(rtpw_next_element(body, 8, RTPW_TWO_BYTE_FORM, 0, &element) == RTPW_NONE);
     /* from 5 on: the element 16 would have 221 bytes; from 7 on there is padding alone */

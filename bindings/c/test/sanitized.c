@@ -157,6 +157,11 @@ static void next_element(void) {
     done(rtpw_next_element(body, 4, RTPW_ONE_BYTE_FORM, 0, it));
     set(it, sizeof *it);
 }
+static void next_elements(void) {
+    const uint8_t *body = in(BODY, 4);
+    rtpw_element *them = out(2 * sizeof *them);
+    set(them, rtpw_next_elements(body, 4, RTPW_ONE_BYTE_FORM, 0, them, 2) * sizeof *them);
+}
 static void last_element(void) {
     const uint8_t *body = in(BODY, 4);
     rtpw_element *it = out(sizeof *it);
@@ -861,6 +866,7 @@ static void no_bytes(void) { /* NULL, where the size is 0 */
     uint8_t bytes[60];
     if (rtpw_is_rtcp(NULL, 0) || rtpw_packet_parse(NULL, 0, &packet) != RTPW_CUT_FIXED_PART ||
         rtpw_next_element(NULL, 0, RTPW_ONE_BYTE_FORM, 0, &element) != RTPW_NONE ||
+        rtpw_next_elements(NULL, 0, RTPW_ONE_BYTE_FORM, 0, NULL, 0) != 0 ||
         rtpw_put_element(NULL, 0, &len, 1, NULL, 0, RTPW_ANY_FORM) != RTPW_CUT_FIXED_PART ||
         rtpw_add_element(NULL, 0, &len, 1, NULL, 0, RTPW_ANY_FORM) != RTPW_CUT_FIXED_PART ||
         rtpw_change_form(NULL, 0, &len, RTPW_TWO_BYTE_FORM) != RTPW_CUT_FIXED_PART ||
@@ -917,6 +923,7 @@ static const struct called cases[] = {
     CASE(put_block),
     CASE(compact),
     CASE(next_element),
+    CASE(next_elements),
     CASE(last_element),
     CASE(values_read),
     CASE(kind_of_uri),

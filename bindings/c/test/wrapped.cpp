@@ -760,6 +760,8 @@ void bits_of_numbers() {
     CHECK(rtpw::values_read(body, RTPW_OTHER_FORM, level_is_3()).status() == status::bad_field);
     CHECK((*rtpw::next_element(body, RTPW_TWO_BYTE_FORM, 0)).end == 3);
     CHECK(rtpw::next_element(body, RTPW_TWO_BYTE_FORM, 3).status() == status::none);
+    rtpw_element elements[2];
+    CHECK(rtpw::next_elements(body, RTPW_TWO_BYTE_FORM, 0, elements) == 1 && elements[0].end == 3);
     CHECK((*rtpw::last_element(body, RTPW_TWO_BYTE_FORM, 3)).data_at == 2);
 
     const std::uint64_t count = 0x8765'4321'0fed;

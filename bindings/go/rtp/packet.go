@@ -26,10 +26,10 @@ func (p *Packet) Unmarshal(buf []byte) error {
 	if !ok {
 		return errTooSmall
 	}
+	p.Payload, p.PaddingSize = payload, byte(len(buf)-parts.HeaderLen()-len(payload))
 	if p.Header.take(&parts) {
 		p.Header.takeLists(&parts, buf)
 	}
-	p.Payload, p.PaddingSize = payload, byte(len(buf)-parts.HeaderLen()-len(payload))
 	return nil
 }
 

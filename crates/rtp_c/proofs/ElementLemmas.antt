@@ -1,8 +1,9 @@
 -- Where an element lies in the body of a block.
-use Rattle.rtp_c.proofs.Common.{◌≡◌, ℕ, ◌-◌, ◌≤◌, List, ◌∷◌, ◌++◌, length, take, drop, replicate, refl, sym, ap, ◌∙◌, subst, append_assoc, length-append, length-take-le, drop_at, arith, take-append-drop, length-replicate, ExtensionsForm, IsElement, element_bytes, AreElements, IsNextPlace, IsLastPlace, ElementView, slice_at}
+use Rattle.rtp_c.proofs.Common.{◌≡◌, ℕ, ◌+◌, ◌-◌, ◌<◌, ◌≤◌, List, [], ◌∷◌, ◌++◌, length, set, take_more_set, take, drop, replicate, refl, sym, ap, ◌∙◌, subst, append_assoc, length-append, length-take-le, drop_at, arith, take-append-drop, length-replicate, ExtensionsForm, IsElement, element_bytes, AreElements, IsNextPlace, IsLastPlace, ElementView, slice_at}
 use Rattle.rtp_ext.specs.declared.place.Place.{Place}
 use Rattle.rtp_ext.specs.ElementWriting.{element_header}
-use Rattle.rtp_c.specs.ElementView.{IsNextElement, IsLastElement}
+use Rattle.rtp_c.specs.ElementView.{IsNextElement, IsLastElement, AreNextElements, end_after}
+use Rattle.rtp_c.proofs.InTurnLemmas.{AreLeft, AreLeft-next}
 use Rattle.rtp_c.proofs.PacketLemmas.{middle}
 use Rattle.rtp_ext.proofs.PlaceLemmas.{element_bytes-split}
 
@@ -59,3 +60,30 @@ IsLastElement-place form body id place is =
       last = is.last;
       end_is = omega (arith, is.end_is);
     }
+
+pub end_after-push : (at : ℕ) (views : List ElementView) (last : ElementView) → end_after at (views ++ last ∷ []) ≡ last.end
+end_after-push at [] last = refl
+end_after-push at (view ∷ views) last = end_after-push view.end views last
+
+module _ (form : ExtensionsForm) (body : List ℕ) where
+  pub AreNextElements-push : (at : ℕ) (views : List ElementView) (last : ElementView) → AreNextElements form body at views → IsNextElement form body (end_after at views) last
+      → AreNextElements form body at (views ++ last ∷ [])
+  AreNextElements-push at [] last are is = (is, tt)
+  AreNextElements-push at (view ∷ views) last are is = (are.0, AreNextElements-push view.end views last are.1 is)
+
+  -- before this index there are the next elements, up to this place, and from it on what was there
+  pub record AreNextTo (at : ℕ) (olds news : List ElementView) (index from : ℕ) : Type 0 where
+    pub are_next : AreNextElements form body at (take index news)
+    pub left : AreLeft olds news index
+    pub from_is : from ≡ end_after at (take index news)
+
+  pub AreNextTo-next : (at : ℕ) (olds news : List ElementView) (index from : ℕ) (new : ElementView) → AreNextTo at olds news index from → index < length news
+      → IsNextElement form body from new → AreNextTo at olds (set news index new) (index + 1) new.end
+  AreNextTo-next at olds news index from new so_far within is =
+      let more : take (index + 1) (set news index new) ≡ take index news ++ new ∷ [] = take_more_set news index new within in
+      record {
+        are_next = subst (AreNextElements form body at) (sym more)
+            (AreNextElements-push at (take index news) new so_far.are_next (subst (λ (n : ℕ). IsNextElement form body n new) so_far.from_is is));
+        left = AreLeft-next olds news index new so_far.left;
+        from_is = sym (ap (end_after at) more ∙ end_after-push at (take index news) new);
+      }

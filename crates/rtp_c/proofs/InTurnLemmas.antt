@@ -13,7 +13,7 @@ use Rattle.rtp_c.specs.RoutedHeaders.{IsHeaderWritten, AreHeadersWritten, AreApa
 abbrev pub AreLeft : {X : Type 0} → List X → List X → ℕ → Type 0
 AreLeft olds news index = drop index news ≡ drop index olds
 
-AreLeft-next : {X : Type 0} (olds news : List X) (index : ℕ) (new : X) → AreLeft olds news index → AreLeft olds (set news index new) (index + 1)
+pub AreLeft-next : {X : Type 0} (olds news : List X) (index : ℕ) (new : X) → AreLeft olds news index → AreLeft olds (set news index new) (index + 1)
 AreLeft-next olds news index new left =
     drop-set-lt (index + 1) news index new (omega arith) ∙ sym (drop-drop 1 index news) ∙ ap (λ xs. drop 1 xs) left ∙ drop-drop 1 index olds
 

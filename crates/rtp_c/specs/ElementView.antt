@@ -1,5 +1,5 @@
 -- What C is told of an element where it lies in the body of a block (RFC 8285, 4.2 and 4.3).
-use Rattle.std.specs.Prelude.{◌≡◌, ℕ, ◌+◌, List, ◌∷◌, ◌++◌, drop, replicate}
+use Rattle.std.specs.Prelude.{◌≡◌, ℕ, ◌+◌, List, [], ◌∷◌, ◌++◌, drop, replicate}
 use Rattle.rtp_ext.specs.declared.form.ExtensionsForm.{ExtensionsForm}
 use Rattle.rtp_ext.specs.Elements.{Element, IsElement, element_bytes, AreElements}
 use Rattle.rtp_ext.specs.declared.place.Place.{Place}
@@ -35,3 +35,13 @@ pub record LiesAsLast (form : ExtensionsForm) (body : List ℕ) (id : ℕ) (view
   pub lies : LiesLast form (AreElements form) id body place
   pub data_at_is : view.data_at ≡ place.data_start
   pub ends : view.end ≡ place.end
+
+-- each of these is the next element from the end of the one before it on, and the first one from the offset on
+abbrev pub AreNextElements : ExtensionsForm → List ℕ → ℕ → List ElementView → Type 0
+AreNextElements form body at [] = Unit {0}
+AreNextElements form body at (view ∷ views) = IsNextElement form body at view × AreNextElements form body view.end views
+
+-- where the last of these ends, and the offset where there is none
+abbrev pub end_after : ℕ → List ElementView → ℕ
+end_after at [] = at
+end_after at (view ∷ views) = end_after view.end views

@@ -26,6 +26,7 @@ mod layers;
 mod left_out;
 mod map;
 mod named_elements;
+mod next_elements;
 mod numbers;
 mod packet;
 mod padding;

@@ -146,6 +146,7 @@ mod c {
         pub fn rtpw_remove_block(buf: *mut u8, size: usize, len: *mut usize) -> i32;
         pub fn rtpw_put_block(buf: *mut u8, size: usize, len: *mut usize, profile: u16, body: *const u8, body_len: usize) -> i32;
         pub fn rtpw_next_element(body: *const u8, body_len: usize, form: u8, at: usize, element: *mut Place) -> i32;
+        pub fn rtpw_next_elements(body: *const u8, body_len: usize, form: u8, at: usize, elements: *mut Place, count: usize) -> usize;
         pub fn rtpw_last_element(body: *const u8, body_len: usize, form: u8, id: u8, element: *mut Place) -> i32;
         pub fn rtpw_kind_of_uri(uri: *const u8, len: usize) -> u8;
         pub fn rtpw_uri_of_kind(kind: u8, buf: *mut u8, size: usize, len: *mut usize) -> i32;
@@ -341,6 +342,11 @@ pub fn next_element(body: &[u8], form: u8, at: usize) -> Option<Place> {
     // SAFETY: as above, where these are exclusive: element.
     let status = unsafe { c::rtpw_next_element(body.as_ptr(), body.len(), form, at, &mut element) };
     (status == OK).then_some(element)
+}
+
+pub fn next_elements(body: &[u8], form: u8, at: usize, elements: &mut [Place]) -> usize {
+    // SAFETY: as above, where these are exclusive: elements.
+    unsafe { c::rtpw_next_elements(body.as_ptr(), body.len(), form, at, elements.as_mut_ptr(), elements.len()) }
 }
 
 pub fn last_element(body: &[u8], form: u8, id: u8) -> Option<Place> {

@@ -470,6 +470,16 @@ typedef struct {
  */
 RTPW_CHECKED int32_t rtpw_next_element(RTPW_COUNT(body_len) const uint8_t *body, size_t body_len, uint8_t form,
                                        size_t at, RTPW_OUT rtpw_element *element);
+/* The elements from an offset on, in order, as rtpw_next_element tells them one by one: as many as there is room for.
+ * Returns how many they are. Where there is room for more, reading ends behind them; else it goes on at the `end` of the
+ * last one. There are none where the form is none of the two, or the offset is past the body's end. What is behind them
+ * stays.
+ *
+ *     rtpw_element elements[16];
+ *     size_t count = rtpw_next_elements(body, packet.body_len, packet.block_form, 0, elements, 16);
+ */
+size_t rtpw_next_elements(RTPW_COUNT(body_len) const uint8_t *body, size_t body_len, uint8_t form, size_t at,
+                          RTPW_OUT RTPW_COUNT(count) rtpw_element *elements, size_t count);
 /* The last element of an id, which is the one that counts. RTPW_OK; RTPW_NONE where no element has the
  * id; RTPW_BAD_FIELD where the form is none of the two. */
 RTPW_CHECKED int32_t rtpw_last_element(RTPW_COUNT(body_len) const uint8_t *body, size_t body_len, uint8_t form,
