@@ -46,6 +46,7 @@ impl<'a> HeaderTemplate<'a> {
     /// The cause is [`NotRouted::ManyElements`] for more than 16 elements, else
     /// [`NotRouted::RepeatedId`] for two of one id, and else that of
     /// [`route_header`](super::route_header). The buffer then has any bytes.
+    #[inline(always)]
     pub fn new<L: ElementList>(
         packet: &RtpPacket<'_>,
         group: &GroupOf<'_, L>,
@@ -72,6 +73,7 @@ impl<'a> HeaderTemplate<'a> {
     /// Makes the header as [`new`](Self::new) does, for a group that is tabled already, as
     /// [`prepare_group`](super::prepare_group) does once for all packets: each receiver brings the
     /// data of its elements. The cause is that of [`route_header`](super::route_header).
+    #[inline(always)]
     pub fn from_table<G: GroupTable>(
         packet: &RtpPacket<'_>,
         group: G,
