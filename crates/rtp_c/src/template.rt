@@ -154,7 +154,7 @@ pub extern "C" fn rtpw_make_template(
     };
     let mut slots = [Slot { start: 0, len: 0 }; MAX_ELEMENTS];
     match make_template(&packet, &group, buf, &mut slots) {
-        Ok(len) => {
+        Ok((len, _)) => {
             made.store(len as u32, &slots[..elements.count()]);
             OK
         }
@@ -206,7 +206,7 @@ pub extern "C" fn rtpw_make_from_group(
     };
     let mut slots = [Slot { start: 0, len: 0 }; MAX_ELEMENTS];
     match make_from_table(&packet, group, buf, &mut slots) {
-        Ok(len) => {
+        Ok((len, _)) => {
             made.store(len as u32, &slots[..group.count()]);
             OK
         }

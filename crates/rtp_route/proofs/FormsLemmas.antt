@@ -1,5 +1,5 @@
 -- The form that a block has before the group's elements are put, and once each is.
-use Rattle.std.proofs.Common.{◌≡◌, ◌≢◌, ℕ, ◌+◌, ◌*◌, ◌<◌, ◌≤◌, ◌⊎◌, inl, inr, All, List, [], ◌∷◌, ◌++◌, length, take, drop, slice_get, Option, Some, None, IfSome, refl, sym, ap, subst, ◌∙◌, arith, length-append}
+use Rattle.std.proofs.Common.{◌≡◌, ◌≢◌, ◌↔◌, Bool, IsTrue, ℕ, ◌+◌, ◌*◌, ◌<◌, ◌≤◌, ◌⊎◌, inl, inr, All, List, [], ◌∷◌, ◌++◌, length, take, slice_get, Option, Some, None, IfSome, refl, sym, ap, subst, ◌∙◌, arith, length-append}
 use Rattle.std.specs.List.{AllByRecursion}
 use Rattle.std.proofs.lemmas.Bool.{cases_lt}
 use Rattle.std.proofs.lemmas.Option.{same_Some}
@@ -12,47 +12,51 @@ use Rattle.rtp_ext.specs.ElementsInPlace.{CanRenumber}
 use Rattle.rtp_ext.proofs.AnewLemmas.{AreElements-each}
 use Rattle.rtp_ext.specs.PutElement.{needed_form, allowed_form}
 use Rattle.rtp_ext.proofs.GatheredLemmas.{elements_bytes-append}
-use Rattle.rtp_ext.proofs.RawWritingLemmas.{left-more}
 use Rattle.rtp_route.specs.Routing.{IsFormForIds, own_form, two_byte_form, IsFormAfter}
-use Rattle.rtp_route.specs.Walk.{IsStart}
+use Rattle.rtp_route.specs.Walk.{IsStart, AreMeasured}
 use Rattle.rtp_route.proofs.ElementAtLemmas.{taken-more}
 use Rattle.rtp_route.proofs.RoomLemmas.{narrow-needed}
-use Rattle.rtp_route.proofs.WideLemmas.{wide}
 
--- ---- the form once each is put
+-- ---- elements that are gone through
 
--- the form once the elements before the index are put
-abbrev pub IsFormTo : Option ExtensionsForm → ExtensionsForm → List Element → ℕ → ExtensionsForm → Type 0
-IsFormTo allowed was elements index form = (after : Option ExtensionsForm) → IsFormAfter allowed (Some form) (drop index elements) after → IsFormAfter allowed (Some was) elements after
+pub All-front : (P : Element → Type 0) (xs : List Element) (x : Element) → All P (xs ++ x ∷ []) → All P xs
+All-front P [] x all = All-nil P
+All-front P (first ∷ xs) x all = All-cons P first xs (All-head P first (xs ++ x ∷ []) all) (All-front P xs x (All-tail P first (xs ++ x ∷ []) all))
 
-pub IsFormTo-more : (allowed : Option ExtensionsForm) (was : ExtensionsForm) (elements : List Element) (index : ℕ) (form next : ExtensionsForm) (element : Element)
-    → IsFormTo allowed was elements index form → slice_get elements index ≡ Some element → Some next ≡ allowed_form allowed (needed_form (Some form) element)
-    → IsFormTo allowed was elements (index + 1) next
-IsFormTo-more allowed was elements index form next element is here next-is after later =
-    is after (subst (λ (es : List Element). IsFormAfter allowed (Some form) es after) (sym (left-more elements index element here)) (next, sym next-is, later))
+pub All-last : (P : Element → Type 0) (xs : List Element) (x : Element) → All P (xs ++ x ∷ []) → P x
+All-last P [] x all = All-head P x [] all
+All-last P (first ∷ xs) x all = All-last P xs x (All-tail P first (xs ++ x ∷ []) all)
 
--- the two-byte form can carry the elements before the index, and they take so many bytes in it
-pub record AreWideTo (elements : List Element) (index len : ℕ) : Type 0 where
-  pub carried : All (IsWritable TwoByte) (take index elements)
-  pub len_is : len ≡ wide (take index elements)
+-- the one-byte form can carry each where it can carry those before and this one
+pub fit-more : (before : List Element) (here : Element) (fit next : Bool) → IsTrue fit ↔ All (IsWritable OneByte) before → IsTrue next ↔ (IsTrue fit × IsWritable OneByte here)
+    → IsTrue next ↔ All (IsWritable OneByte) (before ++ here ∷ [])
+fit-more before here fit next are both = (
+  λ yes. All-push (IsWritable OneByte) before here (are.0 (both.0 yes).0) (both.0 yes).1,
+  λ all. both.1 (are.1 (All-front (IsWritable OneByte) before here all), All-last (IsWritable OneByte) before here all),
+)
+
+-- these are the measures of the elements before the index
+pub record AreMeasuredTo (elements : List Element) (index len : ℕ) (fit : Bool) : Type 0 where
+  pub are : AreMeasured (take index elements) len fit
   pub few : len ≤ 257 * index
 
-pub AreWideTo-more : (elements : List Element) (index len : ℕ) (element : Element) → AreWideTo elements index len → slice_get elements index ≡ Some element → IsWritable TwoByte element
-    → AreWideTo elements (index + 1) (len + (2 + length element.1))
-AreWideTo-more elements index len element are here can =
+pub measured-more : (elements : List Element) (index len : ℕ) (element : Element) (fit next : Bool) → AreMeasuredTo elements index len fit → slice_get elements index ≡ Some element → IsWritable TwoByte element
+    → IsTrue next ↔ (IsTrue fit × IsWritable OneByte element) → AreMeasuredTo elements (index + 1) (len + (2 + length element.1)) next
+measured-more elements index len element fit next is here can both =
     let before : List Element = take index elements in
-    let more : take (index + 1) elements ≡ before ++ element ∷ [] = taken-more elements index element here in
     record {
-      carried = subst (All (IsWritable TwoByte)) (sym more) (All-push (IsWritable TwoByte) before element are.carried can);
-      len_is = omega (
-        arith,
-        are.len_is,
-        ap wide more,
-        ap length (elements_bytes-append TwoByte before (element ∷ [])),
-        length-append (elements_bytes TwoByte before) (elements_bytes TwoByte (element ∷ [])),
-        length-append (element_bytes TwoByte element) [],
-      );
-      few = omega (arith, are.few, can.1.2);
+      are = subst (λ (es : List Element). AreMeasured es (len + (2 + length element.1)) next) (sym (taken-more elements index element here)) (record {
+        carried = All-push (IsWritable TwoByte) before element is.are.carried can;
+        len_is = omega (
+          arith,
+          is.are.len_is,
+          ap length (elements_bytes-append TwoByte before (element ∷ [])),
+          length-append (elements_bytes TwoByte before) (elements_bytes TwoByte (element ∷ [])),
+          length-append (element_bytes TwoByte element) [],
+        );
+        fits = fit-more before element fit next is.are.fits both;
+      });
+      few = omega (arith, is.few, can.1.2);
     }
 
 -- it carries what the block's form carries, and what is put

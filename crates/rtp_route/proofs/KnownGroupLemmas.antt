@@ -14,7 +14,7 @@ use Rattle.rtp_ext.specs.PutElement.{needed_form}
 use Rattle.rtp_ext.proofs.ServingFormLemmas.{IsWritable-one}
 use Rattle.rtp_route.specs.Routing.{IsFormAfter}
 use Rattle.rtp_route.specs.StoredGroup.{blank, blank_elements}
-use Rattle.rtp_route.proofs.FormsLemmas.{wide-after}
+use Rattle.rtp_route.proofs.FormsLemmas.{All-front, All-last, wide-after}
 use Rattle.rtp_route.specs.GroupLaws.{blank-at}
 use Rattle.rtp_route.proofs.ElementAtLemmas.{taken-more}
 use Rattle.rtp_route.proofs.WideLemmas.{wide, wide-more}
@@ -106,24 +106,6 @@ sum-more lens index within =
       ap (λ (ls : List ℕ). sum_by (λ (len : ℕ). len) ls) (take-suc lens index 0 within),
       sum_by-append (λ (len : ℕ). len) (take index lens) (get_or lens index 0 ∷ []),
     )
-
-All-front : (P : Element → Type 0) (xs : List Element) (x : Element) → All P (xs ++ x ∷ []) → All P xs
-All-front P [] x all = All-nil P
-All-front P (first ∷ xs) x all = All-cons P first xs (All-head P first (xs ++ x ∷ []) all) (All-front P xs x (All-tail P first (xs ++ x ∷ []) all))
-
-All-last : (P : Element → Type 0) (xs : List Element) (x : Element) → All P (xs ++ x ∷ []) → P x
-All-last P [] x all = All-head P x [] all
-All-last P (first ∷ xs) x all = All-last P xs x (All-tail P first (xs ++ x ∷ []) all)
-
-pub found-start : (ids lens numbers : List ℕ) → IsFound ids lens numbers 0 0 true
-found-start ids lens numbers = record {
-  numbered = λ k before. absurd (omega (arith, before));
-  carried = All-nil (IsWritable TwoByte);
-  total_is = refl;
-  few = omega arith;
-  short = λ _. All-nil (IsWritable OneByte);
-  long = λ never. absurd cc;
-}
 
 pub found-more : (ids lens numbers : List ℕ) (index total : ℕ) (one_byte next : Bool) → IsFound ids lens numbers index total one_byte → index < length ids → index < length lens
     → get_or numbers (get_or ids index 0) 0 ≡ index + 1 → 1 ≤ get_or ids index 0 → get_or ids index 0 ≤ 255 → get_or lens index 0 ≤ 255

@@ -166,8 +166,3 @@ pub refused-template : {A : Type 0} (result : Result A NotRouted) (old : List �
     → IsErr result ↔ ((cause : NotRouted) × KeepsFromTemplate old ids news allowed room cause)
 refused-template (Ok a) old ids news allowed room for kept none = (λ wrong. absurd (false≢true wrong), λ fact. absurd (none-kept_template old ids news allowed room for none fact.0 fact.1))
 refused-template (Err e) old ids news allowed room for kept none = (λ _. (e, kept-template old ids news allowed room for e kept), λ _. refl)
-
--- what is so of a cause where another thing is
-pub on-err : {A E : Type 0} (result : Result A E) (P Q : E → Type 0) → ((e : E) → P e → Q e) → IfErr result P → IfErr result Q
-on-err (Ok a) P Q gives p = p
-on-err (Err e) P Q gives p = gives e p

@@ -1,8 +1,7 @@
 -- The numbers of a group's elements, by their ids.
-use Rattle.std.proofs.Common.{◌≡◌, ◌≢◌, ℕ, zero, suc, ◌+◌, ◌<◌, ◌≤◌, ◌⊎◌, inl, inr, List, [], ◌∷◌, ◌++◌, length, take, drop, replicate, set, slice_get, slice_index, Some, refl, sym, ap, ◌∙◌, subst, arith}
+use Rattle.std.proofs.Common.{◌≡◌, ◌≢◌, ℕ, zero, suc, ◌+◌, ◌<◌, ◌≤◌, ◌⊎◌, inl, inr, List, [], ◌∷◌, ◌++◌, length, take, replicate, set, slice_get, slice_index, Some, refl, sym, ap, ◌∙◌, subst, arith}
 use Rattle.std.proofs.lemmas.Bool.{cases_lt}
 use Rattle.std.proofs.lemmas.List.{take_all, length-set, length-replicate, get_or-replicate, get_or-set_same, get_or-set_other}
-use Rattle.std.proofs.lemmas.Option.{slice_get_within}
 use Rattle.std.proofs.lemmas.List.Elements.{All-nil, All-head, All-tail, All-push}
 use Rattle.rtp_ext.specs.Elements.{Element}
 use Rattle.rtp_ext.specs.ElementsInPlace.{HasNone}
@@ -101,17 +100,3 @@ numbered-all elements index numbers are all = (
     by_number : (id : ℕ) → IsNumberTo elements index id (slice_index numbers id) → IsNumberOf elements id (slice_index numbers id)
     by_number id (inl none) = inl (none.0, subst (λ (es : List Element). HasNone es id) (take_all index elements all) none.1)
     by_number id (inr there) = inr (there.0, there.1, there.3, there.4)
-
--- what a number says
-
-pub number-none : (elements : List Element) (id number : ℕ) → IsNumberOf elements id number → number ≡ 0 → HasNone elements id
-number-none elements id number (inl none) is = none.1
-number-none elements id number (inr there) is = absurd (omega (arith, there.2, is))
-
-pub number-some : (elements : List Element) (id number index : ℕ) → IsNumberOf elements id number → number ≡ index + 1
-    → (was : List ℕ) × (index < length elements) × (drop index elements ≡ (id, was) ∷ drop (index + 1) elements)
-number-some elements id number index (inl none) is = absurd (omega (arith, none.0, is))
-number-some elements id number index (inr there) is =
-    let same : there.0 ≡ index = omega (arith, there.2, is) in
-    let here : slice_get elements index ≡ Some (id, there.1) = subst (λ (k : ℕ). slice_get elements k ≡ Some (id, there.1)) same there.3 in
-    (there.1, slice_get_within elements index (id, there.1) here, left-more elements index (id, there.1) here)

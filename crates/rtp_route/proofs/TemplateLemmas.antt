@@ -1,5 +1,5 @@
 -- A header that is made once, and what other fields and data make of it.
-use Rattle.std.proofs.Common.{◌≡◌, ℕ, ◌+◌, ◌-◌, ◌*◌, Bool, ◌&&◌, nat_le, cond, List, [], ◌∷◌, ◌++◌, length, take, drop, map, Option, Some, None, IsSome, refl, sym, ap, subst, ◌∙◌, arith, take_at}
+use Rattle.std.proofs.Common.{◌≡◌, ℕ, ◌+◌, ◌-◌, ◌*◌, Bool, ◌&&◌, nat_le, cond, List, [], ◌∷◌, ◌++◌, length, take, drop, map, Option, Some, None, IsSome, refl, sym, ap, subst, ◌∙◌, arith, All, ◌≤◌, take_at, length-take}
 use Rattle.std.specs.List.{AllByRecursion, filter_map}
 use Rattle.std.proofs.lemmas.List.{length-map, take_all}
 use Rattle.std.proofs.lemmas.Option.{none-some}
@@ -24,7 +24,7 @@ use Rattle.rtp_wire.specs.PartsOf.{parts_of, datagram_of}
 use Rattle.rtp_wire.proofs.PacketLemmas.{one_packet}
 use Rattle.rtp_wire.proofs.PartsLemmas.{length-packet, IsPacket-found}
 use Rattle.rtp_route.specs.declared.template.HeaderTemplate.{HeaderTemplate}
-use Rattle.rtp_route.specs.Template.{with_data, HaveOwnIds, HasOnly, HasRow, data_lengths, slot_lengths, filled_in, AreSlots, body_start_of}
+use Rattle.rtp_route.specs.Template.{with_data, HaveOwnIds, HasOnly, HasRow, data_lengths, slot_lengths, filled_in, AreSlots, LiesInHeader, body_start_of}
 use Rattle.rtp_route.specs.GroupHeader.{IsGroupHeader, IsFilledIn}
 use Rattle.rtp_route.specs.TemplateOf.{header_of, slots_in, lengths_of, IsTemplate}
 use Rattle.rtp_route.proofs.ByCallsLemmas.{front-put}
@@ -205,6 +205,13 @@ routed-length old fields ids news allowed packet is =
     let parts_is : parts_of packet ≡ set_parts fields ids news is.form is.elements is.parts = one_packet (datagram_of packet) _ is.is_packet in
     let none : length (parts_of packet).payload ≡ 0 = ap (λ (p : PacketParts). length p.payload) parts_is in
     omega (arith, none, length-packet (datagram_of packet) (parts_of packet) (IsPacket-found packet))
+
+-- places that end within its bytes lie in it
+pub within-header : (packet header : RtpPacket) (buf : List ℕ) (len : ℕ) (ids : ℕ → Option ℕ) (news : List Element) (allowed : Option ExtensionsForm) (slots : List Slot) → datagram_of header ≡ take len buf
+    → len ≤ length buf → IsRouted (datagram_of packet) no_fields ids news allowed (take len buf) → All (λ (slot : Slot). slot.start + slot.len ≤ len) slots → All (LiesInHeader (parts_of header)) slots
+within-header packet header buf len ids news allowed slots bytes room routed within =
+    let long = routed-length (datagram_of packet) no_fields ids news allowed header (subst (IsRouted (datagram_of packet) no_fields ids news allowed) (sym bytes) routed) in
+    λ k d there. omega (arith, within k d there, long, ap length bytes, length-take len buf, room)
 
 -- so it is that of the calls
 pub routed-alone : (packet header : RtpPacket) (fields : Fields) (ids : ℕ → Option ℕ) (news : List Element) (allowed : Option ExtensionsForm) (buf : List ℕ) (len : ℕ) → fields ≡ no_fields → HasNone news 0

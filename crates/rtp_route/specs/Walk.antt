@@ -1,10 +1,10 @@
 -- A header that is made in one walk over the packet's elements: the elements and their places, and what stands before them.
-use Rattle.std.specs.Prelude.{◌≡◌, ℕ, ◌+◌, ◌-◌, ◌/◌, ◌%◌, ◌<◌, ◌≤◌, ◌⊎◌, List, [], ◌∷◌, ◌++◌, length, take, drop, replicate, slice_get, slice_index, Option, Some, All}
+use Rattle.std.specs.Prelude.{◌≡◌, ℕ, ◌+◌, ◌-◌, ◌/◌, ◌%◌, ◌<◌, ◌≤◌, ◌⊎◌, ◌↔◌, Bool, IsTrue, List, [], ◌∷◌, ◌++◌, length, take, drop, replicate, slice_get, slice_index, Option, Some, All}
 use Rattle.std.specs.Int.{w16, to_be_bytes}
 use Rattle.std.specs.List.{filter_map}
 use Rattle.rtp_base.specs.Overwriting.{overwritten}
 use Rattle.rtp_ext.specs.declared.form.ExtensionsForm.{ExtensionsForm}
-use Rattle.rtp_ext.specs.declared.form.ExtensionsForm.TheVariants.{TwoByte}
+use Rattle.rtp_ext.specs.declared.form.ExtensionsForm.TheVariants.{OneByte, TwoByte}
 use Rattle.rtp_ext.specs.Form.{form_word}
 use Rattle.rtp_ext.specs.Elements.{Element, elements_bytes, AreElements}
 use Rattle.rtp_ext.specs.ElementsInARow.{IsWritable}
@@ -34,11 +34,17 @@ IsNumberOf news id number = ((number ≡ 0) × HasNone news id) ⊎ ((index : �
 abbrev pub AreNumbersOf : List Element → List ℕ → Type 0
 AreNumbersOf news numbers = (id : ℕ) → id < 256 → IsNumberOf news id (slice_index numbers id)
 
--- these are the numbers of the group's elements, which can be put into a block of the two-byte form, and how many bytes they take in it
-pub record IsTabled (news : List Element) (numbers : List ℕ) (two_byte_len : ℕ) : Type 0 where
+-- the two-byte form can carry the elements, which take so many bytes in it; and whether the one-byte form can carry each
+pub record AreMeasured (news : List Element) (two_byte_len : ℕ) (fits_one_byte : Bool) : Type 0 where
+  pub carried : All (IsWritable TwoByte) news
+  pub len_is : two_byte_len ≡ length (elements_bytes TwoByte news)
+  pub fits : IsTrue fits_one_byte ↔ All (IsWritable OneByte) news
+
+-- these are the numbers of the group's elements, which can be put into a block of the two-byte form, and their measures
+pub record IsTabled (news : List Element) (numbers : List ℕ) (two_byte_len : ℕ) (fits_one_byte : Bool) : Type 0 where
   pub can : CanBePut TwoByte news
   pub numbers_are : AreNumbersOf news numbers
-  pub len_is : two_byte_len ≡ length (elements_bytes TwoByte news)
+  pub measures_are : AreMeasured news two_byte_len fits_one_byte
 
 -- no place is known
 abbrev pub no_slots : List Slot

@@ -22,7 +22,7 @@ use super::by_walk::write_by_walk;
 use super::in_place::{change_form, copy_header, is_one_byte_only, known_ids, renumber};
 use super::numbers::{IDS, number_elements};
 use super::slots::{MAX_ELEMENTS, NO_SLOTS};
-use super::tabled::{TabledGroup, two_byte_len_of};
+use super::tabled::{TabledGroup, measured};
 use rtp_ext::{ElementList, ExtensionsForm, NewIds};
 use rtp_wire::{Fields, NotPut, RtpPacket, compact_copy, put_element_copy};
 
@@ -190,14 +190,15 @@ pub fn route_header<L: ElementList>(
 {
     let mut numbers = [0; IDS];
     if group.elements.count() <= MAX_ELEMENTS && number_elements(group.elements, &mut numbers) {
-        if let Some(two_byte_len) = two_byte_len_of(group.elements) {
+        if let Some((two_byte_len, fits_one_byte)) = measured(group.elements) {
             let mut slots = NO_SLOTS;
             let tabled = TabledGroup {
                 group,
                 numbers: &numbers,
                 two_byte_len,
+                fits_one_byte,
             };
-            if let Some(len) = write_by_walk(packet, fields, tabled, buf, &mut slots) {
+            if let Some((len, _)) = write_by_walk(packet, fields, tabled, buf, &mut slots) {
                 return Ok(len);
             }
         }

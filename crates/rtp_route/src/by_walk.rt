@@ -3,12 +3,13 @@
 ghost use Rattle.std.specs.Prelude.{◌≡◌, ◌≢◌, ◌*◌, ◌≤◌, Some, length, take, drop, IfSome};
 ghost use Rattle.rtp_ext.specs.declared.form.ExtensionsForm.TheVariants.{OneByte};
 ghost use Rattle.rtp_ext.specs.NewIds.{new_id};
+ghost use Rattle.rtp_wire.specs.PartsAt.{HasLayout};
 ghost use Rattle.rtp_wire.specs.PartsOf.{parts_of};
 ghost use Rattle.rtp_route.specs.Walk.{no_slots, IsFrontWith, IsStart, IsWalked};
 
 use super::in_place::{is_one_byte_only, set_fields};
 use super::slots::{MAX_ELEMENTS, NO_SLOTS, Slot};
-use super::table::GroupTable;
+use super::table::{GroupTable, form_after};
 use super::walk::write_body;
 use rtp_base::put;
 use rtp_ext::{ExtensionsForm, can_renumber};
@@ -47,8 +48,8 @@ fn put_front(
 
 // Writes the header that the packet gets with these fields for the group, as
 // [`route_header`](super::route_header) does, in one walk over its elements: it returns how many
-// bytes it has, and the places are those of the data of the group's elements. The block has the form
-// `start` before they are put. `None` without a block of one of the two forms, and where the form
+// bytes it has and the form of its block, and the places are those of the data of the group's elements.
+// The block has the form `start` before they are put. `None` without a block of one of the two forms, and where the form
 // can't carry a new id, an element can't be put, several have the id of one that is put, or there may
 // be too little room. The buffer and the places then are any.
 #[inline(always)]
@@ -59,15 +60,16 @@ fn write_from<G: GroupTable>(
     group: G,
     buf: &mut [u8],
     slots: &mut [Slot; MAX_ELEMENTS],
-) -> Option<usize>
+) -> Option<(usize, Option<ExtensionsForm>)>
     requires table { G.is_table group }
     requires start { IsStart (G.allows group) (new_id (G.ids group))
         (parts_of packet.now).block start }
     requires payload_type { IfSome fields.now.payload_type (λ pt. pt ≤ 127) }
     requires fresh { slots.old ≡ no_slots }
-    ensures { IfSome result (IsWalked packet.now fields.now (new_id (G.ids group))
+    ensures walked { IfSome result (λ made. IsWalked packet.now fields.now (new_id (G.ids group))
         (G.elements group) (G.allows group) (length buf.old) buf.new
-        (take (length (G.elements group)) slots.new)) }
+        (take (length (G.elements group)) slots.new) made.0) }
+    ensures held { IfSome result (λ made. HasLayout (take made.0 buf.new) made.0 made.1) }
 {
     let (was, body) = packet.block()?;
     let header = packet.header_bytes();
@@ -76,12 +78,12 @@ fn write_from<G: GroupTable>(
     if group.two_byte_len() > room {
         return None;
     }
-    let form = group.form_after(start)?;
+    let form = form_after(group, start)?;
     let front = &header[..header.len() - body.len()];
     let len = write_body(&mut buf[..most], front.len(), was, form, body, group, slots)?;
     put_front(buf, front, was, form, len - front.len());
     set_fields(&mut buf[..len], Some(form), fields);
-    Some(len)
+    Some((len, Some(form)))
 }
 
 // The second try, in the two-byte form, where the block's own can't carry the new ids. It stays out
@@ -94,13 +96,14 @@ fn write_in_two_byte_form<G: GroupTable>(
     group: G,
     buf: &mut [u8],
     slots: &mut [Slot; MAX_ELEMENTS],
-) -> Option<usize>
+) -> Option<(usize, Option<ExtensionsForm>)>
     requires table { G.is_table group }
     requires allowed { G.allows group ≢ Some OneByte }
     requires payload_type { IfSome fields.payload_type (λ pt. pt ≤ 127) }
-    ensures { IfSome result (IsWalked packet.entry fields (new_id (G.ids group))
+    ensures walked { IfSome result (λ made. IsWalked packet.entry fields (new_id (G.ids group))
         (G.elements group) (G.allows group) (length buf.old) buf.new
-        (take (length (G.elements group)) slots.new)) }
+        (take (length (G.elements group)) slots.new) made.0) }
+    ensures held { IfSome result (λ made. HasLayout (take made.0 buf.new) made.0 made.1) }
 {
     let (was, body) = packet.block()?;
     if can_renumber(was, body, &group.new_ids()) {
@@ -121,21 +124,22 @@ pub(super) fn write_by_walk<G: GroupTable>(
     group: G,
     buf: &mut [u8],
     slots: &mut [Slot; MAX_ELEMENTS],
-) -> Option<usize>
+) -> Option<(usize, Option<ExtensionsForm>)>
     requires table { G.is_table group }
     requires payload_type { IfSome fields.now.payload_type (λ pt. pt ≤ 127) }
-    ensures { IfSome result (IsWalked packet.now fields.now (new_id (G.ids group))
+    ensures walked { IfSome result (λ made. IsWalked packet.now fields.now (new_id (G.ids group))
         (G.elements group) (G.allows group) (length buf.old) buf.new
-        (take (length (G.elements group)) slots.new)) }
+        (take (length (G.elements group)) slots.new) made.0) }
+    ensures held { IfSome result (λ made. HasLayout (take made.0 buf.new) made.0 made.1) }
 {
     *slots = NO_SLOTS;
     let (was, body) = packet.block()?;
     if body.len() > LONG_BODY {
         return None;
     }
-    let len = write_from(packet, was, fields, group, buf, slots);
-    if len.is_some() || is_one_byte_only(group.allowed()) {
-        return len;
+    let made = write_from(packet, was, fields, group, buf, slots);
+    if made.is_some() || is_one_byte_only(group.allowed()) {
+        return made;
     }
     write_in_two_byte_form(*packet, *fields, group, buf, slots)
 }

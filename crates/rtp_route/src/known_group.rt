@@ -121,25 +121,8 @@ impl GroupTable for KnownGroup<'_> {
     }
 
     #[inline(always)]
-    fn form_after(&self, was: ExtensionsForm) -> Option<ExtensionsForm> {
-        if self.group.count == 0 {
-            return Some(was);
-        }
-        let needed = if self.group.one_byte != 0 {
-            was
-        } else {
-            ExtensionsForm::TwoByte
-        };
-        if self.group.allowed == 0 {
-            return Some(needed);
-        }
-        if self.group.allowed == 2 {
-            return Some(ExtensionsForm::TwoByte);
-        }
-        match needed {
-            ExtensionsForm::OneByte => Some(ExtensionsForm::OneByte),
-            ExtensionsForm::TwoByte => None,
-        }
+    fn fits_one_byte(&self) -> bool {
+        self.group.one_byte != 0
     }
 
     #[inline(always)]

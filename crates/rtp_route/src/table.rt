@@ -1,9 +1,10 @@
 //! What the walk over a packet's elements asks of a group.
 
-ghost use Rattle.std.specs.Prelude.{◌≡◌, ℕ, List, Option, Some, length, slice_get, IfSome, IfNone};
+ghost use Rattle.std.specs.Prelude.{◌≡◌, ◌↔◌, ℕ, List, Option, Some, length, slice_get, All, IsTrue, IfSome, IfNone};
 ghost use Rattle.rtp_ext.specs.declared.form.ExtensionsForm.{ExtensionsForm};
-ghost use Rattle.rtp_ext.specs.declared.form.ExtensionsForm.TheVariants.{TwoByte};
+ghost use Rattle.rtp_ext.specs.declared.form.ExtensionsForm.TheVariants.{OneByte, TwoByte};
 ghost use Rattle.rtp_ext.specs.Elements.{elements_bytes};
+ghost use Rattle.rtp_ext.specs.ElementsInARow.{IsWritable};
 ghost use Rattle.rtp_ext.specs.ElementsInPlace.{HasNone};
 ghost use Rattle.rtp_ext.specs.NewIds.{new_id};
 ghost use Rattle.rtp_route.specs.Routing.{IsFormAfter};
@@ -36,12 +37,10 @@ pub trait GroupTable: ElementList {
             × (slice_get (Self.elements self.now) index ≡ Some (id, was))) }
         ensures none { IfNone result (HasNone (Self.elements self.now) id) };
 
-    /// The form that a block of this form gets with the elements put into it one after another;
-    /// `None` where the one form that is allowed can't carry one of them.
-    fn form_after(&self, was: ExtensionsForm) -> Option<ExtensionsForm>
+    /// Whether the one-byte form can carry each element.
+    fn fits_one_byte(&self) -> bool
         requires { is_table self.now }
-        ensures { IfSome result (λ form.
-            IsFormAfter (allows self.now) (Some was) (Self.elements self.now) (Some form)) };
+        ensures { IsTrue result ↔ All (IsWritable OneByte) (Self.elements self.now) };
 
     /// How many bytes the elements take in the two-byte form.
     fn two_byte_len(&self) -> usize
@@ -59,4 +58,30 @@ pub trait GroupTable: ElementList {
 
     // The elements can be put into a block of the two-byte form.
     ghost can_be_put: { (group : Self) → is_table group → CanBePut TwoByte (Self.elements group) };
+}
+
+// The form that a block of this form gets with the group's elements put into it one after another;
+// `None` where the one form that is allowed can't carry one of them.
+#[inline(always)]
+pub(super) fn form_after<G: GroupTable>(group: G, was: ExtensionsForm) -> Option<ExtensionsForm>
+    requires { G.is_table group }
+    ensures { IfSome result (λ form.
+        IsFormAfter (G.allows group) (Some was) (G.elements group) (Some form)) }
+{
+    if group.count() == 0 {
+        return Some(was);
+    }
+    let needed = if group.fits_one_byte() {
+        was
+    } else {
+        ExtensionsForm::TwoByte
+    };
+    let Some(allowed) = group.allowed() else {
+        return Some(needed);
+    };
+    match (allowed, needed) {
+        (ExtensionsForm::TwoByte, _) => Some(ExtensionsForm::TwoByte),
+        (ExtensionsForm::OneByte, ExtensionsForm::OneByte) => Some(ExtensionsForm::OneByte),
+        (ExtensionsForm::OneByte, ExtensionsForm::TwoByte) => None,
+    }
 }

@@ -1,42 +1,43 @@
 //! A group as it is given, with a table of its elements.
 
-ghost use Rattle.std.specs.Prelude.{◌≡◌, ◌≤◌, length, All, IfSome};
-ghost use Rattle.rtp_ext.specs.declared.form.ExtensionsForm.TheVariants.{TwoByte};
-ghost use Rattle.rtp_ext.specs.Elements.{elements_bytes};
-ghost use Rattle.rtp_ext.specs.ElementsInARow.{IsWritable};
-ghost use Rattle.rtp_route.specs.Walk.{IsTabled};
+ghost use Rattle.std.specs.Prelude.{◌≤◌, length, IfSome};
+ghost use Rattle.rtp_route.specs.Walk.{AreMeasured, IsTabled};
 
 use super::GroupOf;
 use super::numbers::{IDS, index_of};
 use super::table::GroupTable;
 use rtp_ext::{ElementList, ExtensionsForm, NewIds, form_to_put};
 
-/// A group beside the numbers of its elements, by their ids, and how many bytes these take in the
-/// two-byte form.
+/// A group beside the numbers of its elements, by their ids, how many bytes these take in the two-byte
+/// form, and whether the one-byte form can carry each.
 #[derive(Clone, Copy)]
 pub struct TabledGroup<'a, 'b, L: ElementList> {
     pub group: &'a GroupOf<'b, L>,
     pub numbers: &'a [u8; IDS],
     pub two_byte_len: usize,
+    pub fits_one_byte: bool,
 }
 
-/// How many bytes the elements take in the two-byte form; `None` where it can't carry one.
+/// How many bytes the elements take in the two-byte form, and whether the one-byte form can carry
+/// each; `None` where the two-byte form can't carry one.
 #[inline(always)]
-pub fn two_byte_len_of<L: ElementList>(elements: L) -> Option<usize>
+pub fn measured<L: ElementList>(elements: L) -> Option<(usize, bool)>
     requires { length (L.elements elements) ≤ 16 }
-    ensures carried { IfSome result (λ _. All (IsWritable TwoByte) (L.elements elements)) }
-    ensures long { IfSome result (λ len.
-        len ≡ length (elements_bytes TwoByte (L.elements elements))) }
+    ensures { IfSome result (λ measured. AreMeasured (L.elements elements) measured.0 measured.1) }
 {
     let mut len = 0;
+    let mut fits_one_byte = true;
     for index in 0..elements.count() {
         let (id, data) = elements.at(index);
         if !ExtensionsForm::TwoByte.can_carry(id, data) {
             return None;
         }
+        if !ExtensionsForm::OneByte.can_carry(id, data) {
+            fits_one_byte = false;
+        }
         len += 2 + data.len();
     }
-    Some(len)
+    Some((len, fits_one_byte))
 }
 
 impl<L: ElementList> ElementList for TabledGroup<'_, '_, L> {
@@ -57,7 +58,7 @@ impl<L: ElementList> GroupTable for TabledGroup<'_, '_, L> {
     ghost allows = { λ tabled. tabled.group.now.allowed };
 
     ghost is_table = { λ tabled. IsTabled (L.elements tabled.group.now.elements) tabled.numbers.now
-        tabled.two_byte_len };
+        tabled.two_byte_len tabled.fits_one_byte };
 
     ghost can_be_put = { λ tabled is. is.can };
 
@@ -72,14 +73,8 @@ impl<L: ElementList> GroupTable for TabledGroup<'_, '_, L> {
     }
 
     #[inline(always)]
-    fn form_after(&self, was: ExtensionsForm) -> Option<ExtensionsForm> {
-        let mut form = was;
-        let elements = self.group.elements;
-        for index in 0..elements.count() {
-            let (id, data) = elements.at(index);
-            form = form_to_put(Some(form), self.group.allowed, id, data)?;
-        }
-        Some(form)
+    fn fits_one_byte(&self) -> bool {
+        self.fits_one_byte
     }
 
     #[inline(always)]

@@ -8,16 +8,17 @@ ghost use Rattle.rtp_ext.specs.NewIds.{new_id};
 ghost use Rattle.rtp_wire.specs.Packet.{header_len_of};
 ghost use Rattle.rtp_wire.specs.PartsOf.{parts_of, datagram_of};
 ghost use Rattle.rtp_route.specs.declared.not_routed.NotRouted.{NotRouted};
-ghost use Rattle.rtp_route.specs.Calls.{header_in};
+ghost use Rattle.rtp_route.specs.Calls.{header_in, no_fields};
 ghost use Rattle.rtp_route.specs.GroupHeader.{IsGroupHeader, IsFilledIn};
-ghost use Rattle.rtp_route.specs.NotRouted.{KeepsFromTemplate};
+ghost use Rattle.rtp_route.specs.NotRouted.{KeepsFromRouting, KeepsFromTemplate};
 ghost use Rattle.rtp_route.specs.Retransmitted.{IsRoutedAgain};
 ghost use Rattle.rtp_route.specs.Routing.{IsRouted};
 ghost use Rattle.rtp_route.specs.Template.{with_data, data_lengths, slot_lengths, total_of, pieces, LiesInHeader};
 
 use super::in_place::{copy_header, send_again};
 use super::slots::{MAX_ELEMENTS, NO_SLOTS, Slot, SlotList, fill, fill_joined, have_lengths};
-use super::{GroupOf, NotRouted, NotWritten, make_template};
+use super::table::GroupTable;
+use super::{GroupOf, NotRouted, NotWritten, make_from_table, make_template};
 use rtp_ext::ElementList;
 use rtp_wire::{Fields, RtpPacket};
 
@@ -45,6 +46,7 @@ impl<'a> HeaderTemplate<'a> {
     /// The cause is [`NotRouted::ManyElements`] for more than 16 elements, else
     /// [`NotRouted::RepeatedId`] for two of one id, and else that of
     /// [`route_header`](super::route_header). The buffer then has any bytes.
+    #[inline(always)]
     pub fn new<L: ElementList>(
         packet: &RtpPacket<'_>,
         group: &GroupOf<'_, L>,
@@ -60,13 +62,38 @@ impl<'a> HeaderTemplate<'a> {
             (L.elements group.now.elements) group.now.allowed (length buf.old) cause) }
     {
         let mut slots = NO_SLOTS;
-        let len = make_template(packet, group, buf, &mut slots)?;
-        let header = RtpPacket::parse(&buf[..len]).unwrap();
-        let count = group.elements.count();
+        let (len, form) = make_template(packet, group, buf, &mut slots)?;
         Ok(HeaderTemplate {
-            header,
+            header: RtpPacket::with_layout(&buf[..len], len, form),
             slots,
-            count,
+            count: group.elements.count(),
+        })
+    }
+
+    /// Makes the header as [`new`](Self::new) does, for a group that is tabled already, as
+    /// [`prepare_group`](super::prepare_group) does once for all packets: each receiver brings the
+    /// data of its elements. The cause is that of [`route_header`](super::route_header).
+    #[inline(always)]
+    pub fn from_table<G: GroupTable>(
+        packet: &RtpPacket<'_>,
+        group: G,
+        buf: &'a mut [u8],
+    ) -> Result<Self, NotRouted>
+        requires { G.is_table group }
+        ensures made { IfOk result (IsTemplate (datagram_of packet.now) (new_id (G.ids group))
+            (G.elements group) (G.allows group)) }
+        ensures cause { IfErr result (KeepsFromRouting (header_in packet.now) no_fields
+            (new_id (G.ids group)) (G.elements group) (G.allows group) (length buf.old)) }
+        ensures refused { IsErr result ↔ ((cause : NotRouted)
+            × KeepsFromRouting (header_in packet.now) no_fields (new_id (G.ids group))
+            (G.elements group) (G.allows group) (length buf.old) cause) }
+    {
+        let mut slots = NO_SLOTS;
+        let (len, form) = make_from_table(packet, group, buf, &mut slots)?;
+        Ok(HeaderTemplate {
+            header: RtpPacket::with_layout(&buf[..len], len, form),
+            slots,
+            count: group.count(),
         })
     }
 

@@ -8,7 +8,7 @@ ghost use Rattle.rtp_wire.specs.NotAHeader.{IsNoPacket, HasNoHeader};
 ghost use Rattle.rtp_wire.specs.NotAPacket.{IsFirstCause};
 ghost use Rattle.rtp_wire.specs.Packet.{PacketParts, IsPacket, header_len_of};
 ghost use Rattle.rtp_wire.specs.PacketElements.{AreElementsOf, IsLast};
-ghost use Rattle.rtp_wire.specs.PartsAt.{form_in, header_end};
+ghost use Rattle.rtp_wire.specs.PartsAt.{form_in, header_end, HasLayout};
 
 use super::{Csrcs, NotAPacket};
 use rtp_base::{Pt, Ssrc};
@@ -107,6 +107,19 @@ impl<'a> RtpPacket<'a> {
             form,
         };
         Ok((packet, form.is_some()))
+    }
+
+    /// The packet in the bytes, whose header has this length and a block of this form, if of one of
+    /// the two: it is for callers that made the header, and need not parse it.
+    pub fn with_layout(datagram: &'a [u8], header_len: usize, form: Option<ExtensionsForm>) -> Self
+        requires { HasLayout datagram.now header_len form }
+        ensures { datagram_of result ≡ datagram.now }
+    {
+        RtpPacket {
+            datagram,
+            header_len,
+            form,
+        }
     }
 
     // The packet in the bytes of a buffer, whose header ends here and whose block has this form, if

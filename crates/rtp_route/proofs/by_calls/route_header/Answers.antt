@@ -29,7 +29,7 @@ returns-clause-only g c =
 pub returns-in-Some-write_by_walk-clause-only : goal.returns-in-Some-write_by_walk-clause-only
 returns-in-Some-write_by_walk-clause-only g c header bytes routed =
     one-header (datagram_of c.args.packet.now) c.args.fields.now (new_id c.args.group.now.ids.now) (g.L.ElementList.elements c.args.group.now.elements) c.args.group.now.allowed header
-    (take c.in-Some-write_by_walk.len c.write_by_walk.new.buf) bytes (are_taken c.in-Some-write_by_walk.len c.write_by_walk.new.buf (λ k. omega (arith, c.type_inv.buf k))) routed c.in-Some-write_by_walk.ensures.made.routed
+    (take c.in-Some-write_by_walk.len c.write_by_walk.new.buf) bytes (are_taken c.in-Some-write_by_walk.len c.write_by_walk.new.buf (λ k. omega (arith, c.type_inv.buf k))) routed c.in-Some-write_by_walk.ensures.walked.made.routed
 
 pub returns-clause-cause : goal.returns-clause-cause
 returns-clause-cause g c =

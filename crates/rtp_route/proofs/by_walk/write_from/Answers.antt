@@ -1,10 +1,11 @@
-use Rattle.std.proofs.Common.{◌≡◌, ◌≤◌, ◌+◌, ◌*◌, ℕ, List, length, take, drop, All, refl, ap, sym, subst, arith, take_at, length-take, length-take-le, length-append, length-drop}
+use Rattle.std.proofs.Common.{rules, Some, ◌≡◌, ◌≤◌, ◌+◌, ◌*◌, ℕ, List, length, take, drop, All, refl, ap, sym, subst, arith, take_at, length-take, length-take-le, length-append, length-drop}
 use Rattle.rtp_ext.specs.Elements.{Element, AreElements}
 use Rattle.rtp_ext.specs.ElementReading.{elements_left}
 use Rattle.rtp_ext.specs.declared.form.ExtensionsForm.TheVariants.{TwoByte}
 use Rattle.rtp_ext.specs.ElementsInARow.{IsWritable}
 use Rattle.rtp_ext.specs.NewIds.{new_id}
 use Rattle.rtp_ext.proofs.ElementLemmasOfBodies.{AreElements-found}
+use Rattle.rtp_wire.specs.PartsAt.{HasLayout}
 use Rattle.rtp_wire.specs.PartsOf.{datagram_of}
 use Rattle.rtp_wire.proofs.PartsLemmas.{length-packet}
 use Rattle.rtp_route.specs.Calls.{header_in}
@@ -81,8 +82,8 @@ set_fields-requires-clause-held g c =
     (omega (arith, c.write_body.auto.buf, length-take c.min-most.result c.args.buf.now, c.min-most.ensures)) c.put_front.ensures in
     layout-laid packet ids news was form header body _ c.put_front.new.buf end (elements_left was body) slots laid
 
-pub returns : goal.returns
-returns g c =
+pub returns-clause-walked : goal.returns-clause-walked
+returns-clause-walked g c =
     let packet = c.args.packet.now in
     let was = c.in_ok-was.was' in
     let body = c.in_ok-was.body.now in
@@ -115,3 +116,11 @@ returns g c =
       within = omega (arith, whole, long, length-append set (drop end c.put_front.new.buf), length-drop end c.put_front.new.buf);
       short = laid.short;
     }
+
+pub returns-clause-held : goal.returns-clause-held
+returns-clause-held g c =
+    let set = c.set_fields.new.header in
+    let end = c.in_ok-len.len in
+    let long : length set ≡ end = search rules in
+    subst (λ (b : List ℕ). HasLayout b end (Some c.in_ok-form.form)) (sym (take_at set _ end long))
+    (subst (λ (n : ℕ). HasLayout set n (Some c.in_ok-form.form)) long c.set_fields.ensures.held)

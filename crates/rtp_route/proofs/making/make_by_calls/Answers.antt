@@ -3,6 +3,7 @@ use Rattle.std.specs.Result.{IsOkAnd}
 use Rattle.rtp_ext.specs.NewIds.{new_id}
 use Rattle.rtp_wire.specs.declared.packet.fields.Fields.{Fields}
 use Rattle.rtp_wire.specs.PartsOf.{datagram_of, parts_of}
+use Rattle.rtp_wire.proofs.PartsLemmas.{length-packet, IsPacket-found}
 use Rattle.rtp_route.specs.declared.slots.Slot.{Slot}
 use Rattle.rtp_route.specs.GroupHeader.{IsGroupHeader}
 use Rattle.rtp_route.specs.Calls.{no_fields, header_in}
@@ -78,3 +79,18 @@ returns-clause-none_refused g c cause kept =
     c.in_ok-len.ensures.none_refused cause
     (subst (λ (fields : Fields). KeepsFromRouting (header_in c.args.packet) fields (new_id c.args.group.now.ids.now) (g.L.ElementList.elements c.args.group.now.elements) c.args.group.now.allowed (length c.args.buf.now) cause)
     (search rules) kept)
+
+pub returns-clause-held : goal.returns-clause-held
+returns-clause-held g c =
+    let header = c.unwrap-header.result in
+    let len = c.in_ok-len.len in
+    let bytes : datagram_of header ≡ take len c.make_header.new.buf = rw c.unwrap-header.ensures at c.parse.ensures.bytes in
+    let routed = routed-alone c.args.packet header c.default.result (new_id c.args.group.now.ids.now) (g.L.ElementList.elements c.args.group.now.elements) c.args.group.now.allowed c.make_header.new.buf len (search rules)
+    c.in_ok-len.ensures.ids c.in_ok-len.ensures.made bytes in
+    let long = routed-length (datagram_of c.args.packet) no_fields _ _ _ header routed in
+    record {
+      parts = parts_of header;
+      is_packet = rw c.unwrap-header.ensures at c.parse.ensures.found;
+      form_is = c.form.ensures;
+      len_is = omega (arith, long, length-packet (datagram_of header) (parts_of header) (IsPacket-found header), ap length bytes, length-take len c.make_header.new.buf, c.in_ok-len.ensures.within);
+    }

@@ -16,9 +16,9 @@ returns-in-Some-clause-made g c =
     let news = g.G.ElementList.elements c.args.group in
     let allowed = g.G.GroupTable.allows c.args.group in
     let slots = take (length news) c.write_by_walk.new.slots in
-    let walked : IsWalked packet no_fields ids news allowed (length c.args.buf.now) c.write_by_walk.new.buf slots c.in-Some.len =
-    subst (λ (fields : Fields). IsWalked packet fields ids news allowed (length c.args.buf.now) c.write_by_walk.new.buf slots c.in-Some.len) (search rules) c.in-Some.ensures in
-    group-by_walk (datagram_of packet) ids news allowed (take c.in-Some.len c.write_by_walk.new.buf) slots (g.met.G.GroupTable.can_be_put c.args.group c.requires).own walked.made
+    let walked : IsWalked packet no_fields ids news allowed (length c.args.buf.now) c.write_by_walk.new.buf slots c.in-Some.made.0 =
+    subst (λ (fields : Fields). IsWalked packet fields ids news allowed (length c.args.buf.now) c.write_by_walk.new.buf slots c.in-Some.made.0) (search rules) c.in-Some.ensures.walked in
+    group-by_walk (datagram_of packet) ids news allowed (take c.in-Some.made.0 c.write_by_walk.new.buf) slots (g.met.G.GroupTable.can_be_put c.args.group c.requires).own walked.made
 
 pub returns-in-Some-clause-none_refused : goal.returns-in-Some-clause-none_refused
 returns-in-Some-clause-none_refused g c =
@@ -26,4 +26,4 @@ returns-in-Some-clause-none_refused g c =
     let ids = new_id (g.G.GroupTable.ids c.args.group) in
     let news = g.G.ElementList.elements c.args.group in
     let allowed = g.G.GroupTable.allows c.args.group in
-    subst (λ (fields : Fields). (cause : NotRouted) → KeepsFromRouting (header_in packet) fields ids news allowed (length c.args.buf.now) cause → ⊥) (search rules) c.in-Some.ensures.none_refused
+    subst (λ (fields : Fields). (cause : NotRouted) → KeepsFromRouting (header_in packet) fields ids news allowed (length c.args.buf.now) cause → ⊥) (search rules) c.in-Some.ensures.walked.none_refused
