@@ -3,14 +3,12 @@ use Rattle.std.proofs.Common.{◌≡◌, ℕ, zero, suc, ◌+◌, ◌*◌, ◌%�
 use Rattle.std.specs.Prelude.{Option, Some, None}
 use Rattle.std.specs.Option.{is_some}
 use Rattle.std.proofs.lemmas.Bool.{cases_Bool, false≢true}
-use Rattle.rtp_base.specs.Window.{Numbers, IsGreatest}
-use Rattle.rtp_receive.specs.Receiver.{IsNothing, IsHighest, HoldsOf, IsNumberOf, IsFreshOf}
+use Rattle.rtp_base.specs.Window.{Numbers}
+use Rattle.rtp_receive.specs.Receiver.{IsNothing, IsHighest, HoldsOf, IsFreshOf}
 use Rattle.rtp_receive.specs.StreamState.{ReceiverState}
 use Rattle.rtp_receive.specs.declared.receiver.ReceiverState.TheVariants.{Start, Window}
-use Rattle.rtp_receive.specs.Widening.{IsNearest}
 use Rattle.rtp_receive.proofs.ReceiverLemmas.{not_nothing}
-use Rattle.rtp_receive.proofs.TrueNumberLemmas.{one_greatest, one_highest}
-use Rattle.rtp_receive.proofs.NearestLemmas.{only_near}
+use Rattle.rtp_receive.proofs.TrueNumberLemmas.{one_highest}
 use Rattle.rtp_receive.specs.declared.restarting.RestartingStreamReceiver.{RestartingStreamReceiver}
 use Rattle.rtp_receive.specs.declared.restarting_verdict.RestartingVerdict.{RestartingVerdict}
 use Rattle.rtp_receive.specs.declared.restarting_verdict.RestartingVerdict.TheVariants.{Taken, Restarted, Refused}
@@ -238,20 +236,6 @@ row_grown len next len' next' before low later k few grown next-is held = (
   λ leads. elim leads [ inl none ↦ absurd (omega arith) | inr is ↦ (is.1 ∙ next-is, (held k).1 (omega (arith, is.0, grown))) ],
   λ parts. inr (let le = (held k).0 parts.1 in omega (arith, le, grown), parts.0 ∙ sym next-is),
 )
-
--- the number of a packet of the stream is the one that the receiver gives it
-pub near_number : (bounds : Bounds) (count : ℕ) (taken : Numbers) (low number highest near : ℕ) → highest < 2 ^ 64 → IsGreatest taken highest → IsNumberOf count taken low near
-    → IsOfStream bounds taken low number → (near < highest + bounds.max_dropout) × (highest < near + bounds.max_misorder)
-near_number bounds count taken low number highest near fits top (None, none, is) of_stream = absurd (not_nothing taken highest top none)
-near_number bounds count taken low number highest near fits top (Some h, h-top, is) of_stream =
-    let here : h ≡ highest = one_greatest taken h highest h-top top in
-    let there : of_stream.highest ≡ highest = one_greatest taken of_stream.highest highest of_stream.is_highest top in
-    let same : near ≡ number =
-    only_near 16 (Some highest) low near number (omega arith) (omega arith) fits
-    (subst (λ (n : ℕ). IsNearest 16 n low near) here is) (subst (λ (n : ℕ). IsNearest 16 n low number) there of_stream.nearest) in
-    let ahead = of_stream.ahead in
-    let behind = of_stream.behind in
-    (omega (arith, same, there, ahead), omega (arith, same, there, behind))
 
 -- no packets lead up to one, whatever the bounds
 lead_none : (one other : Bounds) (low k : ℕ) → LeadUp one [] low k → LeadUp other [] low k

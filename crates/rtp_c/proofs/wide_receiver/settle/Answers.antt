@@ -1,4 +1,4 @@
-use Rattle.rtp_c.proofs.Common.{ℕ, ◌/◌, IsTrue, false, refl, sym, ◌∙◌, inl, inr, arith, false≢true}
+use Rattle.rtp_c.proofs.Common.{◌/◌, IsTrue, false, refl, sym, ◌∙◌, inl, inr, arith, false≢true}
 use Rattle.rtp_c.proofs.wide_receiver.settle.Goals as goal
 
 pub returns-then-take-clause-settled : goal.returns-then-take-clause-settled
