@@ -1,5 +1,7 @@
 -- A window in words that the caller has: what it accepts, what it keeps once a number is taken, and that it always keeps some set.
 use Rattle.rtp_c.proofs.Common.{◌≡◌, ◌≢◌, ℕ, ◌+◌, ◌-◌, ◌*◌, ◌<◌, ◌⊎◌, ◌↔◌, IsTrue, nat_eq, Bool, true, false, ◌||◌, List, [], ◌∷◌, length, get_or, map, inl, inr, refl, sym, ap, ◌∙◌, subst, arith, eq-eqb, ne_eqb, or_right, false≢true, cases_lt, cases_eq, get_or-map-range_with_len, range_with_len, Numbers, WindowState, IsGreatest, KeepsOf, AcceptsOf, only, including, AcceptsOf-low, KeepsOf-first, KeepsOf-shown, IsNothing, IsFreshOf, HoldsWindow, HoldsStored}
+use Rattle.rtp_c.specs.declared.wide_receiver.StoredWideReceiver.{StoredWideReceiver}
+use Rattle.rtp_c.specs.StoredWideReceiver.{HoldsIn}
 use Rattle.rtp_base.specs.Ring.{ring_size, ring_bit, ring_bits, ring_window}
 use Rattle.rtp_base.proofs.RingLemmas.{ring_bits-near}
 use Rattle.rtp_base.proofs.BitmapLemmas.{or-none}
@@ -14,6 +16,12 @@ some taken greatest is none = false≢true (sym (none greatest) ∙ is.member)
 pub kept : (size highest : ℕ) (bits : List Bool) (taken : Numbers) (held : HoldsWindow size highest bits taken) → KeepsOf size (record { greatest = highest; recorded = held.window.recorded }) taken
 kept size highest bits taken held =
     subst (λ (n : ℕ). KeepsOf size (record { greatest = n; recorded = held.window.recorded }) taken) held.is_window.greatest_is held.keeps
+
+-- a receiver that refuses a number has a greatest one
+pub top_refused : (receiver : StoredWideReceiver) (words : List ℕ) (count : ℕ) (taken : Numbers) (number : ℕ) → HoldsIn receiver words count taken → (IsFreshOf (ring_size words) taken number → ⊥)
+    → IsGreatest taken receiver.highest
+top_refused receiver words count taken number (inl empty) refused = absurd (refused (inl empty.2))
+top_refused receiver words count taken number (inr held) refused = (kept (ring_size words) receiver.highest (ring_bits words receiver.highest) taken held.1).top
 
 -- and by any bits that show the same
 pub KeepsOf-bits : (size highest : ℕ) (old new : List Bool) (taken : Numbers) → ((k : ℕ) → k < size → get_or new k false ≡ get_or old k false)

@@ -1,10 +1,11 @@
 //! The numbers of one stream whose sender may start again.
 
-ghost use Rattle.std.specs.Prelude.{◌≡◌, ◌<◌};
+ghost use Rattle.std.specs.Prelude.{◌≡◌, ◌<◌, ℕ};
 ghost use Rattle.rtp_base.specs.Window.{Numbers};
 ghost use Rattle.rtp_receive.specs.RestartingState.{bounds_of, HoldsEpoch};
-ghost use Rattle.rtp_c.specs.Status.{refused};
-ghost use Rattle.rtp_c.specs.StoredRestarting.{bounds_in, HoldsIn, IsStartedIn, IsAnsweredIn};
+ghost use Rattle.rtp_receive.specs.declared.restarting_verdict.RestartingVerdict.TheVariants.{Taken, Restarted, Refused};
+ghost use Rattle.rtp_c.specs.Status.{ok, refused, restarted};
+ghost use Rattle.rtp_c.specs.StoredRestarting.{bounds_in, HoldsIn, IsStartedIn, IsTold, IsAnsweredIn};
 
 use super::status::{OK, REFUSED, RESTARTED};
 use rtp_base::{SeqNo, WideWindow};
@@ -83,6 +84,26 @@ fn store(receiver: &RestartingReceiver<2>, stored: &mut StoredRestarting)
     (stored.in_row, stored.next) = receiver.row();
 }
 
+// The status that tells a verdict, with its number written.
+pub fn tell(verdict: RestartingVerdict, number: &mut u64) -> i32
+    ensures told { IsTold verdict result number.new }
+    ensures refused { result ≡ refused → (verdict ≡ Refused) × (number.new ≡ number.old) }
+    ensures taken { result ≡ ok → (n : ℕ) × (verdict ≡ Taken n) }
+    ensures again { result ≡ restarted → (n : ℕ) × (verdict ≡ Restarted n) }
+{
+    match verdict {
+        RestartingVerdict::Taken(taken) => {
+            *number = taken.get();
+            OK
+        }
+        RestartingVerdict::Restarted(first) => {
+            *number = first.get();
+            RESTARTED
+        }
+        RestartingVerdict::Refused => REFUSED,
+    }
+}
+
 /// The verdict on the next packet of the source, by its sequence number, where nothing is
 /// authenticated (RFC 3550, appendix A.1). `OK`: it is of the stream and is taken, or it is the
 /// first one of the source. `RESTARTED`: the sender has started again, and it is taken as the first
@@ -109,15 +130,5 @@ pub extern "C" fn rtpw_restarting_receive(
     let mut changed = receiver_of(receiver);
     let verdict = changed.receive(sequence_number);
     store(&changed, receiver);
-    match verdict {
-        RestartingVerdict::Taken(taken) => {
-            *number = taken.get();
-            OK
-        }
-        RestartingVerdict::Restarted(first) => {
-            *number = first.get();
-            RESTARTED
-        }
-        RestartingVerdict::Refused => REFUSED,
-    }
+    tell(verdict, number)
 }

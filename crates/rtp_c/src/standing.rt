@@ -1,8 +1,9 @@
 //! What a receiver knows of a number: why it isn't accepted.
 
-ghost use Rattle.std.specs.Prelude.{◌≡◌, ℕ};
+ghost use Rattle.std.specs.Prelude.{◌≡◌, ◌<◌, ℕ, length};
 ghost use Rattle.rtp_base.specs.Ring.{ring_size};
 ghost use Rattle.rtp_base.specs.Window.{Numbers, window_size};
+ghost use Rattle.rtp_receive.specs.Receiver.{HasStandingOf};
 ghost use Rattle.rtp_c.specs.Standing.{IsStanding, no_window, standing_number};
 ghost use Rattle.rtp_c.specs.StoredReceiver.{HoldsNumbers};
 ghost use Rattle.rtp_c.specs.StoredWideReceiver.{HoldsIn, IsWindowLen};
@@ -23,6 +24,21 @@ fn number_of(standing: Standing) -> u8
     ensures { result ≡ standing_number standing }
 {
     standing as u8
+}
+
+// What is known of the number where the window has these words.
+fn standing_in(receiver: &StoredWideReceiver, words: &[u64], number: u64) -> Standing
+    requires { 0 < length words.now }
+    ensures { (count : ℕ) (taken : Numbers) → HoldsIn receiver.now words.now count taken →
+        HasStandingOf (ring_size words.now) taken number result }
+{
+    if accepts(receiver, words, number) {
+        Standing::New
+    } else if receiver.highest.saturating_sub(number) / WORD < words.len() as u64 {
+        Standing::Taken
+    } else {
+        Standing::TooOld
+    }
 }
 
 /// What is known of the number: 0 where it may be taken, 1 where it is in the window and was taken,
@@ -51,12 +67,5 @@ pub extern "C" fn rtpw_wide_receiver_standing_of(
     if !is_window(words) {
         return NO_WINDOW;
     }
-    let standing = if accepts(receiver, words, number) {
-        Standing::New
-    } else if receiver.highest.saturating_sub(number) / WORD < words.len() as u64 {
-        Standing::Taken
-    } else {
-        Standing::TooOld
-    };
-    number_of(standing)
+    number_of(standing_in(receiver, words, number))
 }

@@ -3,19 +3,17 @@ use Rattle.std.proofs.Common.{◌≡◌, ℕ, zero, suc, ◌+◌, ◌*◌, ◌%�
 use Rattle.std.specs.Prelude.{Option, Some, None}
 use Rattle.std.specs.Option.{is_some}
 use Rattle.std.proofs.lemmas.Bool.{cases_Bool, false≢true}
-use Rattle.rtp_base.specs.Window.{Numbers, IsGreatest}
-use Rattle.rtp_receive.specs.Receiver.{IsNothing, IsHighest, HoldsOf, IsNumberOf, IsFreshOf}
+use Rattle.rtp_base.specs.Window.{Numbers}
+use Rattle.rtp_receive.specs.Receiver.{IsNothing, IsHighest, HoldsOf, IsFreshOf}
 use Rattle.rtp_receive.specs.StreamState.{ReceiverState}
 use Rattle.rtp_receive.specs.declared.receiver.ReceiverState.TheVariants.{Start, Window}
-use Rattle.rtp_receive.specs.Widening.{IsNearest}
 use Rattle.rtp_receive.proofs.ReceiverLemmas.{not_nothing}
-use Rattle.rtp_receive.proofs.TrueNumberLemmas.{one_greatest, one_highest}
-use Rattle.rtp_receive.proofs.NearestLemmas.{only_near}
+use Rattle.rtp_receive.proofs.TrueNumberLemmas.{one_highest}
 use Rattle.rtp_receive.specs.declared.restarting.RestartingStreamReceiver.{RestartingStreamReceiver}
 use Rattle.rtp_receive.specs.declared.restarting_verdict.RestartingVerdict.{RestartingVerdict}
 use Rattle.rtp_receive.specs.declared.restarting_verdict.RestartingVerdict.TheVariants.{Taken, Restarted, Refused}
-use Rattle.rtp_receive.specs.Restarting.{Bounds, announced, first_number, IsOfStream, IsOutside, leading, leading_after, BeginsAt, IsFirst, Begins, IsRestartingVerdict, Arrival, epoch_after, taken_in, LeadUp, IsNext, IsRestartingRun, HasNoPair, IsOneEpoch}
-use Rattle.rtp_receive.specs.RestartingState.{bounds_of_size, HoldsEpochOf, Leads, RowLeadsOf, RowGrowsOf, RemembersOf}
+use Rattle.rtp_receive.specs.Restarting.{Bounds, announced, first_number, IsOfStream, IsOutside, leading, leading_after, BeginsAt, IsFirst, Begins, IsPlaced, IsSettled, IsRestartingVerdict, Arrival, epoch_after, taken_in, LeadUp, IsNext, IsRestartingRun, HasNoPair, IsOneEpoch}
+use Rattle.rtp_receive.specs.RestartingState.{bounds_of_size, HoldsEpochOf, Leads, Grows, RowLeadsOf, RowGrowsOf, RemembersOf}
 
 -- as many as must lead up to an epoch are few
 leading-few : (bounds : Bounds) (highest : Option ℕ) → bounds.min_sequential ≤ 255 → leading bounds highest ≤ 255
@@ -133,22 +131,21 @@ first_not_refused count taken low first = never first.highest first.verdict_is
 -- ---- a packet outside of the stream
 
 -- where nothing is taken yet the receiver starts at the count that it was given
-starts_there : (size : ℕ) (state : ReceiverState) (count found : ℕ) (taken : Numbers) → HoldsOf size state count taken → IsNothing taken
-    → ((c : ℕ) → state ≡ Start c → found ≡ c) → found ≡ count
-starts_there size (Start start) count found taken holds nothing empty = empty start refl ∙ holds.0
-starts_there size (Window window) count found taken holds nothing empty = absurd (not_nothing taken window.greatest holds.top nothing)
+pub starts_there : (size : ℕ) (state : ReceiverState) (count found : ℕ) (taken : Numbers) → HoldsOf size state count taken → ((c : ℕ) → state ≡ Start c → found ≡ c)
+    → IsNothing taken → count ≡ found
+starts_there size (Start start) count found taken holds empty nothing = sym (empty start refl ∙ holds.0)
+starts_there size (Window window) count found taken holds empty nothing = absurd (not_nothing taken window.greatest holds.top nothing)
 
-pub first_there : (size : ℕ) (state : ReceiverState) (count found low : ℕ) (taken : Numbers) (highest : Option ℕ) → HoldsOf size state count taken → IsHighest taken highest
-    → ((c : ℕ) → state ≡ Start c → found ≡ c) → first_number found highest low ≡ first_number count highest low
-first_there size state count found low taken None holds nothing empty = ap (λ c. 65536 * c + low % 65536) (starts_there size state count found taken holds nothing empty)
-first_there size state count found low taken (Some h) holds top empty = refl
+first_there : (count found low : ℕ) (taken : Numbers) (highest : Option ℕ) → IsHighest taken highest → (IsNothing taken → count ≡ found) → first_number found highest low ≡ first_number count highest low
+first_there count found low taken None none same = ap (λ c. 65536 * c + low % 65536) (sym (same none))
+first_there count found low taken (Some h) top same = refl
 
 module _ (bounds : Bounds) (count found : ℕ) (taken : Numbers) (highest : Option ℕ) (Lead : ℕ → Type 0) (low : ℕ)
-    (top : IsHighest taken highest) (there : first_number found highest low ≡ first_number count highest low) where
+    (top : IsHighest taken highest) (same : IsNothing taken → count ≡ found) where
   -- the packet that begins an epoch by its row does so
   pub Begins-from : (number : ℕ) → BeginsAt bounds.min_sequential found highest Lead low number → Begins bounds count taken Lead low (announced highest number)
   Begins-from number begins =
-      let is : number ≡ first_number count highest low = begins.number_is ∙ there in
+      let is : number ≡ first_number count highest low = begins.number_is ∙ first_there count found low taken highest top same in
       record {
         is_first = record { highest = highest; is_highest = top; fits = subst (λ (n : ℕ). n < 2 ^ 64) is begins.fits; verdict_is = ap (announced highest) is };
         lead = begins.lead;
@@ -158,12 +155,60 @@ module _ (bounds : Bounds) (count found : ℕ) (taken : Numbers) (highest : Opti
   pub Begins-to : (verdict : RestartingVerdict) → Begins bounds count taken Lead low verdict
       → BeginsAt bounds.min_sequential found highest Lead low (first_number count highest low)
   Begins-to verdict begins =
-      let same : begins.is_first.highest ≡ highest = one_highest taken begins.is_first.highest highest begins.is_first.is_highest top in
+      let one : begins.is_first.highest ≡ highest = one_highest taken begins.is_first.highest highest begins.is_first.is_highest top in
       record {
-        number_is = sym there;
-        fits = subst (λ (h : Option ℕ). first_number count h low < 2 ^ 64) same begins.is_first.fits;
-        lead = subst (λ (h : Option ℕ). Lead (leading_after bounds.min_sequential h)) same begins.lead;
+        number_is = sym (first_there count found low taken highest top same);
+        fits = subst (λ (h : Option ℕ). first_number count h low < 2 ^ 64) one begins.is_first.fits;
+        lead = subst (λ (h : Option ℕ). Lead (leading_after bounds.min_sequential h)) one begins.lead;
       }
+
+-- ---- once the window is asked
+
+pub taken_not_refused : (number : ℕ) → Taken number ≡ Refused → ⊥
+taken_not_refused number is = cc
+
+-- a packet outside of the stream that is taken is the first of all
+IsFirst-fresh : (size count : ℕ) (taken : Numbers) (low number : ℕ) → IsFirst count taken low (Taken number) → IsFreshOf size taken number
+IsFirst-fresh size count taken low number first = fresh first.highest first.is_highest first.verdict_is
+  where
+    fresh : (highest : Option ℕ) → IsHighest taken highest → Taken number ≡ announced highest (first_number count highest low) → IsFreshOf size taken number
+    fresh None none is = inl none
+    fresh (Some h) top is = absurd (cc)
+
+module _ (bounds : Bounds) (count : ℕ) (taken : Numbers) (Lead : ℕ → Type 0) (low : ℕ) where
+  -- what the window refuses is of the stream
+  refused_of_stream : (number : ℕ) → (IsFreshOf bounds.size taken number → ⊥) → IsPlaced bounds count taken Lead low (Taken number) → IsOfStream bounds taken low number
+  refused_of_stream number refused (inl placed) = let same : number ≡ placed.0 = (let is = placed.1 in cc) in rw same placed.2
+  refused_of_stream number refused (inr outside) = elim outside.judged [
+    | inl begins ↦ absurd (refused (IsFirst-fresh bounds.size count taken low number begins.is_first))
+    | inr never ↦ absurd (let is : Taken number ≡ Refused = never.0 in cc)
+  ]
+
+  pub settled-verdict : (placed verdict : RestartingVerdict) → IsPlaced bounds count taken Lead low placed → IsSettled bounds.size taken placed verdict
+      → IsRestartingVerdict bounds count taken Lead low verdict
+  settled-verdict (Taken number) verdict is (inl taken') = elim is [
+    | inl of_stream ↦
+        let same : number ≡ of_stream.0 = (let it = of_stream.1 in cc) in
+        inl (record { number = number; of_stream = rw same of_stream.2; judged = rw taken'.0 (refl, taken'.1) })
+    | inr outside ↦ inr (rw taken'.0 outside)
+  ]
+  settled-verdict (Taken number) verdict is (inr refused) =
+      inl (record { number = number; of_stream = refused_of_stream number refused.1 is; judged = rw refused.0 refused.1 })
+  settled-verdict (Restarted number) verdict (inl of_stream) same = absurd (let is = of_stream.1 in cc)
+  settled-verdict (Restarted number) verdict (inr outside) same = inr (rw same outside)
+  settled-verdict Refused verdict (inl of_stream) same = absurd (let is = of_stream.1 in cc)
+  settled-verdict Refused verdict (inr outside) same = inr (rw same outside)
+
+  pub settled-row : (placed verdict : RestartingVerdict) (old_in_row old_next in_row next : ℕ) → IsPlaced bounds count taken Lead low placed
+      → IsSettled bounds.size taken placed verdict → Grows bounds taken low placed old_in_row old_next in_row next
+      → Grows bounds taken low verdict old_in_row old_next in_row next
+  settled-row (Taken number) verdict old_in_row old_next in_row next is (inl same) grows = rw same.0 grows
+  settled-row (Taken number) verdict old_in_row old_next in_row next is (inr refused) grows = λ later k few. (
+    λ leads. absurd (taken_not_refused number ((grows later k few).0 leads).0),
+    λ parts. absurd (parts.1 number (refused_of_stream number refused.1 is)),
+  )
+  settled-row (Restarted number) verdict old_in_row old_next in_row next is same grows = rw same grows
+  settled-row Refused verdict old_in_row old_next in_row next is same grows = rw same grows
 
 -- what is answered to the first packet of all, and to one of a later epoch
 pub announced_new : (highest : Option ℕ) (number : ℕ) → is_some highest ≡ false → announced highest number ≡ Taken number
@@ -176,9 +221,6 @@ announced_again (Some h) number is = refl
 
 pub some_not_none : (number : ℕ) → ◌≡◌ {A = Option ℕ} (Some number) None → ⊥
 some_not_none number is = cc
-
-pub taken_not_refused : (number : ℕ) → Taken number ≡ Refused → ⊥
-taken_not_refused number is = cc
 
 pub restarted_not_refused : (number : ℕ) → Restarted number ≡ Refused → ⊥
 restarted_not_refused number is = cc
@@ -194,20 +236,6 @@ row_grown len next len' next' before low later k few grown next-is held = (
   λ leads. elim leads [ inl none ↦ absurd (omega arith) | inr is ↦ (is.1 ∙ next-is, (held k).1 (omega (arith, is.0, grown))) ],
   λ parts. inr (let le = (held k).0 parts.1 in omega (arith, le, grown), parts.0 ∙ sym next-is),
 )
-
--- the number of a packet of the stream is the one that the receiver gives it
-pub near_number : (bounds : Bounds) (count : ℕ) (taken : Numbers) (low number highest near : ℕ) → highest < 2 ^ 64 → IsGreatest taken highest → IsNumberOf count taken low near
-    → IsOfStream bounds taken low number → (near < highest + bounds.max_dropout) × (highest < near + bounds.max_misorder)
-near_number bounds count taken low number highest near fits top (None, none, is) of_stream = absurd (not_nothing taken highest top none)
-near_number bounds count taken low number highest near fits top (Some h, h-top, is) of_stream =
-    let here : h ≡ highest = one_greatest taken h highest h-top top in
-    let there : of_stream.highest ≡ highest = one_greatest taken of_stream.highest highest of_stream.is_highest top in
-    let same : near ≡ number =
-    only_near 16 (Some highest) low near number (omega arith) (omega arith) fits
-    (subst (λ (n : ℕ). IsNearest 16 n low near) here is) (subst (λ (n : ℕ). IsNearest 16 n low number) there of_stream.nearest) in
-    let ahead = of_stream.ahead in
-    let behind = of_stream.behind in
-    (omega (arith, same, there, ahead), omega (arith, same, there, behind))
 
 -- no packets lead up to one, whatever the bounds
 lead_none : (one other : Bounds) (low k : ℕ) → LeadUp one [] low k → LeadUp other [] low k

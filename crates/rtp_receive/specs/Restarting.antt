@@ -2,7 +2,7 @@
 use Rattle.std.specs.Prelude.{◌≡◌, ℕ, zero, suc, ◌+◌, ◌-◌, ◌*◌, ◌/◌, ◌%◌, ◌^◌, ◌<◌, ◌⊎◌, List, [], ◌∷◌, false, Option, Some, None}
 use Rattle.rtp_base.specs.Window.{Numbers, only, including, IsGreatest}
 use Rattle.rtp_receive.specs.Widening.{IsNearest}
-use Rattle.rtp_receive.specs.Receiver.{IsHighest, IsJudgedOf}
+use Rattle.rtp_receive.specs.Receiver.{IsHighest, IsFreshOf, IsJudgedOf}
 use Rattle.rtp_receive.specs.declared.receiver.Verdict.{Verdict}
 use Rattle.rtp_receive.specs.declared.receiver.Verdict.TheVariants as plain
 use Rattle.rtp_receive.specs.declared.restarting_verdict.RestartingVerdict.{RestartingVerdict}
@@ -93,6 +93,18 @@ pub record IsJudgedOutside (bounds : Bounds) (count : ℕ) (taken : Numbers) (Le
 -- the verdict on a packet of a receiver that starts at this rollover count, where these numbers are taken in the epoch so far
 abbrev pub IsRestartingVerdict : Bounds → ℕ → Numbers → (ℕ → Type 0) → ℕ → RestartingVerdict → Type 0
 IsRestartingVerdict bounds count taken Lead low verdict = IsJudgedInStream bounds taken low verdict ⊎ IsJudgedOutside bounds count taken Lead low verdict
+
+-- the packet is of the stream, with a number that is still to be judged by the window, or it is outside of it and judged
+abbrev pub IsPlaced : Bounds → ℕ → Numbers → (ℕ → Type 0) → ℕ → RestartingVerdict → Type 0
+IsPlaced bounds count taken Lead low verdict =
+    ((number : ℕ) × (verdict ≡ Taken number) × IsOfStream bounds taken low number) ⊎ IsJudgedOutside bounds count taken Lead low verdict
+
+-- the verdict on a packet so placed, once a window of this size is asked
+abbrev pub IsSettled : ℕ → Numbers → RestartingVerdict → RestartingVerdict → Type 0
+IsSettled size taken (Taken number) verdict =
+    ((verdict ≡ Taken number) × IsFreshOf size taken number) ⊎ ((verdict ≡ Refused) × (IsFreshOf size taken number → ⊥))
+IsSettled size taken (Restarted number) verdict = verdict ≡ Restarted number
+IsSettled size taken Refused verdict = verdict ≡ Refused
 
 -- ---- a whole run
 

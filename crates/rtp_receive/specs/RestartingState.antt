@@ -5,6 +5,7 @@ use Rattle.rtp_receive.specs.Receiver.{HoldsOf}
 use Rattle.rtp_receive.specs.Restarting.{Bounds, IsOutside, Arrival, taken_in, LeadUp, IsNext, IsRestartingRun, HasNoPair, IsOneEpoch}
 use Rattle.rtp_receive.specs.EpochRun.{IsRunInEpoch, AreRising}
 use Rattle.rtp_receive.specs.declared.restarting.RestartingStreamReceiver.{RestartingStreamReceiver}
+use Rattle.rtp_receive.specs.declared.restarting_bounds.RestartingBounds.{RestartingBounds}
 use Rattle.rtp_receive.specs.declared.restarting_verdict.RestartingVerdict.{RestartingVerdict}
 use Rattle.rtp_receive.specs.declared.restarting_verdict.RestartingVerdict.TheVariants.{Taken, Refused}
 
@@ -21,6 +22,10 @@ bounds_of_size size receiver = record {
   size = size;
   min_sequential = receiver.min_sequential;
 }
+
+-- the same of what is told apart from the receiver
+abbrev pub bounds_at : ℕ → RestartingBounds → Bounds
+bounds_at size bounds = record { max_dropout = bounds.max_dropout; max_misorder = bounds.max_misorder; size = size; min_sequential = bounds.min_sequential }
 
 -- it holds the numbers taken in the epoch; the first epoch starts at this rollover count
 abbrev pub HoldsEpochOf : {W : Type 0} → ℕ → RestartingStreamReceiver W → ℕ → Numbers → Type 0

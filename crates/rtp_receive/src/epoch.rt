@@ -1,15 +1,12 @@
 //! What begins an epoch of a stream whose sender may start again.
 
-ghost use Rattle.std.specs.Prelude.{◌≡◌, ◌≢◌, ◌↔◌, ◌+◌, ◌*◌, ◌%◌, ◌^◌, ◌<◌, ◌≤◌, ℕ, suc, Option, Some, None};
+ghost use Rattle.std.specs.Prelude.{◌≡◌, ◌↔◌, ◌+◌, ◌*◌, ◌%◌, ◌^◌, ◌<◌, ◌≤◌, ℕ, suc, Some, None};
 ghost use Rattle.rtp_base.specs.Window.{Numbers};
-ghost use Rattle.rtp_receive.specs.Receiver.{StaysBelowZeroInOf};
-ghost use Rattle.rtp_receive.specs.Restarting.{leading_after, first_number, BeginsAt, BeginsOrRefused, epoch_after};
-ghost use Rattle.rtp_receive.specs.RestartingState.{bounds_of_size, HoldsEpochOf, Leads, RowLeadsOf};
-ghost use Rattle.rtp_receive.specs.declared.restarting_verdict.RestartingVerdict.TheVariants.{Taken, Restarted, Refused};
-ghost use Rattle.rtp_receive.specs.declared.receiver.ReceiverState.TheVariants.{Start};
+ghost use Rattle.rtp_receive.specs.Receiver.{IsNothing, IsHighest};
+ghost use Rattle.rtp_receive.specs.Restarting.{leading_after, first_number, BeginsAt, IsPlaced};
+ghost use Rattle.rtp_receive.specs.RestartingState.{bounds_at, Leads, Grows};
 
-use super::replay_window::ReplayWindow;
-use super::restarting::RestartingStreamReceiver;
+use super::restarting_bounds::RestartingBounds;
 use super::restarting_verdict::RestartingVerdict;
 use rtp_base::SeqNo;
 
@@ -74,14 +71,9 @@ impl RestartingRow {
         Some(SeqNo::from(first_count * 65_536 + u64::from(sequence_number)))
     }
 
-    /// Judges a packet that is outside of the stream: returns the number with which it begins an
-    /// epoch, and the row ends; or `None` where it begins none, and then it is one more of the row.
-    ///
-    /// It begins one where it is the last of `min_sequential` packets in a row, or after a highest
-    /// number the second one, and a number of 64 bits is left for it. The first epoch starts at the
-    /// rollover count that is given, and each later one 2 above the highest number. Precondition:
-    /// the count is below 2^48.
-    pub fn begin(
+    // The number with which a packet outside of the stream begins an epoch, and then the row ends;
+    // or `None` where it begins none, and is one more of the row.
+    fn begin(
         &mut self,
         sequence_number: u16,
         min_sequential: u8,
@@ -111,45 +103,45 @@ impl RestartingRow {
             }
         }
     }
-}
 
-impl<W: ReplayWindow> RestartingStreamReceiver<W> {
-    // The verdict on a packet that is outside of the stream.
-    pub(super) fn receive_outside(&mut self, sequence_number: u16) -> RestartingVerdict
-        ensures judged { (count : ℕ) → (taken : Numbers) →
-            HoldsEpochOf W.size self.old count taken →
-            BeginsOrRefused (bounds_of_size W.size self.old) count taken
-            (RowLeadsOf self.old sequence_number) sequence_number result }
-        ensures epoch { (count : ℕ) → (taken : Numbers) → HoldsEpochOf W.size self.old count taken →
-            HoldsEpochOf W.size self.new count (epoch_after taken result) }
-        ensures row { (later k : ℕ) → suc k ≤ 255 → RowLeadsOf self.new later (suc k)
-            ↔ ((result ≡ Refused) × (later ≡ (sequence_number + 1) % 65536)
-            × RowLeadsOf self.old sequence_number k) }
-        ensures refused { result ≡ Refused → self.new.receiver ≡ self.old.receiver }
-        ensures below_zero { (number : ℕ) → result ≡ Taken number →
-            StaysBelowZeroInOf W.size self.old.receiver self.new.receiver }
-        ensures restarted { (number : ℕ) → result ≡ Restarted number →
-            StaysBelowZeroInOf W.size (Start 0) self.new.receiver }
-        ensures bounds { bounds_of_size W.size self.new ≡ bounds_of_size W.size self.old }
+    /// The verdict on a packet by the highest number taken, before the window is asked: where it is
+    /// `Taken` the window may still refuse the number.
+    ///
+    /// A packet of the stream ends the row, and any other is one more of it, or begins an epoch: as
+    /// the last of `min_sequential` packets in a row, or after a highest number the second one, and
+    /// where a number of 64 bits is left for it. The first epoch starts at the rollover count that
+    /// is given, and each later one 2 above the highest number. Precondition: the count is below
+    /// 2^48.
+    pub fn judge(
+        &mut self,
+        sequence_number: u16,
+        bounds: &RestartingBounds,
+        highest: Option<SeqNo>,
+        rollover_count: u64,
+    ) -> RestartingVerdict
+        requires { rollover_count < 2 ^ 48 }
+        ensures placed { (size count : ℕ) → (taken : Numbers) → IsHighest taken highest →
+            (IsNothing taken → count ≡ rollover_count) →
+            IsPlaced (bounds_at size bounds.now) count taken
+            (Leads self.old.len self.old.next sequence_number) sequence_number result }
+        ensures row { (size : ℕ) → (taken : Numbers) → IsHighest taken highest →
+            Grows (bounds_at size bounds.now) taken sequence_number result
+            self.old.len self.old.next self.new.len self.new.next }
     {
-        let highest = self.receiver.highest();
-        let rollover_count = self.receiver.rollover_count();
-        let min_sequential = self.min_sequential;
+        if let Some(number) = bounds.number_of(sequence_number, highest) {
+            self.len = 0;
+            return RestartingVerdict::Taken(number);
+        }
         let is_new = highest.is_none();
-        match self
-            .row
-            .begin(sequence_number, min_sequential, highest, rollover_count)
-        {
+        match self.begin(
+            sequence_number,
+            bounds.min_sequential,
+            highest,
+            rollover_count,
+        ) {
             None => RestartingVerdict::Refused,
-            Some(number) => {
-                if is_new {
-                    self.receiver.record(number);
-                    RestartingVerdict::Taken(number)
-                } else {
-                    self.receiver.start_with(number);
-                    RestartingVerdict::Restarted(number)
-                }
-            }
+            Some(number) if is_new => RestartingVerdict::Taken(number),
+            Some(number) => RestartingVerdict::Restarted(number),
         }
     }
 }

@@ -26,10 +26,9 @@ pub trait ReplayWindow: Drop {
         ensures kept { KeepsOf size (state result) (only number) }
         ensures below_zero { ShowsBelowZeroOf size (state result) false };
 
-    /// Returns whether a number so far below the greatest is still told apart: whether the distance
-    /// is less than the size.
-    fn spans(distance: u64) -> bool
-        ensures { IsTrue result ↔ distance < size };
+    /// Returns the size: numbers less than it below the greatest are told apart.
+    fn span() -> u128
+        ensures { result ≡ size };
 
     /// Returns the greatest recorded number.
     fn max_seq(&self) -> SeqNo
@@ -59,9 +58,9 @@ pub trait ReplayWindow: Drop {
 
 // How many numbers a `SeqNoWindow` tells apart, and how many have their bits in one word of a
 // `WideWindow`.
-const SEQ_NO_WINDOW_SIZE: u64 = 128;
+const SEQ_NO_WINDOW_SIZE: u128 = 128;
 
-const WORD: u64 = 64;
+const WORD: u128 = 64;
 
 impl ReplayWindow for SeqNoWindow {
     ghost size = { window_size };
@@ -74,8 +73,8 @@ impl ReplayWindow for SeqNoWindow {
     }
 
     #[inline(always)]
-    fn spans(distance: u64) -> bool {
-        distance < SEQ_NO_WINDOW_SIZE
+    fn span() -> u128 {
+        SEQ_NO_WINDOW_SIZE
     }
 
     #[inline(always)]
@@ -105,8 +104,8 @@ impl<const N: usize> ReplayWindow for WideWindow<N> {
     }
 
     #[inline(always)]
-    fn spans(distance: u64) -> bool {
-        distance / WORD < N as u64
+    fn span() -> u128 {
+        WORD * N as u128
     }
 
     #[inline(always)]

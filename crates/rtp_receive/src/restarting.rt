@@ -1,10 +1,10 @@
 //! The receive state of one stream whose sender may start again, with a replay window of any size.
 
-ghost use Rattle.std.specs.Prelude.{◌≡◌, ◌≢◌, ◌↔◌, ◌+◌, ◌*◌, ◌<◌, ℕ, IsTrue, List, [], Some, None};
+ghost use Rattle.std.specs.Prelude.{◌≡◌, ℕ, List, [], Some, None};
 ghost use Rattle.rtp_base.specs.Window.{Numbers, window_size};
-ghost use Rattle.rtp_receive.specs.Receiver.{IsHighest, IsJudgedOf, StaysBelowZeroInOf};
-ghost use Rattle.rtp_receive.specs.Restarting.{IsOfStream, IsOutside, in_stream, IsRestartingVerdict, Arrival, epoch_after};
-ghost use Rattle.rtp_receive.specs.RestartingState.{bounds_of_size, misorder_in, HoldsEpochOf, RowLeadsOf, RowGrowsOf, RemembersOf, FollowsOf};
+ghost use Rattle.rtp_receive.specs.Receiver.{IsHighest, StaysBelowZeroInOf};
+ghost use Rattle.rtp_receive.specs.Restarting.{IsRestartingVerdict, Arrival, epoch_after};
+ghost use Rattle.rtp_receive.specs.RestartingState.{bounds_at, bounds_of_size, HoldsEpochOf, RowLeadsOf, RowGrowsOf, RemembersOf, FollowsOf};
 ghost use Rattle.rtp_receive.specs.declared.restarting_verdict.RestartingVerdict.{RestartingVerdict};
 ghost use Rattle.rtp_receive.specs.declared.restarting_verdict.RestartingVerdict.TheVariants.{Taken, Restarted, Refused};
 ghost use Rattle.rtp_receive.specs.declared.receiver.ReceiverState.TheVariants.{Start};
@@ -12,6 +12,7 @@ ghost use Rattle.rtp_receive.specs.declared.receiver.ReceiverState.TheVariants.{
 use super::epoch::RestartingRow;
 use super::receiver::Receiver;
 use super::replay_window::ReplayWindow;
+use super::restarting_bounds::RestartingBounds;
 use super::restarting_verdict::RestartingVerdict;
 use super::stream_receiver::StreamReceiver;
 use rtp_base::{SeqNo, SeqNoWindow};
@@ -50,12 +51,12 @@ use std::fmt;
 /// ```
 #[derive(Drop)]
 pub struct RestartingStreamReceiver<W: ReplayWindow> {
-    pub(super) receiver: StreamReceiver<W>,
+    receiver: StreamReceiver<W>,
     max_dropout: u16,
     // `None` where it is the size of the window.
     max_misorder: Option<u16>,
-    pub(super) min_sequential: u8,
-    pub(super) row: RestartingRow,
+    min_sequential: u8,
+    row: RestartingRow,
 }
 
 // The text has the shorter name, whatever the window.
@@ -178,67 +179,26 @@ impl<W: ReplayWindow> RestartingStreamReceiver<W> {
             FollowsOf W.size self.old self.new before
             (record { low = sequence_number; verdict = result }) }
     {
-        match self.stream_number(sequence_number) {
-            Some(number) => self.receive_in_stream(number),
-            None => self.receive_outside(sequence_number),
-        }
+        let bounds = self.bounds();
+        let highest = self.receiver.highest();
+        let rollover_count = self.receiver.rollover_count();
+        let verdict = self
+            .row
+            .judge(sequence_number, &bounds, highest, rollover_count);
+        self.receiver.settle(verdict)
     }
 
-    // The number of a packet of the stream.
-    fn stream_number(&self, sequence_number: u16) -> Option<SeqNo>
-        ensures some { (count : ℕ) → (taken : Numbers) → HoldsEpochOf W.size self.now count taken →
-            (number : ℕ) → result ≡ Some number →
-            IsOfStream (bounds_of_size W.size self.now) taken sequence_number number }
-        ensures none { (count : ℕ) → (taken : Numbers) → HoldsEpochOf W.size self.now count taken →
-            result ≡ None → IsOutside (bounds_of_size W.size self.now) taken sequence_number }
+    // What its caller chose.
+    fn bounds(&self) -> RestartingBounds
+        ensures { bounds_at W.size result ≡ bounds_of_size W.size self.now }
     {
-        let highest = self.receiver.highest()?;
-        let number = self.receiver.number_of(sequence_number);
-        if self.is_near(highest.get(), number.get()) {
-            Some(number)
-        } else {
-            None
-        }
-    }
-
-    // Whether a number so far below the highest one is of the stream.
-    fn reaches(&self, distance: u64) -> bool
-        ensures { IsTrue result ↔ distance < misorder_in W.size self.now.max_misorder }
-    {
-        match self.max_misorder {
-            None => W::spans(distance),
-            Some(max_misorder) => distance < u64::from(max_misorder),
-        }
-    }
-
-    // Whether a number is as near to the highest one as those of the stream are.
-    fn is_near(&self, highest: u64, number: u64) -> bool
-        ensures { IsTrue result ↔ ((number < highest + self.now.max_dropout)
-            × (highest < number + misorder_in W.size self.now.max_misorder)) }
-    {
-        let is_ahead = number < highest || number - highest < u64::from(self.max_dropout);
-        let is_behind = highest < number || self.reaches(highest - number);
-        is_ahead && is_behind
-    }
-
-    // The verdict on a packet of the stream, by its number.
-    fn receive_in_stream(&mut self, number: SeqNo) -> RestartingVerdict
-        ensures judged { (count : ℕ) → (taken : Numbers) →
-            HoldsEpochOf W.size self.old count taken →
-            IsJudgedOf W.size taken number (in_stream result) }
-        ensures epoch { (count : ℕ) → (taken : Numbers) → HoldsEpochOf W.size self.old count taken →
-            HoldsEpochOf W.size self.new count (epoch_after taken result) }
-        ensures same_epoch { (first : ℕ) → result ≢ Restarted first }
-        ensures row { self.new.row.len ≡ 0 }
-        ensures bounds { bounds_of_size W.size self.new ≡ bounds_of_size W.size self.old }
-        ensures refused { result ≡ Refused → self.new.receiver ≡ self.old.receiver }
-        ensures below_zero { StaysBelowZeroInOf W.size self.old.receiver self.new.receiver }
-    {
-        self.row.len = 0;
-        if self.receiver.take(number) {
-            RestartingVerdict::Taken(number)
-        } else {
-            RestartingVerdict::Refused
+        RestartingBounds {
+            max_dropout: self.max_dropout,
+            max_misorder: match self.max_misorder {
+                None => W::span(),
+                Some(max_misorder) => u128::from(max_misorder),
+            },
+            min_sequential: self.min_sequential,
         }
     }
 }

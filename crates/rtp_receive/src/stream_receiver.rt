@@ -1,14 +1,17 @@
 //! The receive state of one stream, with a replay window of any size.
 
 ghost use Rattle.std.specs.Prelude.{◌≡◌, ◌↔◌, ◌^◌, ◌<◌, ◌/◌, ℕ, IsTrue, false, if◌then◌else◌};
-ghost use Rattle.rtp_base.specs.Window.{Numbers, WindowState, only, including};
+ghost use Rattle.rtp_base.specs.Window.{Numbers, WindowState, including};
 ghost use Rattle.rtp_receive.specs.Receiver.{HoldsOf, IsHighest, IsNumberOf, IsFreshOf, HasStandingOf, IsJudgedOf, taken_after, StaysBelowZeroInOf};
 ghost use Rattle.rtp_receive.specs.declared.receiver.ReceiverState.TheVariants.{Start, Window};
 ghost use Rattle.rtp_receive.specs.declared.receiver.Verdict.TheVariants.{Refused};
+ghost use Rattle.rtp_receive.specs.declared.restarting_verdict.RestartingVerdict.TheVariants as restarting;
+ghost use Rattle.rtp_receive.specs.Restarting.{IsSettled, epoch_after};
 ghost use Rattle.rtp_receive.specs.TrueNumbers.{IsTrueNumber};
 
 use super::receiver::{ReceiverState, Verdict};
 use super::replay_window::ReplayWindow;
+use super::restarting_verdict::RestartingVerdict;
 use super::standing::Standing;
 use super::widening::extend_u16;
 use rtp_base::SeqNo;
@@ -126,7 +129,7 @@ impl<W: ReplayWindow> StreamReceiver<W> {
         };
         if self.accepts(number) {
             Standing::New
-        } else if W::spans(highest.get().saturating_sub(number.get())) {
+        } else if u128::from(highest.get().saturating_sub(number.get())) < W::span() {
             Standing::Taken
         } else {
             Standing::TooOld
@@ -200,12 +203,26 @@ impl<W: ReplayWindow> StreamReceiver<W> {
         }
     }
 
-    // Forgets what was taken, and takes this number alone.
-    pub(super) fn start_with(&mut self, number: SeqNo)
-        ensures taken { (count : ℕ) → HoldsOf W.size self.new count (only number) }
-        ensures below_zero { (count : ℕ) → StaysBelowZeroInOf W.size (Start count) self.new }
+    // The verdict on a packet of a sender that may start again, once the window is asked.
+    pub(super) fn settle(&mut self, verdict: RestartingVerdict) -> RestartingVerdict
+        ensures settled { (count : ℕ) → (taken : Numbers) → HoldsOf W.size self.old count taken →
+            IsSettled W.size taken verdict result }
+        ensures epoch { (count : ℕ) → (taken : Numbers) → HoldsOf W.size self.old count taken →
+            HoldsOf W.size self.new count (epoch_after taken result) }
+        ensures refused { result ≡ restarting.Refused → self.new ≡ self.old }
+        ensures below_zero { (number : ℕ) → result ≡ restarting.Taken number →
+            StaysBelowZeroInOf W.size self.old self.new }
+        ensures restarted { (number : ℕ) → result ≡ restarting.Restarted number →
+            StaysBelowZeroInOf W.size (Start 0) self.new }
     {
-        let state = &mut self.state;
-        *state = ReceiverState::Window(W::new(number));
+        match verdict {
+            RestartingVerdict::Taken(number) if !self.take(number) => RestartingVerdict::Refused,
+            RestartingVerdict::Restarted(number) => {
+                let state = &mut self.state;
+                *state = ReceiverState::Window(W::new(number));
+                verdict
+            }
+            _ => verdict,
+        }
     }
 }

@@ -28,9 +28,9 @@ pub use rtp_ext::{
 };
 pub use rtp_receive::{
     NarrowRestartingReceiver, Receiver, Receivers, ReceptionReport, ReceptionStatistics,
-    ReplayWindow, RestartingReceiver, RestartingRow, RestartingStreamReceiver, RestartingVerdict,
-    Standing, StreamReceiver, Verdict, WideReceiver, extend_u7, extend_u8, extend_u15, extend_u16,
-    extend_u32,
+    ReplayWindow, RestartingBounds, RestartingReceiver, RestartingRow, RestartingStreamReceiver,
+    RestartingVerdict, Standing, StreamReceiver, Verdict, WideReceiver, extend_u7, extend_u8,
+    extend_u15, extend_u16, extend_u32,
 };
 pub use rtp_vla::vla;
 pub use run::{receive_run, receive_run_one};

@@ -1,4 +1,4 @@
-use Rattle.rtp_c.proofs.Common.{◌/◌, false, refl, inl, inr, arith, Some, ring_size, ring_bits}
+use Rattle.rtp_c.proofs.Common.{◌/◌, refl, inl, inr, arith, Some, ring_size, ring_bits}
 use Rattle.rtp_c.proofs.StoredWideLemmas.{kept, HoldsWindow-some, none, nothing}
 use Rattle.rtp_c.proofs.wide_receiver.rtpw_wide_receiver_number_of.Goals as goal
 

@@ -1,4 +1,4 @@
-use Rattle.rtp_c.proofs.Common.{◌<◌, length, false, refl, ◌∙◌, inl, inr, arith, ring_size, ring_bits, including}
+use Rattle.rtp_c.proofs.Common.{◌<◌, length, refl, ◌∙◌, inl, inr, arith, ring_size, ring_bits, including}
 use Rattle.rtp_c.proofs.StoredWideLemmas.{HoldsStored-kept, first_bit, HoldsWindow-some, first-kept, later-kept, kept_there, none, nothing}
 use Rattle.rtp_c.proofs.wide_receiver.take.Goals as goal
 use Rattle.rtp_c.proofs.wide_receiver.take.Goals.{then-receiver-eq0, else-receiver-eq0}

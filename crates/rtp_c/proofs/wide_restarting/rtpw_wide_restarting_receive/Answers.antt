@@ -1,25 +1,31 @@
-use Rattle.std.proofs.Common.{ℤ, sym, ◌∙◌, rules}
-use Rattle.std.proofs.lemmas.Bool.{false≢true}
-use Rattle.rtp_c.specs.StoredWideRestarting.{IsAnsweredWith}
+use Rattle.std.proofs.Common.{ℤ, ◌/◌, inl, inr, refl, subst, rules}
+use Rattle.rtp_base.specs.Ring.{ring_size}
+use Rattle.rtp_receive.specs.Restarting.{Bounds, IsPlaced}
+use Rattle.rtp_receive.specs.RestartingState.{Leads, Grows}
+use Rattle.rtp_receive.proofs.RestartingLemmas.{settled-verdict, settled-row}
+use Rattle.rtp_c.specs.StoredRestarting.{IsTold}
+use Rattle.rtp_c.specs.StoredWideRestarting.{bounds_with}
 use Rattle.rtp_c.proofs.StatusLemmas.{passed_on}
-use Rattle.rtp_c.proofs.WideRestartingLemmas.{highest_started, outside_from}
+use Rattle.rtp_c.proofs.WideRestartingLemmas.{holds_in}
 use Rattle.rtp_c.proofs.wide_restarting.rtpw_wide_restarting_receive.Goals as goal
 
-pub returns-then-is_of_stream-clause-answered : goal.returns-then-is_of_stream-clause-answered
-returns-then-is_of_stream-clause-answered c few taken holds =
-    let near = c.is_of_stream.ensures.near.0 c.if-is_of_stream.true in
-    passed_on c.receive_in_stream.result (search rules) (λ (z : ℤ). IsAnsweredWith c.args.receiver.now c.args.words.now taken c.args.sequence_number z c.receive_in_stream.new.number c.receive_in_stream.new.receiver c.receive_in_stream.new.words)
-    (c.receive_in_stream.ensures.answered taken holds (record {
-      highest = c.args.receiver.now.highest;
-      is_highest = highest_started c.args.receiver.now c.args.words.now taken near.0 holds;
-      nearest = c.extend_u16-extended.ensures.near;
-      ahead = near.1;
-      behind = near.2;
-    }))
-
-pub returns-else-is_of_stream-clause-answered : goal.returns-else-is_of_stream-clause-answered
-returns-else-is_of_stream-clause-answered c few taken holds =
-    passed_on c.receive_outside.result (search rules) (λ (z : ℤ). IsAnsweredWith c.args.receiver.now c.args.words.now taken c.args.sequence_number z c.receive_outside.new.number c.receive_outside.new.receiver c.receive_outside.new.words)
-    (c.receive_outside.ensures.answered taken holds
-    (outside_from c.args.receiver.now c.args.words.now taken c.args.sequence_number c.extend_u16-extended.result holds c.is_of_stream.ensures.fits c.extend_u16-extended.ensures.near
-    (λ near. false≢true (sym c.if-is_of_stream.false ∙ c.is_of_stream.ensures.near.1 near))))
+pub returns-clause-answered : goal.returns-clause-answered
+returns-clause-answered c few taken holds =
+    let old = c.args.receiver.now in
+    let words = c.args.words.now in
+    let low = c.args.sequence_number in
+    let Lead = Leads old.in_row old.next low in
+    let row = c.judge-placed.new.self in
+    let placed = c.judge-placed.result in
+    let held = holds_in old words taken holds in
+    let top = c.highest_of.ensures words (old.highest / 65536) taken held in
+    let settled = c.settle-verdict.ensures.settled (old.highest / 65536) taken held in
+    let is_placed = c.judge-placed.ensures.placed (ring_size words) 1 taken top (λ _. refl) in
+    record {
+      verdict = c.settle-verdict.result;
+      judged = settled-verdict (bounds_with old words) 1 taken Lead low placed c.settle-verdict.result (subst (λ (b : Bounds). IsPlaced b 1 taken Lead low placed) c.bounds_of-bounds.ensures is_placed) settled;
+      told = passed_on c.tell.result (search rules) (λ (z : ℤ). IsTold c.settle-verdict.result z c.tell.new.number) c.tell.ensures.told;
+      epoch = elim (c.settle-verdict.ensures.epoch (old.highest / 65536) taken held) [ inl empty ↦ inl (empty.0, empty.2) | inr kept ↦ inr kept ];
+      row = subst (λ (b : Bounds). Grows b taken low c.settle-verdict.result old.in_row old.next row.len row.next) c.bounds_of-bounds.ensures
+          (settled-row _ 1 taken Lead low placed c.settle-verdict.result old.in_row old.next row.len row.next is_placed settled (c.judge-placed.ensures.row (ring_size words) taken top));
+    }

@@ -1,44 +1,37 @@
-use Rattle.std.proofs.Common.{refl, inl, inr, arith}
-use Rattle.rtp_receive.specs.Restarting.{taken_in}
+use Rattle.std.proofs.Common.{refl, subst}
+use Rattle.rtp_receive.specs.Restarting.{Bounds, taken_in, IsPlaced}
+use Rattle.rtp_receive.specs.RestartingState.{bounds_of_size, RowLeadsOf, Grows}
+use Rattle.rtp_receive.proofs.RestartingLemmas.{starts_there, settled-verdict, settled-row}
 use Rattle.rtp_receive.proofs.EpochLemmas.{follows}
 use Rattle.rtp_receive.proofs.restarting.RestartingStreamReceiver.receive.Goals as goal
 
--- ---- a packet of the stream
+pub returns-clause-verdict : goal.returns-clause-verdict
+returns-clause-verdict g c count taken holds =
+    let size = g.W.ReplayWindow.size in
+    let bounds : Bounds = bounds_of_size size c.args.self.now in
+    let low = c.args.sequence_number in
+    let Lead = RowLeadsOf c.args.self.now low in
+    let verdict = c.judge-verdict.result in
+    let start = starts_there size c.args.self.now.receiver count c.rollover_count-rollover_count.result taken holds c.rollover_count-rollover_count.ensures.empty in
+    settled-verdict bounds count taken Lead low verdict c.settle.result
+    (subst (λ (b : Bounds). IsPlaced b count taken Lead low verdict) c.bounds-bounds.ensures
+    (c.judge-verdict.ensures.placed size count taken (c.highest-highest.ensures.highest count taken holds) start)) (c.settle.ensures.settled count taken holds)
 
-pub returns-in-Some-clause-verdict : goal.returns-in-Some-clause-verdict
-returns-in-Some-clause-verdict g c count taken holds =
-    inl (record { number = c.in-Some.number; of_stream = c.in-Some.ensures.some count taken holds c.in-Some.number refl; judged = c.receive_in_stream.ensures.judged count taken holds })
+pub returns-clause-row : goal.returns-clause-row
+returns-clause-row g c count taken holds =
+    let size = g.W.ReplayWindow.size in
+    let low = c.args.sequence_number in
+    let row = c.args.self.now.row in
+    let after = c.judge-verdict.new.self in
+    let verdict = c.judge-verdict.result in
+    let top = c.highest-highest.ensures.highest count taken holds in
+    let found = c.rollover_count-rollover_count.result in
+    subst (λ (b : Bounds). Grows b taken low c.settle.result row.len row.next after.len after.next) c.bounds-bounds.ensures
+    (settled-row _ found taken (RowLeadsOf c.args.self.now low) low verdict c.settle.result row.len row.next after.len after.next
+    (c.judge-verdict.ensures.placed size found taken top (λ _. refl)) (c.settle.ensures.settled count taken holds) (c.judge-verdict.ensures.row size taken top))
 
-pub returns-in-Some-clause-row : goal.returns-in-Some-clause-row
-returns-in-Some-clause-row g c count taken holds later k few = (
-  λ leads. elim leads [ inl is ↦ absurd (omega arith) | inr is ↦ absurd (omega (arith, is.0, c.receive_in_stream.ensures.row)) ],
-  λ parts. absurd (parts.1 c.in-Some.number (c.in-Some.ensures.some count taken holds c.in-Some.number refl)),
-)
-
-pub returns-in-Some-clause-follows : goal.returns-in-Some-clause-follows
-returns-in-Some-clause-follows g c before remembers =
-    follows g.W.ReplayWindow.size c.args.self.now c.receive_in_stream.new.self c.args.sequence_number c.receive_in_stream.result before remembers
-    (returns-in-Some-clause-verdict g c 1 (taken_in before) remembers.holds) (c.receive_in_stream.ensures.epoch 1 (taken_in before) remembers.holds)
-    (returns-in-Some-clause-row g c 1 (taken_in before) remembers.holds) c.receive_in_stream.ensures.bounds
-
-pub returns-in-Some-clause-restarted : goal.returns-in-Some-clause-restarted
-returns-in-Some-clause-restarted g c number is = absurd (c.receive_in_stream.ensures.same_epoch number is)
-
--- ---- a packet outside of it
-
-pub returns-in-None-clause-verdict : goal.returns-in-None-clause-verdict
-returns-in-None-clause-verdict g c count taken holds =
-    inr (record { outside = c.in-None.ensures.none count taken holds refl; judged = c.receive_outside.ensures.judged count taken holds })
-
-pub returns-in-None-clause-row : goal.returns-in-None-clause-row
-returns-in-None-clause-row g c count taken holds later k few =
-    let grown = c.receive_outside.ensures.row later k few in (
-      λ leads. let parts = grown.0 leads in (parts.0, c.in-None.ensures.none count taken holds refl, parts.1, parts.2),
-      λ parts. grown.1 (parts.0, parts.2, parts.3),
-    )
-
-pub returns-in-None-clause-follows : goal.returns-in-None-clause-follows
-returns-in-None-clause-follows g c before remembers =
-    follows g.W.ReplayWindow.size c.args.self.now c.receive_outside.new.self c.args.sequence_number c.receive_outside.result before remembers
-    (returns-in-None-clause-verdict g c 1 (taken_in before) remembers.holds) (c.receive_outside.ensures.epoch 1 (taken_in before) remembers.holds)
-    (returns-in-None-clause-row g c 1 (taken_in before) remembers.holds) c.receive_outside.ensures.bounds
+pub returns-clause-follows : goal.returns-clause-follows
+returns-clause-follows g c before remembers =
+    follows g.W.ReplayWindow.size c.args.self.now _ c.args.sequence_number c.settle.result before remembers
+    (returns-clause-verdict g c 1 (taken_in before) remembers.holds) (c.settle.ensures.epoch 1 (taken_in before) remembers.holds)
+    (returns-clause-row g c 1 (taken_in before) remembers.holds) refl
