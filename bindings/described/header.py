@@ -175,22 +175,16 @@ def parser():
     return pycparser
 
 
-def preprocessed(header: Path, text: str) -> str:
-    """The header file without the standard ones, which are stubs here, and with its marks as something that may stand
-    in a declaration of C11; those of constants stay empty."""
-    marks = text.partition("#ifndef RTPW_OUT\n")[2].partition("#endif")[0]
-    with tempfile.TemporaryDirectory() as stubs:
-        types = "".join(f"typedef int {it};\n" for it in SIZES if it != "char")
-        for name in ("stdbool", "stddef", "stdint"):
-            (Path(stubs) / f"{name}.h").write_text(types if name == "stddef" else "")
-        options = ["-nostdinc", "-undef", "-P", f"-I{stubs}"]
-        for name, given in re.findall(r"^#define (\w+)(\(.*\))?$", marks, re.M):
-            mark = f"_Alignas({name}({'__VA_ARGS__' if given else ''}))" if name != "RTPW_KIND" else ""
-            options.append(f"-D{name}{'(...)' if given else ''}={mark}")
-        command = ["cc", "-std=c11", "-E", *options, str(header)]
-        made = subprocess.run(command, stdout=subprocess.PIPE, text=True, check=True).stdout
+def declarations(text: str) -> str:
+    """What a header file declares, as pycparser reads it: without comments and lines for a preprocessor, and with its
+    marks as something that may stand in a declaration of C11; those of constants go."""
+    marks = re.findall(r"^#define (\w+)", text.partition("#ifndef RTPW_OUT\n")[2].partition("#endif")[0], re.M)
+    text = re.sub(r"/\*.*?\*/|\bRTPW_CHECKED\b|\bRTPW_KIND\([^)]*\)", "", text, flags=re.S)
+    text = re.sub(r"^#ifdef __cplusplus\n[^#]*#endif\n|^#.*\n", "", text, flags=re.M)
+    text = re.sub(rf"\b({'|'.join(marks)})\b(\([^)]*\))?", lambda it: f"_Alignas({it[1]}{it[2] or '()'})", text)
     # The marks of a field stand behind its type: before it pycparser 2.21 takes the type for the field's name.
-    return re.sub(r"^ +(_Alignas\(.*\))\n( +\w+) ", r"\2 \1 ", made, flags=re.M)
+    text = re.sub(r"^ +(_Alignas\(.*\))\n( +\w+) ", r"\2 \1 ", text, flags=re.M)
+    return "".join(f"typedef int {it};\n" for it in SIZES if it != "char") + text
 
 
 def read(header: Path = HEADER, word: int = 8) -> Api:
@@ -199,7 +193,7 @@ def read(header: Path = HEADER, word: int = 8) -> Api:
     pycparser, text = parser(), header.read_text("utf-8")
     of_c = Reader(pycparser, word)
     of_c.api.version = re.search(r'^#define RTPW_VERSION "(.*)"$', text, re.M).group(1)
-    for node in pycparser.c_parser.CParser().parse(preprocessed(header, text), str(header)).ext:
+    for node in pycparser.c_parser.CParser().parse(declarations(text), str(header)).ext:
         of_c.add(node)
     macros = re.findall(r"^#define (RTPW_\w+) (\d+)$", text, re.M)
     of_c.api.constants.update((name, int(number)) for name, number in macros)
