@@ -1658,8 +1658,8 @@ RTPW_CHECKED static inline int32_t rtpw_sanitized_write_headers(const rtpw_templ
         uint8_t *buf, size_t size) {
     int32_t status;
     rtpw_sanitizer_template(made);
-    RTPW_SANITIZER_ROOM(buf, size);
     RTPW_SANITIZER_ROOM(header, header_size);
+    RTPW_SANITIZER_ROOM(buf, size);
     if (made->header_len <= header_size) { rtpw_sanitizer_reads(header, made->header_len); }
     RTPW_SANITIZER_ROOM(data, data_len);
     RTPW_SANITIZER_ROOM(receivers, count * sizeof *receivers);
