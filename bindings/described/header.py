@@ -122,7 +122,7 @@ class Field(Marked):
 
     counted = only("COUNT")  # of an array: the field that says how many of it are looked at
     is_out = property(lambda self: "OUT" in self.marks, doc="Whether it is written alone.")
-    range = property(lambda self: tuple(map(int, self.marks.get("RANGE", ()))), doc="The least and the most that it is.")
+    range = property(lambda self: tuple(map(int, self.marks.get("RANGE", ()))), doc="The least and the most.")
 
 
 @dataclass(frozen=True)
@@ -172,7 +172,7 @@ def declarations(text: str) -> str:
 
 
 def read(header: Path = HEADER, word: int = 8) -> Api:
-    """The description of a header file, for a machine whose size_t has so many bytes (4 on wasm32). It takes pycparser."""
+    """The description of a header file, for a machine whose size_t has so many bytes: 4 on wasm32."""
     sys.path.append("/usr/lib/python3/dist-packages")  # for a python3 that isn't Debian's
     from pycparser import c_ast, c_generator, c_parser
 
