@@ -135,7 +135,7 @@ static inline size_t rtpw_sanitizer_packet_header_len(const uint8_t *datagram, s
     return rtpw_sanitizer_least(at, len);
 }
 
-/* Of the bytes from one place to another, where there are any, those are read that come first. */
+/* Of a packet's bytes from one place up to another the first ones are read, at most so many. */
 static inline void rtpw_sanitizer_first(const uint8_t *datagram, size_t at, size_t end, size_t count) {
     if (at < end) { rtpw_sanitizer_reads(datagram + at, rtpw_sanitizer_least(end - at, count)); }
 }
