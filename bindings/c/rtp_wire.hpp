@@ -658,9 +658,7 @@ class elements {
         using difference_type = std::ptrdiff_t;
         using pointer = const element *;
         using reference = element;
-        element operator*() const noexcept {
-            return {at_->id, body_.subspan(at_->data_at, at_->data_len)};
-        }
+        element operator*() const noexcept { return {at_->id, body_.subspan(at_->data_at, at_->data_len)}; }
         iterator &operator++() noexcept {
             at_ = next_element(body_, form_, at_->end);
             return *this;
@@ -681,12 +679,8 @@ class elements {
         std::uint8_t form_;
         result<rtpw_element> at_;
     };
-    iterator begin() const noexcept {
-        return {body_, form_};
-    }
-    iterator end() const noexcept {
-        return {bytes(), RTPW_NO_BLOCK};
-    }
+    iterator begin() const noexcept { return {body_, form_}; }
+    iterator end() const noexcept { return {bytes(), RTPW_NO_BLOCK}; }
 
   private:
     bytes body_;
