@@ -274,11 +274,7 @@ static inline void rtpw_sanitizer_text(const char *text, size_t size) {
 
 static inline void rtpw_sanitizer_fields(const rtpw_fields *it) {
     RTPW_SANITIZER_ROOM(it, sizeof *it);
-    rtpw_sanitizer_reads(&it->has_timestamp, sizeof it->has_timestamp);
-    rtpw_sanitizer_reads(&it->has_ssrc, sizeof it->has_ssrc);
-    rtpw_sanitizer_reads(&it->has_sequence_number, sizeof it->has_sequence_number);
-    rtpw_sanitizer_reads(&it->has_payload_type, sizeof it->has_payload_type);
-    rtpw_sanitizer_reads(&it->has_marker, sizeof it->has_marker);
+    rtpw_sanitizer_reads(&it->has_timestamp, 5); /* up to has_marker */
     if (it->has_timestamp) { rtpw_sanitizer_reads(&it->timestamp, sizeof it->timestamp); }
     if (it->has_ssrc) { rtpw_sanitizer_reads(&it->ssrc, sizeof it->ssrc); }
     if (it->has_sequence_number) { rtpw_sanitizer_reads(&it->sequence_number, sizeof it->sequence_number); }
@@ -288,8 +284,7 @@ static inline void rtpw_sanitizer_fields(const rtpw_fields *it) {
 
 static inline void rtpw_sanitizer_element(const rtpw_element *it) {
     RTPW_SANITIZER_ROOM(it, sizeof *it);
-    rtpw_sanitizer_reads(&it->data_at, sizeof it->data_at);
-    rtpw_sanitizer_reads(&it->data_len, sizeof it->data_len);
+    rtpw_sanitizer_reads(&it->data_at, 16); /* up to data_len */
     rtpw_sanitizer_reads(&it->id, sizeof it->id);
 }
 
@@ -306,28 +301,12 @@ static inline void rtpw_sanitizer_map(const rtpw_map *it) {
 
 static inline void rtpw_sanitizer_time(const rtpw_time *it) {
     RTPW_SANITIZER_ROOM(it, sizeof *it);
-    rtpw_sanitizer_reads(&it->ticks, sizeof it->ticks);
-    rtpw_sanitizer_reads(&it->hertz, sizeof it->hertz);
+    rtpw_sanitizer_reads(&it->ticks, 12); /* up to hertz */
 }
 
 static inline void rtpw_sanitizer_values(const rtpw_values *it) {
     RTPW_SANITIZER_ROOM(it, sizeof *it);
-    rtpw_sanitizer_reads(&it->has_send_time, sizeof it->has_send_time);
-    rtpw_sanitizer_reads(&it->has_capture_time, sizeof it->has_capture_time);
-    rtpw_sanitizer_reads(&it->has_capture_offset, sizeof it->has_capture_offset);
-    rtpw_sanitizer_reads(&it->has_transmission_offset, sizeof it->has_transmission_offset);
-    rtpw_sanitizer_reads(&it->has_frame_marking, sizeof it->has_frame_marking);
-    rtpw_sanitizer_reads(&it->has_transport_number, sizeof it->has_transport_number);
-    rtpw_sanitizer_reads(&it->has_video_orientation, sizeof it->has_video_orientation);
-    rtpw_sanitizer_reads(&it->has_video_content_type, sizeof it->has_video_content_type);
-    rtpw_sanitizer_reads(&it->has_audio_level, sizeof it->has_audio_level);
-    rtpw_sanitizer_reads(&it->has_voice_activity, sizeof it->has_voice_activity);
-    rtpw_sanitizer_reads(&it->has_playout_delay_min, sizeof it->has_playout_delay_min);
-    rtpw_sanitizer_reads(&it->has_playout_delay_max, sizeof it->has_playout_delay_max);
-    rtpw_sanitizer_reads(&it->has_video_timing, sizeof it->has_video_timing);
-    rtpw_sanitizer_reads(&it->has_mid, sizeof it->has_mid);
-    rtpw_sanitizer_reads(&it->has_rid, sizeof it->has_rid);
-    rtpw_sanitizer_reads(&it->has_repaired_rid, sizeof it->has_repaired_rid);
+    rtpw_sanitizer_reads(&it->has_send_time, 16); /* up to has_repaired_rid */
     if (it->has_send_time) { rtpw_sanitizer_reads(&it->send_time, sizeof it->send_time); }
     if (it->has_capture_time) { rtpw_sanitizer_reads(&it->capture_time, sizeof it->capture_time); }
     if (it->has_capture_offset) { rtpw_sanitizer_reads(&it->capture_offset, sizeof it->capture_offset); }
@@ -344,13 +323,7 @@ static inline void rtpw_sanitizer_values(const rtpw_values *it) {
     if (it->has_voice_activity) { rtpw_sanitizer_reads(&it->voice_activity, sizeof it->voice_activity); }
     if (it->has_playout_delay_min) { rtpw_sanitizer_time(&it->playout_delay_min); }
     if (it->has_playout_delay_max) { rtpw_sanitizer_time(&it->playout_delay_max); }
-    if (it->has_video_timing) {
-        rtpw_sanitizer_reads(&it->encode_start, sizeof it->encode_start);
-        rtpw_sanitizer_reads(&it->encode_finish, sizeof it->encode_finish);
-        rtpw_sanitizer_reads(&it->packetize_complete, sizeof it->packetize_complete);
-        rtpw_sanitizer_reads(&it->last_left_pacer, sizeof it->last_left_pacer);
-        rtpw_sanitizer_reads(&it->timing_flags, sizeof it->timing_flags);
-    }
+    if (it->has_video_timing) { rtpw_sanitizer_reads(&it->encode_start, 9); /* up to timing_flags */ }
     if (it->has_mid) { rtpw_sanitizer_text(it->mid, sizeof it->mid); }
     if (it->has_rid) { rtpw_sanitizer_text(it->rid, sizeof it->rid); }
     if (it->has_repaired_rid) { rtpw_sanitizer_text(it->repaired_rid, sizeof it->repaired_rid); }
@@ -358,40 +331,24 @@ static inline void rtpw_sanitizer_values(const rtpw_values *it) {
 
 static inline void rtpw_sanitizer_header(const rtpw_header *it) {
     RTPW_SANITIZER_ROOM(it, sizeof *it);
-    rtpw_sanitizer_reads(&it->timestamp, sizeof it->timestamp);
-    rtpw_sanitizer_reads(&it->ssrc, sizeof it->ssrc);
-    rtpw_sanitizer_reads(&it->sequence_number, sizeof it->sequence_number);
-    rtpw_sanitizer_reads(&it->payload_type, sizeof it->payload_type);
-    rtpw_sanitizer_reads(&it->csrc_count, sizeof it->csrc_count);
-    rtpw_sanitizer_reads(&it->marker, sizeof it->marker);
-    rtpw_sanitizer_reads(&it->has_padding, sizeof it->has_padding);
-    rtpw_sanitizer_reads(&it->has_extension, sizeof it->has_extension);
-    rtpw_sanitizer_values(&it->values);
+    rtpw_sanitizer_reads(&it->timestamp, 8); /* up to ssrc */
+    rtpw_sanitizer_reads(&it->sequence_number, 7); /* up to has_extension */
     rtpw_sanitizer_reads(it->csrc, sizeof *it->csrc * rtpw_sanitizer_least(it->csrc_count, 15));
+    rtpw_sanitizer_values(&it->values);
 }
 
 static inline void rtpw_sanitizer_header_but_has_extension_values(const rtpw_header *it) {
     RTPW_SANITIZER_ROOM(it, sizeof *it);
-    rtpw_sanitizer_reads(&it->timestamp, sizeof it->timestamp);
-    rtpw_sanitizer_reads(&it->ssrc, sizeof it->ssrc);
-    rtpw_sanitizer_reads(&it->sequence_number, sizeof it->sequence_number);
-    rtpw_sanitizer_reads(&it->payload_type, sizeof it->payload_type);
-    rtpw_sanitizer_reads(&it->csrc_count, sizeof it->csrc_count);
-    rtpw_sanitizer_reads(&it->marker, sizeof it->marker);
-    rtpw_sanitizer_reads(&it->has_padding, sizeof it->has_padding);
+    rtpw_sanitizer_reads(&it->timestamp, 8); /* up to ssrc */
+    rtpw_sanitizer_reads(&it->sequence_number, 6); /* up to has_padding */
     rtpw_sanitizer_reads(it->csrc, sizeof *it->csrc * rtpw_sanitizer_least(it->csrc_count, 15));
 }
 
 static inline void rtpw_sanitizer_layer(const rtpw_layer *it) {
     RTPW_SANITIZER_ROOM(it, sizeof *it);
-    rtpw_sanitizer_reads(&it->has_resolution, sizeof it->has_resolution);
-    rtpw_sanitizer_reads(&it->rates, sizeof it->rates);
+    rtpw_sanitizer_reads(&it->has_resolution, 2); /* up to rates */
     rtpw_sanitizer_reads(it->kbps, sizeof *it->kbps * rtpw_sanitizer_least(it->rates, 4));
-    if (it->has_resolution) {
-        rtpw_sanitizer_reads(&it->width, sizeof it->width);
-        rtpw_sanitizer_reads(&it->height, sizeof it->height);
-        rtpw_sanitizer_reads(&it->framerate, sizeof it->framerate);
-    }
+    if (it->has_resolution) { rtpw_sanitizer_reads(&it->width, 5); /* up to framerate */ }
 }
 
 static inline void rtpw_sanitizer_stream(const rtpw_stream *it) {
@@ -402,42 +359,27 @@ static inline void rtpw_sanitizer_stream(const rtpw_stream *it) {
 
 static inline void rtpw_sanitizer_layers(const rtpw_layers *it) {
     RTPW_SANITIZER_ROOM(it, sizeof *it);
-    rtpw_sanitizer_reads(&it->count, sizeof it->count);
-    rtpw_sanitizer_reads(&it->current, sizeof it->current);
+    rtpw_sanitizer_reads(&it->count, 2); /* up to current */
     for (size_t i = 0; i < rtpw_sanitizer_least(it->count, 4); i++) { rtpw_sanitizer_stream(&it->streams[i]); }
 }
 
 static inline void rtpw_sanitizer_frame_marking(const rtpw_frame_marking *it) {
     RTPW_SANITIZER_ROOM(it, sizeof *it);
-    rtpw_sanitizer_reads(&it->start, sizeof it->start);
-    rtpw_sanitizer_reads(&it->end, sizeof it->end);
-    rtpw_sanitizer_reads(&it->independent, sizeof it->independent);
-    rtpw_sanitizer_reads(&it->discardable, sizeof it->discardable);
-    rtpw_sanitizer_reads(&it->has_layers, sizeof it->has_layers);
+    rtpw_sanitizer_reads(&it->start, 5); /* up to has_layers */
     if (it->has_layers) {
-        rtpw_sanitizer_reads(&it->base_layer_sync, sizeof it->base_layer_sync);
-        rtpw_sanitizer_reads(&it->temporal_id, sizeof it->temporal_id);
-        rtpw_sanitizer_reads(&it->layer_id, sizeof it->layer_id);
-        rtpw_sanitizer_reads(&it->has_tl0_pic_idx, sizeof it->has_tl0_pic_idx);
+        rtpw_sanitizer_reads(&it->base_layer_sync, 4); /* up to has_tl0_pic_idx */
         if (it->has_tl0_pic_idx) { rtpw_sanitizer_reads(&it->tl0_pic_idx, sizeof it->tl0_pic_idx); }
     }
 }
 
 static inline void rtpw_sanitizer_orientation(const rtpw_orientation *it) {
     RTPW_SANITIZER_ROOM(it, sizeof *it);
-    rtpw_sanitizer_reads(&it->turn, sizeof it->turn);
-    rtpw_sanitizer_reads(&it->camera, sizeof it->camera);
-    rtpw_sanitizer_reads(&it->flip, sizeof it->flip);
+    rtpw_sanitizer_reads(&it->turn, 4); /* up to flip */
 }
 
 static inline void rtpw_sanitizer_timing(const rtpw_timing *it) {
     RTPW_SANITIZER_ROOM(it, sizeof *it);
-    rtpw_sanitizer_reads(&it->encode_start, sizeof it->encode_start);
-    rtpw_sanitizer_reads(&it->encode_finish, sizeof it->encode_finish);
-    rtpw_sanitizer_reads(&it->packetize_complete, sizeof it->packetize_complete);
-    rtpw_sanitizer_reads(&it->last_left_pacer, sizeof it->last_left_pacer);
-    rtpw_sanitizer_reads(&it->network, sizeof it->network);
-    rtpw_sanitizer_reads(&it->network2, sizeof it->network2);
+    rtpw_sanitizer_reads(&it->encode_start, 12); /* up to network2 */
     rtpw_sanitizer_reads(&it->has_flags, sizeof it->has_flags);
     if (it->has_flags) { rtpw_sanitizer_reads(&it->flags, sizeof it->flags); }
 }
@@ -454,40 +396,28 @@ static inline void rtpw_sanitizer_transport_number(const rtpw_transport_number *
 
 static inline void rtpw_sanitizer_chromaticity(const rtpw_chromaticity *it) {
     RTPW_SANITIZER_ROOM(it, sizeof *it);
-    rtpw_sanitizer_reads(&it->x, sizeof it->x);
-    rtpw_sanitizer_reads(&it->y, sizeof it->y);
+    rtpw_sanitizer_reads(&it->x, 4); /* up to y */
 }
 
 static inline void rtpw_sanitizer_hdr_metadata(const rtpw_hdr_metadata *it) {
     RTPW_SANITIZER_ROOM(it, sizeof *it);
-    rtpw_sanitizer_reads(&it->luminance_max, sizeof it->luminance_max);
-    rtpw_sanitizer_reads(&it->luminance_min, sizeof it->luminance_min);
+    rtpw_sanitizer_reads(&it->luminance_max, 4); /* up to luminance_min */
+    rtpw_sanitizer_reads(&it->max_content_light_level, 4); /* up to max_frame_average_light_level */
     rtpw_sanitizer_chromaticity(&it->red);
     rtpw_sanitizer_chromaticity(&it->green);
     rtpw_sanitizer_chromaticity(&it->blue);
     rtpw_sanitizer_chromaticity(&it->white);
-    rtpw_sanitizer_reads(&it->max_content_light_level, sizeof it->max_content_light_level);
-    rtpw_sanitizer_reads(&it->max_frame_average_light_level, sizeof it->max_frame_average_light_level);
 }
 
 static inline void rtpw_sanitizer_color_space(const rtpw_color_space *it) {
     RTPW_SANITIZER_ROOM(it, sizeof *it);
-    rtpw_sanitizer_reads(&it->primaries, sizeof it->primaries);
-    rtpw_sanitizer_reads(&it->transfer, sizeof it->transfer);
-    rtpw_sanitizer_reads(&it->matrix, sizeof it->matrix);
-    rtpw_sanitizer_reads(&it->range, sizeof it->range);
-    rtpw_sanitizer_reads(&it->horizontal, sizeof it->horizontal);
-    rtpw_sanitizer_reads(&it->vertical, sizeof it->vertical);
-    rtpw_sanitizer_reads(&it->has_hdr, sizeof it->has_hdr);
+    rtpw_sanitizer_reads(&it->primaries, 7); /* up to has_hdr */
     if (it->has_hdr) { rtpw_sanitizer_hdr_metadata(&it->hdr); }
 }
 
 static inline void rtpw_sanitizer_dependency_descriptor(const rtpw_dependency_descriptor *it) {
     RTPW_SANITIZER_ROOM(it, sizeof *it);
-    rtpw_sanitizer_reads(&it->frame_number, sizeof it->frame_number);
-    rtpw_sanitizer_reads(&it->start_of_frame, sizeof it->start_of_frame);
-    rtpw_sanitizer_reads(&it->end_of_frame, sizeof it->end_of_frame);
-    rtpw_sanitizer_reads(&it->template_id, sizeof it->template_id);
+    rtpw_sanitizer_reads(&it->frame_number, 5); /* up to template_id */
 }
 
 static inline void rtpw_sanitizer_new_ids(const rtpw_new_ids *it) {
@@ -499,65 +429,44 @@ static inline void rtpw_sanitizer_receiver(const rtpw_receiver *it) {
     RTPW_SANITIZER_ROOM(it, sizeof *it);
     rtpw_sanitizer_reads(&it->highest, sizeof it->highest);
     rtpw_sanitizer_reads(&it->started, sizeof it->started);
-    if (it->started) {
-        rtpw_sanitizer_reads(&it->recorded_low, sizeof it->recorded_low);
-        rtpw_sanitizer_reads(&it->recorded_high, sizeof it->recorded_high);
-    }
+    if (it->started) { rtpw_sanitizer_reads(&it->recorded_low, 16); /* up to recorded_high */ }
 }
 
 static inline void rtpw_sanitizer_wide_receiver(const rtpw_wide_receiver *it) {
     RTPW_SANITIZER_ROOM(it, sizeof *it);
-    rtpw_sanitizer_reads(&it->highest, sizeof it->highest);
-    rtpw_sanitizer_reads(&it->started, sizeof it->started);
+    rtpw_sanitizer_reads(&it->highest, 9); /* up to started */
 }
 
 static inline void rtpw_sanitizer_restarting_receiver(const rtpw_restarting_receiver *it) {
     RTPW_SANITIZER_ROOM(it, sizeof *it);
     rtpw_sanitizer_reads(&it->max_dropout, sizeof it->max_dropout);
-    rtpw_sanitizer_reads(&it->min_sequential, sizeof it->min_sequential);
-    rtpw_sanitizer_reads(&it->in_row, sizeof it->in_row);
-    rtpw_sanitizer_reads(&it->started, sizeof it->started);
+    rtpw_sanitizer_reads(&it->min_sequential, 3); /* up to started */
     if (it->in_row) { rtpw_sanitizer_reads(&it->next, sizeof it->next); }
-    if (it->started) {
-        rtpw_sanitizer_reads(&it->highest, sizeof it->highest);
-        rtpw_sanitizer_reads(&it->words, sizeof it->words);
-    }
+    if (it->started) { rtpw_sanitizer_reads(&it->highest, 24); /* up to words */ }
 }
 
 static inline void rtpw_sanitizer_reception(const rtpw_reception *it) {
     RTPW_SANITIZER_ROOM(it, sizeof *it);
-    rtpw_sanitizer_reads(&it->first, sizeof it->first);
-    rtpw_sanitizer_reads(&it->highest, sizeof it->highest);
-    rtpw_sanitizer_reads(&it->received, sizeof it->received);
-    rtpw_sanitizer_reads(&it->received_before, sizeof it->received_before);
-    rtpw_sanitizer_reads(&it->expected_before, sizeof it->expected_before);
-    rtpw_sanitizer_reads(&it->scaled_jitter, sizeof it->scaled_jitter);
-    rtpw_sanitizer_reads(&it->transit, sizeof it->transit);
+    rtpw_sanitizer_reads(&it->first, 52); /* up to transit */
 }
 
 static inline void rtpw_sanitizer_report(const rtpw_report *it) {
     RTPW_SANITIZER_ROOM(it, sizeof *it);
     rtpw_sanitizer_reads(&it->fraction_lost, sizeof it->fraction_lost);
-    rtpw_sanitizer_reads(&it->cumulative_lost, sizeof it->cumulative_lost);
-    rtpw_sanitizer_reads(&it->extended_highest, sizeof it->extended_highest);
-    rtpw_sanitizer_reads(&it->jitter, sizeof it->jitter);
+    rtpw_sanitizer_reads(&it->cumulative_lost, 12); /* up to jitter */
 }
 
 static inline void rtpw_sanitizer_wide_restarting_receiver(const rtpw_wide_restarting_receiver *it) {
     RTPW_SANITIZER_ROOM(it, sizeof *it);
-    rtpw_sanitizer_reads(&it->max_dropout, sizeof it->max_dropout);
-    rtpw_sanitizer_reads(&it->max_misorder, sizeof it->max_misorder);
-    rtpw_sanitizer_reads(&it->min_sequential, sizeof it->min_sequential);
-    rtpw_sanitizer_reads(&it->in_row, sizeof it->in_row);
-    rtpw_sanitizer_reads(&it->started, sizeof it->started);
+    rtpw_sanitizer_reads(&it->max_dropout, 4); /* up to max_misorder */
+    rtpw_sanitizer_reads(&it->min_sequential, 3); /* up to started */
     if (it->in_row) { rtpw_sanitizer_reads(&it->next, sizeof it->next); }
     if (it->started) { rtpw_sanitizer_reads(&it->highest, sizeof it->highest); }
 }
 
 static inline void rtpw_sanitizer_whole_datagram(const rtpw_whole_datagram *it) {
     RTPW_SANITIZER_ROOM(it, sizeof *it);
-    rtpw_sanitizer_reads(&it->at, sizeof it->at);
-    rtpw_sanitizer_reads(&it->len, sizeof it->len);
+    rtpw_sanitizer_reads(&it->at, 16); /* up to len */
 }
 
 static inline void rtpw_sanitizer_wrote_whole_datagram(const rtpw_whole_datagram *it) {
@@ -567,25 +476,21 @@ static inline void rtpw_sanitizer_wrote_whole_datagram(const rtpw_whole_datagram
 
 static inline void rtpw_sanitizer_datagram(const rtpw_datagram *it) {
     RTPW_SANITIZER_ROOM(it, sizeof *it);
-    rtpw_sanitizer_reads(&it->at, sizeof it->at);
-    rtpw_sanitizer_reads(&it->len, sizeof it->len);
+    rtpw_sanitizer_reads(&it->at, 16); /* up to len */
 }
 
 static inline void rtpw_sanitizer_wrote_datagram(const rtpw_datagram *it) {
-    rtpw_sanitizer_wrote(&it->status, sizeof it->status);
-    rtpw_sanitizer_wrote(&it->is_rtcp, sizeof it->is_rtcp);
+    rtpw_sanitizer_wrote(&it->status, 5); /* up to is_rtcp */
     if (it->status == RTPW_OK) { rtpw_sanitizer_wrote(&it->packet, sizeof it->packet); }
 }
 
 static inline void rtpw_sanitizer_datagram_header(const rtpw_datagram_header *it) {
     RTPW_SANITIZER_ROOM(it, sizeof *it);
-    rtpw_sanitizer_reads(&it->at, sizeof it->at);
-    rtpw_sanitizer_reads(&it->len, sizeof it->len);
+    rtpw_sanitizer_reads(&it->at, 16); /* up to len */
 }
 
 static inline void rtpw_sanitizer_wrote_datagram_header(const rtpw_datagram_header *it) {
-    rtpw_sanitizer_wrote(&it->status, sizeof it->status);
-    rtpw_sanitizer_wrote(&it->is_rtcp, sizeof it->is_rtcp);
+    rtpw_sanitizer_wrote(&it->status, 5); /* up to is_rtcp */
     if (it->status == RTPW_OK) { rtpw_sanitizer_wrote(&it->header, sizeof it->header); }
 }
 
@@ -603,37 +508,27 @@ static inline void rtpw_sanitizer_wrote_arrival(const rtpw_arrival *it) {
 static inline void rtpw_sanitizer_template(const rtpw_template *it) {
     RTPW_SANITIZER_ROOM(it, sizeof *it);
     rtpw_sanitizer_reads(&it->header_len, sizeof it->header_len);
-    rtpw_sanitizer_reads(&it->data_total, sizeof it->data_total);
-    rtpw_sanitizer_reads(&it->count, sizeof it->count);
+    rtpw_sanitizer_reads(&it->data_total, 3); /* up to count */
     rtpw_sanitizer_reads(it->data_at, sizeof *it->data_at * rtpw_sanitizer_least(it->count, 16));
     rtpw_sanitizer_reads(it->data_len, sizeof *it->data_len * rtpw_sanitizer_least(it->count, 16));
 }
 
 static inline void rtpw_sanitizer_group(const rtpw_group *it) {
     RTPW_SANITIZER_ROOM(it, sizeof *it);
-    rtpw_sanitizer_reads(&it->new_ids, sizeof it->new_ids);
-    rtpw_sanitizer_reads(&it->numbers, sizeof it->numbers);
-    rtpw_sanitizer_reads(&it->element_ids, sizeof it->element_ids);
-    rtpw_sanitizer_reads(&it->data_lens, sizeof it->data_lens);
-    rtpw_sanitizer_reads(&it->data_total, sizeof it->data_total);
-    rtpw_sanitizer_reads(&it->count, sizeof it->count);
-    rtpw_sanitizer_reads(&it->allowed, sizeof it->allowed);
-    rtpw_sanitizer_reads(&it->one_byte, sizeof it->one_byte);
+    rtpw_sanitizer_reads(&it->new_ids, 549); /* up to one_byte */
 }
 
 static inline void rtpw_sanitizer_routed_header(const rtpw_routed_header *it) {
     RTPW_SANITIZER_ROOM(it, sizeof *it);
     rtpw_sanitizer_reads(&it->data_at, sizeof it->data_at);
+    rtpw_sanitizer_reads(&it->is_retransmission, 2); /* up to clears_padding */
     rtpw_sanitizer_fields(&it->fields);
-    rtpw_sanitizer_reads(&it->is_retransmission, sizeof it->is_retransmission);
-    rtpw_sanitizer_reads(&it->clears_padding, sizeof it->clears_padding);
     if (it->is_retransmission) { rtpw_sanitizer_reads(&it->original_number, sizeof it->original_number); }
 }
 
 static inline void rtpw_sanitizer_wrote_routed_header(const rtpw_routed_header *it) {
     rtpw_sanitizer_wrote(&it->at, sizeof it->at);
-    rtpw_sanitizer_wrote(&it->status, sizeof it->status);
-    rtpw_sanitizer_wrote(&it->len, sizeof it->len);
+    rtpw_sanitizer_wrote(&it->status, 8); /* up to len */
 }
 
 static inline void rtpw_sanitizer_set_fields(uint8_t *datagram, const rtpw_fields *fields) {

@@ -20,8 +20,21 @@ def for_each(count: str, done: str) -> str:
     return block(f"for (size_t i = 0; i < {count}; i++)", done)
 
 
-def whole(it: Field, does: str) -> str:
-    return f"rtpw_sanitizer_{does}(&it->{it.name}, sizeof it->{it.name});"
+def side_by_side(fields, does: str):
+    """What reads or writes these fields: those that lie side by side at once, since ThreadSanitizer keeps only some of the
+    accesses to a word."""
+    lines = []
+    while fields:
+        run = [it for i, it in enumerate(fields) if it.at == fields[0].at + sum(before.size for before in fields[:i])]
+        size = sum(it.size for it in run) if run[1:] else f"sizeof it->{run[0].name}"
+        others = f" /* up to {run[-1].name} */" if run[1:] else ""
+        lines.append(f"rtpw_sanitizer_{does}(&it->{run[0].name}, {size});{others}")
+        fields = fields[len(run):]
+    return lines
+
+
+def is_number(it: Field) -> bool:
+    return it.is_plain and it.type != "char" and not it.counted and not it.part
 
 
 def reader_of(it, without=()) -> str:
@@ -29,7 +42,7 @@ def reader_of(it, without=()) -> str:
 
 
 def reads(it: Field) -> str:
-    """What reads of a field what counts."""
+    """What reads a field that is no plain number."""
     at, one = f"it->{it.name}", reader_of(it.short_type)
     least = f"rtpw_sanitizer_least(it->{it.counted}, {it.count})"
     if it.part:
@@ -37,16 +50,18 @@ def reads(it: Field) -> str:
     if it.type == "char":
         return f"rtpw_sanitizer_text({at}, sizeof {at});"
     if it.is_plain:
-        return f"rtpw_sanitizer_reads({at}, sizeof *{at} * {least});" if it.counted else whole(it, "reads")
+        return f"rtpw_sanitizer_reads({at}, sizeof *{at} * {least});"
     return for_each(least, f"{one}(&{at}[i]);") if it.counted else f"{one}(&{at});"
 
 
 def reading(it: Struct, without=()) -> str:
-    """What reads the fields of a struct that count: flags before what they tell of, counts before what they count."""
+    """What reads the fields of a struct that count: those side by side at once, flags before what they tell of, and
+    counts before what they count."""
     def put(flag):
         fields = [f for f in it.fields if f.told == flag and not f.is_out and f.name not in without]
         flags = [f for f in fields if any(other.told == f.name for other in it.fields)]
-        lines = [reads(f) for f in sorted(fields, key=lambda f: bool(f.counted))]
+        lines = side_by_side([f for f in fields if is_number(f)], "reads")
+        lines += [reads(f) for f in fields if not is_number(f)]
         return lines + [block(f"if (it->{f.name})", *put(f.name)) for f in flags]
 
     start = f"static inline void {reader_of(it.short, without)}(const {it.name} *it) {{"
@@ -56,8 +71,8 @@ def reading(it: Struct, without=()) -> str:
 def writing(it: Struct) -> str:
     """What has been written of one of several structs: its status, and the fields that go by it."""
     fields = [f for f in it.fields if f.is_out]
-    by_status = [whole(f, "wrote") for f in fields if not f.written_if]
-    lines = [whole(f, "wrote") for f in fields if f.written_if]
+    by_status = side_by_side([f for f in fields if not f.written_if], "wrote")
+    lines = side_by_side([f for f in fields if f.written_if], "wrote")
     lines += [block("if (it->status == RTPW_OK)", *by_status)] if by_status else []
     return indented(f"static inline void rtpw_sanitizer_wrote_{it.short}(const {it.name} *it) {{", *lines, "}")
 
