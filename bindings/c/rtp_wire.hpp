@@ -86,24 +86,12 @@ template <class Value> class span {
                                        (std::is_const_v<Value> || !detail::is_gone<Values>)>>
     constexpr span(Values &&it) noexcept : data_(it.data()), size_(it.size()) {}
     template <class Given, class = detail::derived<Given, Value>> span(Given *, std::size_t) = delete;
-    constexpr Value *data() const noexcept {
-        return data_;
-    }
-    constexpr std::size_t size() const noexcept {
-        return size_;
-    }
-    constexpr bool empty() const noexcept {
-        return size_ == 0;
-    }
-    constexpr Value *begin() const noexcept {
-        return data_;
-    }
-    constexpr Value *end() const noexcept {
-        return size_ == 0 ? data_ : data_ + size_;
-    }
-    constexpr Value &operator[](std::size_t at) const noexcept {
-        return data_[at];
-    }
+    constexpr Value *data() const noexcept { return data_; }
+    constexpr std::size_t size() const noexcept { return size_; }
+    constexpr bool empty() const noexcept { return size_ == 0; }
+    constexpr Value *begin() const noexcept { return data_; }
+    constexpr Value *end() const noexcept { return size_ == 0 ? data_ : data_ + size_; }
+    constexpr Value &operator[](std::size_t at) const noexcept { return data_[at]; }
     constexpr span subspan(std::size_t at, std::size_t count) const noexcept {
         return {at == 0 ? data_ : data_ + at, count};
     }
@@ -137,9 +125,7 @@ enum class [[nodiscard]] status : std::int32_t {
     rtcp = RTPW_RTCP
 };
 
-inline std::string_view status_text(status it) noexcept {
-    return ::rtpw_status_text(static_cast<std::int32_t>(it));
-}
+inline std::string_view status_text(status it) noexcept { return ::rtpw_status_text(static_cast<std::int32_t>(it)); }
 
 /* What a call wrote, where its status is ok or restarted; else zeros. */
 template <class Value> class [[nodiscard]] result {
@@ -153,22 +139,12 @@ template <class Value> class [[nodiscard]] result {
     explicit operator bool() const noexcept {
         return status_ == rtpw::status::ok || status_ == rtpw::status::restarted;
     }
-    rtpw::status status() const noexcept {
-        return status_;
-    }
-    const Value &operator*() const &noexcept RTPW_BOUND {
-        return value_;
-    }
-    Value operator*() const &&noexcept {
-        return value_;
-    }
-    const Value *operator->() const &noexcept RTPW_BOUND {
-        return &value_;
-    }
+    rtpw::status status() const noexcept { return status_; }
+    const Value &operator*() const &noexcept RTPW_BOUND { return value_; }
+    Value operator*() const &&noexcept { return value_; }
+    const Value *operator->() const &noexcept RTPW_BOUND { return &value_; }
     [[deprecated("the result is gone after the statement: keep it, or take a copy of its value by *")]] const Value *
-    operator->() const &&noexcept RTPW_BOUND {
-        return &value_;
-    }
+    operator->() const &&noexcept RTPW_BOUND { return &value_; }
 
   private:
     Value value_;
@@ -636,12 +612,8 @@ inline status write_headers(const rtpw_template &made, bytes header, bytes data,
 
 namespace detail {
 /* Both structs that tell a packet say where its parts lie. */
-inline std::size_t payload_at(const rtpw_packet &packet) noexcept {
-    return packet.payload_at;
-}
-inline std::size_t payload_at(const rtpw_whole_packet &packet) noexcept {
-    return packet.header.header_len;
-}
+inline std::size_t payload_at(const rtpw_packet &packet) noexcept { return packet.payload_at; }
+inline std::size_t payload_at(const rtpw_whole_packet &packet) noexcept { return packet.header.header_len; }
 template <class Packet> using told = decltype(payload_at(std::declval<const Packet &>()));
 } // namespace detail
 
@@ -690,9 +662,7 @@ class elements {
         using difference_type = std::ptrdiff_t;
         using pointer = const element *;
         using reference = element;
-        element operator*() const noexcept {
-            return {at_->id, body_.subspan(at_->data_at, at_->data_len)};
-        }
+        element operator*() const noexcept { return {at_->id, body_.subspan(at_->data_at, at_->data_len)}; }
         iterator &operator++() noexcept {
             at_ = next_element(body_, form_, at_->end);
             return *this;
@@ -703,12 +673,8 @@ class elements {
             return before;
         }
         /* There are more; only end() is compared with. */
-        bool operator!=(const iterator &) const noexcept {
-            return static_cast<bool>(at_);
-        }
-        bool operator==(const iterator &) const noexcept {
-            return !at_;
-        }
+        bool operator!=(const iterator &) const noexcept { return static_cast<bool>(at_); }
+        bool operator==(const iterator &) const noexcept { return !at_; }
 
       private:
         friend class elements;
@@ -717,12 +683,8 @@ class elements {
         std::uint8_t form_;
         result<rtpw_element> at_;
     };
-    iterator begin() const noexcept {
-        return {body_, form_};
-    }
-    iterator end() const noexcept {
-        return {bytes(), RTPW_NO_BLOCK};
-    }
+    iterator begin() const noexcept { return {body_, form_}; }
+    iterator end() const noexcept { return {bytes(), RTPW_NO_BLOCK}; }
 
   private:
     bytes body_;
@@ -833,12 +795,8 @@ class own_uris {
         return kind;
     }
     /* The URIs that the library doesn't know, by their numbers: that of RTPW_KIND_OWN first. */
-    const std::vector<std::string> &unknown() const &noexcept RTPW_BOUND {
-        return unknown_;
-    }
-    std::vector<std::string> unknown() &&noexcept {
-        return std::move(unknown_);
-    }
+    const std::vector<std::string> &unknown() const &noexcept RTPW_BOUND { return unknown_; }
+    std::vector<std::string> unknown() &&noexcept { return std::move(unknown_); }
 
   private:
     /* What the maps are told from those of others by. */

@@ -108,6 +108,13 @@ static inline void rtpw_sanitizer_wrote_bits(uint8_t *at, uint8_t bits, uint8_t 
 
 /* ---- Packets ---- */
 
+/* Where the block begins of a packet, of whose header so many bytes are there; without one there the header ends. */
+static inline size_t rtpw_sanitizer_block_at(const uint8_t *datagram, size_t header_len) {
+    return header_len < RTPW_CSRC_AT
+               ? header_len
+               : rtpw_sanitizer_least(RTPW_CSRC_AT + 4 * (size_t)(datagram[0] & 15), header_len);
+}
+
 /* The length of the header, or what is there of it. Of a packet each call reads its first byte, and where X is set
  * how long the block is. */
 static inline size_t rtpw_sanitizer_packet_header_len(const uint8_t *datagram, size_t len) {
@@ -120,12 +127,17 @@ static inline size_t rtpw_sanitizer_packet_header_len(const uint8_t *datagram, s
     if (datagram[0] >> 6 != 2) {
         return 1;
     }
-    at = RTPW_CSRC_AT + 4 * (size_t)(datagram[0] & 15);
-    if ((datagram[0] & 16) != 0 && at < len && len - at >= 4) {
+    at = rtpw_sanitizer_block_at(datagram, len);
+    if ((datagram[0] & 16) != 0 && len - at >= 4) {
         rtpw_sanitizer_reads(datagram + at + 2, 2);
         at += 4 + 4 * (((size_t)datagram[at + 2] << 8) + datagram[at + 3]);
     }
     return rtpw_sanitizer_least(at, len);
+}
+
+/* Of a packet's bytes from one place up to another the first ones are read, at most so many. */
+static inline void rtpw_sanitizer_first(const uint8_t *datagram, size_t at, size_t end, size_t count) {
+    if (at < end) { rtpw_sanitizer_reads(datagram + at, rtpw_sanitizer_least(end - at, count)); }
 }
 
 /* The length of the packet's padding is read where P is set and there is a payload. */
@@ -139,13 +151,8 @@ static inline void rtpw_sanitizer_packet_padding(const uint8_t *datagram, size_t
 /* The fixed part and the first bytes of the block are read. */
 static inline void rtpw_sanitizer_packet_fields(const uint8_t *datagram, size_t len) {
     size_t header_len = rtpw_sanitizer_packet_header_len(datagram, len);
-    rtpw_sanitizer_reads(datagram, rtpw_sanitizer_least(header_len, RTPW_CSRC_AT));
-    if (header_len >= RTPW_CSRC_AT && (datagram[0] & 16) != 0) {
-        size_t at = RTPW_CSRC_AT + 4 * (size_t)(datagram[0] & 15);
-        if (at < header_len) {
-            rtpw_sanitizer_reads(datagram + at, rtpw_sanitizer_least(header_len - at, 4));
-        }
-    }
+    rtpw_sanitizer_first(datagram, 0, header_len, RTPW_CSRC_AT);
+    rtpw_sanitizer_first(datagram, rtpw_sanitizer_block_at(datagram, header_len), header_len, 4);
     rtpw_sanitizer_packet_padding(datagram, len);
 }
 
@@ -164,26 +171,15 @@ static inline void rtpw_sanitizer_packet_whole(const uint8_t *datagram, size_t l
     }
 }
 
-/* Where the block begins of a packet whose header is so long; without one there the header ends. */
-static inline size_t rtpw_sanitizer_block_at(const uint8_t *datagram, size_t header_len) {
-    return header_len < RTPW_CSRC_AT
-               ? header_len
-               : rtpw_sanitizer_least(RTPW_CSRC_AT + 4 * (size_t)(datagram[0] & 15), header_len);
-}
-
 /* The block's elements are read. */
 static inline void rtpw_sanitizer_packet_block(const uint8_t *datagram, size_t len) {
     size_t header_len = rtpw_sanitizer_packet_header_len(datagram, len);
-    if (header_len >= RTPW_CSRC_AT) {
-        size_t at = rtpw_sanitizer_block_at(datagram, header_len);
-        rtpw_sanitizer_reads(datagram + at, header_len - at);
-    }
+    rtpw_sanitizer_first(datagram, rtpw_sanitizer_block_at(datagram, header_len), header_len, header_len);
 }
 
 /* The number that the payload of a retransmission begins with is read. */
 static inline void rtpw_sanitizer_packet_number(const uint8_t *datagram, size_t len) {
-    size_t at = rtpw_sanitizer_packet_header_len(datagram, len);
-    if (at < len) { rtpw_sanitizer_reads(datagram + at, rtpw_sanitizer_least(len - at, 2)); }
+    rtpw_sanitizer_first(datagram, rtpw_sanitizer_packet_header_len(datagram, len), len, 2);
 }
 
 /* The block's elements were changed where they lie. */
@@ -249,33 +245,21 @@ static inline void rtpw_sanitizer_rebuilt(uint8_t *buf, const size_t *len, rtpw_
     if (*len < before.len) { rtpw_sanitizer_changed(buf + *len, before.len - *len); }
 }
 
-/* The packet has another SSRC and payload type now, and P is clear; its ids were changed where they lie. */
+/* The packet has another SSRC, payload type and number now, P is clear, and its ids were changed where they lie. So
+ * many bytes of the number that it had were put in front of its payload, or so many were taken off there. */
 static inline void rtpw_sanitizer_readdressed(uint8_t *buf, const size_t *len, uint8_t payload_type,
-                                              size_t header_len) {
+                                              rtpw_sanitizer_before before, size_t put, size_t taken) {
+    size_t to = before.header_len + put;
     rtpw_sanitizer_wrote(len, sizeof *len);
     rtpw_sanitizer_changed(buf, 1);
     rtpw_sanitizer_wrote_bits(buf + 1, 0x7f, payload_type);
     rtpw_sanitizer_wrote(buf + 8, 4);
-    rtpw_sanitizer_wrote_block(buf, header_len);
-}
-
-/* The packet is a retransmission now: its payload begins with the number that it had, and it has another one. */
-static inline void rtpw_sanitizer_resent(uint8_t *buf, const size_t *len, uint8_t payload_type,
-                                         rtpw_sanitizer_before before) {
-    rtpw_sanitizer_readdressed(buf, len, payload_type, before.header_len);
-    rtpw_sanitizer_moved(buf, before.header_len + 2, *len - before.header_len - 2, before, 0);
-    rtpw_sanitizer_changed(buf + before.header_len, 2);
+    rtpw_sanitizer_wrote_block(buf, before.header_len);
+    rtpw_sanitizer_moved(buf, to, *len - to, before, taken);
+    rtpw_sanitizer_changed(buf + before.header_len, put);
 #ifdef RTPW_SANITIZER_MEMORY
-    __msan_copy_shadow(buf + before.header_len, buf + 2, 2);
+    __msan_copy_shadow(buf + before.header_len, buf + 2, put);
 #endif
-    rtpw_sanitizer_wrote(buf + 2, 2);
-}
-
-/* The retransmission is the packet that it repeats: it has the number that the payload began with, which was read. */
-static inline void rtpw_sanitizer_restored(uint8_t *buf, const size_t *len, uint8_t payload_type,
-                                           rtpw_sanitizer_before before) {
-    rtpw_sanitizer_readdressed(buf, len, payload_type, before.header_len);
-    rtpw_sanitizer_moved(buf, before.header_len, *len - before.header_len, before, 2);
     rtpw_sanitizer_wrote(buf + 2, 2);
 }
 
@@ -555,12 +539,6 @@ static inline void rtpw_sanitizer_set_fields(uint8_t *datagram, const rtpw_field
     if (fields->has_ssrc) { rtpw_sanitizer_wrote(datagram + 8, 4); }
 }
 
-/* Padding was written behind a header, and P set. */
-static inline void rtpw_sanitizer_wrote_padding(uint8_t *datagram, size_t header_len, size_t count) {
-    rtpw_sanitizer_changed(datagram, 1);
-    rtpw_sanitizer_wrote(datagram + header_len, count);
-}
-
 /* ---- Many at once ---- */
 
 /* The bytes that a struct names by their place are read, where they are within the data. */
@@ -575,41 +553,12 @@ static inline bool rtpw_sanitizer_has_datagram(const uint8_t *buf, size_t size, 
     return is_there;
 }
 
-/* Whether the template is one is looked at: then the header is read. */
-static inline bool rtpw_sanitizer_made(const rtpw_template *made, const uint8_t *header, size_t size) {
-    size_t total = 0;
-    RTPW_SANITIZER_ROOM(header, size);
-    if (made->count > 16 || made->header_len > size) {
-        return false;
-    }
-    for (size_t i = 0; i < made->count; i++) {
-        if (made->data_at[i] > made->header_len || made->data_len[i] > made->header_len - made->data_at[i]) {
-            return false;
-        }
-        total += made->data_len[i];
-    }
-    if (total != made->data_total) {
-        return false;
-    }
-    rtpw_sanitizer_packet_header(header, made->header_len);
-    return rtpw_sanitizer_packet_header_len(header, made->header_len) == made->header_len;
-}
-
-/* Of each receiver what is given is read, and its data where they lie in the data. */
-static inline void rtpw_sanitizer_routed(const rtpw_template *made, const uint8_t *header, size_t header_size,
-                                         const uint8_t *data, size_t data_len, const rtpw_routed_header *receivers,
-                                         size_t count) {
-    bool is_made = rtpw_sanitizer_made(made, header, header_size);
-    RTPW_SANITIZER_ROOM(data, data_len);
-    RTPW_SANITIZER_ROOM(receivers, count * sizeof *receivers);
-    for (size_t i = 0; is_made && i < count; i++) {
+/* Of each receiver what is given was read, and its data where they lie in the data; its header was written. */
+static inline void rtpw_sanitizer_routed(const rtpw_template *made, const uint8_t *data, size_t data_len,
+                                         const rtpw_routed_header *receivers, size_t count, uint8_t *buf) {
+    for (size_t i = 0; i < count; i++) {
         rtpw_sanitizer_routed_header(&receivers[i]);
         rtpw_sanitizer_part(data, data_len, receivers[i].data_at, made->data_total);
-    }
-}
-
-static inline void rtpw_sanitizer_wrote_headers(const rtpw_routed_header *receivers, size_t count, uint8_t *buf) {
-    for (size_t i = 0; i < count; i++) {
         rtpw_sanitizer_wrote_routed_header(&receivers[i]);
         if (receivers[i].status == RTPW_OK) { rtpw_sanitizer_wrote(buf + receivers[i].at, receivers[i].len); }
     }
@@ -698,7 +647,7 @@ RTPW_CHECKED static inline int32_t rtpw_sanitized_set_csrc(uint8_t *datagram, si
     int32_t status;
     rtpw_sanitizer_packet_header_len(datagram, len);
     status = rtpw_set_csrc(datagram, len, index, source);
-    if (status == RTPW_OK) { rtpw_sanitizer_wrote(datagram + 12 + 4 * index, 4); }
+    if (status == RTPW_OK) { rtpw_sanitizer_wrote(datagram + RTPW_CSRC_AT + 4 * index, 4); }
     return status;
 }
 #define rtpw_set_csrc rtpw_sanitized_set_csrc
@@ -1379,7 +1328,9 @@ RTPW_CHECKED static inline int32_t rtpw_sanitized_pad(uint8_t *datagram, size_t 
     if (pad_len != 0 && header_len != 0 && size != 0) { rtpw_sanitizer_reads(datagram, 1); }
     status = rtpw_pad(datagram, size, header_len, pad_len, block_size, count);
     if (status == RTPW_OK) { rtpw_sanitizer_wrote(count, sizeof *count); }
-    if (status == RTPW_OK) { if (*count != 0) { rtpw_sanitizer_wrote_padding(datagram, header_len, *count); } }
+    if (status == RTPW_OK) {
+        if (*count != 0) { rtpw_sanitizer_changed(datagram, 1); rtpw_sanitizer_wrote(datagram + header_len, *count); }
+    }
     return status;
 }
 #define rtpw_pad rtpw_sanitized_pad
@@ -1424,7 +1375,7 @@ RTPW_CHECKED static inline int32_t rtpw_sanitized_to_retransmission(uint8_t *buf
     rtpw_sanitizer_packet_padding(buf, before.len);
     rtpw_sanitizer_new_ids(ids);
     status = rtpw_to_retransmission(buf, size, len, ssrc, payload_type, number, ids);
-    if (status == RTPW_OK) { rtpw_sanitizer_resent(buf, len, payload_type, before); }
+    if (status == RTPW_OK) { rtpw_sanitizer_readdressed(buf, len, payload_type, before, 2, 0); }
     rtpw_sanitizer_forget(before);
     return status;
 }
@@ -1438,7 +1389,7 @@ RTPW_CHECKED static inline int32_t rtpw_sanitized_from_retransmission(uint8_t *b
     rtpw_sanitizer_packet_number(buf, before.len);
     rtpw_sanitizer_new_ids(ids);
     status = rtpw_from_retransmission(buf, size, len, ssrc, payload_type, ids);
-    if (status == RTPW_OK) { rtpw_sanitizer_restored(buf, len, payload_type, before); }
+    if (status == RTPW_OK) { rtpw_sanitizer_readdressed(buf, len, payload_type, before, 0, 2); }
     rtpw_sanitizer_forget(before);
     return status;
 }
@@ -1724,10 +1675,13 @@ RTPW_CHECKED static inline int32_t rtpw_sanitized_write_headers(const rtpw_templ
         uint8_t *buf, size_t size) {
     int32_t status;
     rtpw_sanitizer_template(made);
+    RTPW_SANITIZER_ROOM(header, header_size);
     RTPW_SANITIZER_ROOM(buf, size);
-    rtpw_sanitizer_routed(made, header, header_size, data, data_len, receivers, count);
+    if (made->header_len <= header_size) { rtpw_sanitizer_reads(header, made->header_len); }
+    RTPW_SANITIZER_ROOM(data, data_len);
+    RTPW_SANITIZER_ROOM(receivers, count * sizeof *receivers);
     status = rtpw_write_headers(made, header, header_size, data, data_len, receivers, count, buf, size);
-    if (status == RTPW_OK) { rtpw_sanitizer_wrote_headers(receivers, count, buf); }
+    if (status == RTPW_OK) { rtpw_sanitizer_routed(made, data, data_len, receivers, count, buf); }
     return status;
 }
 #define rtpw_write_headers rtpw_sanitized_write_headers

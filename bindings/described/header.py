@@ -6,13 +6,11 @@
     api.struct["rtpw_packet"].fields[0]       # Field(name='payload_at', type='size_t', .., count=None, at=0, size=8)
 
 Sizes and offsets are those of a machine with 64 bits, by the rules of its ABI: bindings/test/layout.c compares them
-with what compilers make. pycparser is Debian's python3-pycparser, from 2.21 on; `cc` is the preprocessor.
+with what compilers make. pycparser is Debian's python3-pycparser, from 2.21 on.
 """
 
 import re
-import subprocess
 import sys
-import tempfile
 from dataclasses import dataclass, field
 from pathlib import Path
 from textwrap import fill
@@ -23,12 +21,13 @@ SIZES = {"bool": 1, "char": 1, "size_t": 8}
 SIZES.update({f"{sign}int{bits}_t": bits // 8 for sign in ("", "u") for bits in (8, 16, 32, 64)})
 
 
-class NoParser(Exception):
-    """There is no pycparser."""
+def all_of(mark: str) -> property:
+    """What a mark has, and nothing without it."""
+    return property(lambda self: self.marks.get(mark, ()))
 
 
 def only(mark: str) -> property:
-    """What a mark has, and None without it."""
+    """The one thing that a mark has, and None without it."""
     return property(lambda self: self.marks.get(mark, (None,))[0])
 
 
@@ -40,8 +39,8 @@ class Marked:
     type: str  # as "uint8_t" or "rtpw_map"; of a pointer that of what it is to
     marks: Dict[str, Tuple[str, ...]]
 
-    part = property(lambda self: self.marks.get("PART"), doc="Where it is looked at, and how many bytes.")
-    written_if = property(lambda self: self.marks.get("WRITTEN_IF", ()), doc="The statuses, but for RTPW_OK alone.")
+    part = all_of("PART")  # where it is looked at, and how many bytes
+    written_if = all_of("WRITTEN_IF")  # the statuses, but for RTPW_OK alone
     is_plain = property(lambda self: self.type in SIZES, doc="Whether it is of numbers, and of no structs.")
     short_type = property(lambda self: self.type[len("rtpw_"):], doc="The name of the struct without rtpw_.")
 
@@ -54,10 +53,9 @@ class Parameter(Marked):
     is_const: bool  # of a pointer: to what is only read
 
     count = only("COUNT")  # of a pointer to several: the parameter that says how many; NULL is allowed with 0
-    may_overlap = only("MAY_OVERLAP")
-    each, read_if = only("EACH"), only("READ_IF")
-    packet = property(lambda self: self.marks.get("PACKET", ()), doc="What is looked at of a packet.")
-    without = property(lambda self: self.marks.get("BUT", ()), doc="The fields that aren't looked at.")
+    may_overlap, each, read_if = only("MAY_OVERLAP"), only("EACH"), only("READ_IF")
+    packet = all_of("PACKET")  # what is looked at of a packet
+    without = all_of("BUT")  # the fields that aren't looked at
 
     @property
     def mark(self) -> str:
@@ -124,11 +122,7 @@ class Field(Marked):
 
     counted = only("COUNT")  # of an array: the field that says how many of it are looked at
     is_out = property(lambda self: "OUT" in self.marks, doc="Whether it is written alone.")
-
-    @property
-    def range(self) -> Optional[Tuple[int, int]]:
-        """The least and the most that is written."""
-        return tuple(map(int, self.marks["RANGE"])) if "RANGE" in self.marks else None
+    range = property(lambda self: tuple(map(int, self.marks.get("RANGE", ()))), doc="The least and the most.")
 
 
 @dataclass(frozen=True)
@@ -167,41 +161,27 @@ def template(name: str) -> str:
     return re.sub(r"^@(\w+\.\w+\.in)@\n", lambda it: template(it[1]), text, flags=re.M)
 
 
-def parser():
-    """The module pycparser."""
-    sys.path.append("/usr/lib/python3/dist-packages")  # for a python3 that isn't Debian's
-    try:
-        import pycparser.c_generator
-    except ImportError:
-        raise NoParser("there is no pycparser (Debian: python3-pycparser)") from None
-    return pycparser
-
-
-def preprocessed(header: Path, text: str) -> str:
-    """The header file without the standard ones, which are stubs here, and with its marks as something that may stand
-    in a declaration of C11; those of constants stay empty."""
-    marks = text.partition("#ifndef RTPW_OUT\n")[2].partition("#endif")[0]
-    with tempfile.TemporaryDirectory() as stubs:
-        types = "".join(f"typedef int {it};\n" for it in SIZES if it != "char")
-        for name in ("stdbool", "stddef", "stdint"):
-            (Path(stubs) / f"{name}.h").write_text(types if name == "stddef" else "")
-        options = ["-nostdinc", "-undef", "-P", f"-I{stubs}"]
-        for name, given in re.findall(r"^#define (\w+)(\(.*\))?$", marks, re.M):
-            mark = f"_Alignas({name}({'__VA_ARGS__' if given else ''}))" if name != "RTPW_KIND" else ""
-            options.append(f"-D{name}{'(...)' if given else ''}={mark}")
-        command = ["cc", "-std=c11", "-E", *options, str(header)]
-        made = subprocess.run(command, stdout=subprocess.PIPE, text=True, check=True).stdout
+def declarations(text: str) -> str:
+    """What a header file declares, as pycparser reads it: without comments and lines for a preprocessor, and with its
+    marks as something that may stand in a declaration of C11; those of constants go."""
+    marks = re.findall(r"^#define (\w+)", text.partition("#ifndef RTPW_OUT\n")[2].partition("#endif")[0], re.M)
+    text = re.sub(r"/\*.*?\*/|\bRTPW_CHECKED\b|\bRTPW_KIND\([^)]*\)", "", text, flags=re.S)
+    text = re.sub(r"^#ifdef __cplusplus\n[^#]*#endif\n|^#.*\n", "", text, flags=re.M)
+    text = re.sub(rf"\b({'|'.join(marks)})\b(\([^)]*\))?", lambda it: f"_Alignas({it[1]}{it[2] or '()'})", text)
     # The marks of a field stand behind its type: before it pycparser 2.21 takes the type for the field's name.
-    return re.sub(r"^ +(_Alignas\(.*\))\n( +\w+) ", r"\2 \1 ", made, flags=re.M)
+    text = re.sub(r"^ +(_Alignas\(.*\))\n( +\w+) ", r"\2 \1 ", text, flags=re.M)
+    return "".join(f"typedef int {it};\n" for it in SIZES if it != "char") + text
 
 
 def read(header: Path = HEADER, word: int = 8) -> Api:
-    """The description of a header file, for a machine whose size_t has so many bytes (4 on wasm32). NoParser where
-    there is no pycparser."""
-    pycparser, text = parser(), header.read_text("utf-8")
-    of_c = Reader(pycparser, word)
-    of_c.api.version = re.search(r'^#define RTPW_VERSION "(.*)"$', text, re.M).group(1)
-    for node in pycparser.c_parser.CParser().parse(preprocessed(header, text), str(header)).ext:
+    """The description of a header file, for a machine whose size_t has so many bytes: 4 on wasm32."""
+    sys.path.append("/usr/lib/python3/dist-packages")  # for a python3 that isn't Debian's
+    from pycparser import c_ast, c_generator, c_parser
+
+    text = header.read_text("utf-8")
+    of_c = Reader(c_ast, c_generator.CGenerator(reduce_parentheses=True).visit, word)
+    of_c.api.version = re.search(r'^#define RTPW_VERSION "(.*)"$', text, re.M)[1]
+    for node in c_parser.CParser().parse(declarations(text), str(header)).ext:
         of_c.add(node)
     macros = re.findall(r"^#define (RTPW_\w+) (\d+)$", text, re.M)
     of_c.api.constants.update((name, int(number)) for name, number in macros)
@@ -209,11 +189,10 @@ def read(header: Path = HEADER, word: int = 8) -> Api:
 
 
 class Reader:
-    """Adds what is declared to the description."""
+    """Adds what is declared to the description; `text` makes text of an expression."""
 
-    def __init__(self, pycparser, word: int):
-        self.ast, self.api = pycparser.c_ast, Api()
-        self.text = pycparser.c_generator.CGenerator(reduce_parentheses=True).visit
+    def __init__(self, ast, text, word: int):
+        self.ast, self.text, self.api = ast, text, Api()
         self.sizes = {name: (size, size) for name, size in {**SIZES, "size_t": word}.items()}
 
     def add(self, node) -> None:

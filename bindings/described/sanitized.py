@@ -21,7 +21,8 @@ def for_each(count: str, done: str) -> str:
 
 
 def side_by_side(fields, does: str):
-    """What reads or writes these fields: those that lie side by side at once."""
+    """What reads or writes these fields: those that lie side by side at once, since ThreadSanitizer keeps only some of the
+    accesses to a word."""
     lines = []
     while fields:
         run = [it for i, it in enumerate(fields) if it.at == fields[0].at + sum(before.size for before in fields[:i])]

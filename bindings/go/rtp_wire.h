@@ -133,8 +133,10 @@ extern "C" {
  *     RTPW_PART(at, size)      of it only these bytes are read, and of a packet and of what is written only these are
  *                              written; of a field that is an array: they alone are looked at
  *     RTPW_READ_IF(condition)  its bytes are read only where this holds
- *     RTPW_EACH(structs)       each of these structs names a part of it: by `at` and `len`, `data_at` and `data_len`, or
- *                              of structs one, which is written too where the status beside that is RTPW_OK
+ *     RTPW_EACH(structs)       only what these structs name is looked at: of a buffer the `len` bytes at `at` that each
+ *                              of them says, or the `data_len` bytes at `data_at`; of an array, as `receivers`, the one
+ *                              whose index each has in a field, as `receiver`, and that is written where the status
+ *                              beside the index is RTPW_OK
  *     RTPW_BUT(fields..)       of structs: all but these fields are looked at
  *     RTPW_KIND(uri, ..)       the URI of a kind of extension in SDP, and each field of rtpw_values that is of it
  *
@@ -1786,7 +1788,9 @@ typedef struct {
  * they have a payload. More isn't looked at: where rtpw_make_template didn't make it, the data are written where it
  * says, within the header, after the fields and so over them; where P is cleared that comes last. Where it isn't
  * RTPW_OK nothing is written, and no status either. */
-RTPW_CHECKED int32_t rtpw_write_headers(const rtpw_template *made, RTPW_COUNT(header_size) const uint8_t *header,
+RTPW_CHECKED int32_t rtpw_write_headers(const rtpw_template *made,
+                                        RTPW_COUNT(header_size) RTPW_PART(0, made->header_len)
+                                            RTPW_READ_IF(made->header_len <= header_size) const uint8_t *header,
                                         size_t header_size, RTPW_COUNT(data_len) const uint8_t *data, size_t data_len,
                                         RTPW_INOUT RTPW_COUNT(count) rtpw_routed_header *receivers, size_t count,
                                         RTPW_OUT RTPW_COUNT(size) uint8_t *buf, size_t size);

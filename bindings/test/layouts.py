@@ -79,7 +79,7 @@ def main():
     try:
         api = header.read()
         elf_file()
-    except (header.NoParser, ImportError) as fault:
+    except ImportError as fault:
         print(f"none, which was left out: {fault}")
         return 0
     wanted = {name: it for it in api.structs for name in (it.name, rust.name_of(it.short))}

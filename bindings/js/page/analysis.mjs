@@ -38,8 +38,11 @@ export class Analysis {
     #cut = 0;
     #datagrams = 0;
 
-    /** Reads a file, where there is one with the words of an SDP. `wire` is the module's package. */
-    static async of(wire, file, sdpText, progress) {
+    /**
+     * Reads a file, where there is one with the words of an SDP. `wire` is the module's package, and `described` what
+     * tables.json has.
+     */
+    static async of(wire, described, file, sdpText, progress) {
         const made = new Analysis();
         made.wire = wire;
         made.sdp = new Sdp(sdpText ?? '');
@@ -50,7 +53,7 @@ export class Analysis {
         made.#sayLeftOut();
         made.#countTimes();
         made.#dropDoubtful();
-        for (const it of made.sources) it.tellClock(made.capture.isTimed ? made.sdp.clocks : new Map());
+        for (const it of made.sources) it.tellClock(made.capture.isTimed ? made.sdp.clocks : new Map(), described);
         if (!made.capture.isTimed) for (const it of made.sources) it.clock = it.clockBy = undefined;
         made.#judge();
         made.#pair();

@@ -4,14 +4,7 @@
 // One source of a capture, and what a receiver of it would say of each packet.
 
 const SECOND = 1e9;
-// The clocks of payload types that are assigned once for all (RFC 3551, 6).
-const STATIC = new Map([
-    ...[0, 3, 4, 5, 7, 8, 9, 12, 13, 15, 18].map(it => [it, 8000]), [10, 44100], [11, 44100],
-    ...[14, 26, 28, 31, 32, 33, 34].map(it => [it, 90000]), [6, 16000], [16, 11025], [17, 22050],
-]);
-// Of these clocks one is guessed where neither an SDP nor the payload type tells it, by the timestamps of so many
-// nanoseconds.
-const CLOCKS = [8000, 16000, 44100, 48000, 90000];
+// The timestamps of so many nanoseconds tell a clock.
 const TOLD_BY = SECOND / 2;
 // A packet that is so many numbers ahead is outside of the stream, by the bounds of `RestartingReceiver`.
 const MOST_AHEAD = 3000;
@@ -112,11 +105,12 @@ export class Source {
     }
 
     /**
-     * The clock by the payload types that the SDP names, or by those that have always the same one, or the usual one that
-     * is nearest to the timestamps.
+     * The clock by the payload types that the SDP names, or by those that have always the same one (RFC 3551, 6), or of the
+     * usual ones that which is nearest to the timestamps: these two are told by tables.json.
      */
-    tellClock(clocks) {
-        for (const [of, by] of [[clocks, 'sdp'], [STATIC, 'static']]) {
+    tellClock(clocks, { static_types: types, usual_clocks: usual }) {
+        const fixed = new Map(Object.entries(types).flatMap(([clock, of]) => of.map(it => [it, Number(clock)])));
+        for (const [of, by] of [[clocks, 'sdp'], [fixed, 'static']]) {
             const type = this.types.find(it => of.get(it));
             if (type === undefined) continue;
             this.clock = of.get(type);
@@ -127,9 +121,9 @@ export class Source {
             const ticks = (this.#told.timestamp - this.#began.timestamp) >>> 0;
             const ran = ticks * SECOND / (this.#told.time - this.#began.time);
             // 48,000 Hz is likelier, and near where packets are late: it has 120 ticks in 2.5 ms, of which Opus has some.
-            const usual = CLOCKS.filter(it => it !== 44100 || ticks % 120);
+            const likely = usual.filter(it => it !== 44100 || ticks % 120);
             const far = it => Math.max(it / ran, ran / it);
-            this.clock = ran ? usual.reduce((best, it) => (far(it) < far(best) ? it : best)) : CLOCKS.at(-1);
+            this.clock = ran ? likely.reduce((best, it) => (far(it) < far(best) ? it : best)) : usual.at(-1);
             this.clockBy = 'guess';
         }
     }

@@ -22,7 +22,7 @@ const REQUESTS = {
         await ready;
         file = asked.file;
         let before = 0;
-        analysis = await Analysis.of(wire, file, asked.sdp, read => {
+        analysis = await Analysis.of(wire, described, file, asked.sdp, read => {
             if (read - before > file.size / 100 || read === file.size) postMessage({progress: (before = read) / file.size});
         });
         const order = analysis.inOrder(), { columns, buffers } = analysis.packets.given();

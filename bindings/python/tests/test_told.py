@@ -32,10 +32,10 @@ from rtp_wire import Map
 from rtp_wire.__main__ import main
 from rtp_wire._analysis import Analysis
 from rtp_wire._capture import read_capture
+from rtp_wire._described import DESCRIBED
 from rtp_wire._fields import fields_of
 from rtp_wire._sdp import Sdp
 from rtp_wire._tables import (
-    DESCRIBED,
     Table,
     as_csv,
     as_text,

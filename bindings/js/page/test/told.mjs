@@ -23,7 +23,7 @@ function tablesOf(analysis) {
 
 await wire.load(readFileSync(at('../../rtp_wire.wasm')));
 for (const name of readdirSync(folder).sort()) {
-    const analysis = await Analysis.of(wire, new Blob([readFileSync(`${folder}/${name}`)]));
+    const analysis = await Analysis.of(wire, described, new Blob([readFileSync(`${folder}/${name}`)]));
     const tables = Object.entries(tablesOf(analysis)).map(([table, rows]) => asCsv(described.tables[table], rows));
     process.stdout.write([name, ...sentencesOf(analysis, described), ...tables].join('\n'));
 }

@@ -17,11 +17,11 @@ from typing import Iterator, List, Optional
 
 from ._analysis import Analysis
 from ._capture import read_capture
+from ._described import DESCRIBED
 from ._errors import NotAPacket
 from ._fields import fields_of
 from ._sdp import Sdp
 from ._tables import (
-    DESCRIBED,
     Table,
     as_csv,
     as_text,

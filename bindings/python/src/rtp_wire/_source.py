@@ -4,19 +4,15 @@ from __future__ import annotations
 
 from typing import Dict, List, NamedTuple, Optional, Tuple
 
+from ._described import DESCRIBED
 from ._receiver import RestartingReceiver, Standing
 from ._reception import ReceptionStatistics
 
 SECOND = 10**9
 # The clocks of payload types that are assigned once for all (RFC 3551, 6).
-STATIC = {
-    **dict.fromkeys((0, 3, 4, 5, 7, 8, 9, 12, 13, 15, 18), 8000),
-    **dict.fromkeys((10, 11), 44100),
-    **dict.fromkeys((14, 26, 28, 31, 32, 33, 34), 90000),
-    **{6: 16000, 16: 11025, 17: 22050},
-}
+STATIC = {it: int(clock) for clock, types in DESCRIBED["static_types"].items() for it in types}
 # Of these clocks one is guessed where neither an SDP nor the payload type tells it.
-CLOCKS = (8000, 16000, 44100, 48000, 90000)
+CLOCKS: List[int] = DESCRIBED["usual_clocks"]
 # The timestamps of so many nanoseconds tell it.
 TOLD_BY = SECOND // 2
 # A packet that is so many numbers ahead is outside of the stream, by the bounds of `RestartingReceiver`.

@@ -4,18 +4,14 @@ from __future__ import annotations
 
 import csv
 import io
-import json
-from pathlib import Path
 from typing import Any, Dict, Iterable, Iterator, List, Optional, Tuple, Union
 
 from ._analysis import Analysis
 from ._capture import Sentence
+from ._described import DESCRIBED
 from ._frames import SECOND
 from ._links import ends_of
 from ._source import DUPLICATE, LATE, OUTSIDE, RESTART, TAKEN, Source
-
-DESCRIBED: Dict[str, Any] = json.loads(Path(__file__).with_name("tables.json").read_text("utf-8"))
-"""The description, which the page for browsers reads too."""
 
 Cell = Union[int, str, None]
 """A number in units of the column's last decimal, a text, or None where there is nothing."""
