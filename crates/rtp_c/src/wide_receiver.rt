@@ -3,15 +3,13 @@
 ghost use Rattle.std.specs.Prelude.{◌+◌, ◌≡◌, ◌≢◌, ◌↔◌, ◌^◌, ◌<◌, ◌≤◌, ◌/◌, ℕ, List, length, IsTrue, true, false};
 ghost use Rattle.rtp_base.specs.Ring.{ring_size};
 ghost use Rattle.rtp_base.specs.Window.{Numbers, including};
-ghost use Rattle.rtp_receive.specs.Receiver.{IsNothing, IsHighest, IsNumberOf, IsFreshOf};
-ghost use Rattle.rtp_receive.specs.Restarting.{IsSettled, epoch_after};
-ghost use Rattle.rtp_receive.specs.declared.restarting_verdict.RestartingVerdict.TheVariants.{Taken, Restarted, Refused};
+ghost use Rattle.rtp_receive.specs.Receiver.{IsNothing, IsNumberOf, IsFreshOf};
 ghost use Rattle.rtp_c.specs.Status.{ok, bad_field};
 ghost use Rattle.rtp_c.specs.StoredWideReceiver.{IsWindowLen, HoldsIn, unstarted, IsStartedIn, MovesBelowZeroIn, IsJudgedIn, IsReceivedAs, IsReceivedIn};
 
 use super::status::{BAD_FIELD, OK, REFUSED};
 use rtp_base::{SeqNo, ring_accepts, ring_restore, ring_start, ring_take};
-use rtp_wire::{RestartingVerdict, extend_u16};
+use rtp_wire::extend_u16;
 
 // The words of the largest window: 32,768 numbers, which 16 bits tell apart.
 const MOST_WORDS: usize = 512;
@@ -89,53 +87,6 @@ pub fn take(receiver: &mut StoredWideReceiver, words: &mut [u64], number: u64) -
     receiver.highest = highest.get();
     receiver.started = 1;
     true
-}
-
-// The highest number taken.
-pub fn highest_of(receiver: &StoredWideReceiver) -> Option<SeqNo>
-    ensures { (words : List ℕ) (count : ℕ) (taken : Numbers) →
-        HoldsIn receiver.now words count taken → IsHighest taken result }
-{
-    if receiver.started == 0 {
-        return None;
-    }
-    Some(SeqNo::from(receiver.highest))
-}
-
-// The verdict on a packet of a sender that may start again, once the window is asked.
-pub fn settle(
-    receiver: &mut StoredWideReceiver,
-    words: &mut [u64],
-    verdict: RestartingVerdict,
-) -> RestartingVerdict
-    requires { 0 < length words.old }
-    ensures settled { (count : ℕ) (taken : Numbers) → HoldsIn receiver.old words.old count taken →
-        IsSettled (ring_size words.old) taken verdict result }
-    ensures epoch { (count : ℕ) (taken : Numbers) → HoldsIn receiver.old words.old count taken →
-        HoldsIn receiver.new words.new count (epoch_after taken result) }
-    ensures started { result ≢ Refused → IsStartedIn receiver.new words.new }
-    ensures refused { result ≡ Refused →
-        (receiver.new ≡ receiver.old) × (words.new ≡ words.old) }
-    ensures below_zero { (n : ℕ) → result ≡ Taken n →
-        MovesBelowZeroIn receiver.old words.old receiver.new words.new }
-    ensures again { (n : ℕ) → result ≡ Restarted n →
-        MovesBelowZeroIn (unstarted 1) words.old receiver.new words.new }
-{
-    match verdict {
-        RestartingVerdict::Taken(number) => {
-            if take(receiver, words, number.get()) {
-                verdict
-            } else {
-                RestartingVerdict::Refused
-            }
-        }
-        RestartingVerdict::Restarted(number) => {
-            receiver.started = 0;
-            take(receiver, words, number.get());
-            verdict
-        }
-        RestartingVerdict::Refused => verdict,
-    }
 }
 
 // Takes the number where it may be taken, and then writes it.

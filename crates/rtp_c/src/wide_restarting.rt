@@ -1,17 +1,21 @@
 //! The numbers of one stream whose sender may start again, judged by a replay window of another size.
 
-ghost use Rattle.std.specs.Prelude.{◌≡◌, ◌<◌, ◌≤◌, ◌⊎◌, length};
+ghost use Rattle.std.specs.Prelude.{◌≡◌, ◌≢◌, ◌<◌, ◌≤◌, ◌⊎◌, ℕ, List, length};
 ghost use Rattle.rtp_base.specs.Ring.{ring_size};
 ghost use Rattle.rtp_base.specs.Window.{Numbers};
+ghost use Rattle.rtp_receive.specs.Receiver.{IsHighest};
+ghost use Rattle.rtp_receive.specs.Restarting.{IsSettled, epoch_after};
 ghost use Rattle.rtp_receive.specs.RestartingState.{bounds_at};
+ghost use Rattle.rtp_receive.specs.declared.restarting_verdict.RestartingVerdict.TheVariants.{Taken, Restarted, Refused};
 ghost use Rattle.rtp_c.specs.Status.{ok, bad_field, refused, restarted};
-ghost use Rattle.rtp_c.specs.StoredWideReceiver.{IsWindowLen, MovesBelowZeroIn, unstarted};
+ghost use Rattle.rtp_c.specs.StoredWideReceiver.{IsWindowLen, HoldsIn, IsStartedIn, MovesBelowZeroIn, unstarted};
 ghost use Rattle.rtp_c.specs.StoredWideRestarting.{bounds_with, HoldsWith, IsStartedWith, epoch_in, HasTheSameBounds, IsAnsweredWith};
 
 use super::restarting::{MAX_DROPOUT, tell};
 use super::status::BAD_FIELD;
-use super::wide_receiver::{StoredWideReceiver, highest_of, is_window, settle};
-use rtp_wire::{RestartingBounds, RestartingRow};
+use super::wide_receiver::{StoredWideReceiver, is_window, take};
+use rtp_base::SeqNo;
+use rtp_wire::{RestartingBounds, RestartingRow, RestartingVerdict};
 
 // How many numbers have their bits in one word.
 const WORD: u64 = 64;
@@ -63,6 +67,53 @@ fn bounds_of(stored: &StoredWideRestarting, words: &[u64]) -> RestartingBounds
         max_dropout,
         max_misorder: u128::from(max_misorder),
         min_sequential: stored.min_sequential,
+    }
+}
+
+// The highest number taken.
+fn highest_of(receiver: &StoredWideReceiver) -> Option<SeqNo>
+    ensures { (words : List ℕ) (count : ℕ) (taken : Numbers) →
+        HoldsIn receiver.now words count taken → IsHighest taken result }
+{
+    if receiver.started == 0 {
+        return None;
+    }
+    Some(SeqNo::from(receiver.highest))
+}
+
+// The verdict on a packet of a sender that may start again, once the window is asked.
+fn settle(
+    receiver: &mut StoredWideReceiver,
+    words: &mut [u64],
+    verdict: RestartingVerdict,
+) -> RestartingVerdict
+    requires { 0 < length words.old }
+    ensures settled { (count : ℕ) (taken : Numbers) → HoldsIn receiver.old words.old count taken →
+        IsSettled (ring_size words.old) taken verdict result }
+    ensures epoch { (count : ℕ) (taken : Numbers) → HoldsIn receiver.old words.old count taken →
+        HoldsIn receiver.new words.new count (epoch_after taken result) }
+    ensures started { result ≢ Refused → IsStartedIn receiver.new words.new }
+    ensures refused { result ≡ Refused →
+        (receiver.new ≡ receiver.old) × (words.new ≡ words.old) }
+    ensures below_zero { (n : ℕ) → result ≡ Taken n →
+        MovesBelowZeroIn receiver.old words.old receiver.new words.new }
+    ensures again { (n : ℕ) → result ≡ Restarted n →
+        MovesBelowZeroIn (unstarted 1) words.old receiver.new words.new }
+{
+    match verdict {
+        RestartingVerdict::Taken(number) => {
+            if take(receiver, words, number.get()) {
+                verdict
+            } else {
+                RestartingVerdict::Refused
+            }
+        }
+        RestartingVerdict::Restarted(number) => {
+            receiver.started = 0;
+            take(receiver, words, number.get());
+            verdict
+        }
+        RestartingVerdict::Refused => verdict,
     }
 }
 

@@ -1,5 +1,5 @@
 use Rattle.rtp_c.proofs.Common.{◌/◌, IsTrue, false, refl, sym, ◌∙◌, inl, inr, arith, false≢true}
-use Rattle.rtp_c.proofs.wide_receiver.settle.Goals as goal
+use Rattle.rtp_c.proofs.wide_restarting.settle.Goals as goal
 
 pub returns-then-take-clause-settled : goal.returns-then-take-clause-settled
 returns-then-take-clause-settled c count taken holds =
