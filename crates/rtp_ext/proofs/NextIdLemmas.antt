@@ -244,8 +244,8 @@ pub AreSetFrom-end : (slots old : Slots) (id : ℕ) (before now : List ℕ) (bel
     → AreSameBut id slots old → before ≡ next_ids 0 old → now ≡ next_ids 0 slots
 AreSetFrom-end slots old id before now below are mapped low long same was =
     same_lists now (next_ids 0 slots) (are.long ∙ long ∙ sym (next_ids-long 0 slots)) (λ k d here.
-        sym (get_or_default now k 0 d here) ∙ each k ∙ sym (next_ids-at slots k)
-        ∙ get_or_default (next_ids 0 slots) k 0 d (omega (arith, here, are.long, long, next_ids-long 0 slots)))
+    sym (get_or_default now k 0 d here) ∙ each k ∙ sym (next_ids-at slots k)
+    ∙ get_or_default (next_ids 0 slots) k 0 d (omega (arith, here, are.long, long, next_ids-long 0 slots)))
   where
     had : (k : ℕ) → get_or before k 0 ≡ next_id old k
     had k = ap (λ (ids : List ℕ). get_or ids k 0) was ∙ next_ids-at old k

@@ -174,7 +174,11 @@ fn set_next(kinds: &[Option<KnownKind>; IDS], id: u8, next: &mut [u8; IDS])
     ensures { next.new ≡ next_ids 0 (slots_of kinds.now) }
 {
     let mut below = usize::from(id);
-    let to = if kinds[below].is_some() { id } else { next[below] };
+    let to = if kinds[below].is_some() {
+        id
+    } else {
+        next[below]
+    };
     while below > 0 {
         below -= 1;
         next[below] = to;

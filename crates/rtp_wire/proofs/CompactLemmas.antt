@@ -1,5 +1,5 @@
 -- A packet whose block is made as short as its elements allow.
-use Rattle.rtp_wire.proofs.Common.{◌≡◌, ℕ, ◌+◌, ◌-◌, ◌*◌, ◌%◌, ◌<◌, ◌≤◌, Bool, true, List, [], ◌++◌, length, take, drop, replicate, Option, Some, None, refl, sym, ap, subst, ◌∙◌, arith, length-append, length-take-le, slice_range, take-append-drop, take-take, take_all, take-append-le, take-replicate, length-replicate, take-append-add, put_mid, ExtensionsForm, Element, IsElement, AreElements, elements_bytes, without, row_to, IsCompacted, padding_of, whole_words, filled, AreElements-each, without-each, sources_end, PacketParts, IsPacket, header_len_of, block_len, AreElementsOf, form_of_block, body_of_block, compact_block, Compacts, resized}
+use Rattle.rtp_wire.proofs.Common.{◌≡◌, ℕ, ◌+◌, ◌-◌, ◌*◌, ◌%◌, ◌≤◌, Bool, true, List, [], ◌++◌, length, take, drop, replicate, Option, Some, None, refl, sym, ap, subst, ◌∙◌, arith, length-append, length-take-le, slice_range, take-append-drop, take-take, take_all, take-append-le, take-replicate, length-replicate, take-append-add, put_mid, ExtensionsForm, Element, IsElement, AreElements, elements_bytes, without, row_to, IsCompacted, padding_of, whole_words, filled, AreElements-each, without-each, sources_end, PacketParts, IsPacket, header_len_of, block_len, AreElementsOf, form_of_block, body_of_block, compact_block, Compacts, resized}
 use Rattle.rtp_ext.proofs.WrittenElementsLemmas.{AreElements-in_a_row}
 use Rattle.rtp_wire.proofs.PartsLemmas.{length-packet}
 use Rattle.rtp_wire.proofs.ResizedLemmas.{sources_end-is, no_other-announced, extension-announced, whole-announced}

@@ -20,10 +20,11 @@ first c = elim c.if-is_some.branch [
 ]
 
 pub loop-below-init : goal.loop-below-init
-loop-below-init c =
-    (subst (AreSetFrom (slots_of c.args.kinds.now) c.args.id c.args.next.now c.args.next.now) (sym c.from-below.ensures)
-        (AreSetFrom-start (slots_of c.args.kinds.now) c.args.id c.args.next.now),
-      λ some. first c)
+loop-below-init c = (
+  subst (AreSetFrom (slots_of c.args.kinds.now) c.args.id c.args.next.now c.args.next.now) (sym c.from-below.ensures)
+      (AreSetFrom-start (slots_of c.args.kinds.now) c.args.id c.args.next.now),
+  λ some. first c,
+)
 
 pub returns-then-is_some-2 : goal.returns-then-is_some-2
 returns-then-is_some-2 c =

@@ -18,8 +18,11 @@ returns-then-eq-clause-valid c =
 
 pub loop-id-smaller : goal.loop-id-smaller
 loop-id-smaller c =
-    omega (arith, ap length c.in-Some.ensures.some,
-      ap (λ (id : ℕ). length (items_from id (drop id (slots_of c.args.self.now)))) c.from-passed.ensures)
+    omega (
+      arith,
+      ap length c.in-Some.ensures.some,
+      ap (λ (id : ℕ). length (items_from id (drop id (slots_of c.args.self.now)))) c.from-passed.ensures,
+    )
 
 pub loop-id-preserved : goal.loop-id-preserved
 loop-id-preserved c =

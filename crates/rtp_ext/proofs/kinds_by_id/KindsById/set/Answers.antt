@@ -12,8 +12,11 @@ overflow_add-self c =
 
 pub overflow_sub-self : goal.overflow_sub-self
 overflow_sub-self c =
-    omega (arith, layers_count-set c.self.inside.kinds c.args.kind None c.from.ensures c.from-2.ensures (omega (arith, c.requires.1, c.self.invariant.0)) refl c.self.invariant.4
-        c.is_layers.ensures c.is_layers-2.ensures c.from-3.ensures c.from-4.ensures)
+    omega (
+      arith,
+      layers_count-set c.self.inside.kinds c.args.kind None c.from.ensures c.from-2.ensures (omega (arith, c.requires.1, c.self.invariant.0)) refl c.self.invariant.4
+          c.is_layers.ensures c.is_layers-2.ensures c.from-3.ensures c.from-4.ensures,
+    )
 
 pub overflow_add-self-2 : goal.overflow_add-self-2
 overflow_add-self-2 c =
@@ -22,8 +25,11 @@ overflow_add-self-2 c =
 
 pub overflow_sub-self-2 : goal.overflow_sub-self-2
 overflow_sub-self-2 c =
-    omega (arith, mapped_count-set c.self.inside.kinds c.args.kind None c.from.ensures c.from-2.ensures (λ none. omega (arith, none, c.requires.0)) (omega (arith, c.requires.1, c.self.invariant.0)) refl
-        c.self.invariant.3 c.is_some.ensures c.is_some-2.ensures c.from-5.ensures c.from-6.ensures)
+    omega (
+      arith,
+      mapped_count-set c.self.inside.kinds c.args.kind None c.from.ensures c.from-2.ensures (λ none. omega (arith, none, c.requires.0)) (omega (arith, c.requires.1, c.self.invariant.0)) refl
+          c.self.invariant.3 c.is_some.ensures c.is_some-2.ensures c.from-5.ensures c.from-6.ensures,
+    )
 
 pub set_next-requires-clause-others : goal.set_next-requires-clause-others
 set_next-requires-clause-others c =
@@ -35,10 +41,16 @@ invariant_of-self c =
       set-length kinds c.from-2.result c.args.kind c.self.invariant.0,
       set-padding kinds c.from-2.result c.args.kind (omega (arith, c.from-2.ensures, c.requires.0)) c.self.invariant.1,
       c.set_next.ensures,
-      omega (arith, mapped_count-set c.self.inside.kinds c.args.kind None c.from.ensures c.from-2.ensures (λ none. omega (arith, none, c.requires.0)) (omega (arith, c.requires.1, c.self.invariant.0)) refl
-          c.self.invariant.3 c.is_some.ensures c.is_some-2.ensures c.from-5.ensures c.from-6.ensures),
-      omega (arith, layers_count-set c.self.inside.kinds c.args.kind None c.from.ensures c.from-2.ensures (omega (arith, c.requires.1, c.self.invariant.0)) refl c.self.invariant.4
-          c.is_layers.ensures c.is_layers-2.ensures c.from-3.ensures c.from-4.ensures),
+      omega (
+        arith,
+        mapped_count-set c.self.inside.kinds c.args.kind None c.from.ensures c.from-2.ensures (λ none. omega (arith, none, c.requires.0)) (omega (arith, c.requires.1, c.self.invariant.0)) refl
+            c.self.invariant.3 c.is_some.ensures c.is_some-2.ensures c.from-5.ensures c.from-6.ensures,
+      ),
+      omega (
+        arith,
+        layers_count-set c.self.inside.kinds c.args.kind None c.from.ensures c.from-2.ensures (omega (arith, c.requires.1, c.self.invariant.0)) refl c.self.invariant.4
+            c.is_layers.ensures c.is_layers-2.ensures c.from-3.ensures c.from-4.ensures,
+      ),
     )
 
 same : (a b : Bool) → not (beq a b) ≡ false → a ≡ b
@@ -54,10 +66,16 @@ invariant_of-self-else-is_some c =
       set-length kinds c.from-2.result c.args.kind c.self.invariant.0,
       set-padding kinds c.from-2.result c.args.kind some c.self.invariant.1,
       c.self.invariant.2 ∙ sym (next_ids-kept kinds c.from-2.result c.args.kind None some (sym c.is_some-3.ensures ∙ same _ _ c.if-is_some.false ∙ c.is_some-4.ensures ∙ ap (λ (n : ℕ). is_some (get_or kinds n None)) (c.from.ensures ∙ sym c.from-2.ensures))),
-      omega (arith, mapped_count-set c.self.inside.kinds c.args.kind None c.from.ensures c.from-2.ensures (λ none. omega (arith, none, c.requires.0)) (omega (arith, c.requires.1, c.self.invariant.0)) refl
-          c.self.invariant.3 c.is_some.ensures c.is_some-2.ensures c.from-5.ensures c.from-6.ensures),
-      omega (arith, layers_count-set c.self.inside.kinds c.args.kind None c.from.ensures c.from-2.ensures (omega (arith, c.requires.1, c.self.invariant.0)) refl c.self.invariant.4
-          c.is_layers.ensures c.is_layers-2.ensures c.from-3.ensures c.from-4.ensures),
+      omega (
+        arith,
+        mapped_count-set c.self.inside.kinds c.args.kind None c.from.ensures c.from-2.ensures (λ none. omega (arith, none, c.requires.0)) (omega (arith, c.requires.1, c.self.invariant.0)) refl
+            c.self.invariant.3 c.is_some.ensures c.is_some-2.ensures c.from-5.ensures c.from-6.ensures,
+      ),
+      omega (
+        arith,
+        layers_count-set c.self.inside.kinds c.args.kind None c.from.ensures c.from-2.ensures (omega (arith, c.requires.1, c.self.invariant.0)) refl c.self.invariant.4
+            c.is_layers.ensures c.is_layers-2.ensures c.from-3.ensures c.from-4.ensures,
+      ),
     )
 
 pub returns-then-is_some : goal.returns-then-is_some
