@@ -4,8 +4,8 @@
  * kit: rattle-kit-13f logic dac8208d650f15bf
  * proved for: x86_64-unknown-linux-gnu
  * compiled for: arm64-apple-macosx11.0.0
- * sources: 1a6a21b482ec4143a264c43946cd2424f9814ef25755fafd5289c1c8ec66f0a9
- * text: 3ec5c68de6c658cb92ad85812636d3b202e43f918fa9d066e1874333202a1b7a
+ * sources: 98a6c22ff0e6aa1ba5c01a18cf7cf01a3dfe76b31f38bd0dcca2df579bd17f20
+ * text: 4e1b00922719950e96ccb43c315d03f670b9c2dd618fc032f3f84e38f0aa056e
  * SPDX-License-Identifier: MIT OR Apache-2.0
  * Copyright (c) 2026 The rtp-wire developers (NOTICE)
  */
@@ -658,321 +658,99 @@ _rtp_ext.map.ExtensionMap.set:
 	.cfi_startproc
 	ldrb	w9,[x2]
 	ldr	x8,[x2,#8]
-	ands	w10,w1,#0xff
+	tst	w1,#0xff
 	b.eq	1f
-	add	x11,x0,w10,uxtw #1
-	mov	w12,#10456
+	stp	x20,x19,[sp,#-32]!
+	stp	x29,x30,[sp,#16]
+	.cfi_def_cfa_offset 32
+	.cfi_offset w30,-8
+	.cfi_offset w29,-16
+	.cfi_offset w19,-24
+	.cfi_offset w20,-32
+	add	x10,x0,w1,uxtb #1
+	mov	w11,#10202
 	cmp	w9,#15
+	add	x19,x0,#2,lsl #12
+	csel	w12,w9,wzr,ne
+	cset	w15,ne
+	add	x10,x10,x11
+	ldrh	w11,[x19,#2780]
+	cmp	w12,#14
+	ldrb	w13,[x10]
+	ldrb	w14,[x10,#1]
 	ldr	q0,[x2,#16]
-	csel	w14,w9,wzr,ne
-	mov	w16,#10968
-	add	x15,x11,x12
-	cset	w11,ne
-	ldrb	w12,[x15]
-	ldrb	w13,[x15,#1]
-	strb	w11,[x15]
-	add	x11,x0,#2,lsl #12
-	strb	w14,[x15,#1]
-	add	x15,x0,x16
-	cmp	w12,#1
-	b.ne	2f
+	cinc	w11,w11,eq
+	strb	w12,[x10,#1]
+	cmp	w13,#1
+	and	w13,w14,#0xff
+	strb	w15,[x10]
+	cset	w14,eq
+	cmp	w13,#14
+	ldrh	w13,[x19,#2778]
+	csel	w12,wzr,w14,ne
+	subs	w10,w15,w14
+	sub	w11,w11,w12
+	add	w12,w10,w13
+	and	x10,x1,#0xff
+	strh	w11,[x19,#2780]
+	strh	w12,[x19,#2778]
+	b.eq	2f
 	cmp	w9,#15
+	mov	w11,w1
 	b.ne	3f
-	ldrb	w16,[x11,#3031]
-	cbz	x16,3f
-	mov	w1,#10969
-	mov	w3,#10984
-	mov	x17,xzr
-	mov	w2,w16
-	add	x1,x0,x1
-	add	x3,x0,x3
-4:
-	ldrb	w4,[x15,x17]
-	cmp	w4,w10
-	b.eq	5f
-	add	x17,x17,#1
-	cmp	x16,x17
-	b.ne	4b
-	b	3f
+	mov	w11,#10714
+	add	x11,x0,x11
+	ldrb	w11,[x11,x10]
+3:
+	add	x12,x0,x10,lsl #1
+	mov	w13,#10200
+	mov	w14,#10713
+	add	x12,x12,x13
+	add	x13,x0,x14
+	and	x14,x1,#0xff
+3:
+	cbz	x14,2f
+	strb	w11,[x13,x14]
+	sub	x14,x14,#1
+	ldrb	w15,[x12],#-2
+	cmp	w15,#1
+	b.ne	3b
+2:
+	mov	w11,#40
+	mov	w13,#1
+	umaddl	x12,w10,w11,x0
+	ldurb	w11,[x12,#-40]
+	ldurb	w10,[x12,#-32]
+	stp	x13,x9,[x12,#-40]
+	ldur	x0,[x12,#-24]
+	ldur	x9,[x12,#-8]
+	stur	x8,[x12,#-24]
+	stur	q0,[x12,#-16]
+	cbz	w11,2f
+	cmp	w11,#2
+	cmp	w10,#15
+	b.ne	2f
+	cbz	x9,2f
+	mov	x20,x1
+	bl	_rattle_dealloc
+	mov	x1,x20
+2:
+	ldrb	w8,[x19,#2008]
+	and	w9,w1,#0xff
+	ldp	x29,x30,[sp,#16]
+	cmp	w9,w8
+	csel	w8,w9,w8,hi
+	strb	w8,[x19,#2008]
+	ldp	x20,x19,[sp],#32
+2:
+	ret
 1:
 	cmp	w9,#15
-	b.ne	1f
+	b.ne	2b
 	ldr	x9,[x2,#24]
-	cbz	x9,1f
+	cbz	x9,2b
 	mov	x0,x8
 	b	_rattle_dealloc
-2:
-	cmp	w9,#15
-	b.eq	3f
-	ldrb	w17,[x11,#3031]
-	cbz	x17,2f
-	add	x16,x15,x17
-	ldurb	w16,[x16,#-1]
-	cmp	w10,w16
-	b.hs	2f
-	mov	x16,xzr
-4:
-	ldrb	w1,[x15,x16]
-	cmp	w10,w1
-	b.ls	6f
-	add	x16,x16,#1
-	cmp	x17,x16
-	b.ne	4b
-	mov	x16,x17
-6:
-	subs	x1,x17,x16
-	b.eq	4f
-	cmp	x1,#8
-	mov	x2,x1
-	b.lo	6f
-	cmp	x1,#32
-	b.hs	7f
-	mov	x3,xzr
-	b	8f
-2:
-	strb	w10,[x15,x17]
-	b	2f
-5:
-	sub	x4,x16,#1
-	cmp	x4,x17
-	b.eq	5f
-	mvn	x2,x17
-	add	x2,x2,x16
-	cmp	x2,#8
-	b.hs	9f
-	mov	x3,xzr
-	b	10f
-9:
-	cmp	x2,#32
-	b.hs	9f
-	mov	x3,xzr
-	b	11f
-7:
-	add	x4,x17,x0
-	mov	w5,#10952
-	and	x2,x1,#0x18
-	and	x3,x1,#0xffffffffffffffe0
-	add	x4,x4,x5
-	and	x5,x1,#0xffffffffffffffe0
-7:
-	ldp	q2,q1,[x4,#-16]
-	sub	x5,x5,#32
-	stur	q1,[x4,#1]
-	stur	q2,[x4,#-15]
-	sub	x4,x4,#32
-	cbnz	x5,7b
-	cmp	x1,x3
-	b.eq	4f
-	cbz	x2,7f
-8:
-	sub	x2,x17,x3
-	and	x17,x1,#0xfffffffffffffff8
-	mov	w5,#10961
-	add	x4,x2,x0
-	and	x2,x1,#0x7
-	sub	x3,x3,x17
-	add	x4,x4,x5
-8:
-	ldur	d1,[x4,#-1]
-	add	x3,x3,#8
-	str	d1,[x4],#-8
-	cbnz	x3,8b
-	cmp	x1,x17
-	b.eq	4f
-6:
-	add	x17,x2,x16
-	mov	w1,#10968
-	add	x17,x17,x0
-	add	x1,x17,x1
-	mov	x17,x1
-8:
-	ldrb	w3,[x17,#-1]!
-	subs	x2,x2,#1
-	strb	w3,[x1]
-	mov	x1,x17
-	b.ne	8b
-4:
-	strb	w10,[x15,x16]
-2:
-	ldrb	w15,[x11,#3031]
-	add	w15,w15,#1
-	strb	w15,[x11,#3031]
-	b	3f
-9:
-	add	x5,x3,x17
-	and	x4,x2,#0x18
-	and	x3,x2,#0xffffffffffffffe0
-	and	x6,x2,#0xffffffffffffffe0
-2:
-	ldur	q1,[x5,#-15]
-	ldur	q2,[x5,#1]
-	subs	x6,x6,#32
-	stp	q1,q2,[x5,#-16]
-	add	x5,x5,#32
-	b.ne	2b
-	cmp	x2,x3
-	b.eq	2f
-	cbz	x4,10f
-11:
-	mov	x4,x3
-	and	x3,x2,#0xfffffffffffffff8
-	add	x5,x15,x17
-4:
-	add	x6,x5,x4
-	ldur	d1,[x6,#1]
-	str	d1,[x5,x4]
-	add	x4,x4,#8
-	cmp	x3,x4
-	b.ne	4b
-	cmp	x2,x3
-	b.eq	2f
-10:
-	sub	x2,x16,x3
-	mvn	x4,x17
-	add	x3,x1,x3
-	add	x1,x4,x2
-	add	x17,x3,x17
-4:
-	ldrb	w2,[x17]
-	subs	x1,x1,#1
-	sturb	w2,[x17,#-1]
-	add	x17,x17,#1
-	b.ne	4b
-2:
-	ldrb	w2,[x11,#3031]
-5:
-	add	x15,x15,x16
-	sub	w16,w2,#1
-	sturb	wzr,[x15,#-1]
-	strb	w16,[x11,#3031]
-3:
-	cmp	w14,#14
-	and	w13,w13,#0xff
-	mov	w14,#40
-	cset	w15,eq
-	cmp	w12,#1
-	umaddl	x16,w10,w14,x0
-	ccmp	w13,#14,#0,eq
-	ldrh	w17,[x11,#3032]
-	mov	w1,#1
-	cset	w12,eq
-	sub	w12,w15,w12
-	ldurb	w14,[x16,#-40]
-	ldurb	w13,[x16,#-32]
-	add	w12,w12,w17
-	stp	x1,x9,[x16,#-40]
-	ldur	x9,[x16,#-24]
-	strh	w12,[x11,#3032]
-	ldur	x12,[x16,#-8]
-	cmp	w14,#2
-	stur	x8,[x16,#-24]
-	stur	q0,[x16,#-16]
-	b.eq	2f
-	cmp	w14,#1
-	b.ne	3f
-	cmp	w13,#15
-	b.ne	1f
-	cbz	x12,1f
-	mov	x0,x9
-	b	_rattle_dealloc
-2:
-	cmp	w13,#15
-	b.ne	1f
-	cbz	x12,1f
-	mov	x0,x9
-	b	_rattle_dealloc
-1:
-	ret
-3:
-	mov	w8,#10200
-	ldrb	w12,[x11,#2263]
-	add	x8,x0,x8
-	cbz	x12,1f
-	add	x9,x8,x12
-	ldurb	w9,[x9,#-1]
-	cmp	w10,w9
-	b.hs	1f
-	mov	x9,xzr
-2:
-	ldrb	w13,[x8,x9]
-	cmp	w10,w13
-	b.ls	3f
-	add	x9,x9,#1
-	cmp	x12,x9
-	b.ne	2b
-	mov	x9,x12
-3:
-	subs	x13,x12,x9
-	b.eq	2f
-	cmp	x13,#8
-	mov	x14,x13
-	b.lo	3f
-	cmp	x13,#32
-	b.hs	4f
-	mov	x15,xzr
-	b	5f
-1:
-	strb	w10,[x8,x12]
-	ldrb	w8,[x11,#2263]
-	add	w8,w8,#1
-	strb	w8,[x11,#2263]
-	ret
-4:
-	add	x16,x12,x0
-	mov	w17,#10184
-	and	x14,x13,#0x18
-	and	x15,x13,#0xffffffffffffffe0
-	add	x16,x16,x17
-	and	x17,x13,#0xffffffffffffffe0
-1:
-	ldp	q1,q0,[x16,#-16]
-	sub	x17,x17,#32
-	stur	q0,[x16,#1]
-	stur	q1,[x16,#-15]
-	sub	x16,x16,#32
-	cbnz	x17,1b
-	cmp	x13,x15
-	b.eq	2f
-	cbz	x14,1f
-5:
-	sub	x14,x12,x15
-	and	x12,x13,#0xfffffffffffffff8
-	mov	w17,#10193
-	add	x16,x14,x0
-	and	x14,x13,#0x7
-	sub	x15,x15,x12
-	add	x16,x16,x17
-4:
-	ldur	d0,[x16,#-1]
-	add	x15,x15,#8
-	str	d0,[x16],#-8
-	cbnz	x15,4b
-	cmp	x13,x12
-	b.eq	2f
-3:
-	add	x12,x14,x9
-	mov	w13,#10200
-	add	x12,x12,x0
-	add	x13,x12,x13
-	mov	x12,x13
-4:
-	ldrb	w15,[x12,#-1]!
-	subs	x14,x14,#1
-	strb	w15,[x13]
-	mov	x13,x12
-	b.ne	4b
-2:
-	strb	w10,[x8,x9]
-	ldrb	w8,[x11,#2263]
-	add	w8,w8,#1
-	strb	w8,[x11,#2263]
-	ret
-1:
-	and	x14,x13,#0x1f
-	b	3b
-7:
-	and	x2,x1,#0x1f
-	b	6b
 	.cfi_endproc
 
 	.section	__TEXT,__literal16,16byte_literals
@@ -1091,7 +869,7 @@ _rtp_listing.printing.print_all.df9e9f1468b30f79:
 	mov	x0,x1
 	mov	w1,#16384
 	bl	_bzero
-	ldr	x21,[x19,#11240]
+	ldr	x21,[x19,#10984]
 	cbz	x21,2f
 	add	x8,sp,#200
 	mov	x27,#2808348672
@@ -1102,7 +880,7 @@ _rtp_listing.printing.print_all.df9e9f1468b30f79:
 	movk	x27,#46771,lsl #32
 	mov	w26,#57600
 	stp	x9,x19,[sp,#96]
-	ldr	x19,[x19,#11232]
+	ldr	x19,[x19,#10976]
 	add	x9,sp,#656
 	stp	x11,x8,[sp,#144]
 	add	x8,x10,#40
@@ -7142,12 +6920,12 @@ _rtp_ext.block_values.read_values.77e50c5f4ddfc773:
 	tst	w3,#0xff
 	b.eq	1f
 	cbz	x20,2f
-	mov	w9,#10456
+	mov	w9,#10202
 	add	x25,x0,x9
 	b	3f
 1:
 	cbz	x20,2f
-	mov	w9,#10456
+	mov	w9,#10202
 	add	x25,x0,x9
 	b	1f
 4:
@@ -11145,8 +10923,7 @@ _main:
 	cmp	sp,x9
 	str	xzr,[sp]
 	b.ne	1b
-	sub	sp,sp,#2096
-	str	xzr,[sp]
+	sub	sp,sp,#816
 	str	xzr,[sp]
 	mov	x19,sp
 	.cfi_def_cfa w29,16
@@ -11265,10 +11042,10 @@ _main:
 	tbz	x0,#63,12f
 	add	x0,x19,#2,lsl #12
 	add	x22,x19,#2,lsl #12
-	add	x0,x0,#3072
-	add	x22,x22,#3072
+	add	x0,x0,#2816
+	add	x22,x22,#2816
 	bl	_rtp_std_io.io.error.last_error
-	ldr	x9,[x19,#11264]
+	ldr	x9,[x19,#11008]
 Lrtp_loh340:
 	adrp	x8,lrtp_CPI20_20@PAGE
 Lrtp_loh341:
@@ -11281,8 +11058,8 @@ Lrtp_loh343:
 	ubfx	w8,w9,#8,#8
 	add	x11,x19,#2,lsl #12
 	mov	w10,#40
-	add	x11,x11,#3072
-	str	d2,[x19,#11296]
+	add	x11,x11,#2816
+	str	d2,[x19,#11040]
 	cmp	w8,#41
 	stp	q0,q1,[x11]
 	strb	w10,[x11,#40]
@@ -11405,17 +11182,17 @@ Lrtp_loh363:
 	ldr	q1,[x9,lrtp_CPI20_20@PAGEOFF]
 Lrtp_loh364:
 	adrp	x9,lrtp_CPI20_21@PAGE
-	add	x10,x10,#3072
+	add	x10,x10,#2816
 Lrtp_loh365:
 	ldr	d2,[x9,lrtp_CPI20_21@PAGEOFF]
 	mov	w9,#40
 	cmp	w8,#41
 	stp	q0,q1,[x10]
-	str	d2,[x19,#11296]
+	str	d2,[x19,#11040]
 	strb	w9,[x10,#40]
 	b.hs	2f
 	add	x9,x19,#2,lsl #12
-	add	x9,x9,#3072
+	add	x9,x9,#2816
 	ldrb	w8,[x9,w8,uxtw]
 	and	w8,w8,#0xff
 	cmp	w8,#38
@@ -11466,31 +11243,31 @@ Lrtp_loh369:
 4:
 	cmp	x25,x27
 	add	x0,x19,#2,lsl #12
-	mov	w1,#11248
+	mov	w1,#10992
 	csel	x22,x25,x27,lo
 	ldr	x27,[x19,#24]
-	add	x0,x0,#3072
+	add	x0,x0,#2816
 	str	x22,[x19,#32]
 	bl	_bzero
 	add	x0,x19,#48
-	mov	w1,#11216
+	mov	w1,#10960
 	bl	_bzero
 	add	x0,x19,#8,lsl #12
-	mov	w1,#11216
-	add	x0,x0,#968
+	mov	w1,#10960
+	add	x0,x0,#200
 	bl	_bzero
 	add	x0,x19,#5,lsl #12
-	mov	w1,#11216
-	add	x0,x0,#2040
+	mov	w1,#10960
+	add	x0,x0,#1528
 	bl	_bzero
 	movi.2d	v0,#0000000000000000
 	add	x26,x19,#13,lsl #12
 	add	x0,x19,#13,lsl #12
-	add	x26,x26,#2032
-	add	x0,x0,#2104
-	mov	w1,#11232
+	add	x26,x26,#1008
+	add	x0,x0,#1080
+	mov	w1,#10976
 	add	x20,x19,#13,lsl #12
-	add	x20,x20,#2104
+	add	x20,x20,#1080
 	stp	q0,q0,[x26,#32]
 	bl	_bzero
 	cbz	x22,2f
@@ -11571,7 +11348,7 @@ Lrtp_loh371:
 8:
 	add	x8,x19,#10,lsl #12
 	subs	x9,x10,#4
-	add	x8,x8,#3992
+	add	x8,x8,#2968
 	str	xzr,[x8,#10336]
 	str	xzr,[x8,#10328]
 	str	xzr,[x8,#10344]
@@ -11599,8 +11376,8 @@ Lrtp_loh371:
 	add	x9,x19,#10,lsl #12
 	add	x20,x19,#10,lsl #12
 	cmp	x21,#3
-	add	x9,x9,#3992
-	add	x20,x20,#3992
+	add	x9,x9,#2968
+	add	x20,x20,#2968
 	stp	xzr,xzr,[x9]
 	str	xzr,[x9,#16]
 	b.hi	4f
@@ -11619,15 +11396,15 @@ Lrtp_loh371:
 7:
 	add	x0,x19,#10,lsl #12
 	mov	x2,x21
-	add	x0,x0,#3992
+	add	x0,x0,#2968
 	bl	_rtp_core.str.utf8.from_utf8
 	ldrb	w8,[x20]
 	sub	x2,x25,x21
 	cbnz	w8,4f
 	add	x9,x19,#10,lsl #12
 	add	x14,x19,#10,lsl #12
-	add	x9,x9,#3992
-	add	x14,x14,#3992
+	add	x9,x9,#2968
+	add	x14,x14,#2968
 	ldur	w8,[x9,#18]
 	ldrb	w10,[x9,#16]
 	ldrb	w11,[x9,#17]
@@ -11683,7 +11460,7 @@ Lrtp_loh371:
 	b.eq	4f
 	add	x0,x19,#13,lsl #12
 	add	x1,x24,#1
-	add	x0,x0,#2032
+	add	x0,x0,#1008
 	bl	_rtp_core.str.utf8.from_utf8
 	ldrb	w8,[x26]
 	cbnz	w8,4f
@@ -12009,14 +11786,14 @@ Lrtp_loh407:
 23:
 	add	x26,x19,#13,lsl #12
 	mov	w8,#15
-	add	x26,x26,#2032
+	add	x26,x26,#1008
 10:
 	ldp	x22,x27,[x19,#8]
 	add	x0,x19,#13,lsl #12
 	add	x2,x19,#13,lsl #12
 	ldur	x24,[x29,#-72]
-	add	x0,x0,#2104
-	add	x2,x2,#2064
+	add	x0,x0,#1080
+	add	x2,x2,#1040
 	mov	w1,w20
 	stp	x8,x23,[x26,#32]
 	stp	x21,x21,[x26,#48]
@@ -12025,7 +11802,7 @@ Lrtp_loh407:
 	cbnz	x22,3b
 	ldp	x21,x25,[x26,#72]
 	add	x20,x19,#13,lsl #12
-	add	x20,x20,#2104
+	add	x20,x20,#1080
 	b	3f
 11:
 	mov	w8,#38
@@ -12033,10 +11810,10 @@ Lrtp_loh407:
 4:
 	add	x8,x19,#13,lsl #12
 	ldp	x20,x25,[x26,#72]
-	add	x8,x8,#2104
+	add	x8,x8,#1080
 	add	x0,x19,#8,lsl #12
-	mov	w2,#11216
-	add	x0,x0,#968
+	mov	w2,#10960
+	add	x0,x0,#200
 	add	x1,x8,#16
 	bl	_memcpy
 	ldur	x24,[x29,#-72]
@@ -12054,8 +11831,8 @@ Lrtp_loh407:
 3:
 	add	x0,x19,#8,lsl #12
 	add	x1,x20,#16
-	mov	w2,#11216
-	add	x0,x0,#968
+	mov	w2,#10960
+	add	x0,x0,#200
 	bl	_memcpy
 	mov	x23,xzr
 	mov	x20,x21
@@ -12063,40 +11840,40 @@ Lrtp_loh407:
 	cbz	x24,2f
 	add	x0,x19,#5,lsl #12
 	add	x1,x19,#8,lsl #12
-	mov	w2,#11216
-	add	x0,x0,#2040
-	add	x1,x1,#968
+	mov	w2,#10960
+	add	x0,x0,#1528
+	add	x1,x1,#200
 	bl	_memcpy
 	mov	x21,x20
 	mov	x22,x25
 3:
 	add	x1,x19,#5,lsl #12
 	add	x0,x19,#48
-	mov	w2,#11216
-	add	x1,x1,#2040
+	mov	w2,#10960
+	add	x1,x1,#1528
 	bl	_memcpy
 	add	x8,x19,#2,lsl #12
 	add	x1,x19,#48
-	mov	w2,#11216
-	add	x8,x8,#3072
-	str	x21,[x19,#11264]
+	mov	w2,#10960
+	add	x8,x8,#2816
+	str	x21,[x19,#11008]
 	add	x0,x8,#16
-	str	x22,[x19,#11272]
+	str	x22,[x19,#11016]
 	bl	_memcpy
 	add	x0,x19,#2,lsl #12
-	str	x27,[x19,#22496]
-	add	x0,x0,#3072
-	str	x23,[x19,#22504]
+	str	x27,[x19,#21984]
+	add	x0,x0,#2816
+	str	x23,[x19,#21992]
 	bl	_rtp_listing.printing.print_all.df9e9f1468b30f79
 	mov	w21,w0
 	mov	w20,w1
 	add	x0,x19,#13,lsl #12
 	add	x1,x19,#2,lsl #12
-	add	x0,x0,#2104
+	add	x0,x0,#1080
 	mov	w2,#10200
-	add	x1,x1,#3072
+	add	x1,x1,#2816
 	add	x22,x19,#13,lsl #12
-	add	x22,x22,#2104
+	add	x22,x22,#1080
 	bl	_memcpy
 	add	x22,x22,#16
 	mov	w23,#255
@@ -12134,19 +11911,19 @@ Lrtp_loh407:
 	add	x24,x19,#10,lsl #12
 	add	x0,x19,#13,lsl #12
 	stp	xzr,xzr,[x26,#48]
-	add	x24,x24,#3992
+	add	x24,x24,#2968
 	str	xzr,[x26,#40]
-	add	x0,x0,#2104
+	add	x0,x0,#1080
 	stp	xzr,xzr,[x26,#16]
-	mov	w1,#11232
+	mov	w1,#10976
 	str	xzr,[x26,#8]
 	add	x26,x19,#13,lsl #12
 	stur	x25,[x29,#-72]
 	mov	x25,x20
 	add	x20,x19,#13,lsl #12
 	stp	xzr,xzr,[x24,#16]
-	add	x26,x26,#2032
-	add	x20,x20,#2104
+	add	x26,x26,#1008
+	add	x20,x20,#1080
 	str	xzr,[x24,#8]
 	str	xzr,[x24,#10304]
 	str	xzr,[x24,#10320]
@@ -12164,31 +11941,31 @@ Lrtp_loh407:
 	add	x0,x19,#13,lsl #12
 	add	x2,x19,#10,lsl #12
 	mov	w8,#2
-	add	x0,x0,#2104
-	add	x2,x2,#3992
+	add	x0,x0,#1080
+	add	x2,x2,#2968
 	mov	w1,#1
 	str	x8,[x24]
 	bl	_rtp_ext.map.ExtensionMap.set
 	add	x0,x19,#13,lsl #12
 	add	x2,x19,#13,lsl #12
 	mov	w1,#2
-	add	x0,x0,#2104
-	add	x2,x2,#2064
+	add	x0,x0,#1080
+	add	x2,x2,#1040
 	str	xzr,[x26,#32]
 	bl	_rtp_ext.map.ExtensionMap.set
 	add	x0,x19,#13,lsl #12
 	add	x2,x19,#13,lsl #12
 	mov	w8,#5
-	add	x0,x0,#2104
-	add	x2,x2,#2032
+	add	x0,x0,#1080
+	add	x2,x2,#1008
 	mov	w1,#3
 	str	x8,[x26]
 	bl	_rtp_ext.map.ExtensionMap.set
 	add	x0,x19,#13,lsl #12
 	add	x2,x19,#13,lsl #12
 	mov	w8,#11
-	add	x0,x0,#2104
-	add	x2,x2,#2000
+	add	x0,x0,#1080
+	add	x2,x2,#976
 	mov	w1,#4
 	str	x8,[x24,#10296]
 	mov	w21,#4
@@ -12196,8 +11973,8 @@ Lrtp_loh407:
 	add	x0,x19,#13,lsl #12
 	add	x2,x19,#13,lsl #12
 	mov	w8,#9
-	add	x0,x0,#2104
-	add	x2,x2,#1968
+	add	x0,x0,#1080
+	add	x2,x2,#944
 	mov	w1,#10
 	str	x8,[x24,#10264]
 	mov	w22,#10
@@ -12205,28 +11982,28 @@ Lrtp_loh407:
 	add	x0,x19,#13,lsl #12
 	add	x2,x19,#13,lsl #12
 	mov	w1,#11
-	add	x0,x0,#2104
-	add	x2,x2,#1936
+	add	x0,x0,#1080
+	add	x2,x2,#912
 	str	x22,[x24,#10232]
 	bl	_rtp_ext.map.ExtensionMap.set
 	add	x0,x19,#13,lsl #12
 	add	x2,x19,#13,lsl #12
 	mov	w1,#13
-	add	x0,x0,#2104
-	add	x2,x2,#1904
+	add	x0,x0,#1080
+	add	x2,x2,#880
 	str	x21,[x24,#10200]
 	bl	_rtp_ext.map.ExtensionMap.set
 	ldp	x21,x22,[x26,#72]
 	add	x20,x20,#16
 	add	x0,x19,#5,lsl #12
 	mov	x1,x20
-	mov	w2,#11216
-	add	x0,x0,#2040
+	mov	w2,#10960
+	add	x0,x0,#1528
 	bl	_memcpy
 	ldur	x8,[x29,#-72]
 	add	x1,x19,#8,lsl #12
 	mov	x0,x20
-	add	x1,x1,#968
+	add	x1,x1,#200
 	mov	w2,#10184
 	stp	x25,x8,[x26,#72]
 	bl	_memcpy
@@ -12561,8 +12338,8 @@ Lrtp_loh409:
 	add	x8,x19,#13,lsl #12
 	stp	x20,x25,[x26,#72]
 	add	x1,x19,#8,lsl #12
-	add	x8,x8,#2104
-	add	x1,x1,#968
+	add	x8,x8,#1080
+	add	x1,x1,#200
 	mov	w2,#10184
 	add	x20,x8,#16
 	mov	x0,x20
@@ -12591,7 +12368,7 @@ Lrtp_loh409:
 	add	x22,x19,#13,lsl #12
 	str	x8,[x26,#72]
 	mov	w8,#32
-	add	x0,x0,#2104
+	add	x0,x0,#1080
 	str	w8,[x26,#96]
 Lrtp_loh410:
 	adrp	x8,lrtp_CPI20_14@PAGE
@@ -12599,7 +12376,7 @@ Lrtp_loh410:
 Lrtp_loh411:
 	ldr	q0,[x8,lrtp_CPI20_14@PAGEOFF]
 	stp	xzr,xzr,[x26,#80]
-	add	x22,x22,#2104
+	add	x22,x22,#1080
 	stur	wzr,[x26,#129]
 	str	wzr,[x26,#132]
 	strb	wzr,[x26,#128]
@@ -12637,18 +12414,18 @@ Lrtp_loh415:
 	add	x11,x19,#13,lsl #12
 	mov	w10,#32
 	cmp	x21,#100
-	add	x11,x11,#2032
+	add	x11,x11,#1008
 	stur	xzr,[x22,#28]
 	str	w10,[x11,#96]
 	mov	x10,#-1
 	str	x10,[x11,#112]
 	add	x10,x19,#2,lsl #12
-	add	x10,x10,#3072
+	add	x10,x10,#2816
 	str	x9,[x11,#80]
 	stur	wzr,[x22,#36]
-	str	xzr,[x10,#22480]
-	str	xzr,[x10,#22472]
-	str	xzr,[x10,#22488]
+	str	xzr,[x10,#21968]
+	str	xzr,[x10,#21960]
+	str	xzr,[x10,#21976]
 	b.lo	2f
 	mov	x10,xzr
 3:
@@ -12672,7 +12449,7 @@ Lrtp_loh415:
 	msub	w12,w13,w14,w12
 	add	x14,x19,#8,lsl #12
 	orr	w11,w13,#0x30
-	add	x14,x14,#968
+	add	x14,x14,#200
 	add	x14,x14,x10
 	sub	x10,x10,#2
 	orr	w12,w12,#0x30
@@ -12691,7 +12468,7 @@ Lrtp_loh415:
 	add	x13,x19,#8,lsl #12
 	mul	w11,w11,w12
 	mov	w12,#10
-	add	x13,x13,#968
+	add	x13,x13,#200
 	add	x13,x13,x10
 	sub	x10,x10,#2
 	lsr	w11,w11,#11
@@ -12705,14 +12482,14 @@ Lrtp_loh415:
 	add	x11,x19,#8,lsl #12
 	sub	x10,x10,#1
 	orr	w12,w21,#0x30
-	add	x11,x11,#968
+	add	x11,x11,#200
 	strb	w12,[x11,x10]
 3:
 	add	x26,x19,#13,lsl #12
 	add	x11,x19,#8,lsl #12
 	mov	w13,#24
-	add	x26,x26,#2032
-	add	x11,x11,#968
+	add	x26,x26,#1008
+	add	x11,x11,#200
 	sub	x21,x13,x10
 	ldr	x12,[x26,#120]
 	add	x20,x11,x10
@@ -12729,7 +12506,7 @@ Lrtp_loh415:
 	add	x24,x9,x21
 	bl	_memcpy
 	add	x26,x19,#13,lsl #12
-	add	x26,x26,#2032
+	add	x26,x26,#1008
 	stp	x24,x23,[x26,#80]
 5:
 	mov	w8,#32
@@ -12742,7 +12519,7 @@ Lrtp_loh415:
 	cbnz	x9,10f
 	ldp	x9,x22,[x26,#80]
 	add	x10,x19,#13,lsl #12
-	add	x10,x10,#2032
+	add	x10,x10,#1008
 	sub	x8,x22,x9
 	cmp	x8,#28
 	b.ls	11f
@@ -12806,7 +12583,7 @@ Lrtp_loh423:
 	add	x0,x19,#13,lsl #12
 	mov	x1,x20
 	mov	x2,x21
-	add	x0,x0,#2104
+	add	x0,x0,#1080
 	bl	_rtp_core.fmt.formatter.Formatter.write_indented.5e1603e38c63b5f6
 	and	w8,w0,#0xff
 	tbnz	w8,#0,1f
@@ -12814,11 +12591,11 @@ Lrtp_loh423:
 3:
 	add	x0,x19,#13,lsl #12
 	mov	x1,x21
-	add	x0,x0,#2104
+	add	x0,x0,#1080
 	bl	_rtp_std_alloc.vec.Vec.grow_amortized.9d744d77114e6601
 	cbz	w0,2f
 	add	x8,x19,#13,lsl #12
-	add	x8,x8,#2032
+	add	x8,x8,#1008
 	ldp	x9,x23,[x8,#80]
 	ldr	x8,[x8,#72]
 	b	4b
@@ -12828,7 +12605,7 @@ Lrtp_loh424:
 	adrp	x1,lrtp__static.4@PAGE
 Lrtp_loh425:
 	add	x1,x1,lrtp__static.4@PAGEOFF
-	add	x0,x0,#2104
+	add	x0,x0,#1080
 	mov	w2,#29
 	bl	_rtp_core.fmt.formatter.Formatter.write_indented.5e1603e38c63b5f6
 	tst	w0,#0xff
@@ -12843,23 +12620,23 @@ Lrtp_loh425:
 11:
 	add	x0,x19,#13,lsl #12
 	mov	w1,#29
-	add	x0,x0,#2104
+	add	x0,x0,#1080
 	bl	_rtp_std_alloc.vec.Vec.grow_amortized.9d744d77114e6601
 	add	x26,x19,#13,lsl #12
-	add	x26,x26,#2032
+	add	x26,x26,#1008
 	cbz	w0,1f
 	ldp	x9,x22,[x26,#80]
 	add	x10,x19,#13,lsl #12
-	add	x10,x10,#2032
+	add	x10,x10,#1008
 	b	13b
 22:
 	add	x0,x19,#10,lsl #12
 	add	x1,x19,#13,lsl #12
 	mov	w2,#10200
-	add	x0,x0,#3992
-	add	x1,x1,#2104
+	add	x0,x0,#2968
+	add	x1,x1,#1080
 	add	x20,x19,#10,lsl #12
-	add	x20,x20,#3992
+	add	x20,x20,#2968
 	bl	_memcpy
 	add	x20,x20,#16
 	mov	w21,#255
@@ -12882,7 +12659,7 @@ Lrtp_loh425:
 	b	4b
 2:
 	add	x26,x19,#13,lsl #12
-	add	x26,x26,#2032
+	add	x26,x26,#1008
 1:
 	ldr	x8,[x26,#88]
 	cbz	x8,5f

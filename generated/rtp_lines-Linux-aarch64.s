@@ -4,8 +4,8 @@
  * kit: rattle-kit-13f logic dac8208d650f15bf
  * proved for: aarch64-unknown-linux-gnu
  * compiled for: aarch64-unknown-linux-gnu
- * sources: 1a6a21b482ec4143a264c43946cd2424f9814ef25755fafd5289c1c8ec66f0a9
- * text: c2af9a3de3306e0fbf83566d2d071258d0870895e9021ecf63b5030ab6c7b11d
+ * sources: 98a6c22ff0e6aa1ba5c01a18cf7cf01a3dfe76b31f38bd0dcca2df579bd17f20
+ * text: c6bd0d03453f9bd0faa76c041bc32e44539da6d4c2ea6b80106fda3b65256c40
  * SPDX-License-Identifier: MIT OR Apache-2.0
  * Copyright (c) 2026 The rtp-wire developers (NOTICE)
  */
@@ -678,321 +678,100 @@
 	.cfi_startproc
 	ldrb	w9,[x2]
 	ldr	x8,[x2,#8]
-	ands	w10,w1,#0xff
+	tst	w1,#0xff
 	b.eq	1f
-	add	x11,x0,w10,uxtw #1
-	mov	w12,#10456
+	stp	x29,x30,[sp,#-32]!
+	stp	x20,x19,[sp,#16]
+	mov	x29,sp
+	.cfi_def_cfa w29,32
+	.cfi_offset w19,-8
+	.cfi_offset w20,-16
+	.cfi_offset w30,-24
+	.cfi_offset w29,-32
+	add	x10,x0,w1,uxtb #1
+	mov	w11,#10202
 	cmp	w9,#15
+	add	x19,x0,#2,lsl #12
+	csel	w12,w9,wzr,ne
+	cset	w15,ne
+	add	x10,x10,x11
+	ldrh	w11,[x19,#2780]
+	cmp	w12,#14
+	ldrb	w13,[x10]
+	ldrb	w14,[x10,#1]
 	ldr	q0,[x2,#16]
-	csel	w14,w9,wzr,ne
-	mov	w16,#10968
-	add	x15,x11,x12
-	cset	w11,ne
-	ldrb	w12,[x15]
-	ldrb	w13,[x15,#1]
-	strb	w11,[x15]
-	add	x11,x0,#2,lsl #12
-	strb	w14,[x15,#1]
-	add	x15,x0,x16
-	cmp	w12,#1
-	b.ne	2f
+	cinc	w11,w11,eq
+	strb	w12,[x10,#1]
+	cmp	w13,#1
+	and	w13,w14,#0xff
+	strb	w15,[x10]
+	cset	w14,eq
+	cmp	w13,#14
+	ldrh	w13,[x19,#2778]
+	csel	w12,wzr,w14,ne
+	subs	w10,w15,w14
+	sub	w11,w11,w12
+	add	w12,w10,w13
+	and	x10,x1,#0xff
+	strh	w11,[x19,#2780]
+	strh	w12,[x19,#2778]
+	b.eq	2f
 	cmp	w9,#15
+	mov	w11,w1
 	b.ne	3f
-	ldrb	w16,[x11,#3031]
-	cbz	x16,3f
-	mov	w18,#10969
-	mov	w2,#10984
-	mov	x17,xzr
-	mov	w1,w16
-	add	x18,x0,x18
-	add	x2,x0,x2
-4:
-	ldrb	w3,[x15,x17]
-	cmp	w3,w10
-	b.eq	5f
-	add	x17,x17,#1
-	cmp	x16,x17
-	b.ne	4b
-	b	3f
+	mov	w11,#10714
+	add	x11,x0,x11
+	ldrb	w11,[x11,x10]
+3:
+	add	x12,x0,x10,lsl #1
+	mov	w13,#10200
+	mov	w14,#10713
+	add	x12,x12,x13
+	add	x13,x0,x14
+	and	x14,x1,#0xff
+3:
+	cbz	x14,2f
+	strb	w11,[x13,x14]
+	sub	x14,x14,#1
+	ldrb	w15,[x12],#-2
+	cmp	w15,#1
+	b.ne	3b
+2:
+	mov	w11,#40
+	mov	w13,#1
+	umaddl	x12,w10,w11,x0
+	ldurb	w11,[x12,#-40]
+	ldurb	w10,[x12,#-32]
+	stp	x13,x9,[x12,#-40]
+	ldur	x0,[x12,#-24]
+	ldur	x9,[x12,#-8]
+	stur	x8,[x12,#-24]
+	stur	q0,[x12,#-16]
+	cbz	w11,2f
+	cmp	w11,#2
+	cmp	w10,#15
+	b.ne	2f
+	cbz	x9,2f
+	mov	x20,x1
+	bl	rattle_dealloc
+	mov	x1,x20
+2:
+	ldrb	w8,[x19,#2008]
+	and	w9,w1,#0xff
+	cmp	w9,w8
+	csel	w8,w9,w8,hi
+	strb	w8,[x19,#2008]
+	ldp	x20,x19,[sp,#16]
+	ldp	x29,x30,[sp],#32
+2:
+	ret
 1:
 	cmp	w9,#15
-	b.ne	1f
+	b.ne	2b
 	ldr	x9,[x2,#24]
-	cbz	x9,1f
+	cbz	x9,2b
 	mov	x0,x8
 	b	rattle_dealloc
-2:
-	cmp	w9,#15
-	b.eq	3f
-	ldrb	w17,[x11,#3031]
-	cbz	x17,2f
-	add	x16,x15,x17
-	ldurb	w16,[x16,#-1]
-	cmp	w10,w16
-	b.hs	2f
-	mov	x16,xzr
-4:
-	ldrb	w18,[x15,x16]
-	cmp	w10,w18
-	b.ls	6f
-	add	x16,x16,#1
-	cmp	x17,x16
-	b.ne	4b
-	mov	x16,x17
-6:
-	subs	x18,x17,x16
-	b.eq	4f
-	cmp	x18,#8
-	mov	x1,x18
-	b.lo	6f
-	cmp	x18,#32
-	b.hs	7f
-	mov	x2,xzr
-	b	8f
-2:
-	strb	w10,[x15,x17]
-	b	2f
-5:
-	sub	x3,x16,#1
-	cmp	x3,x17
-	b.eq	5f
-	mvn	x1,x17
-	add	x1,x1,x16
-	cmp	x1,#8
-	b.hs	9f
-	mov	x2,xzr
-	b	10f
-9:
-	cmp	x1,#32
-	b.hs	9f
-	mov	x2,xzr
-	b	11f
-7:
-	add	x3,x17,x0
-	mov	w4,#10952
-	and	x1,x18,#0x18
-	and	x2,x18,#0xffffffffffffffe0
-	add	x3,x3,x4
-	and	x4,x18,#0xffffffffffffffe0
-7:
-	ldp	q2,q1,[x3,#-16]
-	sub	x4,x4,#32
-	stur	q1,[x3,#1]
-	stur	q2,[x3,#-15]
-	sub	x3,x3,#32
-	cbnz	x4,7b
-	cmp	x18,x2
-	b.eq	4f
-	cbz	x1,7f
-8:
-	sub	x1,x17,x2
-	and	x17,x18,#0xfffffffffffffff8
-	mov	w4,#10961
-	add	x3,x1,x0
-	and	x1,x18,#0x7
-	sub	x2,x2,x17
-	add	x3,x3,x4
-8:
-	ldur	d1,[x3,#-1]
-	add	x2,x2,#8
-	str	d1,[x3],#-8
-	cbnz	x2,8b
-	cmp	x18,x17
-	b.eq	4f
-6:
-	add	x17,x1,x16
-	mov	w18,#10968
-	add	x17,x17,x0
-	add	x18,x17,x18
-	mov	x17,x18
-8:
-	ldrb	w2,[x17,#-1]!
-	subs	x1,x1,#1
-	strb	w2,[x18]
-	mov	x18,x17
-	b.ne	8b
-4:
-	strb	w10,[x15,x16]
-2:
-	ldrb	w15,[x11,#3031]
-	add	w15,w15,#1
-	strb	w15,[x11,#3031]
-	b	3f
-9:
-	add	x4,x2,x17
-	and	x3,x1,#0x18
-	and	x2,x1,#0xffffffffffffffe0
-	and	x5,x1,#0xffffffffffffffe0
-2:
-	ldur	q1,[x4,#-15]
-	ldur	q2,[x4,#1]
-	subs	x5,x5,#32
-	stp	q1,q2,[x4,#-16]
-	add	x4,x4,#32
-	b.ne	2b
-	cmp	x1,x2
-	b.eq	2f
-	cbz	x3,10f
-11:
-	mov	x3,x2
-	and	x2,x1,#0xfffffffffffffff8
-	add	x4,x15,x17
-4:
-	add	x5,x4,x3
-	ldur	d1,[x5,#1]
-	str	d1,[x4,x3]
-	add	x3,x3,#8
-	cmp	x2,x3
-	b.ne	4b
-	cmp	x1,x2
-	b.eq	2f
-10:
-	sub	x1,x16,x2
-	mvn	x3,x17
-	add	x2,x18,x2
-	add	x18,x3,x1
-	add	x17,x2,x17
-4:
-	ldrb	w1,[x17]
-	subs	x18,x18,#1
-	sturb	w1,[x17,#-1]
-	add	x17,x17,#1
-	b.ne	4b
-2:
-	ldrb	w1,[x11,#3031]
-5:
-	add	x15,x15,x16
-	sub	w16,w1,#1
-	sturb	wzr,[x15,#-1]
-	strb	w16,[x11,#3031]
-3:
-	cmp	w14,#14
-	and	w13,w13,#0xff
-	mov	w14,#40
-	cset	w15,eq
-	cmp	w12,#1
-	umaddl	x16,w10,w14,x0
-	ccmp	w13,#14,#0,eq
-	ldrh	w17,[x11,#3032]
-	mov	w18,#1
-	cset	w12,eq
-	sub	w12,w15,w12
-	ldurb	w14,[x16,#-40]
-	ldurb	w13,[x16,#-32]
-	add	w12,w12,w17
-	stp	x18,x9,[x16,#-40]
-	ldur	x9,[x16,#-24]
-	strh	w12,[x11,#3032]
-	ldur	x12,[x16,#-8]
-	cmp	w14,#2
-	stur	x8,[x16,#-24]
-	stur	q0,[x16,#-16]
-	b.eq	2f
-	cmp	w14,#1
-	b.ne	3f
-	cmp	w13,#15
-	b.ne	1f
-	cbz	x12,1f
-	mov	x0,x9
-	b	rattle_dealloc
-2:
-	cmp	w13,#15
-	b.ne	1f
-	cbz	x12,1f
-	mov	x0,x9
-	b	rattle_dealloc
-1:
-	ret
-3:
-	mov	w8,#10200
-	ldrb	w12,[x11,#2263]
-	add	x8,x0,x8
-	cbz	x12,1f
-	add	x9,x8,x12
-	ldurb	w9,[x9,#-1]
-	cmp	w10,w9
-	b.hs	1f
-	mov	x9,xzr
-2:
-	ldrb	w13,[x8,x9]
-	cmp	w10,w13
-	b.ls	3f
-	add	x9,x9,#1
-	cmp	x12,x9
-	b.ne	2b
-	mov	x9,x12
-3:
-	subs	x13,x12,x9
-	b.eq	2f
-	cmp	x13,#8
-	mov	x14,x13
-	b.lo	3f
-	cmp	x13,#32
-	b.hs	4f
-	mov	x15,xzr
-	b	5f
-1:
-	strb	w10,[x8,x12]
-	ldrb	w8,[x11,#2263]
-	add	w8,w8,#1
-	strb	w8,[x11,#2263]
-	ret
-4:
-	add	x16,x12,x0
-	mov	w17,#10184
-	and	x14,x13,#0x18
-	and	x15,x13,#0xffffffffffffffe0
-	add	x16,x16,x17
-	and	x17,x13,#0xffffffffffffffe0
-1:
-	ldp	q1,q0,[x16,#-16]
-	sub	x17,x17,#32
-	stur	q0,[x16,#1]
-	stur	q1,[x16,#-15]
-	sub	x16,x16,#32
-	cbnz	x17,1b
-	cmp	x13,x15
-	b.eq	2f
-	cbz	x14,1f
-5:
-	sub	x14,x12,x15
-	and	x12,x13,#0xfffffffffffffff8
-	mov	w17,#10193
-	add	x16,x14,x0
-	and	x14,x13,#0x7
-	sub	x15,x15,x12
-	add	x16,x16,x17
-4:
-	ldur	d0,[x16,#-1]
-	add	x15,x15,#8
-	str	d0,[x16],#-8
-	cbnz	x15,4b
-	cmp	x13,x12
-	b.eq	2f
-3:
-	add	x12,x14,x9
-	mov	w13,#10200
-	add	x12,x12,x0
-	add	x13,x12,x13
-	mov	x12,x13
-4:
-	ldrb	w15,[x12,#-1]!
-	subs	x14,x14,#1
-	strb	w15,[x13]
-	mov	x13,x12
-	b.ne	4b
-2:
-	strb	w10,[x8,x9]
-	ldrb	w8,[x11,#2263]
-	add	w8,w8,#1
-	strb	w8,[x11,#2263]
-	ret
-1:
-	and	x14,x13,#0x1f
-	b	3b
-7:
-	and	x1,x18,#0x1f
-	b	6b
 	.size	"rtp_ext::map::ExtensionMap::set", .-"rtp_ext::map::ExtensionMap::set"
 	.cfi_endproc
 
@@ -1113,7 +892,7 @@
 	mov	w1,wzr
 	mov	w2,#16384
 	bl	memset
-	ldr	x27,[x19,#11240]
+	ldr	x27,[x19,#10984]
 	cbz	x27,2f
 	add	x8,sp,#184
 	mov	x25,#2808348672
@@ -1125,7 +904,7 @@
 	add	x9,x8,#264
 	add	x8,x8,#28
 	stp	x9,x19,[sp,#80]
-	ldr	x19,[x19,#11232]
+	ldr	x19,[x19,#10976]
 	mov	x1,xzr
 	sub	x9,x29,#48
 	mov	x26,xzr
@@ -6672,12 +6451,12 @@
 	tst	w3,#0xff
 	b.eq	1f
 	cbz	x20,2f
-	mov	w9,#10456
+	mov	w9,#10202
 	add	x25,x0,x9
 	b	3f
 1:
 	cbz	x20,2f
-	mov	w9,#10456
+	mov	w9,#10202
 	add	x25,x0,x9
 	b	1f
 4:
@@ -10539,8 +10318,7 @@ main:
 	cmp	sp,x9
 	str	xzr,[sp]
 	b.ne	1b
-	sub	sp,sp,#2096
-	str	xzr,[sp]
+	sub	sp,sp,#816
 	.cfi_def_cfa w29,96
 	.cfi_offset w19,-8
 	.cfi_offset w20,-16
@@ -10649,20 +10427,20 @@ main:
 	tbz	x0,#63,11f
 	add	x0,sp,#2,lsl #12
 	add	x27,sp,#2,lsl #12
-	add	x0,x0,#3072
-	add	x27,x27,#3072
+	add	x0,x0,#2816
+	add	x27,x27,#2816
 	bl	"std_io::io::error::last_error"
-	ldr	x9,[sp,#11264]
+	ldr	x9,[sp,#11008]
 	ldr	q0,[x22,:lo12:.Lrtp_CPI20_11]
 	add	x11,sp,#2,lsl #12
 	ldr	q1,[x21,:lo12:.Lrtp_CPI20_12]
 	ldr	d2,[x20,:lo12:.Lrtp_CPI20_13]
-	add	x11,x11,#3072
+	add	x11,x11,#2816
 	ubfx	w8,w9,#8,#8
 	mov	w10,#40
 	stp	q0,q1,[x11]
 	cmp	w8,#41
-	str	d2,[sp,#11296]
+	str	d2,[sp,#11040]
 	strb	w10,[x11,#40]
 	b.hs	12f
 	ubfx	x9,x9,#8,#6
@@ -10718,15 +10496,15 @@ main:
 	ldr	q1,[x21,:lo12:.Lrtp_CPI20_12]
 	add	x10,sp,#2,lsl #12
 	ldr	d2,[x20,:lo12:.Lrtp_CPI20_13]
-	add	x10,x10,#3072
+	add	x10,x10,#2816
 	mov	w9,#40
 	cmp	w8,#41
 	stp	q0,q1,[x10]
-	str	d2,[sp,#11296]
+	str	d2,[sp,#11040]
 	strb	w9,[x10,#40]
 	b.hs	1f
 	add	x9,sp,#2,lsl #12
-	add	x9,x9,#3072
+	add	x9,x9,#2816
 	ldrb	w8,[x9,w8,uxtw]
 	and	w8,w8,#0xff
 	cmp	w8,#38
@@ -10759,8 +10537,8 @@ main:
 	add	x9,x9,:lo12:.Lrtp_switch.table.main
 	ldr	w0,[x9,x8,lsl #2]
 1:
-	add	sp,sp,#16,lsl #12
-	add	sp,sp,#1072
+	add	sp,sp,#15,lsl #12
+	add	sp,sp,#3888
 	ldp	x20,x19,[sp,#80]
 	ldp	x22,x21,[sp,#64]
 	ldp	x24,x23,[sp,#48]
@@ -10777,33 +10555,33 @@ main:
 	mov	w1,wzr
 	csel	x21,x23,x26,lo
 	ldr	x26,[sp,#24]
-	add	x0,x0,#3072
-	mov	w2,#11248
+	add	x0,x0,#2816
+	mov	w2,#10992
 	str	x21,[sp,#32]
 	bl	memset
 	add	x0,sp,#48
 	mov	w1,wzr
-	mov	w2,#11216
+	mov	w2,#10960
 	bl	memset
 	add	x0,sp,#8,lsl #12
 	mov	w1,wzr
-	mov	w2,#11216
-	add	x0,x0,#968
+	mov	w2,#10960
+	add	x0,x0,#200
 	bl	memset
 	add	x0,sp,#5,lsl #12
 	mov	w1,wzr
-	mov	w2,#11216
-	add	x0,x0,#2040
+	mov	w2,#10960
+	add	x0,x0,#1528
 	bl	memset
 	movi	v0.2d,#0000000000000000
 	add	x24,sp,#13,lsl #12
 	add	x0,sp,#13,lsl #12
-	add	x24,x24,#2032
-	add	x0,x0,#2104
+	add	x24,x24,#1008
+	add	x0,x0,#1080
 	mov	w1,wzr
-	mov	w2,#11232
+	mov	w2,#10976
 	add	x22,sp,#13,lsl #12
-	add	x22,x22,#2104
+	add	x22,x22,#1080
 	stp	q0,q0,[x24,#32]
 	bl	memset
 	cbz	x21,2f
@@ -10869,7 +10647,7 @@ main:
 6:
 	add	x8,sp,#10,lsl #12
 	subs	x9,x9,#4
-	add	x8,x8,#3992
+	add	x8,x8,#2968
 	str	xzr,[x8,#10336]
 	str	xzr,[x8,#10328]
 	str	xzr,[x8,#10344]
@@ -10897,8 +10675,8 @@ main:
 	add	x9,sp,#10,lsl #12
 	add	x19,sp,#10,lsl #12
 	cmp	x20,#3
-	add	x9,x9,#3992
-	add	x19,x19,#3992
+	add	x9,x9,#2968
+	add	x19,x19,#2968
 	stp	xzr,xzr,[x9]
 	str	xzr,[x9,#16]
 	b.hi	5f
@@ -10917,15 +10695,15 @@ main:
 7:
 	add	x0,sp,#10,lsl #12
 	mov	x2,x20
-	add	x0,x0,#3992
+	add	x0,x0,#2968
 	bl	"core::str::utf8::from_utf8"
 	ldrb	w8,[x19]
 	sub	x2,x25,x20
 	cbnz	w8,5f
 	add	x9,sp,#10,lsl #12
 	add	x14,sp,#10,lsl #12
-	add	x9,x9,#3992
-	add	x14,x14,#3992
+	add	x9,x9,#2968
+	add	x14,x14,#2968
 	ldur	w8,[x9,#18]
 	ldrb	w10,[x9,#16]
 	ldrb	w11,[x9,#17]
@@ -10981,7 +10759,7 @@ main:
 	b.eq	5f
 	add	x0,sp,#13,lsl #12
 	add	x1,x23,#1
-	add	x0,x0,#2032
+	add	x0,x0,#1008
 	bl	"core::str::utf8::from_utf8"
 	ldrb	w8,[x24]
 	cbnz	w8,5f
@@ -11321,7 +11099,7 @@ main:
 	cbz	x9,29f
 	add	x24,sp,#13,lsl #12
 	cmp	x9,#8
-	add	x24,x24,#2032
+	add	x24,x24,#1008
 	b.lo	28f
 30:
 	mov	x10,x8
@@ -11340,7 +11118,7 @@ main:
 	add	x10,x10,#8
 	b.ne	30b
 	add	x24,sp,#13,lsl #12
-	add	x24,x24,#2032
+	add	x24,x24,#1008
 	cbz	x9,24f
 28:
 	ldrb	w9,[x28,x8]
@@ -11354,8 +11132,8 @@ main:
 	add	x0,sp,#13,lsl #12
 	add	x2,sp,#13,lsl #12
 	mov	w1,w19
-	add	x0,x0,#2104
-	add	x2,x2,#2064
+	add	x0,x0,#1080
+	add	x2,x2,#1040
 	stp	x8,x22,[x24,#32]
 	stp	x20,x20,[x24,#48]
 	bl	"rtp_ext::map::ExtensionMap::set"
@@ -11366,7 +11144,7 @@ main:
 29:
 	add	x24,sp,#13,lsl #12
 	mov	w8,#15
-	add	x24,x24,#2032
+	add	x24,x24,#1008
 	b	11b
 10:
 	mov	w8,#38
@@ -11374,10 +11152,10 @@ main:
 5:
 	add	x8,sp,#13,lsl #12
 	ldp	x21,x20,[x24,#72]
-	add	x8,x8,#2104
+	add	x8,x8,#1080
 	add	x0,sp,#8,lsl #12
-	mov	w2,#11216
-	add	x0,x0,#968
+	mov	w2,#10960
+	add	x0,x0,#200
 	add	x1,x8,#16
 	bl	memcpy
 	ldr	x19,[sp,#16]
@@ -11394,8 +11172,8 @@ main:
 2:
 	add	x0,sp,#8,lsl #12
 	add	x1,x22,#16
-	mov	w2,#11216
-	add	x0,x0,#968
+	mov	w2,#10960
+	add	x0,x0,#200
 	bl	memcpy
 	mov	x22,xzr
 	mov	x28,x26
@@ -11403,40 +11181,40 @@ main:
 	cbz	x19,24f
 	add	x0,sp,#5,lsl #12
 	add	x1,sp,#8,lsl #12
-	mov	w2,#11216
-	add	x0,x0,#2040
-	add	x1,x1,#968
+	mov	w2,#10960
+	add	x0,x0,#1528
+	add	x1,x1,#200
 	bl	memcpy
 	mov	x23,x21
 	mov	x24,x20
 28:
 	add	x1,sp,#5,lsl #12
 	add	x0,sp,#48
-	mov	w2,#11216
-	add	x1,x1,#2040
+	mov	w2,#10960
+	add	x1,x1,#1528
 	bl	memcpy
 	add	x8,sp,#2,lsl #12
 	add	x1,sp,#48
-	mov	w2,#11216
-	add	x8,x8,#3072
-	str	x23,[sp,#11264]
+	mov	w2,#10960
+	add	x8,x8,#2816
+	str	x23,[sp,#11008]
 	add	x0,x8,#16
-	str	x24,[sp,#11272]
+	str	x24,[sp,#11016]
 	bl	memcpy
 	add	x0,sp,#2,lsl #12
-	str	x28,[sp,#22496]
-	add	x0,x0,#3072
-	str	x22,[sp,#22504]
+	str	x28,[sp,#21984]
+	add	x0,x0,#2816
+	str	x22,[sp,#21992]
 	bl	"rtp_listing::printing::print_all::<#df9e9f1468b30f79>"
 	mov	w20,w0
 	mov	w19,w1
 	add	x0,sp,#13,lsl #12
 	add	x1,sp,#2,lsl #12
-	add	x0,x0,#2104
+	add	x0,x0,#1080
 	mov	w2,#10200
-	add	x1,x1,#3072
+	add	x1,x1,#2816
 	add	x21,sp,#13,lsl #12
-	add	x21,x21,#2104
+	add	x21,x21,#1080
 	bl	memcpy
 	add	x21,x21,#16
 	mov	w22,#255
@@ -11474,13 +11252,13 @@ main:
 	add	x26,sp,#10,lsl #12
 	add	x0,sp,#13,lsl #12
 	mov	w1,wzr
-	add	x26,x26,#3992
-	add	x0,x0,#2104
-	mov	w2,#11232
+	add	x26,x26,#2968
+	add	x0,x0,#1080
+	mov	w2,#10976
 	add	x19,sp,#13,lsl #12
 	stp	xzr,xzr,[x26,#16]
 	str	xzr,[x26,#8]
-	add	x19,x19,#2104
+	add	x19,x19,#1080
 	stp	xzr,xzr,[x24,#48]
 	str	xzr,[x24,#40]
 	stp	xzr,xzr,[x24,#16]
@@ -11501,31 +11279,31 @@ main:
 	add	x0,sp,#13,lsl #12
 	add	x2,sp,#10,lsl #12
 	mov	w8,#2
-	add	x0,x0,#2104
-	add	x2,x2,#3992
+	add	x0,x0,#1080
+	add	x2,x2,#2968
 	mov	w1,#1
 	str	x8,[x26]
 	bl	"rtp_ext::map::ExtensionMap::set"
 	add	x0,sp,#13,lsl #12
 	add	x2,sp,#13,lsl #12
 	mov	w1,#2
-	add	x0,x0,#2104
-	add	x2,x2,#2064
+	add	x0,x0,#1080
+	add	x2,x2,#1040
 	str	xzr,[x24,#32]
 	bl	"rtp_ext::map::ExtensionMap::set"
 	add	x0,sp,#13,lsl #12
 	add	x2,sp,#13,lsl #12
 	mov	w8,#5
-	add	x0,x0,#2104
-	add	x2,x2,#2032
+	add	x0,x0,#1080
+	add	x2,x2,#1008
 	mov	w1,#3
 	str	x8,[x24]
 	bl	"rtp_ext::map::ExtensionMap::set"
 	add	x0,sp,#13,lsl #12
 	add	x2,sp,#13,lsl #12
 	mov	w8,#11
-	add	x0,x0,#2104
-	add	x2,x2,#2000
+	add	x0,x0,#1080
+	add	x2,x2,#976
 	mov	w1,#4
 	str	x8,[x26,#10296]
 	mov	w23,#4
@@ -11533,39 +11311,39 @@ main:
 	add	x0,sp,#13,lsl #12
 	add	x2,sp,#13,lsl #12
 	mov	w8,#9
-	add	x0,x0,#2104
-	add	x2,x2,#1968
+	add	x0,x0,#1080
+	add	x2,x2,#944
 	mov	w1,#10
 	add	x25,sp,#13,lsl #12
 	str	x8,[x26,#10264]
 	mov	w24,#10
-	add	x25,x25,#2032
+	add	x25,x25,#1008
 	bl	"rtp_ext::map::ExtensionMap::set"
 	add	x0,sp,#13,lsl #12
 	add	x2,sp,#13,lsl #12
 	mov	w1,#11
-	add	x0,x0,#2104
-	add	x2,x2,#1936
+	add	x0,x0,#1080
+	add	x2,x2,#912
 	str	x24,[x26,#10232]
 	bl	"rtp_ext::map::ExtensionMap::set"
 	add	x0,sp,#13,lsl #12
 	add	x2,sp,#13,lsl #12
 	mov	w1,#13
-	add	x0,x0,#2104
-	add	x2,x2,#1904
+	add	x0,x0,#1080
+	add	x2,x2,#880
 	str	x23,[x26,#10200]
 	bl	"rtp_ext::map::ExtensionMap::set"
 	ldp	x23,x24,[x25,#72]
 	add	x19,x19,#16
 	add	x0,sp,#5,lsl #12
 	mov	x1,x19
-	mov	w2,#11216
-	add	x0,x0,#2040
+	mov	w2,#10960
+	add	x0,x0,#1528
 	bl	memcpy
 	add	x1,sp,#8,lsl #12
 	mov	x0,x19
 	mov	w2,#10184
-	add	x1,x1,#968
+	add	x1,x1,#200
 	stp	x21,x20,[x25,#72]
 	bl	memcpy
 	mov	w20,#255
@@ -11893,8 +11671,8 @@ main:
 	add	x8,sp,#13,lsl #12
 	add	x1,sp,#8,lsl #12
 	mov	w2,#10184
-	add	x8,x8,#2104
-	add	x1,x1,#968
+	add	x8,x8,#1080
+	add	x1,x1,#200
 	stp	x21,x20,[x24,#72]
 	add	x19,x8,#16
 	mov	x0,x19
@@ -11924,11 +11702,11 @@ main:
 	str	x8,[x24,#72]
 	mov	x8,#-1
 	add	x19,sp,#13,lsl #12
-	add	x0,x0,#2104
+	add	x0,x0,#1080
 	mov	w1,#5
 	stp	xzr,xzr,[x24,#80]
 	stp	xzr,xzr,[x24,#120]
-	add	x19,x19,#2104
+	add	x19,x19,#1080
 	str	w9,[x24,#96]
 	stur	xzr,[x24,#100]
 	str	wzr,[x24,#108]
@@ -11964,12 +11742,12 @@ main:
 	mov	x10,#-1
 	str	x10,[x24,#112]
 	add	x10,sp,#2,lsl #12
-	add	x10,x10,#3072
+	add	x10,x10,#2816
 	stur	xzr,[x19,#28]
 	stur	wzr,[x19,#36]
-	str	xzr,[x10,#22480]
-	str	xzr,[x10,#22472]
-	str	xzr,[x10,#22488]
+	str	xzr,[x10,#21968]
+	str	xzr,[x10,#21960]
+	str	xzr,[x10,#21976]
 	b.lo	4f
 	mov	x10,xzr
 5:
@@ -11993,7 +11771,7 @@ main:
 	msub	w12,w13,w14,w12
 	add	x14,sp,#8,lsl #12
 	orr	w11,w13,#0x30
-	add	x14,x14,#968
+	add	x14,x14,#200
 	add	x14,x14,x10
 	sub	x10,x10,#2
 	orr	w12,w12,#0x30
@@ -12012,7 +11790,7 @@ main:
 	add	x13,sp,#8,lsl #12
 	mul	w11,w11,w12
 	mov	w12,#10
-	add	x13,x13,#968
+	add	x13,x13,#200
 	add	x13,x13,x10
 	sub	x10,x10,#2
 	lsr	w11,w11,#11
@@ -12026,13 +11804,13 @@ main:
 	add	x11,sp,#8,lsl #12
 	sub	x10,x10,#1
 	orr	w12,w26,#0x30
-	add	x11,x11,#968
+	add	x11,x11,#200
 	strb	w12,[x11,x10]
 5:
 	add	x11,sp,#8,lsl #12
 	ldr	x12,[x24,#120]
 	mov	w13,#24
-	add	x11,x11,#968
+	add	x11,x11,#200
 	sub	x2,x13,x10
 	add	x1,x11,x10
 	mov	w11,#45
@@ -12109,7 +11887,7 @@ main:
 	b	29b
 4:
 	add	x0,sp,#13,lsl #12
-	add	x0,x0,#2104
+	add	x0,x0,#1080
 	bl	"core::fmt::formatter::Formatter::write_indented::<#5e1603e38c63b5f6>"
 	and	w8,w0,#0xff
 	tbnz	w8,#0,1f
@@ -12117,17 +11895,17 @@ main:
 3:
 	ldp	x21,x20,[x24,#72]
 	add	x22,sp,#13,lsl #12
-	add	x22,x22,#2104
+	add	x22,x22,#1080
 	b	2b
 5:
 	add	x0,sp,#13,lsl #12
 	mov	x21,x1
 	mov	x1,x2
-	add	x0,x0,#2104
+	add	x0,x0,#1080
 	mov	x22,x2
 	bl	"std_alloc::vec::Vec::grow_amortized::<#9d744d77114e6601>"
 	add	x24,sp,#13,lsl #12
-	add	x24,x24,#2032
+	add	x24,x24,#1008
 	cbz	w0,1f
 	ldp	x9,x20,[x24,#80]
 	mov	x1,x21
@@ -12138,7 +11916,7 @@ main:
 	add	x0,sp,#13,lsl #12
 	adrp	x1,.Lrtp_static.4
 	add	x1,x1,:lo12:.Lrtp_static.4
-	add	x0,x0,#2104
+	add	x0,x0,#1080
 	mov	w2,#29
 	bl	"core::fmt::formatter::Formatter::write_indented::<#5e1603e38c63b5f6>"
 	tst	w0,#0xff
@@ -12153,7 +11931,7 @@ main:
 24:
 	add	x0,sp,#13,lsl #12
 	mov	w1,#29
-	add	x0,x0,#2104
+	add	x0,x0,#1080
 	bl	"std_alloc::vec::Vec::grow_amortized::<#9d744d77114e6601>"
 	cbz	w0,1f
 	ldp	x9,x21,[x24,#80]
@@ -12171,10 +11949,10 @@ main:
 	add	x0,sp,#10,lsl #12
 	add	x1,sp,#13,lsl #12
 	mov	w2,#10200
-	add	x0,x0,#3992
-	add	x1,x1,#2104
+	add	x0,x0,#2968
+	add	x1,x1,#1080
 	add	x19,sp,#10,lsl #12
-	add	x19,x19,#3992
+	add	x19,x19,#2968
 	bl	memcpy
 	add	x19,x19,#16
 	mov	w20,#255

@@ -4,8 +4,8 @@
  * kit: rattle-kit-13f logic dac8208d650f15bf
  * proved for: x86_64-unknown-linux-gnu
  * compiled for: x86_64-unknown-linux-gnu
- * sources: 1a6a21b482ec4143a264c43946cd2424f9814ef25755fafd5289c1c8ec66f0a9
- * text: de355575128c989c751cebeddb6cc6eb9275a6f23320812031b6ddaf11d15d4e
+ * sources: 98a6c22ff0e6aa1ba5c01a18cf7cf01a3dfe76b31f38bd0dcca2df579bd17f20
+ * text: 609178867530dc82b305270fefd08bf34a495394c10bdb1e6c26b3582c594a02
  * SPDX-License-Identifier: MIT OR Apache-2.0
  * Copyright (c) 2026 The rtp-wire developers (NOTICE)
  */
@@ -285,9 +285,9 @@
 	movq	$0,(%rsp)
 	cmpq	%r11,%rsp
 	jne	1b
-	subq	$2104,%rsp
+	subq	$824,%rsp
 	.cfi_def_cfa_register %rsp
-	.cfi_def_cfa_offset 66672
+	.cfi_def_cfa_offset 65392
 	.cfi_offset %rbx,-56
 	.cfi_offset %r12,-48
 	.cfi_offset %r13,-40
@@ -396,22 +396,22 @@
 	callq	read@PLT
 	testq	%rax,%rax
 	jns	8f
-	leaq	11504(%rsp),%rdi
+	leaq	11248(%rsp),%rdi
 	callq	"std_io::io::error::last_error"
-	movq	11504(%rsp),%r12
+	movq	11248(%rsp),%r12
 	shrq	$8,%r12
 	movaps	.Lrtp_CPI0_19(%rip),%xmm0
-	movaps	%xmm0,11504(%rsp)
+	movaps	%xmm0,11248(%rsp)
 	movdqa	.Lrtp_CPI0_20(%rip),%xmm0
-	movdqa	%xmm0,11520(%rsp)
+	movdqa	%xmm0,11264(%rsp)
 	movabsq	$2820983053732684064,%rax
-	movq	%rax,11536(%rsp)
-	movb	$40,11544(%rsp)
+	movq	%rax,11280(%rsp)
+	movb	$40,11288(%rsp)
 	cmpb	$41,%r12b
 	jae	6f
 	movl	%r12d,%eax
 	andl	$63,%eax
-	cmpb	$35,11504(%rsp,%rax)
+	cmpb	$35,11248(%rsp,%rax)
 	je	2b
 	jmp	6f
 	.p2align	4
@@ -453,28 +453,28 @@
 	cmovbq	%rbx,%r12
 	movq	%r12,48(%rsp)
 	movq	40(%rsp),%r14
-	leaq	11504(%rsp),%rdi
+	leaq	11248(%rsp),%rdi
 	xorl	%r13d,%r13d
-	movl	$11248,%edx
+	movl	$10992,%edx
 	xorl	%esi,%esi
 	callq	memset@PLT
-	leaq	55400(%rsp),%rdi
-	movl	$11216,%edx
+	leaq	54376(%rsp),%rdi
+	movl	$10960,%edx
 	xorl	%esi,%esi
 	callq	memset@PLT
-	leaq	32960(%rsp),%rdi
-	movl	$11216,%edx
+	leaq	32448(%rsp),%rdi
+	movl	$10960,%edx
 	xorl	%esi,%esi
 	callq	memset@PLT
-	leaq	44184(%rsp),%rdi
-	movl	$11216,%edx
+	leaq	43416(%rsp),%rdi
+	movl	$10960,%edx
 	xorl	%esi,%esi
 	callq	memset@PLT
 	pxor	%xmm0,%xmm0
 	movdqa	%xmm0,128(%rsp)
 	movdqa	%xmm0,112(%rsp)
 	leaq	272(%rsp),%rdi
-	movl	$11232,%edx
+	movl	$10976,%edx
 	xorl	%esi,%esi
 	callq	memset@PLT
 	testq	%r12,%r12
@@ -578,8 +578,8 @@
 	jmp	3f
 7:
 	pxor	%xmm0,%xmm0
-	movdqa	%xmm0,22752(%rsp)
-	movq	$0,22768(%rsp)
+	movdqa	%xmm0,22240(%rsp)
+	movq	$0,22256(%rsp)
 	cmpq	$3,%rbx
 	ja	3f
 	decq	%r13
@@ -598,7 +598,7 @@
 	jb	5b
 	jmp	3f
 7:
-	leaq	22752(%rsp),%rdi
+	leaq	22240(%rsp),%rdi
 	movq	%rbx,%rdx
 	movq	%r8,%r15
 	movq	%rbp,16(%rsp)
@@ -606,13 +606,13 @@
 	callq	"core::str::utf8::from_utf8"
 	movq	%rbp,%rdx
 	movq	16(%rsp),%rbp
-	cmpb	$0,22752(%rsp)
+	cmpb	$0,22240(%rsp)
 	jne	3f
-	movq	22768(%rsp),%rax
+	movq	22256(%rsp),%rax
 	testq	%rax,%rax
 	je	3f
 	movq	%r15,%rsi
-	movq	22760(%rsp),%rcx
+	movq	22248(%rsp),%rcx
 	cmpb	$43,(%rcx)
 	jne	5f
 	cmpq	$1,%rax
@@ -965,8 +965,8 @@
 	movq	272(%rsp),%r15
 	movq	280(%rsp),%r13
 	leaq	288(%rsp),%rsi
-	leaq	32960(%rsp),%rdi
-	movl	$11216,%edx
+	leaq	32448(%rsp),%rdi
+	movl	$10960,%edx
 	callq	memcpy@PLT
 	movq	%r12,%rdx
 	movq	%r14,%rcx
@@ -981,34 +981,34 @@
 	xorl	%ebp,%ebp
 1:
 	leaq	288(%rsp),%rsi
-	leaq	32960(%rsp),%rdi
-	movl	$11216,%edx
+	leaq	32448(%rsp),%rdi
+	movl	$10960,%edx
 	callq	memcpy@PLT
 	xorl	%r12d,%r12d
 22:
 	testq	%rbp,%rbp
 	je	27f
-	leaq	44184(%rsp),%rdi
-	leaq	32960(%rsp),%rsi
-	movl	$11216,%edx
+	leaq	43416(%rsp),%rdi
+	leaq	32448(%rsp),%rsi
+	movl	$10960,%edx
 	callq	memcpy@PLT
 	movq	%r15,%rbp
 	movq	%r13,%r15
 28:
-	leaq	55400(%rsp),%rbx
-	leaq	44184(%rsp),%rsi
-	movl	$11216,%edx
+	leaq	54376(%rsp),%rbx
+	leaq	43416(%rsp),%rsi
+	movl	$10960,%edx
 	movq	%rbx,%rdi
 	callq	memcpy@PLT
-	movq	%rbp,11504(%rsp)
-	movq	%r15,11512(%rsp)
-	leaq	11520(%rsp),%rdi
-	movl	$11216,%edx
+	movq	%rbp,11248(%rsp)
+	movq	%r15,11256(%rsp)
+	leaq	11264(%rsp),%rdi
+	movl	$10960,%edx
 	movq	%rbx,%rsi
 	callq	memcpy@PLT
-	movq	%r14,22736(%rsp)
-	movq	%r12,22744(%rsp)
-	leaq	11504(%rsp),%r14
+	movq	%r14,22224(%rsp)
+	movq	%r12,22232(%rsp)
+	leaq	11248(%rsp),%r14
 	movq	%r14,%rdi
 	callq	"rtp_listing::printing::print_all::<#df9e9f1468b30f79>"
 	movl	%eax,%ebp
@@ -1055,8 +1055,8 @@
 	jmp	31f
 27:
 	pxor	%xmm0,%xmm0
-	movdqu	%xmm0,22760(%rsp)
-	movq	$0,22776(%rsp)
+	movdqu	%xmm0,22248(%rsp)
+	movq	$0,22264(%rsp)
 	movdqu	%xmm0,120(%rsp)
 	movq	$0,136(%rsp)
 	movdqu	%xmm0,72(%rsp)
@@ -1070,12 +1070,12 @@
 	movdqu	%xmm0,152(%rsp)
 	movq	$0,168(%rsp)
 	leaq	272(%rsp),%rbx
-	movl	$11232,%edx
+	movl	$10976,%edx
 	movq	%rbx,%rdi
 	xorl	%esi,%esi
 	callq	memset@PLT
-	movq	$2,22752(%rsp)
-	leaq	22752(%rsp),%rdx
+	movq	$2,22240(%rsp)
+	leaq	22240(%rsp),%rdx
 	movq	%rbx,%rdi
 	movl	$1,%esi
 	callq	"rtp_ext::map::ExtensionMap::set"
@@ -1113,13 +1113,13 @@
 	movq	%r15,%rbx
 	movq	280(%rsp),%r15
 	leaq	288(%rsp),%rsi
-	leaq	44184(%rsp),%rdi
-	movl	$11216,%edx
+	leaq	43416(%rsp),%rdi
+	movl	$10960,%edx
 	callq	memcpy@PLT
 	movq	%rbx,272(%rsp)
 	movq	%r13,280(%rsp)
 	leaq	288(%rsp),%rdi
-	leaq	32960(%rsp),%rsi
+	leaq	32448(%rsp),%rsi
 	movl	$10184,%edx
 	callq	memcpy@PLT
 	movl	$32,%ebx
@@ -1412,16 +1412,16 @@
 	movb	$38,%r12b
 6:
 	movaps	.Lrtp_CPI0_19(%rip),%xmm0
-	movaps	%xmm0,11504(%rsp)
+	movaps	%xmm0,11248(%rsp)
 	movdqa	.Lrtp_CPI0_20(%rip),%xmm0
-	movdqa	%xmm0,11520(%rsp)
+	movdqa	%xmm0,11264(%rsp)
 	movabsq	$2820983053732684064,%rax
-	movq	%rax,11536(%rsp)
-	movb	$40,11544(%rsp)
+	movq	%rax,11280(%rsp)
+	movb	$40,11288(%rsp)
 	cmpb	$41,%r12b
 	jae	4f
 	movzbl	%r12b,%eax
-	cmpb	$38,11504(%rsp,%rax)
+	cmpb	$38,11248(%rsp,%rax)
 	sete	%bl
 	xorb	$3,%bl
 	cmpq	$0,56(%rsp)
@@ -1448,7 +1448,7 @@
 	leaq	".Lrtp_switch.table.rtp_lines::main+start"(%rip), %rcx
 	movl	(%rcx,%rax,4),%eax
 31:
-	addq	$66616,%rsp
+	addq	$65336,%rsp
 	.cfi_def_cfa_offset 56
 	popq	%rbx
 	.cfi_def_cfa_offset 48
@@ -1464,7 +1464,7 @@
 	.cfi_def_cfa_offset 8
 	retq
 6:
-	.cfi_def_cfa_offset 66672
+	.cfi_def_cfa_offset 65392
 	movl	$3,%eax
 	jmp	31b
 3:
@@ -1521,7 +1521,7 @@
 	movq	%r15,272(%rsp)
 	movq	%r13,280(%rsp)
 	leaq	288(%rsp),%rdi
-	leaq	32960(%rsp),%rsi
+	leaq	32448(%rsp),%rsi
 	movl	$10184,%edx
 	callq	memcpy@PLT
 	movl	$32,%r14d
@@ -1589,8 +1589,8 @@
 	movq	$0,(%r14)
 	movq	$-1,312(%rsp)
 	pxor	%xmm0,%xmm0
-	movdqa	%xmm0,32960(%rsp)
-	movq	$0,32976(%rsp)
+	movdqa	%xmm0,32448(%rsp)
+	movq	$0,32464(%rsp)
 	movl	$24,%ecx
 	cmpq	$100,%rbx
 	jb	4f
@@ -1610,9 +1610,9 @@
 	leal	(%r8,%r8,4),%r8d
 	subb	%r8b,%al
 	orb	$48,%al
-	movb	%al,32959(%rsp,%rcx)
+	movb	%al,32447(%rsp,%rcx)
 	orb	$48,%sil
-	movb	%sil,32958(%rsp,%rcx)
+	movb	%sil,32446(%rsp,%rcx)
 	addq	$-2,%rcx
 	cmpq	$9999,%rbx
 	movq	%rdx,%rbx
@@ -1630,19 +1630,19 @@
 	leal	(%rsi,%rsi,4),%esi
 	subb	%sil,%dl
 	orb	$48,%dl
-	movb	%dl,32959(%rsp,%rcx)
+	movb	%dl,32447(%rsp,%rcx)
 	orb	$48,%al
-	movb	%al,32958(%rsp,%rcx)
+	movb	%al,32446(%rsp,%rcx)
 	addq	$-2,%rcx
 	jmp	6f
 4:
 	orb	$48,%dl
-	movb	%dl,32959(%rsp,%rcx)
+	movb	%dl,32447(%rsp,%rcx)
 	decq	%rcx
 6:
 	leaq	(%rsp,%rcx),%rsi
-	addq	$32960,%rsi
-	movb	$45,32959(%rsp,%rcx)
+	addq	$32448,%rsi
+	movb	$45,32447(%rsp,%rcx)
 	movl	$24,%edx
 	subq	%rcx,%rdx
 	cmpq	$0,320(%rsp)
@@ -1773,7 +1773,7 @@
 	movb	$2,%bl
 	jmp	29b
 14:
-	leaq	22752(%rsp),%rdi
+	leaq	22240(%rsp),%rdi
 	leaq	272(%rsp),%rsi
 	movl	$10200,%edx
 	callq	memcpy@PLT
@@ -1784,12 +1784,12 @@
 	cmpq	$10232,%rbx
 	je	1b
 2:
-	movzbl	22720(%rsp,%rbx),%edx
+	movzbl	22208(%rsp,%rbx),%edx
 	testl	%edx,%edx
 	je	3b
-	movzbl	22728(%rsp,%rbx),%ecx
-	movq	22736(%rsp,%rbx),%rdi
-	movq	22752(%rsp,%rbx),%rax
+	movzbl	22216(%rsp,%rbx),%ecx
+	movq	22224(%rsp,%rbx),%rdi
+	movq	22240(%rsp,%rbx),%rax
 	cmpl	$2,%edx
 	cmpb	$15,%cl
 	setne	%cl
@@ -2572,385 +2572,115 @@
 	.type	"rtp_ext::map::ExtensionMap::set",@function
 "rtp_ext::map::ExtensionMap::set":
 	.cfi_startproc
-	pushq	%rbp
-	.cfi_def_cfa_offset 16
-	pushq	%r15
-	.cfi_def_cfa_offset 24
-	pushq	%r14
-	.cfi_def_cfa_offset 32
-	pushq	%r13
-	.cfi_def_cfa_offset 40
-	pushq	%r12
-	.cfi_def_cfa_offset 48
-	pushq	%rbx
-	.cfi_def_cfa_offset 56
-	.cfi_offset %rbx,-56
-	.cfi_offset %r12,-48
-	.cfi_offset %r13,-40
-	.cfi_offset %r14,-32
-	.cfi_offset %r15,-24
-	.cfi_offset %rbp,-16
 	movzbl	(%rdx),%r8d
-	movq	8(%rdx),%r13
+	movq	8(%rdx),%rax
 	testb	%sil,%sil
 	je	1f
+	pushq	%rbp
+	.cfi_def_cfa_offset 16
+	pushq	%r14
+	.cfi_def_cfa_offset 24
+	pushq	%rbx
+	.cfi_def_cfa_offset 32
+	.cfi_offset %rbx,-32
+	.cfi_offset %r14,-24
+	.cfi_offset %rbp,-16
 	movups	16(%rdx),%xmm0
+	xorl	%r9d,%r9d
 	xorl	%ecx,%ecx
 	cmpq	$15,%r8
+	setne	%cl
 	movl	%r8d,%r10d
-	cmovel	%ecx,%r10d
-	movzbl	%sil,%ecx
-	movzbl	10456(%rdi,%rcx,2),%edx
-	movzbl	10457(%rdi,%rcx,2),%r9d
-	setne	10456(%rdi,%rcx,2)
-	movb	%r10b,10457(%rdi,%rcx,2)
-	leaq	10968(%rdi),%r11
-	cmpb	$1,%dl
-	jne	2f
-	cmpb	$15,%r8b
-	jne	3f
-	movzbl	11223(%rdi),%ebx
-	testq	%rbx,%rbx
-	je	3f
-	movl	%ebx,%ebp
-	xorl	%r14d,%r14d
-	.p2align	4
-4:
-	cmpb	%sil,(%r11,%r14)
-	je	5f
-	incq	%r14
-	cmpq	%r14,%rbx
-	jne	4b
-	jmp	3f
-1:
-	cmpl	$15,%r8d
-	jne	1f
-	cmpq	$0,24(%rdx)
-	je	1f
-	movq	%r13,%rdi
-	jmp	4f
-2:
-	cmpb	$15,%r8b
-	je	3f
-	movzbl	11223(%rdi),%r14d
-	testq	%r14,%r14
-	je	2f
-	cmpb	-1(%r11,%r14),%sil
-	jae	6f
-	xorl	%ebx,%ebx
-	movq	%r13,-16(%rsp)
-	.p2align	4
-7:
-	cmpb	(%r11,%rbx),%sil
-	jbe	8f
-	incq	%rbx
-	cmpq	%rbx,%r14
-	jne	7b
-	movq	%r14,%rbx
-8:
-	movq	%r14,%r15
-	subq	%rbx,%r15
-	je	7f
-	cmpq	$8,%r15
-	jae	8f
-9:
-	movq	%r15,%r13
-	jmp	10f
-2:
-	xorl	%r14d,%r14d
-6:
-	movb	%sil,(%r11,%r14)
-	jmp	2f
-5:
-	leaq	-1(%rbx),%r15
-	cmpq	%r14,%r15
-	je	5f
-	movq	%r14,%r15
-	notq	%r15
-	addq	%rbx,%r15
-	cmpq	$4,%r15
-	jae	6f
-	xorl	%r12d,%r12d
-	jmp	11f
-8:
-	cmpq	$32,%r15
-	jae	8f
-	xorl	%r12d,%r12d
-	jmp	12f
-6:
-	cmpq	$32,%r15
-	movq	%r13,-16(%rsp)
-	jae	6f
-	xorl	%r12d,%r12d
-	jmp	13f
-8:
-	movq	%r15,%rax
-	movq	%r15,%r12
-	andq	$-32,%r12
-	movq	%r12,%r13
-	negq	%r13
-	leaq	(%r14,%rdi),%rbp
-	addq	$10953,%rbp
-	xorl	%r15d,%r15d
-	.p2align	4
-8:
-	movups	-17(%rbp,%r15),%xmm1
-	movups	-1(%rbp,%r15),%xmm2
-	movups	%xmm2,(%rbp,%r15)
-	movups	%xmm1,-16(%rbp,%r15)
-	addq	$-32,%r15
-	cmpq	%r15,%r13
-	jne	8b
-	cmpq	%r12,%rax
-	je	7f
-	movq	%rax,%r15
-	testb	$24,%r15b
-	je	8f
-12:
-	movq	%r15,%rbp
-	andq	$-8,%rbp
-	movl	%r15d,%r13d
-	andl	$7,%r13d
-	movq	%rbp,-8(%rsp)
-	negq	%rbp
-	negq	%r12
-	addq	%rdi,%r14
-	addq	$10961,%r14
-	.p2align	4
-12:
-	movq	-1(%r14,%r12),%rax
-	movq	%rax,(%r14,%r12)
-	addq	$-8,%r12
-	cmpq	%r12,%rbp
-	jne	12b
-	cmpq	-8(%rsp),%r15
-	je	7f
-10:
-	leaq	(%r11,%rbx),%r14
-	movq	%r13,%r15
-	.p2align	4
-10:
-	decq	%r15
-	movzbl	-1(%r14,%r13),%eax
-	movb	%al,(%r14,%r13)
-	movq	%r15,%r13
-	jne	10b
-7:
-	movb	%sil,(%r11,%rbx)
-	movq	-16(%rsp),%r13
-2:
-	incb	11223(%rdi)
-	jmp	3f
-6:
-	movq	%r15,%r12
-	andq	$-32,%r12
-	movq	%r15,%r13
-	andq	$-32,%r13
-	xorl	%ebp,%ebp
-2:
-	leaq	(%r11,%rbp),%rax
-	movups	1(%r14,%rax),%xmm1
-	movups	17(%r14,%rax),%xmm2
-	movups	%xmm1,(%r14,%rax)
-	movups	%xmm2,16(%r14,%rax)
-	addq	$32,%rbp
-	cmpq	%rbp,%r13
-	jne	2b
-	cmpq	%r12,%r15
-	movq	-16(%rsp),%r13
-	je	2f
-	testb	$28,%r15b
-	je	11f
-13:
-	movq	%r12,%r13
-	movq	%r15,%r12
-	andq	$-4,%r12
-	movq	%r15,-8(%rsp)
-	movq	%r15,%rbp
-	andq	$-4,%rbp
-	.p2align	4
-6:
-	leaq	(%r11,%r13),%rax
-	movl	1(%r14,%rax),%r15d
-	movl	%r15d,(%r14,%rax)
-	addq	$4,%r13
-	cmpq	%r13,%rbp
-	jne	6b
-	movq	-8(%rsp),%r15
-	cmpq	%r12,%r15
-	movq	-16(%rsp),%r13
-	je	2f
-	.p2align	4
-11:
-	leaq	(%r11,%r12),%rax
-	movzbl	1(%r14,%rax),%ebp
-	movb	%bpl,(%r14,%rax)
-	incq	%r12
-	cmpq	%r12,%r15
-	jne	11b
-2:
-	movzbl	11223(%rdi),%ebp
-5:
-	movb	$0,10967(%rdi,%rbx)
-	decb	%bpl
-	movb	%bpl,11223(%rdi)
-3:
-	xorl	%eax,%eax
+	movzbl	%sil,%ebx
+	movzbl	10202(%rdi,%rbx,2),%edx
+	movzbl	10203(%rdi,%rbx,2),%r11d
+	setne	10202(%rdi,%rbx,2)
+	cmovel	%r9d,%r10d
+	movb	%r10b,10203(%rdi,%rbx,2)
+	xorl	%r9d,%r9d
 	cmpb	$14,%r10b
-	sete	%al
-	xorb	$1,%dl
-	xorb	$14,%r9b
-	xorl	%r10d,%r10d
-	orb	%dl,%r9b
-	sete	%r10b
-	subl	%r10d,%eax
-	addw	%ax,11224(%rdi)
-	leaq	(%rcx,%rcx,4),%rax
-	movzbl	-40(%rdi,%rax,8),%r10d
-	movzbl	-32(%rdi,%rax,8),%r9d
-	movq	-24(%rdi,%rax,8),%rcx
-	movq	-8(%rdi,%rax,8),%rdx
-	movq	$1,-40(%rdi,%rax,8)
-	movq	%r8,-32(%rdi,%rax,8)
-	movq	%r13,-24(%rdi,%rax,8)
-	movups	%xmm0,-16(%rdi,%rax,8)
-	cmpl	$2,%r10d
+	sete	%r9b
+	addw	10972(%rdi),%r9w
+	movl	%edx,%r10d
+	xorb	$1,%r10b
+	xorb	$14,%r11b
+	xorl	%ebp,%ebp
+	orb	%r10b,%r11b
+	sete	%bpl
+	subl	%ebp,%r9d
+	movw	%r9w,10972(%rdi)
+	movl	%edx,%r9d
+	andl	$1,%r9d
+	movl	%ecx,%r10d
+	subl	%r9d,%r10d
+	addw	%r10w,10970(%rdi)
+	andb	$1,%dl
+	cmpb	%dl,%cl
 	je	2f
-	cmpl	$1,%r10d
+	movl	%esi,%ecx
+	cmpb	$15,%r8b
 	jne	3f
+	movzbl	10714(%rdi,%rbx),%ecx
+3:
+	movq	%rbx,%r9
+	movq	%rbx,%rdx
+	.p2align	4
+3:
+	subq	$1,%rdx
+	jb	2f
+	movb	%cl,10713(%rdi,%r9)
+	cmpb	$1,10202(%rdi,%rdx,2)
+	movq	%rdx,%r9
+	jne	3b
 2:
+	leaq	(%rbx,%rbx,4),%r11
+	movzbl	-40(%rdi,%r11,8),%r10d
+	movzbl	-32(%rdi,%r11,8),%r9d
+	movq	-24(%rdi,%r11,8),%rcx
+	movq	-8(%rdi,%r11,8),%rdx
+	movq	$1,-40(%rdi,%r11,8)
+	movq	%r8,-32(%rdi,%r11,8)
+	movq	%rax,-24(%rdi,%r11,8)
+	movups	%xmm0,-16(%rdi,%r11,8)
+	testl	%r10d,%r10d
+	je	2f
+	cmpl	$2,%r10d
 	cmpb	$15,%r9b
 	setne	%al
 	testq	%rdx,%rdx
 	sete	%dl
 	orb	%al,%dl
-	jne	1f
+	jne	2f
+	movq	%rdi,%r14
 	movq	%rcx,%rdi
-4:
+	movl	%esi,%ebp
+	callq	rattle_dealloc@PLT
+	movl	%ebp,%esi
+	movq	%r14,%rdi
+2:
+	movzbl	10200(%rdi),%eax
+	cmpb	%al,%sil
+	cmovbel	%eax,%ebx
+	movb	%bl,10200(%rdi)
 	popq	%rbx
-	.cfi_def_cfa_offset 48
-	popq	%r12
-	.cfi_def_cfa_offset 40
-	popq	%r13
-	.cfi_def_cfa_offset 32
-	popq	%r14
 	.cfi_def_cfa_offset 24
-	popq	%r15
+	popq	%r14
 	.cfi_def_cfa_offset 16
 	popq	%rbp
 	.cfi_def_cfa_offset 8
-	jmp	rattle_dealloc@PLT
-3:
-	.cfi_def_cfa_offset 56
-	leaq	10200(%rdi),%rax
-	movzbl	10455(%rdi),%edx
-	testq	%rdx,%rdx
-	je	2f
-	cmpb	-1(%rax,%rdx),%sil
-	jae	3f
-	xorl	%ecx,%ecx
-	.p2align	4
-4:
-	cmpb	(%rax,%rcx),%sil
-	jbe	5f
-	incq	%rcx
-	cmpq	%rcx,%rdx
-	jne	4b
-	movq	%rdx,%rcx
-5:
-	movq	%rdx,%r8
-	subq	%rcx,%r8
-	je	4f
-	cmpq	$8,%r8
-	jae	5f
-6:
-	movq	%r8,%r10
-	jmp	7f
-2:
-	xorl	%edx,%edx
-3:
-	movb	%sil,(%rax,%rdx)
-	jmp	2f
-5:
-	cmpq	$32,%r8
-	jae	3f
-	xorl	%r9d,%r9d
-	jmp	5f
-3:
-	movq	%r8,%r9
-	andq	$-32,%r9
-	movq	%r9,%r10
-	negq	%r10
-	leaq	(%rdx,%rdi),%r11
-	addq	$10185,%r11
-	xorl	%ebx,%ebx
-	.p2align	4
-3:
-	movups	-17(%r11,%rbx),%xmm0
-	movups	-1(%r11,%rbx),%xmm1
-	movups	%xmm1,(%r11,%rbx)
-	movups	%xmm0,-16(%r11,%rbx)
-	addq	$-32,%rbx
-	cmpq	%rbx,%r10
-	jne	3b
-	cmpq	%r9,%r8
-	je	4f
-	testb	$24,%r8b
-	je	3f
-5:
-	movq	%r8,%r11
-	andq	$-8,%r11
-	movl	%r8d,%r10d
-	andl	$7,%r10d
-	movq	%r11,%rbx
-	negq	%rbx
-	negq	%r9
-	addq	%rdi,%rdx
-	addq	$10193,%rdx
-	.p2align	4
-5:
-	movq	-1(%rdx,%r9),%r14
-	movq	%r14,(%rdx,%r9)
-	addq	$-8,%r9
-	cmpq	%r9,%rbx
-	jne	5b
-	cmpq	%r11,%r8
-	je	4f
-7:
-	leaq	(%rax,%rcx),%rdx
-	movq	%r10,%r8
-	.p2align	4
-5:
-	decq	%r8
-	movzbl	-1(%rdx,%r10),%r9d
-	movb	%r9b,(%rdx,%r10)
-	movq	%r8,%r10
-	jne	5b
-4:
-	movb	%sil,(%rax,%rcx)
-2:
-	incb	10455(%rdi)
-1:
-	popq	%rbx
-	.cfi_def_cfa_offset 48
-	popq	%r12
-	.cfi_def_cfa_offset 40
-	popq	%r13
-	.cfi_def_cfa_offset 32
-	popq	%r14
-	.cfi_def_cfa_offset 24
-	popq	%r15
-	.cfi_def_cfa_offset 16
-	popq	%rbp
-	.cfi_def_cfa_offset 8
+	.cfi_restore %rbx
+	.cfi_restore %r14
+	.cfi_restore %rbp
 	retq
-3:
-	.cfi_def_cfa_offset 56
-	andl	$31,%r8d
-	jmp	6b
-8:
-	andl	$31,%r15d
-	jmp	9b
+1:
+	cmpl	$15,%r8d
+	jne	1f
+	cmpq	$0,24(%rdx)
+	je	1f
+	movq	%rax,%rdi
+	jmp	rattle_dealloc@PLT
+1:
+	retq
 	.size	"rtp_ext::map::ExtensionMap::set", .-"rtp_ext::map::ExtensionMap::set"
 	.cfi_endproc
 
@@ -3061,11 +2791,11 @@
 	movq	%r15,%rdi
 	xorl	%esi,%esi
 	callq	memset@PLT
-	movq	11240(%rbx),%rbp
+	movq	10984(%rbx),%rbp
 	testq	%rbp,%rbp
 	je	2f
 	movq	%rbx,320(%rsp)
-	movq	11232(%rbx),%r12
+	movq	10976(%rbx),%r12
 	xorl	%esi,%esi
 	xorl	%r13d,%r13d
 	movq	%r15,48(%rsp)
@@ -8453,10 +8183,10 @@
 	jb	2f
 	movzbl	(%rax),%ecx
 	addq	%rax,%rbp
-	cmpb	$1,10456(%r14,%rcx,2)
+	cmpb	$1,10202(%r14,%rcx,2)
 	jne	7b
 	leaq	2(%rax),%r8
-	movzbl	10457(%r14,%rcx,2),%ecx
+	movzbl	10203(%r14,%rcx,2),%ecx
 	leaq	3f(%rip),%rsi
 	movslq	(%rsi,%rcx,4),%rcx
 	addq	%rsi,%rcx
@@ -8716,9 +8446,9 @@
 	jb	38f
 	movzbl	(%r14),%eax
 	movq	40(%rsp),%rcx
-	cmpb	$1,10456(%rcx,%rax,2)
+	cmpb	$1,10202(%rcx,%rax,2)
 	jne	39f
-	cmpb	$14,10457(%rcx,%rax,2)
+	cmpb	$14,10203(%rcx,%rax,2)
 	jne	40f
 	leaq	(%r14,%r12),%rbp
 	addq	$2,%r14
@@ -9142,11 +8872,11 @@
 	shrb	$3,%sil
 	movzbl	%sil,%esi
 	andl	$30,%esi
-	cmpb	$1,10456(%r14,%rsi)
+	cmpb	$1,10202(%r14,%rsi)
 	jne	11b
 	leaq	1(%rax),%r15
 	decq	%r12
-	movzbl	10457(%r14,%rsi),%esi
+	movzbl	10203(%r14,%rsi),%esi
 	leaq	1f(%rip),%rdi
 	movslq	(%rdi,%rsi,4),%rsi
 	addq	%rdi,%rsi
@@ -9222,9 +8952,9 @@
 	movzbl	%al,%eax
 	andl	$30,%eax
 	movq	40(%rsp),%rcx
-	cmpb	$1,10456(%rcx,%rax)
+	cmpb	$1,10202(%rcx,%rax)
 	jne	22f
-	cmpb	$14,10457(%rcx,%rax)
+	cmpb	$14,10203(%rcx,%rax)
 	jne	22f
 	leaq	(%r14,%rbp),%rbx
 	leaq	-1(%r14),%rsi

@@ -28,7 +28,7 @@ import amd64
 import arm64
 from described import go
 from described.header import SIZES, read
-from linked import Linked, Refused, run
+from linked import Linked, Refused, insist, run
 
 
 class Text:
