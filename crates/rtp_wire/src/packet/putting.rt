@@ -80,7 +80,7 @@ pub fn put_element_copy<const COPY: usize>(
     let header_len = packet.header_len;
     let form = packet.form;
     let mut packet = RtpPacketBuf::new(buf, len, header_len, form);
-    packet.put_element(id, data, allowed)?;
+    packet.put::<COPY>(id, data, allowed)?;
     Ok(packet.len)
 }
 
@@ -94,8 +94,29 @@ impl<'a> RtpPacketBuf<'a> {
     /// The packet `90 60 00 05 00 00 00 64 00 00 00 2C BE DE 00 01 10 AA 00 00 01` (hexadecimal), in
     /// a buffer of 25 bytes or more, gets the data `07 08` of id 2: it then is
     /// `90 60 00 05 00 00 00 64 00 00 00 2C BE DE 00 02 10 AA 21 07 08 00 00 00 01`.
-    #[inline(always)]
     pub fn put_element(
+        &mut self,
+        id: u8,
+        data: &[u8],
+        allowed: Option<ExtensionsForm>,
+    ) -> Result<(), NotPut>
+        ensures put { OnOk result (PutsElement (bytes_of self.old) (id, «data».now) allowed
+            (whole_of self.new).now (len_of self.new)) }
+        ensures length { OnOk result (len_of self.old ≤ len_of self.new) }
+        ensures behind { OnOk result (drop (len_of self.new) (whole_of self.new).now
+            ≡ drop (len_of self.new) (whole_of self.old).now) }
+        ensures cause { IfErr result (IsFirstNotPut
+            (AppliesToPut (whole_of self.old).now (len_of self.old) (id, «data».now) allowed)) }
+        ensures refused { IsErr result ↔ ((cause : NotPut)
+            × AppliesToPut (whole_of self.old).now (len_of self.old) (id, «data».now) allowed cause) }
+        ensures unchanged { OnErr result (StaysWhole self.old self.new) }
+        ensures same_buffer { (whole_of self.new).ghost_name ≡ (whole_of self.old).ghost_name }
+    {
+        self.put::<0>(id, data, allowed)
+    }
+
+    // Puts an element as `put_element` does, compiled anew for each `COPY`.
+    fn put<const COPY: usize>(
         &mut self,
         id: u8,
         data: &[u8],

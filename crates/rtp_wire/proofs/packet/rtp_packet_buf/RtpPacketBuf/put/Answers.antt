@@ -13,12 +13,12 @@ use Rattle.rtp_wire.proofs.PacketBufLemmas.{IsKept, IsKept-laid, IsKept-new, hel
 use Rattle.rtp_wire.proofs.PutPlanLemmas.{IsWritable-allowed, plan-of}
 use Rattle.rtp_wire.proofs.RewrittenLemmas.{are-in_packet, new-rewritten, none_at_all, short-kept}
 use Rattle.rtp_wire.proofs.PutElementLemmas.{first-form, cause-to, form-to_put, put-to_form, form-of, carried, growth-of, of-growth, rewriting-to_put, put-to_rewriting, PutsElement-rewritten, PutsElement-front}
-use Rattle.rtp_wire.proofs.packet.rtp_packet_buf.RtpPacketBuf.put_element.Goals as goal
-use Rattle.rtp_wire.proofs.packet.rtp_packet_buf.RtpPacketBuf.put_element.Goals.{After-form_with, After-set}
+use Rattle.rtp_wire.proofs.packet.rtp_packet_buf.RtpPacketBuf.put.Goals as goal
+use Rattle.rtp_wire.proofs.packet.rtp_packet_buf.RtpPacketBuf.put.Goals.{After-form_with, After-set}
 
 -- ---- the form
 
-first : (c : After-form_with) (cause : NotPut) → IsFirstBy put_place (StopsForm c.as_packet-packet.result.datagram.now (c.args.id, c.args.data.now) c.args.allowed) cause
+first : {g : _} (c : After-form_with g) (cause : NotPut) → IsFirstBy put_place (StopsForm c.as_packet-packet.result.datagram.now (c.args.id, c.args.data.now) c.args.allowed) cause
     → IsFirstBy put_place (AppliesToPut c.args.self.now.buf.now c.args.self.now.len (c.args.id, c.args.data.now) c.args.allowed) cause
 first c cause =
     let fits = c.in_ok-check_element.ensures.fits in
@@ -26,16 +26,16 @@ first c cause =
     (form-to_put c.args.self.now (c.args.id, c.args.data.now) c.args.allowed fits.0 fits.1) (put-to_form c.args.self.now (c.args.id, c.args.data.now) c.args.allowed fits.0 fits.1)
 
 pub returns-in_err-form-clause-cause : goal.returns-in_err-form-clause-cause
-returns-in_err-form-clause-cause c = let found = first (goal.at.returns-in_err-form-clause-cause c).After-form_with c.in_err-form.field-0.0 c.in_err-form.ensures.cause in search rules
+returns-in_err-form-clause-cause g c = let found = first (goal.at.returns-in_err-form-clause-cause g c).After-form_with c.in_err-form.field-0.0 c.in_err-form.ensures.cause in search rules
 
 pub returns-in_err-form-clause-refused : goal.returns-in_err-form-clause-refused
-returns-in_err-form-clause-refused c =
-    let found = first (goal.at.returns-in_err-form-clause-refused c).After-form_with c.in_err-form.field-0.0 c.in_err-form.ensures.cause in
+returns-in_err-form-clause-refused g c =
+    let found = first (goal.at.returns-in_err-form-clause-refused g c).After-form_with c.in_err-form.field-0.0 c.in_err-form.ensures.cause in
     (λ _. (c.in_err-form.field-0.0, found.applies), λ _. c.from_residual-in_err-form.ensures.0)
 
 -- ---- the plan
 
-module _ (c : After-set) where
+module _ {g : _} (c : After-set g) where
   abbrev self : RtpPacketBuf
   self = c.args.self.now
 
@@ -109,14 +109,14 @@ module _ (c : After-set) where
       puts.growth.parts puts.growth.form puts.body self.header_len puts.growth.is_packet puts.is_packet refl)
 
 pub invariant_of-self : goal.invariant_of-self
-invariant_of-self c = kept (goal.at.invariant_of-self c).After-set c.set.result refl
+invariant_of-self g c = kept (goal.at.invariant_of-self g c).After-set c.set.result refl
 
 pub returns-then-set-clause-put : goal.returns-then-set-clause-put
-returns-then-set-clause-put c = set-in-place (goal.at.returns-then-set-clause-put c).After-set c.if-set.true
+returns-then-set-clause-put g c = set-in-place (goal.at.returns-then-set-clause-put g c).After-set c.if-set.true
 
 pub returns-then-set-clause-refused : goal.returns-then-set-clause-refused
-returns-then-set-clause-refused c =
-    let at = (goal.at.returns-then-set-clause-refused c).After-set in
+returns-then-set-clause-refused g c =
+    let at = (goal.at.returns-then-set-clause-refused g c).After-set in
     let puts = set-in-place at c.if-set.true in
     let plan = planned at in
     let kept : IsRewritten (bytes at) (form at) c.args.id (element at ∷ []) =
@@ -133,16 +133,16 @@ returns-then-set-clause-refused c =
 -- ---- what is rewritten
 
 pub rewrite-requires-clause-plan : goal.rewrite-requires-clause-plan
-rewrite-requires-clause-plan c =
-    let at = (goal.at.rewrite-requires-clause-plan c).After-set in
+rewrite-requires-clause-plan g c =
+    let at = (goal.at.rewrite-requires-clause-plan g c).After-set in
     subst (λ (b : List ℕ). IsPlan (take c.args.self.now.len b) (parts_at (take c.args.self.now.len b)) c.args.id c.new-plan.result) (sym (same-buffer at c.if-set.false)) (planned at)
 
 pub rewrite-requires-clause-writable : goal.rewrite-requires-clause-writable
-rewrite-requires-clause-writable c = writable (goal.at.rewrite-requires-clause-writable c).After-set
+rewrite-requires-clause-writable g c = writable (goal.at.rewrite-requires-clause-writable g c).After-set
 
 pub returns-clause-put : goal.returns-clause-put
-returns-clause-put c =
-    let at = (goal.at.returns-clause-put c).After-set in
+returns-clause-put g c =
+    let at = (goal.at.returns-clause-put g c).After-set in
     let new = c.rewrite.new.self in
     IfOk-weaker c.rewrite.result (λ _. RewritesBlock (bytes at) (form at) c.args.id (element at ∷ []) new.buf.now new.len) (λ _. PutsElement (bytes at) (element at) c.args.allowed new.buf.now new.len)
     (λ _ made.
@@ -151,24 +151,24 @@ returns-clause-put c =
     (subst (λ (b : List ℕ). OnOk c.rewrite.result (RewritesBlock (take c.args.self.now.len b) (form at) c.args.id (element at ∷ []) new.buf.now new.len)) (same-buffer at c.if-set.false) c.rewrite.ensures.rewritten)
 
 pub returns-clause-behind : goal.returns-clause-behind
-returns-clause-behind c =
+returns-clause-behind g c =
     subst (λ (b : List ℕ). OnOk c.rewrite.result (drop c.rewrite.new.self.len c.rewrite.new.self.buf.now ≡ drop c.rewrite.new.self.len b))
-    (same-buffer (goal.at.returns-clause-behind c).After-set c.if-set.false) c.rewrite.ensures.behind
+    (same-buffer (goal.at.returns-clause-behind g c).After-set c.if-set.false) c.rewrite.ensures.behind
 
 pub returns-clause-unchanged : goal.returns-clause-unchanged
-returns-clause-unchanged c =
-    let at = (goal.at.returns-clause-unchanged c).After-set in
+returns-clause-unchanged g c =
+    let at = (goal.at.returns-clause-unchanged g c).After-set in
     IfErr-weaker c.rewrite.result _ _ (λ _ stays. record { len_is = stays.len_is; bytes_are = stays.bytes_are ∙ same-buffer at c.if-set.false }) c.rewrite.ensures.unchanged
 
 pub returns-clause-cause : goal.returns-clause-cause
-returns-clause-cause c =
-    let at = (goal.at.returns-clause-cause c).After-set in
+returns-clause-cause g c =
+    let at = (goal.at.returns-clause-cause g c).After-set in
     cause-to _ _ (to-put at) (from-put at) c.rewrite.result
     (subst (λ (b : List ℕ). IfErr c.rewrite.result (IsFirstNotPut (StopsRewriting (take c.args.self.now.len b) (length b) (form at) c.args.id (element at ∷ [])))) (same-buffer at c.if-set.false) c.rewrite.ensures.cause)
 
 pub returns-clause-refused : goal.returns-clause-refused
-returns-clause-refused c =
-    let at = (goal.at.returns-clause-refused c).After-set in
+returns-clause-refused g c =
+    let at = (goal.at.returns-clause-refused g c).After-set in
     let P : List ℕ → Type 0 = λ b. IsErr c.rewrite.result ↔ ((cause : NotPut) × StopsRewriting (take c.args.self.now.len b) (length b) (form at) c.args.id (element at ∷ []) cause) in
     let refused : P c.args.self.now.buf.now = subst P (same-buffer at c.if-set.false) c.rewrite.ensures.refused in
     (λ wrong. let fact = refused.0 wrong in (fact.0, to-put at fact.0 fact.1), λ fact. refused.1 (fact.0, from-put at fact.0 fact.1))
