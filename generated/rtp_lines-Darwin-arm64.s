@@ -4,8 +4,8 @@
  * kit: rattle-kit-13f logic dac8208d650f15bf
  * proved for: x86_64-unknown-linux-gnu
  * compiled for: arm64-apple-macosx11.0.0
- * sources: 98a6c22ff0e6aa1ba5c01a18cf7cf01a3dfe76b31f38bd0dcca2df579bd17f20
- * text: 4e1b00922719950e96ccb43c315d03f670b9c2dd618fc032f3f84e38f0aa056e
+ * sources: 0dcb1d9ead633133792673a1bb2bad7142158b00a2cf9ae8139de17763076b39
+ * text: 8729a396ba931e7f449c6465833b96414b4c4cf225a082c7214365a94654c705
  * SPDX-License-Identifier: MIT OR Apache-2.0
  * Copyright (c) 2026 The rtp-wire developers (NOTICE)
  */

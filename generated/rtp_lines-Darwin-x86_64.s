@@ -4,8 +4,8 @@
  * kit: rattle-kit-13f logic dac8208d650f15bf
  * proved for: x86_64-unknown-linux-gnu
  * compiled for: x86_64-apple-macosx11.0.0
- * sources: 98a6c22ff0e6aa1ba5c01a18cf7cf01a3dfe76b31f38bd0dcca2df579bd17f20
- * text: 6dff40b52137b149145a94c645fcb3556017a10b02c57a123411464daf146f9c
+ * sources: 0dcb1d9ead633133792673a1bb2bad7142158b00a2cf9ae8139de17763076b39
+ * text: 9f324c42862c51be8780331c0d570e84ef295659c93d5402329627ec5f066c53
  * SPDX-License-Identifier: MIT OR Apache-2.0
  * Copyright (c) 2026 The rtp-wire developers (NOTICE)
  */

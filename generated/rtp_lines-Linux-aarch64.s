@@ -4,8 +4,8 @@
  * kit: rattle-kit-13f logic dac8208d650f15bf
  * proved for: aarch64-unknown-linux-gnu
  * compiled for: aarch64-unknown-linux-gnu
- * sources: 98a6c22ff0e6aa1ba5c01a18cf7cf01a3dfe76b31f38bd0dcca2df579bd17f20
- * text: c6bd0d03453f9bd0faa76c041bc32e44539da6d4c2ea6b80106fda3b65256c40
+ * sources: 0dcb1d9ead633133792673a1bb2bad7142158b00a2cf9ae8139de17763076b39
+ * text: dbb07901e52983a37b053bb2e843c0b83c84420048ec0e185eba7c96b3145e21
  * SPDX-License-Identifier: MIT OR Apache-2.0
  * Copyright (c) 2026 The rtp-wire developers (NOTICE)
  */

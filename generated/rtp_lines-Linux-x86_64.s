@@ -4,8 +4,8 @@
  * kit: rattle-kit-13f logic dac8208d650f15bf
  * proved for: x86_64-unknown-linux-gnu
  * compiled for: x86_64-unknown-linux-gnu
- * sources: 98a6c22ff0e6aa1ba5c01a18cf7cf01a3dfe76b31f38bd0dcca2df579bd17f20
- * text: 609178867530dc82b305270fefd08bf34a495394c10bdb1e6c26b3582c594a02
+ * sources: 0dcb1d9ead633133792673a1bb2bad7142158b00a2cf9ae8139de17763076b39
+ * text: 826fdbb35f11a4954cc29c9ab21c8a0d8dbbee351c432c51f7144796cd54f0b5
  * SPDX-License-Identifier: MIT OR Apache-2.0
  * Copyright (c) 2026 The rtp-wire developers (NOTICE)
  */
