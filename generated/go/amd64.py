@@ -21,7 +21,7 @@ RESULT = "AX"
 LOAD = {8: "MOVQ", 4: "MOVL", 2: "MOVWLZX", 1: "MOVBLZX"}
 STORE = {8: "MOVQ", 4: "MOVL", 2: "MOVW", 1: "MOVB"}
 IS_ODD = b"\x40\xf6\xc4\x08"  # test $8, %spl; of TESTB Go's assembler would say that it writes the stack pointer
-WORDS = ((8, "QUAD"), (4, "LONG"), (2, "WORD"), (1, "BYTE"))
+WORDS = ((8, "QUAD", 1), (4, "LONG", 1), (2, "WORD", 1), (1, "BYTE", 1))
 
 
 def bytes_of(words):

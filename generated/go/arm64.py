@@ -20,7 +20,8 @@ ARGUMENTS = [f"R{i}" for i in range(8)]
 RESULT = "R0"
 LOAD = {8: "MOVD", 4: "MOVWU", 2: "MOVHU", 1: "MOVBU"}
 STORE = {8: "MOVD", 4: "MOVW", 2: "MOVH", 1: "MOVB"}
-WORDS = ((4, "WORD"),)
+# What puts bytes, how many, and at the multiples of what it may stand.
+WORDS = ((8, "DWORD", 8), (4, "WORD", 4))
 NOP = 0xD503201F
 ADRP, PLAIN, LOW_12 = 275, (0, 282, 283), (277, 278, 284, 285, 286, 299)
 
@@ -87,6 +88,8 @@ def write_code(out, linked):
             word &= ~(0xFFF << 10)
             struct.pack_into("<I", linked.code, it.at, word)
         insist(word != 0 and kind in PLAIN + LOW_12, "an instruction that isn't understood:", it, kind)
+        if not out.pending:
+            out.start = it.at
         out.pending += struct.pack("<I", word)
 
 

@@ -35,7 +35,7 @@ class Text:
     """Lines of text for Go's assembler."""
 
     def __init__(self, processor):
-        self.processor, self.lines, self.pending = processor, [], bytearray()
+        self.processor, self.lines, self.pending, self.start = processor, [], bytearray(), 0
 
     def emit(self, line):
         self.flush()
@@ -45,7 +45,8 @@ class Text:
     def flush(self):
         i = 0
         while i < len(self.pending):
-            size, word = next(it for it in self.processor.WORDS if len(self.pending) - i >= it[0])
+            left, at = len(self.pending) - i, self.start + i
+            size, word = next((size, word) for size, word, multiple in self.processor.WORDS if left >= size and at % multiple == 0)
             self.lines.append(f"\t{word} $0x{int.from_bytes(self.pending[i:i + size], 'little'):0{2 * size}x}")
             i += size
         self.pending.clear()
