@@ -78,6 +78,7 @@ const LEFT_OUT = {
     packet_parse: FIELDS_ALONE, packet_parse_many: FIELDS_ALONE, parse_many: FIELDS_ALONE,
     receiver_start: WINDOW, receiver_number_of: WINDOW, receiver_accepts: WINDOW, receiver_record: WINDOW,
     receiver_receive: WINDOW, receiver_standing_of: WINDOW, restarting_receive: WINDOW,
+    next_elements: 'elements yields one after the other, by next_element',
     receive_many: 'Receivers.receive judges the packets of columns',
     version: 'VERSION_NUMBER of layout.mjs, which load.test.mjs compares with it',
     write_with: 'Header.writeWith without a form calls write_with_form',
@@ -92,7 +93,7 @@ test('each function of the module has a call, or a reason for none', () => {
     }
     const functions = Object.entries(library).filter(([, it]) => typeof it === 'function').map(([name]) => name);
     assert.deepEqual(functions.filter(it => !called.has(it)).sort(), Object.keys(LEFT_OUT).sort());
-    assert.equal(functions.length, 108);
+    assert.equal(functions.length, 109);
 });
 
 test('what is true is 1, and what is not 0', () => {
