@@ -6,7 +6,6 @@ from typing import Callable, Dict, Iterator, Optional, Tuple
 
 from . import _library
 from ._buffers import address_of
-from ._errors import Status
 from ._kind import Kind
 from ._layers import Layers
 from ._map import Map
@@ -70,11 +69,14 @@ def _of_block(packet: Packet, map: Map, rows: _Rows) -> Iterator[Row]:
 
 def _places_of(packet: Packet) -> Iterator[Tuple[int, int, int]]:
     """Of each element that has data its id, and where in the body they begin and end."""
-    body, raw = packet.body, _library.RawElement()
-    at = address_of(body)
-    while _library.next_element(at, len(body), packet.form, raw.end, raw) == Status.OK:
-        if raw.data_len:
-            yield raw.id, raw.data_at, raw.end
+    body, room = packet.body, (_library.RawElement * 16)()
+    at, end, count = address_of(body), 0, len(room)
+    while count == len(room):
+        count = _library.next_elements(at, len(body), packet.form, end, room, len(room))
+        for it in room[:count]:
+            end = it.end
+            if it.data_len:
+                yield it.id, it.data_at, it.end
 
 
 def _yes_or_no(flag: bool) -> str:
