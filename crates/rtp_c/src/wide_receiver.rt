@@ -52,14 +52,6 @@ pub fn accepts(receiver: &StoredWideReceiver, words: &[u64], number: u64) -> boo
     number != receiver.highest && ring_accepts(words, highest, SeqNo::from(number))
 }
 
-// Whether the number is the next one after the highest and has its bit in the same word, as most
-// do.
-fn is_usual(highest: u64, number: u64) -> bool
-    ensures { IsTrue result ↔ ((number ≡ highest + 1) × (number / 64 ≡ highest / 64)) }
-{
-    number > highest && number - highest == 1 && number / 64 == highest / 64
-}
-
 // Takes the number where it may be taken, and returns whether it may.
 #[inline(always)]
 pub fn take(receiver: &mut StoredWideReceiver, words: &mut [u64], number: u64) -> bool
@@ -136,49 +128,6 @@ pub fn settle(
         }
         RestartingVerdict::Refused => verdict,
     }
-}
-
-// Takes the number where it may be taken, and then writes it.
-#[inline(always)]
-fn receive_number(
-    receiver: &mut StoredWideReceiver,
-    words: &mut [u64],
-    number: u64,
-    written: &mut u64,
-) -> i32
-    requires { 0 < length words.old }
-    ensures received { (count : ℕ) (taken : Numbers) → HoldsIn receiver.old words.old count taken →
-        IsReceivedAs count taken number result written.new receiver.new words.new }
-    ensures below_zero { result ≡ ok →
-        MovesBelowZeroIn receiver.old words.old receiver.new words.new }
-    ensures unchanged { result ≢ ok → (receiver.new ≡ receiver.old)
-        × (words.new ≡ words.old) × (written.new ≡ written.old) }
-{
-    if !take(receiver, words, number) {
-        return REFUSED;
-    }
-    *written = number;
-    OK
-}
-
-// Takes the number where it may be taken, and then writes it, out of line: what calls it stays short
-// for the usual number.
-#[inline(never)]
-fn receive_other(
-    receiver: &mut StoredWideReceiver,
-    words: &mut [u64],
-    number: u64,
-    written: &mut u64,
-) -> i32
-    requires { 0 < length words.old }
-    ensures received { (count : ℕ) (taken : Numbers) → HoldsIn receiver.old words.old count taken →
-        IsReceivedAs count taken number result written.new receiver.new words.new }
-    ensures below_zero { result ≡ ok →
-        MovesBelowZeroIn receiver.old words.old receiver.new words.new }
-    ensures unchanged { result ≢ ok → (receiver.new ≡ receiver.old)
-        × (words.new ≡ words.old) × (written.new ≡ written.old) }
-{
-    receive_number(receiver, words, number, written)
 }
 
 /// Makes the receiver one that has taken nothing yet, whose first packet has this rollover count:
@@ -295,13 +244,11 @@ pub extern "C" fn rtpw_wide_receiver_receive(
     ensures unchanged { result ≢ ok → (receiver.new ≡ receiver.old)
         × (words.new ≡ words.old) × (number.new ≡ number.old) }
 {
-    if !is_window(words) {
-        return BAD_FIELD;
-    }
     let extended = rtpw_wide_receiver_number_of(receiver, sequence_number);
-    if receiver.started != 0 && is_usual(receiver.highest, extended) {
-        receive_number(receiver, words, extended, number)
-    } else {
-        receive_other(receiver, words, extended, number)
+    let status = rtpw_wide_receiver_record(receiver, words, extended);
+    if status != OK {
+        return status;
     }
+    *number = extended;
+    OK
 }
