@@ -162,10 +162,8 @@ def python():
     return sys.executable
 
 
-def run(command, room, edited="", test="", name=""):
-    """Whether a command succeeds in the copy, where this file is edited and this test is run, and what it says. Of
-    edits that were built together the one of this name is done.
-    """
+def run(command, room, edited="", test=""):
+    """Whether a command succeeds in the copy, where this file is edited and this test is run, and what it says."""
     environment = {
         **os.environ,
         **SETTINGS,
@@ -173,7 +171,6 @@ def run(command, room, edited="", test="", name=""):
         "PYTHON": python(),
         "EDITED": edited,
         "TEST": test,
-        "PLANTED": name,
         "CARGO_TARGET_DIR": f"{room}/cargo",
         "GOCACHE": f"{TOP}/bindings/out/gocache",
         "GOTMPDIR": str(room),

@@ -161,7 +161,6 @@ $cc -shared -o "$work/librtp_wire.so" "$object" \
 # The loader looks into these folders anyway, once ldconfig has; into any other a program has to name it.
 case $prefix in
 /usr | /usr/local) rpath='' ;;
-# shellcheck disable=SC2016
 *) rpath=' -Wl,-rpath,${libdir}' ;;
 esac
 fill_in() { # template, file, prefix

@@ -56,6 +56,8 @@ done
 for name in $(cat "$scratch/exported"); do
     for callers in 'bindings/test/hostile_*.c' bindings/test/stack.c bindings/rust/rtp-wire/src/sys.rs; do
         case $callers in *stack.c) word=${name#rtpw_} ;; *) word=$name ;; esac
+        # Those of C, C++ and Go alone (OF_C_AND_GO of bindings/described/header.py).
+        case $name-$callers in rtpw_*_fixed_part-*.rs | rtpw_write_data_elements-*.rs) continue ;; esac
         # shellcheck disable=SC2086
         grep -qw -- "$word" $callers || fail "$name is not called in $callers"
     done
@@ -128,7 +130,7 @@ for it in c++ clang++; do
             "$scratch/by_hand"
         done
         for call in 'set_ssrc(packet, 1)' 'make_template(packet, ids, packet, {}, packet)' 'write_headers(made, packet, packet, {}, packet)'; do
-            looks=("$it" -std=$standard "${strict[@]}" "${include[@]}" -fsyntax-only "$scratch/status.cpp" -D "CALL=$call")
+            looks=("$it" "-std=$standard" "${strict[@]}" "${include[@]}" -fsyntax-only "$scratch/status.cpp" -D "CALL=$call")
             "${looks[@]}" -D 'LOOKED_AT=(void)'
             ! "${looks[@]}" -D LOOKED_AT= 2>/dev/null || fail "a status that isn't looked at passed $it: $call"
         done
@@ -158,7 +160,7 @@ if [ -n "$proves" ]; then
     rust=$scratch/$rust CARGO_TARGET_DIR+=-proved
 fi
 crate=(--manifest-path "$rust/Cargo.toml")
-shared=(-L"$prefix/lib" -lrtp_wire -Wl,-rpath,"$prefix/lib")
+shared=("-L$prefix/lib" -lrtp_wire "-Wl,-rpath,$prefix/lib")
 cc -std=c99 "${strict[@]}" "${include[@]}" bindings/examples/lines.c "$library" -o "$scratch/lines_c"
 cc -std=c99 "${strict[@]}" "${include[@]}" -static bindings/examples/lines.c "$library" -o "$scratch/lines_static"
 cc -std=c99 "${strict[@]}" "${include[@]}" bindings/examples/lines.c "${shared[@]}" -o "$scratch/lines_shared"
@@ -201,7 +203,7 @@ bindings/test/examples.sh "$scratch/plain"
 said "the examples in $languages (in C static, shared and all static) against captures/*.expected and by hand"
 
 # In C and C++ the same, where what is undefined and what is outside of a buffer ends the program.
-sanitized=(-O1 -g -Wall -Wextra -Wpedantic -Werror -fsanitize=address,undefined -fno-sanitize-recover=all)
+sanitized=(-O1 -g -Wall -Wextra -Wpedantic -Werror "-fsanitize=address,undefined" -fno-sanitize-recover=all)
 echo 'int main(void) { return 0; }' >"$scratch/none.c"
 if cc "${sanitized[@]}" "$scratch/none.c" -o "$scratch/none" 2>/dev/null && "$scratch/none"; then
     bindings/test/sanitized.sh "$scratch/sanitized" "$prefix/include" "$library"

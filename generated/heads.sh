@@ -32,11 +32,11 @@ not_proved='/* What follows is of generated/apart.c, in front of the functions r
 # The digest of what a crate is made of: the lines of crates.txt for it and for those below it, and
 # their src, specs and proofs; and for the library for C generated/apart.c.
 sources_digest() { # crate
-    local names name part folders=()
-    read -ra names <<<"$(crates_of "$1")"
+    local below name part folders=()
+    read -ra below <<<"$(crates_of "$1")"
     (
         cd -- "$top" || exit
-        for name in "${names[@]}"; do
+        for name in "${below[@]}"; do
             grep -E "^$name( staticlib)?:" crates.txt
             for part in src specs proofs; do
                 [ ! -d "crates/$name/$part" ] || folders+=("crates/$name/$part")

@@ -1,11 +1,11 @@
 /*
  * rtp_lines for Darwin on arm64: the assembly text that Rattle's compiler makes of the program, each function of which is proved.
  * Made anew by: generated/make
- * kit: rattle-kit-13f logic dac8208d650f15bf
+ * kit: rattle-kit-13b logic dac8208d650f15bf
  * proved for: x86_64-unknown-linux-gnu
  * compiled for: arm64-apple-macosx11.0.0
- * sources: 0dcb1d9ead633133792673a1bb2bad7142158b00a2cf9ae8139de17763076b39
- * text: 8729a396ba931e7f449c6465833b96414b4c4cf225a082c7214365a94654c705
+ * sources: 8e7625231d209049cd5fcb5776cef307d6e5a83e7af618e772be10bc49c5adbc
+ * text: 6acf1bc33128cd6ca20b142bfe1d048c71765702f3bcf45c46d275a70c4a1636
  * SPDX-License-Identifier: MIT OR Apache-2.0
  * Copyright (c) 2026 The rtp-wire developers (NOTICE)
  */

@@ -1,11 +1,11 @@
 /*
  * rtp_lines for Darwin on x86_64: the assembly text that Rattle's compiler makes of the program, each function of which is proved.
  * Made anew by: generated/make
- * kit: rattle-kit-13f logic dac8208d650f15bf
+ * kit: rattle-kit-13b logic dac8208d650f15bf
  * proved for: x86_64-unknown-linux-gnu
  * compiled for: x86_64-apple-macosx11.0.0
- * sources: 0dcb1d9ead633133792673a1bb2bad7142158b00a2cf9ae8139de17763076b39
- * text: 9f324c42862c51be8780331c0d570e84ef295659c93d5402329627ec5f066c53
+ * sources: 8e7625231d209049cd5fcb5776cef307d6e5a83e7af618e772be10bc49c5adbc
+ * text: 91f5b0c096f474634540cefddcc3eee45cff7c39516bd3bd16bf45cdb3ed8091
  * SPDX-License-Identifier: MIT OR Apache-2.0
  * Copyright (c) 2026 The rtp-wire developers (NOTICE)
  */

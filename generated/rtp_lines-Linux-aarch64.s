@@ -1,11 +1,11 @@
 /*
  * rtp_lines for Linux on aarch64: the assembly text that Rattle's compiler makes of the program, each function of which is proved.
  * Made anew by: generated/make
- * kit: rattle-kit-13f logic dac8208d650f15bf
+ * kit: rattle-kit-13b logic dac8208d650f15bf
  * proved for: aarch64-unknown-linux-gnu
  * compiled for: aarch64-unknown-linux-gnu
- * sources: 0dcb1d9ead633133792673a1bb2bad7142158b00a2cf9ae8139de17763076b39
- * text: dbb07901e52983a37b053bb2e843c0b83c84420048ec0e185eba7c96b3145e21
+ * sources: 8e7625231d209049cd5fcb5776cef307d6e5a83e7af618e772be10bc49c5adbc
+ * text: 941533d885955c90ba0b1157218f284852e4da5d67caa50de97dcdbc569b720b
  * SPDX-License-Identifier: MIT OR Apache-2.0
  * Copyright (c) 2026 The rtp-wire developers (NOTICE)
  */

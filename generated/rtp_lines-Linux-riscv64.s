@@ -1,11 +1,11 @@
 /*
  * rtp_lines for Linux on riscv64: the assembly text that Rattle's compiler makes of the program, each function of which is proved.
  * Made anew by: generated/make
- * kit: rattle-kit-13f logic dac8208d650f15bf
+ * kit: rattle-kit-13b logic dac8208d650f15bf
  * proved for: x86_64-unknown-linux-gnu
  * compiled for: riscv64-unknown-linux-gnu
- * sources: 0dcb1d9ead633133792673a1bb2bad7142158b00a2cf9ae8139de17763076b39
- * text: 9d6fc4e727369fa1e8038f395f293877338fb428b037eb49686401c54b6d9149
+ * sources: 8e7625231d209049cd5fcb5776cef307d6e5a83e7af618e772be10bc49c5adbc
+ * text: 017515e1f2b2cc2ff464332d9f409ddf17fb4171685f6c618e8b2578782b8cb8
  * SPDX-License-Identifier: MIT OR Apache-2.0
  * Copyright (c) 2026 The rtp-wire developers (NOTICE)
  */

@@ -1,11 +1,11 @@
 /*
  * rtp_lines for Linux on x86_64: the assembly text that Rattle's compiler makes of the program, each function of which is proved.
  * Made anew by: generated/make
- * kit: rattle-kit-13f logic dac8208d650f15bf
+ * kit: rattle-kit-13b logic dac8208d650f15bf
  * proved for: x86_64-unknown-linux-gnu
  * compiled for: x86_64-unknown-linux-gnu
- * sources: 0dcb1d9ead633133792673a1bb2bad7142158b00a2cf9ae8139de17763076b39
- * text: 826fdbb35f11a4954cc29c9ab21c8a0d8dbbee351c432c51f7144796cd54f0b5
+ * sources: 8e7625231d209049cd5fcb5776cef307d6e5a83e7af618e772be10bc49c5adbc
+ * text: 460007c3a2f32ef542beab6e7ad271c4e7bc534b3008735b6f79f9f369459aa6
  * SPDX-License-Identifier: MIT OR Apache-2.0
  * Copyright (c) 2026 The rtp-wire developers (NOTICE)
  */

@@ -1,11 +1,11 @@
 /*
  * rtp_lines for Windows on x86_64: the assembly text that Rattle's compiler makes of the program, each function of which is proved.
  * Made anew by: generated/make
- * kit: rattle-kit-13f logic dac8208d650f15bf
+ * kit: rattle-kit-13b logic dac8208d650f15bf
  * proved for: x86_64-unknown-linux-gnu
  * compiled for: x86_64-pc-windows-gnu
- * sources: 0dcb1d9ead633133792673a1bb2bad7142158b00a2cf9ae8139de17763076b39
- * text: 730c2662be840deb21e042271e570bd05c56679a8443a6448a4420b123b09580
+ * sources: 8e7625231d209049cd5fcb5776cef307d6e5a83e7af618e772be10bc49c5adbc
+ * text: 7f02686ecff280384ebea15c2d3f50913894c5cb5651765b4b7fcbb2e71402fb
  * SPDX-License-Identifier: MIT OR Apache-2.0
  * Copyright (c) 2026 The rtp-wire developers (NOTICE)
  */

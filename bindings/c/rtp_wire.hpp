@@ -334,6 +334,24 @@ inline result<std::size_t> write_with(const rtpw_header &header, bytes data, spa
     });
 }
 
+/* ---- A header in less ---- */
+
+inline result<rtpw_fixed_part> read_fixed_part(bytes datagram, rtpw_layout &layout) noexcept {
+    return result<rtpw_fixed_part>([&](rtpw_fixed_part *it) {
+        return ::rtpw_read_fixed_part(datagram.data(), datagram.size(), it, &layout);
+    });
+}
+inline status write_fixed_part(const rtpw_fixed_part &fixed, buffer buf) noexcept {
+    return status(::rtpw_write_fixed_part(&fixed, buf.data(), buf.size()));
+}
+inline result<std::size_t> write_data_elements(const rtpw_fixed_part &fixed, span<const rtpw_data_element> elements,
+        std::uint8_t form, buffer buf) noexcept {
+    return result<std::size_t>([&](std::size_t *it) {
+        return ::rtpw_write_data_elements(&fixed, elements.data(), elements.size(), form, buf.data(), buf.size(),
+            it);
+    });
+}
+
 /* ---- Values as the standards lay them out ---- */
 
 inline result<std::uint32_t> read_send_time(bytes data) noexcept {
@@ -727,7 +745,7 @@ inline result<std::string_view> uri_of_kind(std::uint8_t kind, buffer buf) noexc
     });
 }
 
-/* A map, and which own_uris gave the numbers of one's own in it: so those of two aren't taken for the same
+/* A map, and which own_uris gave the kinds of one's own in it: so those of two aren't taken for the same
  * (new_ids_between). */
 class uri_map : public rtpw_map {
   public:
@@ -740,7 +758,7 @@ class uri_map : public rtpw_map {
     std::uint64_t table_ = 0;
 };
 
-/* Numbers of one's own for URIs that the library doesn't know, the same for the same URI in all maps that are made with
+/* Kinds of one's own for URIs that the library doesn't know, the same for the same URI in all maps that are made with
  * it: so the elements of an extension go on where both peers have it, whatever it is. Keep one for a call. It takes
  * memory, which may throw.
  *
@@ -768,7 +786,7 @@ class own_uris {
     }
 
     /* The id means from now on what the URI names. bad_field, and nothing changes, where the id is 0, the URI is one
-     * too many that the library doesn't know (128 have numbers), or it isn't known and the map has numbers of another
+     * too many that the library doesn't know (128 have kinds), or it isn't known and the map has kinds of another
      * own_uris. */
     status set(uri_map &map, std::uint8_t id, std::string_view uri) {
         std::uint8_t kind = kind_of(uri);
@@ -786,7 +804,7 @@ class own_uris {
         }
         return set;
     }
-    /* The number of a kind of the library, or one's own where the URI was set; else RTPW_KIND_NONE. */
+    /* The kind of the library, or one's own where the URI was set; else RTPW_KIND_NONE. */
     std::uint8_t kind_of(std::string_view uri) const noexcept {
         std::uint8_t kind = rtpw::kind_of_uri(uri);
         for (std::size_t i = 0; kind == RTPW_KIND_NONE && i < unknown_.size(); i++) {
@@ -794,7 +812,7 @@ class own_uris {
         }
         return kind;
     }
-    /* The URIs that the library doesn't know, by their numbers: that of RTPW_KIND_OWN first. */
+    /* The URIs that the library doesn't know, by their kinds: that of RTPW_KIND_OWN first. */
     const std::vector<std::string> &unknown() const &noexcept RTPW_BOUND { return unknown_; }
     std::vector<std::string> unknown() &&noexcept { return std::move(unknown_); }
 
@@ -878,7 +896,7 @@ result<std::size_t> write_elements(bytes, Element *, std::size_t, std::uint8_t, 
 
 /* ---- Of C++ alone: from one map to another ---- */
 
-/* Numbers of one's own that two own_uris gave are no common ones: of such maps their ids get none. */
+/* Kinds of one's own that two own_uris gave are no common ones: of such maps their ids get none. */
 inline rtpw_new_ids new_ids_between(const uri_map &from, const uri_map &to) noexcept {
     rtpw_map common = from;
     if (from.table_ != 0 && to.table_ != 0 && from.table_ != to.table_) {

@@ -531,6 +531,20 @@ static inline void rtpw_sanitizer_wrote_routed_header(const rtpw_routed_header *
     rtpw_sanitizer_wrote(&it->status, 8); /* up to len */
 }
 
+static inline void rtpw_sanitizer_fixed_part_but_version_has_extension(const rtpw_fixed_part *it) {
+    RTPW_SANITIZER_ROOM(it, sizeof *it);
+    rtpw_sanitizer_reads(&it->has_padding, sizeof it->has_padding);
+    rtpw_sanitizer_reads(&it->marker, 2); /* up to payload_type */
+    rtpw_sanitizer_reads(&it->sequence_number, 10); /* up to ssrc */
+}
+
+static inline void rtpw_sanitizer_data_element_but_own(const rtpw_data_element *it) {
+    RTPW_SANITIZER_ROOM(it, sizeof *it);
+    rtpw_sanitizer_reads(&it->id, sizeof it->id);
+    rtpw_sanitizer_reads(&it->data_len, sizeof it->data_len);
+    rtpw_sanitizer_reads(it->data, it->data_len);
+}
+
 static inline void rtpw_sanitizer_set_fields(uint8_t *datagram, const rtpw_fields *fields) {
     if (fields->has_payload_type) { rtpw_sanitizer_wrote_bits(datagram + 1, 0x7f, fields->payload_type); }
     if (fields->has_marker) { rtpw_sanitizer_wrote_bits(datagram + 1, 0x80, fields->marker ? 0x80 : 0); }
@@ -1685,6 +1699,42 @@ RTPW_CHECKED static inline int32_t rtpw_sanitized_write_headers(const rtpw_templ
     return status;
 }
 #define rtpw_write_headers rtpw_sanitized_write_headers
+RTPW_CHECKED static inline int32_t rtpw_sanitized_read_fixed_part(const uint8_t *datagram, size_t len,
+        rtpw_fixed_part *fixed, rtpw_layout *layout) {
+    int32_t status;
+    rtpw_sanitizer_packet_fields(datagram, len);
+    RTPW_SANITIZER_ROOM(fixed, sizeof *fixed);
+    RTPW_SANITIZER_ROOM(layout, sizeof *layout);
+    status = rtpw_read_fixed_part(datagram, len, fixed, layout);
+    if (status == RTPW_OK) { rtpw_sanitizer_wrote(fixed, sizeof *fixed); }
+    if (status == RTPW_OK) { rtpw_sanitizer_wrote(layout, sizeof *layout); }
+    return status;
+}
+#define rtpw_read_fixed_part rtpw_sanitized_read_fixed_part
+RTPW_CHECKED static inline int32_t rtpw_sanitized_write_fixed_part(const rtpw_fixed_part *fixed, uint8_t *buf,
+        size_t size) {
+    int32_t status;
+    rtpw_sanitizer_fixed_part_but_version_has_extension(fixed);
+    RTPW_SANITIZER_ROOM(buf, size);
+    status = rtpw_write_fixed_part(fixed, buf, size);
+    if (status == RTPW_OK) { rtpw_sanitizer_wrote(buf, 12); }
+    return status;
+}
+#define rtpw_write_fixed_part rtpw_sanitized_write_fixed_part
+RTPW_CHECKED static inline int32_t rtpw_sanitized_write_data_elements(const rtpw_fixed_part *fixed,
+        const rtpw_data_element *elements, size_t count, uint8_t form, uint8_t *buf, size_t size, size_t *len) {
+    int32_t status;
+    rtpw_sanitizer_fixed_part_but_version_has_extension(fixed);
+    RTPW_SANITIZER_ROOM(elements, count * sizeof *elements);
+    for (size_t i = 0; i < count; i++) { rtpw_sanitizer_data_element_but_own(&elements[i]); }
+    RTPW_SANITIZER_ROOM(buf, size);
+    RTPW_SANITIZER_ROOM(len, sizeof *len);
+    status = rtpw_write_data_elements(fixed, elements, count, form, buf, size, len);
+    if (status == RTPW_OK) { rtpw_sanitizer_wrote(len, sizeof *len); }
+    if (status == RTPW_OK) { rtpw_sanitizer_wrote(buf, *len); }
+    return status;
+}
+#define rtpw_write_data_elements rtpw_sanitized_write_data_elements
 
 #undef RTPW_SANITIZER_ROOM
 #undef RTPW_SANITIZER_ADDRESS

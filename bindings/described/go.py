@@ -21,7 +21,7 @@ NAMES = {
     "packet": "PacketFields", "element": "Place", "new_ids": "NewIDs", "values": "ReadValues",
     "reception": "ReceptionStatistics", "report": "ReceptionReport", "whole_packet": "wholePacket",
     "wide_receiver": "wideState", "datagram": "datagram", "datagram_header": "datagramHeader", "arrival": "arrival",
-    "template": "template", "group": "PreparedGroup", "routed_header": "routedHeader", "wide_restarting_receiver": None,
+    "fixed_part": "FixedPart", "data_element": "DataElement", "template": "template", "group": "PreparedGroup", "routed_header": "routedHeader", "wide_restarting_receiver": None,
 }
 # Of these nil ends a call in Go's own code, whatever the library looks at.
 NOT_NIL = {"map", "new_ids", "header", "whole_packet", "layers", "receiver"}
@@ -31,6 +31,7 @@ NUMBERS = {"form": "Form", "allowed": "Forms", "kind": "Kind"}
 BEFORE = {
     ("receive_many", "receivers"): "writesReceivers(receivers, receiver_count, arrivals, count)",
     ("read_original", "payload"): "reads(unsafe.Pointer(payload), least(n, 2))",
+    ("write_data_elements", "elements"): "readsDataElements(elements, count)",
 }
 AFTER = {
     ("make_template", "buf"): "writes(unsafe.Pointer(buf), uintptr(made.header_len))",
@@ -46,15 +47,18 @@ LEFT_OUT = {
 }
 # Of these the status is looked at; of the others it is an error. The last ones are called as in C, which saves a call.
 TELL_STATUS = {
-    "read", "packet_parse", "parse", "parse_layers", "next_element", "make_from_group", "wide_restarting_receive",
-    "set_payload_type", "values_read",
+    "read", "packet_parse", "parse", "parse_layers", "next_element", "wide_restarting_receive", "set_payload_type",
+    "values_read", "read_fixed_part",
 }
-AS_IN_C = {"make_template", "next_elements", "packet_read", "packet_read_muxed", "write_headers"}
+AS_IN_C = {
+    "make_from_group", "make_template", "next_elements", "packet_read", "packet_read_muxed", "write_data_elements",
+    "write_headers",
+}
 
 
 def functions_of(api: Api) -> List[Function]:
     """Those that Go's package calls."""
-    return [it for it in api.functions if it.short not in LEFT_OUT]
+    return [it for it in api.all_functions if it.short not in LEFT_OUT]
 
 
 def joined(api: Api) -> List[Tuple[Function, List[str]]]:
@@ -70,10 +74,10 @@ def joined(api: Api) -> List[Tuple[Function, List[str]]]:
 def structs_of(api: Api) -> List[Struct]:
     """The structs that these take, and those within them."""
     wanted = {p.type for it in functions_of(api) for p in it.parameters}
-    for it in reversed(api.structs):
+    for it in reversed(api.all_structs):
         if it.name in wanted:
             wanted |= {field.type for field in it.fields}
-    return [it for it in api.structs if it.name in wanted]
+    return [it for it in api.all_structs if it.name in wanted]
 
 
 def type_of(name: str) -> str:
@@ -134,7 +138,8 @@ def told_of(it: Function) -> Tuple[List[str], List[str]]:
 def struct_of(it: Struct) -> str:
     names = [field.name + "_" * (field.name in KEYWORDS) for field in it.fields]
     width = max(map(len, names))
-    kinds = [(f"[{field.count}]" if field.count else "") + type_of(field.type) for field in it.fields]
+    shapes = [f"[{field.count}]" if field.count else "*" * field.is_pointer for field in it.fields]
+    kinds = [shape + type_of(field.type) for shape, field in zip(shapes, it.fields)]
     rows = [f"\t{name:{width}} {kind}" for name, kind in zip(names, kinds)]
     return "\n".join([f"type {it.name} struct {{", *rows, "}", ""])
 

@@ -19,6 +19,11 @@ from typing import Dict, List, Optional, Tuple
 HEADER = Path(__file__).resolve().parent.parent / "c/rtp_wire.h"
 SIZES = {"bool": 1, "char": 1, "size_t": 8}
 SIZES.update({f"{sign}int{bits}_t": bits // 8 for sign in ("", "u") for bits in (8, 16, 32, 64)})
+# What C, C++ and Go alone have: the others have structs of their own for it, and copy what they are given.
+OF_C_AND_GO = {
+    "rtpw_fixed_part", "rtpw_layout", "rtpw_data_element", "rtpw_read_fixed_part", "rtpw_write_fixed_part",
+    "rtpw_write_data_elements",
+}
 
 
 def all_of(mark: str) -> property:
@@ -115,6 +120,7 @@ class Function(Named):
 class Field(Marked):
     """A field of a struct."""
 
+    is_pointer: bool  # to what is only read
     count: Optional[int]  # of an array: how many it has
     at: int
     size: int
@@ -140,13 +146,16 @@ class Api:
 
     functions: List[Function] = field(default_factory=list)
     structs: List[Struct] = field(default_factory=list)
+    of_c_and_go: List[Named] = field(default_factory=list)  # the functions and the structs that these alone have
     enums: List[Dict[str, int]] = field(default_factory=list)  # the constants of each enum
     constants: Dict[str, int] = field(default_factory=dict)  # of all enums, and then the macros that are numbers
     version: str = ""
     texts: Dict[str, str] = field(default_factory=dict)  # of each status by its constant, and of none by ""
 
-    function = property(lambda self: {it.name: it for it in self.functions})
-    struct = property(lambda self: {it.name: it for it in self.structs})
+    all_functions = property(lambda self: self.functions + [it for it in self.of_c_and_go if isinstance(it, Function)])
+    all_structs = property(lambda self: self.structs + [it for it in self.of_c_and_go if isinstance(it, Struct)])
+    function = property(lambda self: {it.name: it for it in self.all_functions})
+    struct = property(lambda self: {it.name: it for it in self.all_structs})
 
 
 def laid_out(text: str, first: int = 0, others: int = 4) -> str:
@@ -198,12 +207,12 @@ class Reader:
     def add(self, node) -> None:
         ast, api = self.ast, self.api
         if isinstance(node, ast.Typedef) and isinstance(node.type.type, ast.Struct):
-            api.structs.append(self.struct(node))
+            (api.of_c_and_go if node.name in OF_C_AND_GO else api.structs).append(self.struct(node))
         elif isinstance(node, ast.Decl) and isinstance(node.type, ast.Enum):
             api.enums.append({it.name: int(it.value.value) for it in node.type.values.enumerators})
             api.constants.update(api.enums[-1])
         elif isinstance(node, ast.Decl) and isinstance(node.type, ast.FuncDecl):
-            api.functions.append(self.function(node))
+            (api.of_c_and_go if node.name in OF_C_AND_GO else api.functions).append(self.function(node))
         elif isinstance(node, ast.FuncDef) and node.decl.name == "rtpw_status_text":
             for case in node.body.block_items[0].stmt.block_items:
                 name = case.expr.name if isinstance(case, ast.Case) else ""
@@ -220,11 +229,12 @@ class Reader:
         told.update({name: flag for flag, marks in marked.items() for name in marks.get("TELLS", ())})
         for it in decls:
             count = int(it.type.dim.value) if isinstance(it.type, self.ast.ArrayDecl) else None
-            kind = (it.type if count is None else it.type.type).type.names[0]
-            size, align = self.sizes[kind]
+            is_pointer = isinstance(it.type, self.ast.PtrDecl)
+            kind = (it.type.type if is_pointer or count is not None else it.type).type.names[0]
+            size, align = self.sizes["size_t" if is_pointer else kind]
             at = -(-end // align) * align
             end, most = at + size * (1 if count is None else count), max(most, align)
-            fields.append(Field(it.name, kind, marked[it.name], count, at, end - at, told.get(it.name)))
+            fields.append(Field(it.name, kind, marked[it.name], is_pointer, count, at, end - at, told.get(it.name)))
         self.sizes[node.name] = -(-end // most) * most, most
         return Struct(node.name, *self.sizes[node.name], tuple(fields))
 

@@ -96,4 +96,4 @@ RANGES: Dict[str, Tuple[int, int]] = {{
 
 {chr(10).join(functions)}
 '''
-    return {"bindings/python/src/rtp_wire/_declared.py": text}
+    return {"bindings/python/src/rtp_wire/_library.py": text}

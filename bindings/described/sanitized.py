@@ -44,6 +44,8 @@ def reader_of(it, without=()) -> str:
 def reads(it: Field) -> str:
     """What reads a field that is no plain number."""
     at, one = f"it->{it.name}", reader_of(it.short_type)
+    if it.is_pointer:
+        return f"rtpw_sanitizer_reads({at}, it->{it.counted});"
     least = f"rtpw_sanitizer_least(it->{it.counted}, {it.count})"
     if it.part:
         return f"rtpw_sanitizer_reads({at} + {it.part[0]}, {it.part[1]});"
@@ -181,8 +183,8 @@ def rows_of(rules: str):
 
 def structs_for(api: Api, wanted: str) -> str:
     """The functions that read and write structs, of those that are wanted, those within others before these."""
-    made, partly = [], {(p.type, p.without) for it in api.functions for p in it.pointers if p.without}
-    for it in reversed(api.structs):
+    made, partly = [], {(p.type, p.without) for it in api.all_functions for p in it.pointers if p.without}
+    for it in reversed(api.all_structs):
         several = [reading(it, without) for name, without in partly if name == it.name]
         for text in (writing(it), *several, reading(it)):
             if re.search(r"rtpw_sanitizer_\w+\(", text)[0] in wanted:
@@ -194,7 +196,7 @@ def structs_for(api: Api, wanted: str) -> str:
 def files(api: Api):
     start, rules, end = re.split(r"@CALLS\n|@END\n", template("sanitized.h.in"))
     rows = list(rows_of(rules))
-    calls = "\n".join(call_of(api, it, rows) for it in api.functions if it.pointers)
+    calls = "\n".join(call_of(api, it, rows) for it in api.all_functions if it.pointers)
     text = start.replace("@STRUCTS@", structs_for(api, start + calls)) + calls + "\n" + end
     said = "/* Made by bindings/described/make of rtp_wire.h and bindings/described/sanitized.h.in. */\n"
     return {"bindings/c/rtp_wire_sanitized.h": said + text}

@@ -324,6 +324,34 @@ type rtpw_routed_header struct {
 	len               uint32
 }
 
+type rtpw_fixed_part struct {
+	version         byte
+	has_padding     byte
+	has_extension   byte
+	marker          byte
+	payload_type    byte
+	sequence_number uint16
+	timestamp       uint32
+	ssrc            uint32
+}
+
+type rtpw_layout struct {
+	payload_at    uintptr
+	unpadded_len  uintptr
+	body_at       uintptr
+	block_profile uint16
+	block_form    byte
+	csrc_count    byte
+	padding_fits  byte
+}
+
+type rtpw_data_element struct {
+	id       byte
+	data     *byte
+	data_len uintptr
+	own      uintptr
+}
+
 //go:noescape
 func text_version() uint32
 
@@ -1571,6 +1599,49 @@ func rtpw_write_headers(made *rtpw_template, header *byte, header_size uintptr, 
 }
 
 //go:noescape
+func text_read_fixed_part(datagram *byte, n uintptr, fixed *rtpw_fixed_part, layout *rtpw_layout) int32
+
+func rtpw_read_fixed_part(datagram *byte, n uintptr, fixed *rtpw_fixed_part, layout *rtpw_layout) int32 {
+	if racing {
+		readsPacket(datagram, n)
+		writes(unsafe.Pointer(fixed), unsafe.Sizeof(*fixed))
+		writes(unsafe.Pointer(layout), unsafe.Sizeof(*layout))
+	}
+	return text_read_fixed_part(datagram, n, fixed, layout)
+}
+
+//go:noescape
+func text_write_fixed_part(fixed *rtpw_fixed_part, buf *byte, size uintptr) int32
+
+func rtpw_write_fixed_part(fixed *rtpw_fixed_part, buf *byte, size uintptr) int32 {
+	if racing {
+		reads(unsafe.Pointer(fixed), unsafe.Sizeof(*fixed))
+		status := text_write_fixed_part(fixed, buf, size)
+		if status == statusOK {
+			writes(unsafe.Pointer(buf), 12)
+		}
+		return status
+	}
+	return text_write_fixed_part(fixed, buf, size)
+}
+
+//go:noescape
+func text_write_data_elements(fixed *rtpw_fixed_part, elements *rtpw_data_element, count uintptr, form byte, buf *byte, size uintptr, n *uintptr) int32
+
+func rtpw_write_data_elements(fixed *rtpw_fixed_part, elements *rtpw_data_element, count uintptr, form byte, buf *byte, size uintptr, n *uintptr) int32 {
+	if racing {
+		readsDataElements(elements, count)
+		reads(unsafe.Pointer(fixed), unsafe.Sizeof(*fixed))
+		status := text_write_data_elements(fixed, elements, count, form, buf, size, n)
+		if status == statusOK {
+			writes(unsafe.Pointer(buf), *n)
+		}
+		return status
+	}
+	return text_write_data_elements(fixed, elements, count, form, buf, size, n)
+}
+
+//go:noescape
 func text_packet_read(datagram *byte, n uintptr, m *rtpw_map, packet *rtpw_packet, values *rtpw_values) int32
 
 func rtpw_packet_read(datagram *byte, n uintptr, m *rtpw_map, packet *rtpw_packet, values *rtpw_values) int32 {
@@ -1688,6 +1759,14 @@ func (it *PreparedGroup) c() *rtpw_group {
 	return (*rtpw_group)(unsafe.Pointer(it))
 }
 
+func (it *FixedPart) c() *rtpw_fixed_part {
+	return (*rtpw_fixed_part)(unsafe.Pointer(it))
+}
+
+func (it *Layout) c() *rtpw_layout {
+	return (*rtpw_layout)(unsafe.Pointer(it))
+}
+
 func first(values []byte) *byte {
 	return (*byte)(unsafe.Pointer((*[0]byte)(values)))
 }
@@ -1722,6 +1801,10 @@ func firstArrival(values []arrival) *rtpw_arrival {
 
 func firstRoutedHeader(values []routedHeader) *rtpw_routed_header {
 	return (*rtpw_routed_header)(unsafe.Pointer((*[0]routedHeader)(values)))
+}
+
+func firstDataElement(values []DataElement) *rtpw_data_element {
+	return (*rtpw_data_element)(unsafe.Pointer((*[0]DataElement)(values)))
 }
 
 func version() uint32 {
@@ -2212,6 +2295,10 @@ func prepareGroup(ids *NewIDs, elements []Place, allowed Forms, group *PreparedG
 	return errorOf(rtpw_prepare_group(ids.c(), firstElement(elements), uintptr(len(elements)), uint8(allowed), group.c()))
 }
 
-func makeFromGroup(group *PreparedGroup, datagram []byte, buf []byte, made *template) int32 {
-	return rtpw_make_from_group(group.c(), first(datagram), uintptr(len(datagram)), first(buf), uintptr(len(buf)), made.c())
+func readFixedPart(datagram []byte, fixed *FixedPart, layout *Layout) int32 {
+	return rtpw_read_fixed_part(first(datagram), uintptr(len(datagram)), fixed.c(), layout.c())
+}
+
+func writeFixedPart(fixed *FixedPart, buf []byte) error {
+	return errorOf(rtpw_write_fixed_part(fixed.c(), first(buf), uintptr(len(buf))))
 }

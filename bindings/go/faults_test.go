@@ -1,4 +1,4 @@
-//go:build amd64 && (linux || darwin) && !race
+//go:build (linux || darwin) && !race
 
 package rtpwire_test
 

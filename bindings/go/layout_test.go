@@ -10,6 +10,10 @@ import (
 func TestStructsLieAsThoseOfC(t *testing.T) {
 	var (
 		p  PacketFields
+		fp FixedPart
+		lo Layout
+		de DataElement
+		ps Places
 		f  Fields
 		e  Place
 		r  Receiver
@@ -56,6 +60,24 @@ func TestStructsLieAsThoseOfC(t *testing.T) {
 		{"packet.padding_fits", unsafe.Offsetof(p.paddingFits), 54},
 		{"packet.block_form", unsafe.Offsetof(p.form), 55},
 		{"packet.block_profile", unsafe.Offsetof(p.profile), 56},
+		{"fixed_part", unsafe.Sizeof(fp), 16},
+		{"fixed_part.has_padding", unsafe.Offsetof(fp.HasPadding), 1},
+		{"fixed_part.has_extension", unsafe.Offsetof(fp.HasExtension), 2},
+		{"fixed_part.marker", unsafe.Offsetof(fp.Marker), 3},
+		{"fixed_part.payload_type", unsafe.Offsetof(fp.PayloadType), 4},
+		{"fixed_part.sequence_number", unsafe.Offsetof(fp.SequenceNumber), 6},
+		{"fixed_part.timestamp", unsafe.Offsetof(fp.Timestamp), 8},
+		{"fixed_part.ssrc", unsafe.Offsetof(fp.SSRC), 12},
+		{"layout", unsafe.Sizeof(lo), 32},
+		{"layout.unpadded_len", unsafe.Offsetof(lo.unpaddedLen), 8},
+		{"layout.body_at", unsafe.Offsetof(lo.bodyAt), 16},
+		{"layout.block_profile", unsafe.Offsetof(lo.profile), 24},
+		{"layout.block_form", unsafe.Offsetof(lo.form), 26},
+		{"layout.csrc_count", unsafe.Offsetof(lo.csrcCount), 27},
+		{"layout.padding_fits", unsafe.Offsetof(lo.paddingFits), 28},
+		{"data_element", unsafe.Sizeof(de), 32},
+		{"data_element.data", unsafe.Offsetof(de.Data), 8},
+		{"the places", unsafe.Sizeof(ps), 5 * 32},
 		{"whole_packet", unsafe.Sizeof(wp), 256},
 		{"whole_packet.header", unsafe.Offsetof(wp.header), 0},
 		{"whole_packet.unpadded_len", unsafe.Offsetof(wp.unpaddedLen), 224},

@@ -21,6 +21,19 @@ func apart(data, buf []byte) []byte {
 	return data
 }
 
+// haveApart is whether none of the elements has data that overlap the buffer.
+func haveApart(elements []DataElement, buf []byte) bool {
+	at, size := uintptr(unsafe.Pointer(first(buf))), uintptr(len(buf))
+	for i := range elements {
+		data := elements[i].Data
+		dataAt, n := uintptr(unsafe.Pointer(first(data))), uintptr(len(data))
+		if dataAt-at < size || at-dataAt < n {
+			return false
+		}
+	}
+	return true
+}
+
 // upTo is so many bytes of a buffer, where the status is that of a call that did what it is for.
 func upTo(buf []byte, n uintptr, status int32) ([]byte, error) {
 	if status != statusOK {
@@ -63,6 +76,18 @@ func (g *Group) ids() *NewIDs {
 // exact is the datagram in a slice without room for more: what is appended to it, or to a part of it, is a copy.
 func exact(datagram []byte) []byte {
 	return datagram[:len(datagram):len(datagram)]
+}
+
+func putDataElements(fixed *FixedPart, elements []DataElement, form Form, buf []byte) (int, error) {
+	if !haveApart(elements, buf) {
+		elements = append([]DataElement(nil), elements...)
+		for i := range elements {
+			elements[i].Data = append([]byte(nil), elements[i].Data...)
+		}
+	}
+	var n uintptr
+	status := rtpw_write_data_elements(fixed.c(), firstDataElement(elements), uintptr(len(elements)), uint8(form), first(buf), uintptr(len(buf)), &n)
+	return int(n), errorOf(status)
 }
 
 // parse reads the packet: whatever it looks like, but on a port that RTP and RTCP share, where it tells RTCP.
@@ -152,6 +177,15 @@ func (p *Place) next(body []byte, form Form) bool {
 	return nextElement(body, form, p.end, p) == statusOK
 }
 
+func (p *Places) c() *rtpw_element {
+	return (*rtpw_element)(unsafe.Pointer(p))
+}
+
+// nextElements tells the places of the elements of a block's body from an offset on, as many as there is room for.
+func nextElements(room []Place, form Form, body []byte, at int) int {
+	return int(rtpw_next_elements(first(body), uintptr(len(body)), uint8(form), uintptr(at), firstElement(room), uintptr(len(room))))
+}
+
 // appendPlaces appends the places of the elements: as many as there is room for in each call.
 func appendPlaces(places []Place, form Form, body []byte) []Place {
 	if !form.hasElements() {
@@ -159,7 +193,7 @@ func appendPlaces(places []Place, form Form, body []byte) []Place {
 	}
 	for at := 0; ; {
 		room := places[len(places):cap(places)]
-		count := int(rtpw_next_elements(first(body), uintptr(len(body)), uint8(form), uintptr(at), firstElement(room), uintptr(len(room))))
+		count := nextElements(room, form, body, at)
 		places = places[:len(places)+count]
 		if count < len(room) {
 			return places
@@ -230,19 +264,37 @@ func standingIn(r *rtpw_wide_restarting_receiver, words []uint64, number uint64)
 
 // make makes the header, where the buffer is too short in one that isn't.
 func (t *HeaderTemplate) make(datagram []byte, group *Group, data []byte) int32 {
-	for {
-		status := rtpw_make_template(first(datagram), uintptr(len(datagram)), group.ids().c(), first(data), uintptr(len(data)),
-			firstElement(group.Elements), uintptr(len(group.Elements)), uint8(group.Allowed), first(t.buf),
-			uintptr(len(t.buf)), t.made.c())
-		if status != statusShortBuffer || !t.grow(datagram, len(group.Elements)) {
-			return status
-		}
+	status := rtpw_make_template(first(datagram), uintptr(len(datagram)), group.ids().c(), first(data), uintptr(len(data)),
+		firstElement(group.Elements), uintptr(len(group.Elements)), uint8(group.Allowed), first(t.buf),
+		uintptr(len(t.buf)), t.made.c())
+	if status == statusShortBuffer && t.grow(datagram, len(group.Elements)) {
+		return t.make(datagram, group, data)
 	}
+	return status
 }
 
-// writeAll writes the headers of receivers, whose data may lie in the buffer.
-func (t *HeaderTemplate) writeAll(data []byte, receivers []routedHeader, buf []byte) int32 {
-	data = apart(data, buf)
-	return rtpw_write_headers(t.made.c(), first(t.buf), uintptr(len(t.buf)), first(data), uintptr(len(data)),
-		firstRoutedHeader(receivers), uintptr(len(receivers)), first(buf), uintptr(len(buf)))
+// makePrepared makes the header as make does.
+func (t *HeaderTemplate) makePrepared(datagram []byte, group *PreparedGroup) int32 {
+	status := rtpw_make_from_group(group.c(), first(datagram), uintptr(len(datagram)), first(t.buf), uintptr(len(t.buf)), t.made.c())
+	if status == statusShortBuffer && t.grow(datagram, int(group.count)) {
+		return t.makePrepared(datagram, group)
+	}
+	return status
+}
+
+// write writes the headers of the receivers, whose data may lie in the buffer, where that of the template was made: else
+// made is the status of the call that didn't.
+func (b *RouteBatch) write(t *HeaderTemplate, made int32, data, buf []byte) error {
+	status := made
+	if made == statusOK {
+		data = apart(data, buf)
+		status = rtpw_write_headers(t.made.c(), first(t.buf), uintptr(len(t.buf)), first(data), uintptr(len(data)),
+			firstRoutedHeader(b.given), uintptr(len(b.given)), first(buf), uintptr(len(buf)))
+	}
+	if status != statusOK {
+		b.buf = nil
+		return errorOf(status)
+	}
+	b.buf, b.written = buf, b.given
+	return nil
 }

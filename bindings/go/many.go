@@ -65,13 +65,12 @@ func (b *HeaderBatch) Reset() {
 
 // Add adds the datagram of so many bytes that begins there in the buffer. Datagrams may overlap.
 func (b *HeaderBatch) Add(at, length int) {
-	n := len(b.given)
-	if n < cap(b.given) {
+	if n := len(b.given); n < cap(b.given) {
 		b.given = b.given[:n+1]
-	} else {
-		b.given = append(b.given, datagramHeader{})
+		b.given[n].place = place{at, length}
+		return
 	}
-	b.given[n].place = place{at, length}
+	b.given = append(b.given, datagramHeader{place: place{at, length}})
 }
 
 // Parse reads the datagrams that were added, in the order in which they were: where they lie in this buffer, and with
@@ -168,13 +167,12 @@ func (b *PacketBatch) Reset() {
 
 // Add adds the datagram of so many bytes that begins there in the buffer. Datagrams may overlap.
 func (b *PacketBatch) Add(at, length int) {
-	n := len(b.given)
-	if n < cap(b.given) {
+	if n := len(b.given); n < cap(b.given) {
 		b.given = b.given[:n+1]
-	} else {
-		b.given = append(b.given, datagram{})
+		b.given[n].place = place{at, length}
+		return
 	}
-	b.given[n].place = place{at, length}
+	b.given = append(b.given, datagram{place: place{at, length}})
 }
 
 // Parse reads the datagrams that were added, in the order in which they were: where they lie in this buffer. The batch

@@ -20,6 +20,8 @@ func readsDatagrams(*byte, uintptr, *rtpw_datagram, uintptr) {}
 
 func readsDatagramHeaders(*byte, uintptr, *rtpw_datagram_header, uintptr) {}
 
+func readsDataElements(*rtpw_data_element, uintptr) {}
+
 func writesReceivers(*rtpw_receiver, uintptr, *rtpw_arrival, uintptr) {}
 
 func endOf(*rtpw_routed_header, uintptr) uintptr { return 0 }

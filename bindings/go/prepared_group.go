@@ -47,20 +47,6 @@ func (t *HeaderTemplate) MakePrepared(datagram []byte, group *PreparedGroup) err
 //
 // It returns the errors of [HeaderTemplate.MakePrepared]. Nothing is written then, and Len is 0.
 func (b *RouteBatch) RoutePrepared(datagram []byte, group *PreparedGroup, data, buf []byte) error {
-	b.buf, b.written = nil, nil
-	status := b.own.makePrepared(datagram, group)
-	if status == statusOK {
-		status = b.own.writeAll(data, b.given, buf)
-	}
-	return b.ended(buf, status)
-}
-
-// makePrepared makes the header, where the buffer is too short in one that isn't.
-func (t *HeaderTemplate) makePrepared(datagram []byte, group *PreparedGroup) int32 {
-	for {
-		status := makeFromGroup(group, datagram, t.buf, &t.made)
-		if status != statusShortBuffer || !t.grow(datagram, int(group.count)) {
-			return status
-		}
-	}
+	b.written = b.written[:0]
+	return b.write(&b.own, b.own.makePrepared(datagram, group), data, buf)
 }

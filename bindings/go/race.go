@@ -76,6 +76,15 @@ func readsAt(buf *byte, size, at, n uintptr) {
 	}
 }
 
+// readsDataElements tells of the elements, and of the data of each.
+func readsDataElements(first *rtpw_data_element, count uintptr) {
+	for i := range unsafe.Slice(first, count) {
+		it := &unsafe.Slice(first, count)[i]
+		reads(unsafe.Pointer(it), unsafe.Sizeof(*it))
+		reads(unsafe.Pointer(it.data), it.data_len)
+	}
+}
+
 // writesReceivers tells of the receivers that packets are for.
 func writesReceivers(first *rtpw_receiver, receivers uintptr, arrivals *rtpw_arrival, count uintptr) {
 	for _, it := range unsafe.Slice(arrivals, count) {

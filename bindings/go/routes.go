@@ -238,33 +238,21 @@ func (b *RouteBatch) ClearPadding(i int, clears bool) {
 // It returns ErrBadField where the template has no header: it was never made, the last Make failed, or it is a copy of
 // another one. Nothing is written then, and Len is 0.
 func (b *RouteBatch) Write(t *HeaderTemplate, data, buf []byte) error {
-	b.buf, b.written = nil, nil
+	b.written = b.written[:0]
+	made := int32(statusOK)
 	if t.HeaderLen() == 0 {
-		return ErrBadField
+		made = statusBadField
 	}
-	return b.ended(buf, t.writeAll(data, b.given, buf))
+	return b.write(t, made, data, buf)
 }
 
 // Route makes the header of a packet for a group and writes it for all receivers that were added, as
-// [HeaderTemplate.Make] and then Write with the same data do, by one call of the library. The headers may be written over
-// the datagram.
+// [HeaderTemplate.Make] and then Write with the same data do. The headers may be written over the datagram.
 //
 // It returns the errors of Make. Nothing is written then, and Len is 0.
 func (b *RouteBatch) Route(datagram []byte, group *Group, data, buf []byte) error {
-	b.buf, b.written = nil, nil
-	status := b.own.make(datagram, group, data)
-	if status == statusOK {
-		status = b.own.writeAll(data, b.given, buf)
-	}
-	return b.ended(buf, status)
-}
-
-// ended keeps what was written, unless the status is that of an error, which it returns.
-func (b *RouteBatch) ended(buf []byte, status int32) error {
-	if status == 0 {
-		b.buf, b.written = buf, b.given
-	}
-	return errorOf(status)
+	b.written = b.written[:0]
+	return b.write(&b.own, b.own.make(datagram, group, data), data, buf)
 }
 
 // Len is for how many receivers the last Write or Route wrote; 0 after a Reset.

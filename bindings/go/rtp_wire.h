@@ -7,10 +7,11 @@
  *
  * What a server takes first, each with when; the others stand below, by their subjects:
  *
- *     rtpw_map_set                  for each line a=extmap of a peer's SDP: what the id means, the number of
- *     rtpw_kind_of_uri                its URI
+ *     rtpw_map_set                  for each line a=extmap of a peer's SDP: what the id means, the kind that
+ *     rtpw_kind_of_uri                its URI names
  *     rtpw_new_ids_between          for two peers: the ids that elements get on the way from one to the other
  *     rtpw_read                     for each datagram: its header and where its parts lie, or that it is RTCP
+ *     rtpw_is_rtcp                    where RTCP is sorted out before: whether the datagram is that
  *     rtpw_next_element             for its elements one by one, also those that no value is of
  *     rtpw_wide_restarting_receive  where nothing is authenticated: its number, or that it came before or the
  *                                     sender has started again
@@ -30,7 +31,7 @@
  *
  *     rtpw_map map = {{0}}; // what the ids of a peer mean
  *     if (rtpw_map_set(&map, 1, rtpw_kind_of_uri((const uint8_t *)uri, strlen(uri))) != RTPW_OK) {
- *         return unknown(uri); // it gets a number of your own (rtpw_map)
+ *         return unknown(uri); // it gets a kind of your own (rtpw_map)
  *     }
  *     rtpw_wide_restarting_receiver receiver = {0}; // of one SSRC, with a window of 64 * 16 numbers
  *     uint64_t words[16] = {0};
@@ -69,7 +70,10 @@
  *     most 255 bytes. Of structs, arrays of structs or numbers, and lengths it isn't looked at: they must not lie in a
  *     buffer, nor in one another.
  *
- * A buffer is a pointer and then its size in bytes. Numbers are in the byte order of the machine: what stands in a
+ * The number of a packet is its extended sequence number: the 16 bits that its header has, and above these how often
+ * they rolled over. What an extension is for is its kind, and a struct is found in an array by its place, from 0 on.
+ *
+ * A buffer is a pointer and then its size in bytes. Integers are in the byte order of the machine: what stands in a
  * packet in network byte order is turned. Outputs are written whole where the status is RTPW_OK, and else not at all,
  * unless they are RTPW_WRITTEN_IF others; what rtpw_make_template and rtpw_make_from_group leave in their buffer then
  * may be anything. The calls for many at once return nothing, and write a status beside each; so does
@@ -140,8 +144,8 @@ extern "C" {
  *     RTPW_BUT(fields..)       of structs: all but these fields are looked at
  *     RTPW_KIND(uri, ..)       the URI of a kind of extension in SDP, and each field of rtpw_values that is of it
  *
- * RTPW_COUNT of an array in a struct: only so many of it are looked at. RTPW_OUT of a field: it is written, at the status
- * beside it that is RTPW_OK or by RTPW_WRITTEN_IF, and needs no value where the struct is read. */
+ * RTPW_COUNT of an array in a struct: only so many of it are looked at. RTPW_OUT of a field: it is written, at the
+ * status beside it that is RTPW_OK or by RTPW_WRITTEN_IF, and needs no value where the struct is read. */
 #ifndef RTPW_OUT
 #define RTPW_OUT
 #define RTPW_INOUT
@@ -163,8 +167,8 @@ extern "C" {
 #define RTPW_VERSION "1.1.0-dev"
 #define RTPW_VERSION_NUMBER 65792
 
-/* The version of the library that is linked: 65,536 times its major number, 256 times the minor one,
- * and the patch. */
+/* The version of the library that is linked: 65,536 times its major number, 256 times the minor one, and the patch. A
+ * program that loads a shared library tells by it that this is no older than its header file. */
 uint32_t rtpw_version(void);
 
 /* ---- Statuses ---- */
@@ -260,9 +264,10 @@ typedef struct {
  * two or three are enough, though no RTCP packet has fewer than four. */
 bool rtpw_is_rtcp(RTPW_COUNT(len) RTPW_PART(0, 2) RTPW_READ_IF(len >= 2) const uint8_t *datagram, size_t len);
 
-/* Reads the header of the packet in the buffer. RTPW_OK, or the first cause for which it holds none. A block of
- * another form than the two has a body, and no elements: none are found in it, and none can be put into it. With
- * Cryptex decrypt first: the contributing sources are encrypted too. */
+/* Reads the header of the packet in the buffer, for who looks at none of its values: rtpw_read tells these and RTCP
+ * too. RTPW_OK, or the first cause for which it holds none. A block of another form than the two has a body, and no
+ * elements: none are found in it, and none can be put into it. With Cryptex decrypt first: the contributing sources are
+ * encrypted too. */
 RTPW_CHECKED int32_t rtpw_packet_parse(RTPW_COUNT(len) RTPW_PACKET(fields) const uint8_t *datagram, size_t len,
                                        RTPW_OUT rtpw_packet *packet);
 
@@ -272,10 +277,11 @@ RTPW_CHECKED int32_t rtpw_packet_parse(RTPW_COUNT(len) RTPW_PACKET(fields) const
  * first cause for which the buffer holds no packet; rtpw_set_payload_type and rtpw_set_fields also
  * RTPW_BAD_FIELD, before all else, where the payload type is above 127. Where it isn't RTPW_OK nothing changes.
  *
- * The header alone is enough for each of them (rtpw_remove_padding aside) and for rtpw_renumber: its
- * payload_at bytes are a packet without a payload, and what they become is, with the payload behind it, what
- * the whole packet would become. So a server copies and changes only the header for each receiver, and sends
- * it before the one payload (writev). */
+ * The header alone is enough for each of them (rtpw_remove_padding aside) and for rtpw_renumber: its payload_at bytes
+ * are a packet without a payload, and what they become is, with the payload behind it, what the whole packet would
+ * become. So a server copies and changes only the header for each receiver, and sends it before the one payload
+ * (writev). Several fields are set together by rtpw_set_fields, and several headers are written together by
+ * rtpw_write_headers. */
 RTPW_CHECKED int32_t rtpw_set_marker(RTPW_INOUT RTPW_COUNT(len) RTPW_PACKET(header_len) uint8_t *datagram, size_t len,
                                      bool marker);
 RTPW_CHECKED int32_t rtpw_set_payload_type(RTPW_INOUT RTPW_COUNT(len) RTPW_PACKET(header_len) uint8_t *datagram,
@@ -315,15 +321,16 @@ typedef struct {
 RTPW_CHECKED int32_t rtpw_set_fields(RTPW_INOUT RTPW_COUNT(len) RTPW_PACKET(header_len) uint8_t *datagram, size_t len,
                                      const rtpw_fields *fields);
 
-/* The contributing source at this place, counted from 0. RTPW_NONE where the list has no such place. */
+/* The contributing source at this place, counted from 0, as where a mixer's sources get other SSRCs. RTPW_NONE where
+ * the list has no such place. */
 RTPW_CHECKED int32_t rtpw_set_csrc(RTPW_INOUT RTPW_COUNT(len) RTPW_PACKET(header_len)
                                        RTPW_PART(RTPW_CSRC_AT + 4 * index, 4) uint8_t *datagram, size_t len,
                                    size_t index, uint32_t source);
 
 /* Gives the last element of this id these data. RTPW_BAD_FIELD, before all else, where one of them lies in the
  * datagram; RTPW_NONE where the packet has no element of the id, or its last one has another number of bytes. Where
- * rtpw_id_of returned 0 don't call it: padding of the one-byte form that has length bits (RFC 8285, 4.2) is told, found,
- * set and removed as an element of the id 0, though none is put or written. */
+ * rtpw_id_of returned 0 don't call it: padding of the one-byte form that has length bits (RFC 8285, 4.2) is told,
+ * found, set and removed as an element of the id 0, though none is put or written. */
 RTPW_CHECKED int32_t rtpw_set_element(RTPW_INOUT RTPW_COUNT(len) RTPW_PACKET(block) uint8_t *datagram, size_t len,
                                       uint8_t id, RTPW_COUNT(data_len) RTPW_MAY_OVERLAP(datagram) const uint8_t *data,
                                       size_t data_len);
@@ -472,10 +479,10 @@ typedef struct {
  */
 RTPW_CHECKED int32_t rtpw_next_element(RTPW_COUNT(body_len) const uint8_t *body, size_t body_len, uint8_t form,
                                        size_t at, RTPW_OUT rtpw_element *element);
-/* The elements from an offset on, in order, as rtpw_next_element tells them one by one: as many as there is room for.
- * Returns how many they are. Where there is room for more, reading ends behind them; else it goes on at the `end` of the
- * last one. There are none where the form is none of the two, or the offset is past the body's end. What is behind them
- * stays.
+/* The elements from an offset on, in order, as rtpw_next_element tells them one by one: as many as there is room for,
+ * in one call where all of them are wanted. Returns how many they are. Where there is room for more, reading ends
+ * behind them; else it goes on at the `end` of the last one. There are none where the form is none of the two, or the
+ * offset is past the body's end. What is behind them stays.
  *
  *     rtpw_element elements[16];
  *     size_t count = rtpw_next_elements(body, packet.body_len, packet.block_form, 0, elements, 16);
@@ -489,8 +496,8 @@ RTPW_CHECKED int32_t rtpw_last_element(RTPW_COUNT(body_len) const uint8_t *body,
 
 /* ---- The values of a block ---- */
 
-/* The kinds of extension, by numbers of this library, and from RTPW_KIND_OWN to 255 by yours. Those to 15 have a field
- * of rtpw_values, but for the color space. Those from 16 to 20, and yours, have none: their elements are read and
+/* The kinds of extension of this library, and from RTPW_KIND_OWN to 255 those of your own. Those to 15 have a field
+ * of rtpw_values, but for the color space. Those from 16 to 20, and your own, have none: their elements are read and
  * written by their data, of 16 to 20 by the calls that are named here, and go from one map to another
  * (rtpw_new_ids_between). Beside each its URI in SDP. */
 enum {
@@ -516,7 +523,7 @@ enum {
         RTPW_KIND("urn:ietf:params:rtp-hdrext:sdes:repaired-rtp-stream-id", repaired_rid),
     RTPW_KIND_MID = 12 RTPW_KIND("urn:ietf:params:rtp-hdrext:sdes:mid", mid), /* RFC 9143 */
     RTPW_KIND_FRAME_MARKING = 13 /* the draft's, of four bytes; that of RFC 9626, of one to three, is
-                                  * urn:ietf:params:rtp-hdrext:framemarking, which has no number here: give it one of
+                                  * urn:ietf:params:rtp-hdrext:framemarking, which is no kind here: give it one of
                                   * yours, and take rtpw_read_frame_marking */
         RTPW_KIND("http://tools.ietf.org/html/draft-ietf-avtext-framemarking-07", frame_marking),
     RTPW_KIND_COLOR_SPACE = 14 RTPW_KIND("http://www.webrtc.org/experiments/rtp-hdrext/color-space"),
@@ -532,16 +539,16 @@ enum {
     RTPW_KIND_OWN = 128
 };
 
-/* kind[id] is the kind that the id means; a number from 21 to 127 means none, and kind[0] isn't looked at.
+/* kind[id] is the kind that the id means; one from 21 to 127 means none, and kind[0] isn't looked at.
  * What reads and writes values passes over the ids of kinds without a field as over those that mean none. It may be
  * filled by hand, copied, stored, and shared as static const:
  *
  *     rtpw_map map = {{0}};
  *     map.kind[3] = RTPW_KIND_AUDIO_LEVEL;
  *
- * Or from the lines of an SDP, `a=extmap:ID URI` (RFC 8285, 5 and 6). A URI that this library doesn't know gets a
- * number of yours, the same in the maps of all peers of a call: so its elements go on from one to the other. Without a
- * number they become padding (rtpw_renumber), though both peers agreed on them. Where a URI may stand several times, as
+ * Or from the lines of an SDP, `a=extmap:ID URI` (RFC 8285, 5 and 6). A URI that this library doesn't know gets a kind
+ * of yours, the same in the maps of all peers of a call: so its elements go on from one to the other. Without a kind
+ * they become padding (rtpw_renumber), though both peers agreed on them. Where a URI may stand several times, as
  * urn:ietf:params:rtp-hdrext:encrypt before the one that it encrypts (RFC 6904) or one with attributes, let `uri` be
  * all that stands behind the id: else both ids mean one kind, and rtpw_new_ids_between makes one of them. `uris` is
  * kept for the call:
@@ -569,7 +576,7 @@ typedef struct {
 uint8_t rtpw_kind_of_uri(RTPW_COUNT(len) const uint8_t *uri, size_t len);
 /* Writes the URI that names the kind in SDP, as an answer says it, to the front of the buffer: at most 87 bytes
  * (RTPW_URI_SIZE, which a minor version may raise), and no zero behind them. RTPW_OK, and *len is how many; RTPW_NONE
- * where the number is that of no kind, as RTPW_KIND_NONE and those of your own; RTPW_SHORT_BUFFER.
+ * where it is no kind of this library, as RTPW_KIND_NONE and those of your own; RTPW_SHORT_BUFFER.
  *
  *     uint8_t uri[RTPW_URI_SIZE];
  *     size_t uri_len;
@@ -583,14 +590,15 @@ RTPW_CHECKED int32_t rtpw_uri_of_kind(uint8_t kind, RTPW_OUT RTPW_COUNT(size) ui
 /* The id means the kind from now on. RTPW_OK, or RTPW_BAD_FIELD where the id is 0, or the kind is RTPW_KIND_NONE, which
  * rtpw_kind_of_uri returns of a URI that it doesn't know, or one of 21 to 127; then nothing changes. */
 RTPW_CHECKED int32_t rtpw_map_set(RTPW_INOUT RTPW_PART(id, 1) rtpw_map *map, uint8_t id, uint8_t kind);
-/* The id means nothing from now on: kind[id] becomes 0. */
+/* The id means nothing from now on, as where a peer's next SDP hasn't its line: kind[id] becomes 0. */
 void rtpw_map_remove(RTPW_INOUT RTPW_PART(id, id != 0) rtpw_map *map, uint8_t id);
-/* The kind that the id means; RTPW_KIND_NONE where it means none. */
+/* The kind that the id of an element means; RTPW_KIND_NONE where it means none. */
 uint8_t rtpw_map_get(RTPW_PART(id, id != 0) const rtpw_map *map, uint8_t id);
-/* The lowest id that means the kind; 0 where none does, as for RTPW_KIND_NONE and 21 to 127. */
+/* The lowest id that means the kind, under which an element of it is put or looked for; 0 where none does, as for
+ * RTPW_KIND_NONE and 21 to 127. */
 uint8_t rtpw_id_of(const rtpw_map *map, uint8_t kind);
-/* The map of the usual ids, whatever it was: 1 audio level, 2 send time, 3 transport number, 4 mid, 10
- * rid, 11 repaired rid, 13 video orientation; RTPW_KIND_NONE at each other index, 0 too. */
+/* The map of the usual ids, for peers that agree on none, whatever it was: 1 audio level, 2 send time, 3 transport
+ * number, 4 mid, 10 rid, 11 repaired rid, 13 video orientation; RTPW_KIND_NONE at each other index, 0 too. */
 void rtpw_map_standard(RTPW_OUT rtpw_map *map);
 
 /* A time: ticks / hertz seconds. 16 bytes. */
@@ -653,9 +661,9 @@ typedef struct {
     uint8_t has_layers; /* a layer allocation: rtpw_parse_layers tells it, and rtpw_write_layers writes it */
 } rtpw_values;
 
-/* The values that the elements of a body give under the map: for each kind those of the last element
- * whose id means it and whose data are well-formed for it. RTPW_OK; RTPW_BAD_FIELD where the form is none
- * of the two. */
+/* The values that the elements of a body give under the map, where rtpw_packet_parse has told the body and they are
+ * wanted after all (rtpw_read tells both): for each kind those of the last element whose id means it and whose data are
+ * well-formed for it. RTPW_OK; RTPW_BAD_FIELD where the form is none of the two. */
 RTPW_CHECKED int32_t rtpw_values_read(RTPW_COUNT(body_len) const uint8_t *body, size_t body_len, uint8_t form,
                                       const rtpw_map *map, RTPW_OUT rtpw_values *values);
 
@@ -710,7 +718,8 @@ typedef struct {
                              * one header.header_len */
     size_t body_len;        /* of the body, which ends where the payload begins; 0 without a block */
     uint16_t block_profile; /* the 16 bits that the block begins with; 0 without one */
-    uint8_t block_form;     /* RTPW_ONE_BYTE_FORM, RTPW_TWO_BYTE_FORM or RTPW_OTHER_FORM; RTPW_NO_BLOCK where X is clear */
+    uint8_t block_form;     /* RTPW_ONE_BYTE_FORM, RTPW_TWO_BYTE_FORM or RTPW_OTHER_FORM; RTPW_NO_BLOCK where X is
+                             * clear */
     uint8_t padding_fits;   /* 0 where P is set and the payload's last byte counts more bytes than there are, else 1 */
 } rtpw_whole_packet;
 
@@ -772,7 +781,8 @@ typedef struct {
 RTPW_CHECKED int32_t rtpw_parse_layers(RTPW_COUNT(len) RTPW_PACKET(header) const uint8_t *datagram, size_t len,
                                        const rtpw_map *map, RTPW_OUT rtpw_header *header, RTPW_OUT rtpw_layers *layers);
 
-/* How many bytes rtpw_write writes: a multiple of 4, 12 to 4,668. RTPW_OK; RTPW_BAD_FIELD as rtpw_write. */
+/* How many bytes rtpw_write writes, and so how much room it wants: a multiple of 4, 12 to 4,668. RTPW_OK;
+ * RTPW_BAD_FIELD as rtpw_write. */
 RTPW_CHECKED int32_t rtpw_wire_len(RTPW_READ_IF(header->has_extension) const rtpw_map *map, const rtpw_header *header,
                                    RTPW_OUT size_t *len);
 
@@ -873,21 +883,85 @@ RTPW_CHECKED int32_t rtpw_write_with_form(RTPW_BUT(has_extension, values) const 
                                           RTPW_COUNT(count) const rtpw_element *elements, size_t count, uint8_t form,
                                           RTPW_OUT RTPW_COUNT(size) uint8_t *buf, size_t size, RTPW_OUT size_t *len);
 
-/* Writes elements, one after the other, as a block's body has them, to the front of the buffer; bytes
- * after them stay. RTPW_OK; RTPW_BAD_FIELD where the form is none of the two or can't carry one of them, data_at +
- * data_len of one is past the end of the data, or one of the data, as with rtpw_write_with, lies in the buffer;
- * RTPW_SHORT_BUFFER where the buffer alone is at fault. */
+/* Writes elements, one after the other, as a block's body has them, to the front of the buffer: with zeros up to a
+ * whole word behind them they are a body for rtpw_put_block. Bytes after them stay. RTPW_OK; RTPW_BAD_FIELD where the
+ * form is none of the two or can't carry one of them, data_at + data_len of one is past the end of the data, or one of
+ * the data, as with rtpw_write_with, lies in the buffer; RTPW_SHORT_BUFFER where the buffer alone is at fault. */
 RTPW_CHECKED int32_t rtpw_write_elements(RTPW_COUNT(data_len) RTPW_MAY_OVERLAP(buf) RTPW_EACH(elements)
                                              const uint8_t *data, size_t data_len,
                                          RTPW_COUNT(count) const rtpw_element *elements, size_t count, uint8_t form,
                                          RTPW_OUT RTPW_COUNT(size) uint8_t *buf, size_t size, RTPW_OUT size_t *len);
+
+/* ---- A header in less ---- */
+
+/* For a program that keeps headers in structs of its own, and reads or writes one for each packet: the fixed part in 16
+ * bytes, and elements with pointers to their data, so that nothing of them is copied before. Contributing sources are
+ * read at RTPW_CSRC_AT, and written by rtpw_write_with. */
+
+/* The fixed part (RFC 3550, 5.1) but for how many contributing sources there are. A flag is told as 0 or 1, and counts as
+ * set where it isn't 0. 16 bytes. */
+typedef struct {
+    uint8_t version;       /* told: 2. Where it is written it isn't looked at */
+    uint8_t has_padding;   /* P */
+    uint8_t has_extension; /* told: X. Where it is written it isn't looked at */
+    uint8_t marker;        /* M */
+    uint8_t payload_type;  /* 0 to 127 */
+    uint16_t sequence_number;
+    uint32_t timestamp;
+    uint32_t ssrc;
+} rtpw_fixed_part;
+
+/* Where the other parts of a packet lie. Each field is as in rtpw_packet; the body of the block ends where the payload
+ * begins. 32 bytes. */
+typedef struct {
+    size_t payload_at;
+    size_t unpadded_len;
+    size_t body_at;
+    uint16_t block_profile;
+    uint8_t block_form;
+    uint8_t csrc_count;
+    uint8_t padding_fits;
+} rtpw_layout;
+
+/* An element and where its data lie, as its writer has them. 32 bytes. */
+typedef struct {
+    uint8_t id;
+    RTPW_COUNT(data_len)
+    const uint8_t *data;
+    size_t data_len;
+    size_t own; /* the caller's own: it isn't looked at */
+} rtpw_data_element;
+
+/* Reads what rtpw_packet_parse reads of the packet in the buffer, into these two. The statuses are those of that. */
+RTPW_CHECKED int32_t rtpw_read_fixed_part(RTPW_COUNT(len) RTPW_PACKET(fields) const uint8_t *datagram, size_t len,
+                                          RTPW_OUT rtpw_fixed_part *fixed, RTPW_OUT rtpw_layout *layout);
+
+/* Writes a header that is this fixed part alone, without contributing sources and block, to the front of the buffer: 12
+ * bytes. RTPW_OK; RTPW_BAD_FIELD where payload_type is above 127, and else RTPW_SHORT_BUFFER where the buffer has fewer. */
+RTPW_CHECKED int32_t rtpw_write_fixed_part(RTPW_BUT(version, has_extension) const rtpw_fixed_part *fixed,
+                                           RTPW_OUT RTPW_COUNT(size) RTPW_PART(0, 12) uint8_t *buf, size_t size);
+
+/* Writes this fixed part, without contributing sources, and behind it a block of these elements in this form,
+ * RTPW_ONE_BYTE_FORM or RTPW_TWO_BYTE_FORM, which are those of rtpw_write_with_form. None of their data may lie in the
+ * buffer, and this isn't looked at.
+ *
+ * RTPW_OK; RTPW_BAD_FIELD where payload_type is above 127, the form is none of the two or can't carry an element, or all
+ * of them take more than the 262,140 bytes of a block; RTPW_SHORT_BUFFER where the buffer alone is at fault.
+ *
+ *     rtpw_data_element elements[] = {{1, &level, 1, 0}, {4, mid, mid_len, 0}};
+ *     status = rtpw_write_data_elements(&fixed, elements, 2, RTPW_ONE_BYTE_FORM, packet, sizeof packet, &header_len);
+ */
+RTPW_CHECKED int32_t rtpw_write_data_elements(RTPW_BUT(version, has_extension) const rtpw_fixed_part *fixed,
+                                              RTPW_COUNT(count) RTPW_BUT(own) const rtpw_data_element *elements,
+                                              size_t count, uint8_t form, RTPW_OUT RTPW_COUNT(size) uint8_t *buf,
+                                              size_t size, RTPW_OUT size_t *len);
 
 /* ---- Values as the standards lay them out ---- */
 
 /* The data of one element, as its standard has them, read and written: of kinds for which rtpw_values reads something
  * else, or nothing. What is read is where rtpw_element tells that an element's data lie, and what is written is for
  * rtpw_put_element, rtpw_set_element and rtpw_write_elements. The id of each but RFC 9626's frame marking is that of a
- * kind (rtpw_id_of); that one gets a number of your own. Numbers in the data are big-endian.
+ * kind (rtpw_id_of); that one gets a kind of your own. Integers in the data are big-endian.
  *
  * rtpw_read_..: RTPW_OK; RTPW_BAD_FIELD where the data aren't well-formed for the value, and then nothing is written.
  * What an absent part leaves is 0.
@@ -1159,7 +1233,7 @@ typedef struct {
 } rtpw_new_ids;
 
 /* For each id of a kind in `from`, your own kinds too, its lowest id in `to`, and 0 for all others and at
- * index 0. So elements of an extension that has no kind here go on if both maps give it one number of your
+ * index 0. So elements of an extension that has no kind here go on if both maps give it one kind of your
  * own. Make it once for two streams:
  *
  *     rtpw_new_ids_between(&publisher.map, &subscriber.map, &route.ids);
@@ -1190,9 +1264,10 @@ RTPW_CHECKED int32_t rtpw_pad(RTPW_INOUT RTPW_COUNT(size) RTPW_PART(0, 1)
                               size_t size, size_t header_len, uint8_t pad_len, size_t block_size,
                               RTPW_OUT size_t *count);
 
-/* The original sequence number that the payload of a retransmission packet begins with (RFC 4588, 4),
- * before the original payload: read, or the low 16 bits of it written. RTPW_OK, or RTPW_SHORT_BUFFER where
- * there are fewer than two bytes. */
+/* The original sequence number that the payload of a retransmission packet begins with (RFC 4588, 4), before the
+ * original payload: read, or the low 16 bits of it written, for who makes the rest of the packet without
+ * rtpw_to_retransmission and rtpw_from_retransmission. RTPW_OK, or RTPW_SHORT_BUFFER where there are fewer than two
+ * bytes. */
 RTPW_CHECKED int32_t rtpw_read_original(RTPW_COUNT(len) RTPW_PART(0, 2) RTPW_READ_IF(len >= 2) const uint8_t *payload,
                                         size_t len, RTPW_OUT uint16_t *number);
 RTPW_CHECKED int32_t rtpw_write_original(RTPW_OUT RTPW_COUNT(size) RTPW_PART(0, 2) uint8_t *payload, size_t size,
@@ -1290,7 +1365,7 @@ void rtpw_receiver_record(RTPW_INOUT rtpw_receiver *receiver, uint64_t number);
 RTPW_CHECKED int32_t rtpw_receiver_receive(RTPW_INOUT rtpw_receiver *receiver, uint16_t sequence_number,
                                            RTPW_OUT uint64_t *number);
 
-/* What is known of a number: why it isn't accepted. */
+/* The standing of a number: what is known of it, and why it isn't accepted. */
 enum {
     RTPW_NEW = 0,      /* it may be taken */
     RTPW_TAKEN = 1,    /* it is in the window and was taken: the packet is a replay */
@@ -1513,10 +1588,11 @@ RTPW_CHECKED int32_t rtpw_wide_restarting_receive(RTPW_INOUT RTPW_WRITTEN_IF(RTP
                                                       uint64_t *words, size_t count, uint16_t sequence_number,
                                                   RTPW_OUT RTPW_WRITTEN_IF(RTPW_OK, RTPW_RESTARTED) uint64_t *number);
 
-/* The number nearest to the previous one, modulo 2^64, that ends in these 8, 15, 16 or 32 bits. Where two
- * are equally near it is the one with the rollover count of the previous one. The sixteenth bit of what is
- * extended as 15 bits isn't looked at. Begin with the first number and one rollover, 2^16 more for 16 bits: from 0 on a
- * number in the upper half of the range gets one near 2^64. */
+/* For what rolls over and has no receiver, as the number of a frame, a picture's id or a timestamp: the number nearest
+ * to the previous one, modulo 2^64, that ends in these 8, 15, 16 or 32 bits. Where two are equally near it is the one
+ * with the rollover count of the previous one. The sixteenth bit of what is extended as 15 bits isn't looked at. Begin
+ * with the first number and one rollover, 2^16 more for 16 bits: from 0 on a number in the upper half of the range gets
+ * one near 2^64. */
 uint64_t rtpw_extend_u8(uint64_t previous, uint8_t number);
 uint64_t rtpw_extend_u15(uint64_t previous, uint16_t number);
 uint64_t rtpw_extend_u16(uint64_t previous, uint16_t number);
@@ -1585,8 +1661,8 @@ typedef struct {
     uint8_t is_rtcp;
 } rtpw_datagram_header;
 
-/* Reads each of the datagrams. It is within the buffer where `at` is at most size, and len at most size - at: no sum
- * is cut. rtpw_packet_parse_many and rtpw_parse_many read RTCP too, as rtpw_packet_parse reads it: look at is_rtcp first
+/* Reads each of the datagrams. It is within the buffer where `at` is at most size, and len at most size - at: no sum is
+ * cut. rtpw_packet_parse_many and rtpw_parse_many read RTCP too, as rtpw_packet_parse reads it: look at is_rtcp first
  * where it comes to the same port. Of packets with values take rtpw_read_many: rtpw_parse_many tells neither where the
  * padding begins nor a packet whose block is of another form. */
 void rtpw_read_many(RTPW_COUNT(size) RTPW_PACKET(whole) RTPW_EACH(datagrams) const uint8_t *buf, size_t size,
@@ -1682,13 +1758,14 @@ typedef struct {
     uint8_t data_len[16]; /* how many bytes of data each has, 0 to 255; after the last as data_at */
 } rtpw_template;
 
-/* Makes the header that the packet gets for a group, at the front of the buffer, and tells of it in *made. Each
- * element of the packet gets its new id, and one that gets none goes (rtpw_renumber); before that a block of the
- * one-byte form gets the two-byte form, where a new id is above 14 and that form is allowed (rtpw_change_form). Then
- * the elements that are given are put into it, in their order (rtpw_put_element; `allowed` is as there), each named
- * as in rtpw_write_elements: at most 16, of ids of their own. Where none is put, and no new id asks for another form,
- * the block keeps its form, allowed or not. Only the packet's header is looked at. A buffer of twice the packet's
- * header and 264 bytes for each element has room.
+/* Makes the header that the packet gets for a group, at the front of the buffer, and tells of it in *made: for a group
+ * of one packet, where one of many is prepared once (rtpw_prepare_group, rtpw_make_from_group). Each element of the
+ * packet gets its new id, and one that gets none goes (rtpw_renumber); before that a block of the one-byte form gets
+ * the two-byte form, where a new id is above 14 and that form is allowed (rtpw_change_form). Then the elements that are
+ * given are put into it, in their order (rtpw_put_element; `allowed` is as there), each named as in
+ * rtpw_write_elements: at most 16, of ids of their own. Where none is put, and no new id asks for another form, the
+ * block keeps its form, allowed or not. Only the packet's header is looked at. A buffer of twice the packet's header
+ * and 264 bytes for each element has room.
  *
  * RTPW_OK; RTPW_BAD_FIELD, before all else, where `allowed` is none of the three, count is above 16, or data_at +
  * data_len of an element is above the length of `data`; the first cause for which the bytes are no packet;
@@ -1710,20 +1787,21 @@ RTPW_CHECKED int32_t rtpw_make_template(RTPW_COUNT(len) RTPW_PACKET(header) cons
  * kept beside the group as long as these stay, and isn't changed by hand. 550 bytes. */
 typedef struct {
     uint8_t new_ids[256];     /* the new id of each id, and 0 where it has none, as at index 0 */
-    uint8_t numbers[256];     /* the number of the element of each id, from 1 on, and 0 where none has the id */
+    uint8_t numbers[256];     /* the place of the element of each id, counted from 1, and 0 where none has it */
     uint8_t element_ids[16];  /* the id of each element that is put */
     uint8_t data_lens[16];    /* how many bytes of data each has */
     uint16_t data_total;      /* how many bytes of data each receiver brings: their sum, 0 to 4,080 */
     uint8_t count;            /* how many elements there are: 0 to 16 */
-    uint8_t allowed;          /* which form the block may get: RTPW_ANY_FORM, RTPW_ONE_BYTE_FORM or RTPW_TWO_BYTE_FORM */
+    uint8_t allowed;          /* which form the block may get: RTPW_ANY_FORM, or RTPW_ONE_BYTE_FORM or
+                               * RTPW_TWO_BYTE_FORM alone */
     uint8_t one_byte;         /* not 0 where the one-byte form can carry each element */
 } rtpw_group;
 
 /* Checks and tables what receivers have in common, once for all packets: the new ids of a packet's elements, the
  * elements that are put into it, and the form that its block may get (`allowed`, as in rtpw_put_element). Of an element
  * its id and data_len are looked at, and not where its data lie: each receiver brings its own. So a server prepares a
- * group when a session's ids are agreed on, and for each packet calls rtpw_make_from_group and rtpw_write_headers. Where
- * no element is put and no new id asks for another form, the block keeps its form, allowed or not
+ * group when a session's ids are agreed on, and for each packet calls rtpw_make_from_group and rtpw_write_headers.
+ * Where no element is put and no new id asks for another form, the block keeps its form, allowed or not
  * (rtpw_make_template): a peer that hasn't agreed to a form has to be looked after by rtpw_change_form.
  *
  *     const rtpw_element element = {0, 2, 0, 4};      // two bytes of the id 4
@@ -1732,8 +1810,8 @@ typedef struct {
  *     ..
  *     status = rtpw_make_from_group(&group, packet, sizeof packet, header, sizeof header, &made);    // for each packet
  *
- * RTPW_OK; RTPW_BAD_FIELD where `allowed` is none of the three, count is above 16, an element has more than 255 bytes of
- * data, or two have one id; or RTPW_BAD_ID where one has the id 0. Where it isn't RTPW_OK *group is as it was. */
+ * RTPW_OK; RTPW_BAD_FIELD where `allowed` is none of the three, count is above 16, an element has more than 255 bytes
+ * of data, or two have one id; or RTPW_BAD_ID where one has the id 0. Where it isn't RTPW_OK *group is as it was. */
 RTPW_CHECKED int32_t rtpw_prepare_group(const rtpw_new_ids *ids,
                                         RTPW_COUNT(count) RTPW_BUT(data_at) const rtpw_element *elements, size_t count,
                                         uint8_t allowed, RTPW_OUT rtpw_group *group);

@@ -25,11 +25,13 @@ status=0
 "$scratch/test/abi.sh" 2>"$scratch/told" || status=$?
 [ $status -eq 1 ] || fail "another ABI passed: $status"
 LC_ALL=C sort >"$scratch/expected" <<'END'
+abi.sh: gone or changed: rtpw_data_element.id at 0, 1 bytes: uint8_t
 abi.sh: gone or changed: rtpw_element.id at 24, 1 bytes: uint8_t
 abi.sh: gone or changed: constant RTPW_CSRC_AT: 12
 abi.sh: gone or changed: constant RTPW_REFUSED: 10
 abi.sh: gone or changed: function int32_t rtpw_set_marker(uint8_t *, size_t, _Bool)
 abi.sh: gone or changed: function uint32_t rtpw_version(void)
+abi.sh: new: rtpw_data_element.id at 0, 2 bytes: uint16_t
 abi.sh: new: rtpw_element.id at 24, 2 bytes: uint16_t
 abi.sh: new: constant RTPW_CSRC_AT: 16
 abi.sh: new: constant RTPW_REFUSED: 17

@@ -34,6 +34,11 @@ static rtpw_whole_packet whole;
 static rtpw_header header, written;
 static rtpw_values values;
 static rtpw_element element, listed[8];
+static rtpw_fixed_part fixed = {2, 0, 1, 0, 111, 47000, 10000, 44};
+static rtpw_layout layout;
+/* Where the data of the elements of the first packet lie. */
+static const rtpw_data_element lying[] = {
+    {1, packet + 17, 1, 0}, {2, packet + 19, 3, 0}, {3, packet + 23, 2, 0}, {4, packet + 26, 3, 0}};
 static rtpw_layers layers, given_layers;
 static rtpw_map map, other_map, layers_map;
 static rtpw_new_ids ids, repaired_ids;
@@ -98,6 +103,7 @@ static uint8_t body[BODY_LEN];
     X(rtpw_is_rtcp, rtpw_is_rtcp(rtcp, sizeof rtcp))                                                                  \
     X(rtpw_read, rtpw_read(packet, sizeof packet, &map, &whole))                                                      \
     X(rtpw_packet_parse, rtpw_packet_parse(packet, sizeof packet, &parts))                                            \
+    X(rtpw_read_fixed_part, rtpw_read_fixed_part(packet, sizeof packet, &fixed, &layout))                             \
     X(rtpw_parse, rtpw_parse(packet, sizeof packet, &map, &header))                                                   \
     X(rtpw_parse_layers, rtpw_parse_layers(packet, sizeof packet, &map, &header, &layers))                            \
     X(rtpw_values_read, rtpw_values_read(packet + BODY_AT, BODY_LEN, RTPW_ONE_BYTE_FORM, &map, &values))              \
@@ -132,6 +138,8 @@ static uint8_t body[BODY_LEN];
     X(rtpw_left_out_layers, rtpw_left_out_layers(&layers_map, &written, &given_layers, &kinds))                       \
     X(rtpw_write_with, rtpw_write_with(&written, rtcp, sizeof rtcp, &element, 1, buf, sizeof buf, &len))              \
     X(rtpw_write_with_form, rtpw_write_with_form(&written, rtcp, sizeof rtcp, &element, 1, 2, buf, sizeof buf, &len)) \
+    X(rtpw_write_fixed_part, rtpw_write_fixed_part(&fixed, buf, sizeof buf))                                          \
+    X(rtpw_write_data_elements, rtpw_write_data_elements(&fixed, lying, 4, RTPW_ONE_BYTE_FORM, buf, sizeof buf, &len)) \
     X(rtpw_write_elements, rtpw_write_elements(rtcp, sizeof rtcp, &element, 1, RTPW_ONE_BYTE_FORM, buf, sizeof buf, &len)) \
     X(rtpw_kind_of_uri, rtpw_kind_of_uri((const uint8_t *)uri, sizeof uri - 1))                                       \
     X(rtpw_uri_of_kind, rtpw_uri_of_kind(RTPW_KIND_MID, buf, sizeof buf, &len))                                        \

@@ -7,7 +7,7 @@ here=$(cd -- "$(dirname -- "$(readlink -f -- "${BASH_SOURCE[0]}")")/../.." && pw
 cd -- "$here/bindings/go"
 scratch=$(mktemp -d)
 trap 'rm -rf -- "$scratch"' EXIT
-export GOCACHE=$here/bindings/out/gocache GOPROXY=off GOTOOLCHAIN=local GOFLAGS= CGO_ENABLED=0 CC=no-C-compiler CXX=no-C-compiler
+export GOCACHE=$here/bindings/out/gocache GOPROXY=off GOTOOLCHAIN=local GOFLAGS='' CGO_ENABLED=0 CC=no-C-compiler CXX=no-C-compiler
 said() { printf '%4d s  %s\n' "$SECONDS" "$*"; }
 has() { command -v "$1" >/dev/null; }
 quietly() { # says what a command says only where it fails
@@ -92,6 +92,34 @@ tests() {
     fi
 }
 
+# The tests on ARM and on Windows, and by each other Go that is installed beside Debian's own.
+elsewhere() {
+    local it
+    if has qemu-aarch64; then
+        GOARCH=arm64 quietly go test -c -o "$scratch/arm64" .
+        quietly qemu-aarch64 "$scratch/arm64"
+        GOGC=1 quietly qemu-aarch64 "$scratch/arm64" -test.cpuprofile "$scratch/profile"
+        said 'Go: the tests on ARM by qemu-aarch64, also with endless collection and a profile'
+    else
+        said 'Go: ARM was left out: there is no qemu-aarch64'
+    fi
+    for it in wine64 /usr/lib/wine/wine64 ''; do ! has "$it" || break; done
+    if [ -n "$it" ]; then
+        GOOS=windows quietly go test -c -o "$scratch/windows.exe" .
+        WINEPREFIX=$scratch/wine WINEDEBUG=-all WINEDLLOVERRIDES='mscoree,mshtml=' WINEARCH=win64 quietly "$it" "$scratch/windows.exe"
+        said 'Go: the tests as a program for Windows, by Wine'
+    else
+        said 'Go: Windows was left out: there is no wine64'
+    fi
+    for it in /usr/lib/go-*/bin/go; do
+        [ "$("$it" version)" = "$(go version)" ] || {
+            quietly "$it" vet .
+            quietly "$it" test -count=1 .
+            said "Go: go vet and go test by $("$it" version)"
+        }
+    done
+}
+
 versions() {
     quietly ../test/go_versions.sh "$scratch/versions" .
     said 'Go: a program with two versions of the package, each with its own text'
@@ -101,10 +129,13 @@ versions() {
 }
 
 beside_pion() {
-    if [ ! -e /usr/share/gocode/src/github.com/pion/rtp/go.mod ]; then
-        said "Go: pion's package was left out: there is no golang-github-pion-rtp-dev"
-        return
-    fi
+    local it
+    for it in rtp transport; do
+        if [ ! -e "/usr/share/gocode/src/github.com/pion/$it/go.mod" ]; then
+            said "Go: pion's packages were left out: there is no golang-github-pion-$it-dev"
+            return
+        fi
+    done
     quietly ../test/go_pion.sh "$scratch/pion"
     said "Go: $(tail -n 1 "$scratch/log")"
     cd bench
@@ -112,12 +143,13 @@ beside_pion() {
     quietly go test -bench . -benchtime 100x
     go build -o "$scratch/sfu" "$(../../go_path)/examples/sfu"
     go build -o "$scratch/pionsfu" ./pionsfu
-    quietly go run ./load -packets 300 "$scratch/sfu" "$scratch/pionsfu"
+    for it in 0 5; do quietly go run ./load -packets 300 -loss "$it" "$scratch/sfu" "$scratch/pionsfu"; done
     said "Go: the benchmark beside pion's package, and the SFUs over UDP, of which none loses a packet"
 }
 
 text
 tools
 tests
+elsewhere
 versions
 (beside_pion)

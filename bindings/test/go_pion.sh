@@ -12,7 +12,7 @@ installed=/usr/share/gocode/src/github.com/pion
 mkdir -p -- "$1"
 folder=$(cd -- "$1" && pwd)
 module=$("$here/bindings/go_path")
-export GOPATH=$folder:/usr/share/gocode GO111MODULE=off GOFLAGS= GOTOOLCHAIN=local CGO_ENABLED=0
+export GOPATH=$folder:/usr/share/gocode GO111MODULE=off GOFLAGS='' GOTOOLCHAIN=local CGO_ENABLED=0
 fail() {
     echo "go_pion.sh: $*" >&2
     exit 1

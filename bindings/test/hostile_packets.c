@@ -1,4 +1,4 @@
-/* rtpw_is_rtcp, rtpw_packet_parse */
+/* rtpw_is_rtcp, rtpw_packet_parse, rtpw_read_fixed_part */
 #include "hostile.h"
 
 #include "../c/rtp_wire.h"
@@ -28,6 +28,33 @@ void packet_told(const uint8_t *bytes, size_t len, const walked *it, rtpw_packet
     packet->ssrc = (uint32_t)bytes[8] << 24 | (uint32_t)bytes[9] << 16 | (uint32_t)bytes[10] << 8 | bytes[11];
 }
 
+/* The fixed part and the layout say the same of the packet; of bytes that are none nothing. */
+static void fixed_part_told(const uint8_t *bytes, size_t len, int32_t cause, const rtpw_packet *packet) {
+    static memory parts, layouts;
+    if (parts.size == 0) {
+        parts = memory_of(sizeof(rtpw_fixed_part));
+        layouts = memory_of(sizeof(rtpw_layout));
+    }
+    rtpw_fixed_part *fixed = block_in(&parts, sizeof *fixed), no_part;
+    rtpw_layout *layout = block_in(&layouts, sizeof *layout), no_layout;
+    fill(fixed, sizeof *fixed);
+    fill(layout, sizeof *layout);
+    memcpy(&no_part, fixed, sizeof no_part);
+    memcpy(&no_layout, layout, sizeof no_layout);
+    CHECK(rtpw_read_fixed_part(bytes, len, fixed, layout) == cause);
+    if (cause != 0) {
+        CHECK(memcmp(fixed, &no_part, sizeof no_part) == 0 && memcmp(layout, &no_layout, sizeof no_layout) == 0);
+        return;
+    }
+    CHECK(fixed->version == 2 && fixed->has_padding == packet->has_padding && fixed->marker == packet->marker);
+    CHECK(fixed->has_extension == (packet->block_form != RTPW_NO_BLOCK) && fixed->payload_type == packet->payload_type);
+    CHECK(fixed->sequence_number == packet->sequence_number && fixed->timestamp == packet->timestamp);
+    CHECK(fixed->ssrc == packet->ssrc && layout->payload_at == packet->payload_at);
+    CHECK(layout->unpadded_len == packet->unpadded_len && layout->body_at == packet->body_at);
+    CHECK(layout->block_profile == packet->block_profile && layout->block_form == packet->block_form);
+    CHECK(layout->csrc_count == packet->csrc_count && layout->padding_fits == packet->padding_fits);
+}
+
 void packets_round(void) {
     static memory datagrams, packets;
     static uint8_t copy[LONGEST];
@@ -50,5 +77,6 @@ void packets_round(void) {
     CHECK(rtpw_is_rtcp(bytes, len) == (len >= 2 && copy[0] / 64 == 2 && copy[1] >= 192 && copy[1] < 224));
     CHECK(rtpw_packet_parse(bytes, len, packet) == it.cause);
     CHECK(memcmp(packet, &expected, it.cause == 0 ? PACKET_BYTES : sizeof expected) == 0);
+    fixed_part_told(bytes, len, it.cause, &expected);
     CHECK(memcmp(bytes, copy, len) == 0);
 }

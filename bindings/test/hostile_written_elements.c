@@ -1,5 +1,5 @@
-/* rtpw_write_elements, rtpw_write_with, rtpw_write_with_form: against a writer that owes nothing to the library
- * (RFC 8285, 4.2 and 4.3). What was written is read again. */
+/* rtpw_write_elements, rtpw_write_with, rtpw_write_with_form, rtpw_write_data_elements, rtpw_write_fixed_part: against
+ * a writer that owes nothing to the library (RFC 8285, 4.2 and 4.3). What was written is read again. */
 #include "hostile.h"
 
 #include "walk_values.h"
@@ -8,7 +8,7 @@
 #define MOST 12
 #define LONGEST_DATA 2000
 
-static memory buffers, datas, lists, headers, lengths;
+static memory buffers, datas, lists, headers, pointers, lengths;
 static uint8_t written[76 + MOST * 257 + 16], expected[sizeof written + 8];
 
 /* Elements of a body, or of any data: most lie in the data. */
@@ -119,6 +119,21 @@ static void write_elements(const rtpw_element *elements, size_t count, const uin
     }
 }
 
+/* Writes the header and a block with these elements, which can be written: how many bytes they take. */
+static size_t put_block(const rtpw_header *header, const rtpw_element *elements, size_t count, const uint8_t *data,
+                        int form) {
+    size_t body_at = 4 + write_fixed(header, true, written);
+    size_t wanted = body_at + put_elements(elements, count, data, form, written + body_at);
+    while (wanted % 4 != 0) {
+        written[wanted++] = 0;
+    }
+    written[body_at - 4] = form == 1 ? 0xBE : 0x10;
+    written[body_at - 3] = form == 1 ? 0xDE : 0x00;
+    written[body_at - 2] = (uint8_t)((wanted - body_at) / 1024);
+    written[body_at - 1] = (uint8_t)((wanted - body_at) / 4);
+    return wanted;
+}
+
 static void write_with(const rtpw_element *elements, size_t count, const uint8_t *data, size_t data_len) {
     rtpw_header *header = block_in(&headers, sizeof *header), same;
     random_header(header);
@@ -127,18 +142,8 @@ static void write_with(const rtpw_element *elements, size_t count, const uint8_t
     int form = allowed != 0 ? allowed : are_carried(elements, count, data_len, 1) ? 1 : 2;
     bool is_given = form < 3 && same.payload_type < 128 && same.csrc_count < 16 &&
                     are_carried(elements, count, data_len, form);
-    size_t wanted = 0, body_at = 0;
-    if (is_given) {
-        body_at = 4 + write_fixed(&same, true, written);
-        wanted = body_at + put_elements(elements, count, data, form, written + body_at);
-        while (wanted % 4 != 0) {
-            written[wanted++] = 0;
-        }
-        written[body_at - 4] = form == 1 ? 0xBE : 0x10;
-        written[body_at - 3] = form == 1 ? 0xDE : 0x00;
-        written[body_at - 2] = (uint8_t)((wanted - body_at) / 1024);
-        written[body_at - 1] = (uint8_t)((wanted - body_at) / 4);
-    }
+    size_t wanted = is_given ? put_block(&same, elements, count, data, form) : 0;
+    size_t body_at = 16 + 4 * (size_t)same.csrc_count;
     size_t size, before, *len = length(&before);
     uint8_t *buf = buffer(wanted, &size);
     int32_t status = allowed == 0 && random_u64() % 2 == 0
@@ -151,6 +156,57 @@ static void write_with(const rtpw_element *elements, size_t count, const uint8_t
     }
 }
 
+/* The same header without contributing sources, and the same elements, with pointers to their data. */
+static void write_data_elements(const rtpw_element *elements, size_t count, const uint8_t *data, size_t data_len) {
+    rtpw_header header;
+    random_header(&header);
+    header.csrc_count = 0;
+    uint8_t form = (uint8_t)random_below(4);
+    bool are_within = true, is_given = (form == 1 || form == 2) && header.payload_type < 128;
+    rtpw_data_element *chosen = block_in(&pointers, count * sizeof *chosen), same[MOST];
+    memset(same, 0, sizeof same); /* the bytes between fields too, which are compared */
+    for (size_t i = 0; i < count; i++) {
+        const rtpw_element *it = &elements[i];
+        are_within = are_within && lies_in(it, data_len);
+        same[i].id = it->id;
+        same[i].data = data;
+        same[i].own = (size_t)random_u64();
+        if (are_within) {
+            same[i].data = it->data_len == 0 && random_u64() % 2 == 0 ? NULL : data + it->data_at;
+            same[i].data_len = it->data_len;
+        }
+    }
+    if (!are_within) {
+        return;
+    }
+    memcpy(chosen, same, count * sizeof *chosen);
+    is_given = is_given && are_carried(elements, count, data_len, form);
+    rtpw_fixed_part *fixed = block_in(&headers, sizeof *fixed), given;
+    memset(&given, 0, sizeof given);
+    given.version = (uint8_t)random_u64();
+    given.has_padding = header.has_padding;
+    given.has_extension = (uint8_t)random_u64();
+    given.marker = header.marker;
+    given.payload_type = header.payload_type;
+    given.sequence_number = header.sequence_number;
+    given.timestamp = header.timestamp;
+    given.ssrc = header.ssrc;
+    memcpy(fixed, &given, sizeof given);
+    size_t wanted = is_given ? put_block(&header, elements, count, data, form) : 0;
+    size_t size, before, *len = length(&before);
+    uint8_t *buf = buffer(wanted, &size);
+    int32_t status = rtpw_write_data_elements(fixed, chosen, count, form, buf, size, len);
+    expect(status, is_given, wanted, buf, size, *len, before);
+    CHECK(memcmp(chosen, same, count * sizeof *chosen) == 0 && memcmp(fixed, &given, sizeof given) == 0);
+
+    is_given = header.payload_type < 128;
+    wanted = is_given ? write_fixed(&header, false, written) : 0;
+    buf = buffer(wanted, &size);
+    status = rtpw_write_fixed_part(fixed, buf, size);
+    expect(status, is_given, wanted, buf, size, status == RTPW_OK ? wanted : before, before);
+    CHECK(memcmp(fixed, &given, sizeof given) == 0);
+}
+
 void written_elements_round(void) {
     static uint8_t same_data[LONGEST_DATA];
     rtpw_element chosen[MOST];
@@ -159,6 +215,7 @@ void written_elements_round(void) {
         datas = memory_of(LONGEST_DATA);
         lists = memory_of(sizeof chosen);
         headers = memory_of(sizeof(rtpw_header));
+        pointers = memory_of(MOST * sizeof(rtpw_data_element));
         lengths = memory_of(sizeof(size_t));
     }
     size_t data_len = random_u64() % 8 == 0 ? random_below(LONGEST_DATA) : random_below(60);
@@ -171,6 +228,7 @@ void written_elements_round(void) {
 
     write_elements(elements, count, data, data_len);
     write_with(elements, count, data, data_len);
+    write_data_elements(elements, count, data, data_len);
     CHECK(memcmp(data, same_data, data_len) == 0);
     CHECK(memcmp(elements, chosen, count * sizeof *elements) == 0);
 }

@@ -290,6 +290,31 @@ HOLDS(offsetof(rtpw_routed_header, clears_padding) == 39 && sizeof(((rtpw_routed
 HOLDS(offsetof(rtpw_routed_header, status) == 40 && sizeof(((rtpw_routed_header *)0)->status) == 4);
 HOLDS(offsetof(rtpw_routed_header, len) == 44 && sizeof(((rtpw_routed_header *)0)->len) == 4);
 
+HOLDS(sizeof(rtpw_fixed_part) == 16);
+HOLDS(offsetof(rtpw_fixed_part, version) == 0 && sizeof(((rtpw_fixed_part *)0)->version) == 1);
+HOLDS(offsetof(rtpw_fixed_part, has_padding) == 1 && sizeof(((rtpw_fixed_part *)0)->has_padding) == 1);
+HOLDS(offsetof(rtpw_fixed_part, has_extension) == 2 && sizeof(((rtpw_fixed_part *)0)->has_extension) == 1);
+HOLDS(offsetof(rtpw_fixed_part, marker) == 3 && sizeof(((rtpw_fixed_part *)0)->marker) == 1);
+HOLDS(offsetof(rtpw_fixed_part, payload_type) == 4 && sizeof(((rtpw_fixed_part *)0)->payload_type) == 1);
+HOLDS(offsetof(rtpw_fixed_part, sequence_number) == 6 && sizeof(((rtpw_fixed_part *)0)->sequence_number) == 2);
+HOLDS(offsetof(rtpw_fixed_part, timestamp) == 8 && sizeof(((rtpw_fixed_part *)0)->timestamp) == 4);
+HOLDS(offsetof(rtpw_fixed_part, ssrc) == 12 && sizeof(((rtpw_fixed_part *)0)->ssrc) == 4);
+
+HOLDS(sizeof(rtpw_layout) == 32);
+HOLDS(offsetof(rtpw_layout, payload_at) == 0 && sizeof(((rtpw_layout *)0)->payload_at) == 8);
+HOLDS(offsetof(rtpw_layout, unpadded_len) == 8 && sizeof(((rtpw_layout *)0)->unpadded_len) == 8);
+HOLDS(offsetof(rtpw_layout, body_at) == 16 && sizeof(((rtpw_layout *)0)->body_at) == 8);
+HOLDS(offsetof(rtpw_layout, block_profile) == 24 && sizeof(((rtpw_layout *)0)->block_profile) == 2);
+HOLDS(offsetof(rtpw_layout, block_form) == 26 && sizeof(((rtpw_layout *)0)->block_form) == 1);
+HOLDS(offsetof(rtpw_layout, csrc_count) == 27 && sizeof(((rtpw_layout *)0)->csrc_count) == 1);
+HOLDS(offsetof(rtpw_layout, padding_fits) == 28 && sizeof(((rtpw_layout *)0)->padding_fits) == 1);
+
+HOLDS(sizeof(rtpw_data_element) == 32);
+HOLDS(offsetof(rtpw_data_element, id) == 0 && sizeof(((rtpw_data_element *)0)->id) == 1);
+HOLDS(offsetof(rtpw_data_element, data) == 8 && sizeof(((rtpw_data_element *)0)->data) == 8);
+HOLDS(offsetof(rtpw_data_element, data_len) == 16 && sizeof(((rtpw_data_element *)0)->data_len) == 8);
+HOLDS(offsetof(rtpw_data_element, own) == 24 && sizeof(((rtpw_data_element *)0)->own) == 8);
+
 HOLDS(RTPW_OK == 0);
 HOLDS(RTPW_CUT_FIXED_PART == 1);
 HOLDS(RTPW_OTHER_VERSION == 2);

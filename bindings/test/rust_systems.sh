@@ -16,7 +16,7 @@ said() { printf '%4d s  Rust: %s\n' "$SECONDS" "$*"; }
 has() { command -v "$1" >/dev/null; }
 
 # A rustc, and the sources of its library.
-rustc= library=
+rustc='' library=''
 for it in rustc /usr/bin/rustc; do
     has "$it" || continue
     for of in "$("$it" --print sysroot)/lib/rustlib/src/rust" "/usr/src/rustc-$("$it" --version | cut -d ' ' -f 2)"; do

@@ -41,6 +41,9 @@ static rtpw_routed_header routed[3] = {{.clears_padding = 1}, {.data_at = SIZE_M
 static rtpw_map map;
 static rtpw_values values;
 static rtpw_header header, given;
+static rtpw_fixed_part fixed;
+static rtpw_layout layout;
+static rtpw_data_element data_element = {1, NULL, 0, 0};
 static rtpw_layers layers, given_layers;
 static rtpw_map usual;
 static rtpw_new_ids ids;
@@ -225,6 +228,11 @@ static void write_with_form(void) {
 static void write_elements(void) {
     status = rtpw_write_elements(data, sizeof data, many, 255, RTPW_TWO_BYTE_FORM, datagram, sizeof datagram, &count);
 }
+static void read_fixed_part(void) { status = rtpw_read_fixed_part(datagram, sizeof datagram, &fixed, &layout); }
+static void write_fixed_part(void) { status = rtpw_write_fixed_part(&fixed, datagram, sizeof datagram); }
+static void write_data_elements(void) {
+    status = rtpw_write_data_elements(&fixed, &data_element, 1, RTPW_TWO_BYTE_FORM, datagram, sizeof datagram, &count);
+}
 static void new_ids_between(void) { rtpw_new_ids_between(&map, &usual, &ids); }
 static void renumber(void) { status = rtpw_renumber(datagram, sizeof datagram, &ids); }
 static void pad(void) { status = rtpw_pad(datagram, sizeof datagram, 32, 200, 16, &count); }
@@ -318,6 +326,9 @@ int main(void) {
         CALL(read), CALL(parse),
         CALL(parse_layers), CALL(wire_len), CALL(write), CALL(wire_len_layers), CALL(write_layers), CALL(left_out), CALL(left_out_layers), CALL(write_with), CALL(write_with_form),
         CALL(write_elements),
+        CALL(read_fixed_part),
+        CALL(write_fixed_part),
+        CALL(write_data_elements),
         CALL(new_ids_between), CALL(renumber), CALL(pad), CALL(read_original), CALL(write_original), CALL(version),
         CALL(new_ids_to_retransmission), CALL(new_ids_from_retransmission), CALL(to_retransmission),
         CALL(from_retransmission), CALL(read_many), CALL(packet_parse_many), CALL(parse_many), CALL(receive_many),

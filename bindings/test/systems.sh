@@ -108,7 +108,7 @@ run() { # system, program, words
 # The hostile calls, and the digest of them: compiled by clang on each system, which draws the random arguments in one order,
 # with a `char` that is the same on all.
 hostile() { # system
-    local file objects=() words=(-w -O1 -std=gnu99 -funsigned-char --target="${program[$1]}" -include "$scratch/calls.h" -D_GNU_SOURCE) calls=(-D DIGEST_MAIN)
+    local file words=(-w -O1 -std=gnu99 -funsigned-char --target="${program[$1]}" -include "$scratch/calls.h" -D_GNU_SOURCE) calls=(-D DIGEST_MAIN)
     case $1 in
     Windows-*) words+=(-I "$here/systems/windows" -D__USE_MINGW_ANSI_STDIO=1) ;;
     *-riscv64) words+=(-isystem /usr/riscv64-linux-gnu/include) ;;
@@ -126,7 +126,7 @@ hostile() { # system
 }
 
 try() { # system
-    local it digest='' narrow captures=0
+    local it digest='' captures=0
     assemble "$1" rtp_wire
     for it in $tests; do
         build "$1" "$it" -std=c99 -Wpedantic -Werror "bindings/c/test/$it.c"
@@ -156,7 +156,8 @@ try() { # system
 
 # On Windows: a fault within the library is seen from its caller, and the examples without sockets print what they print here.
 windows() {
-    local it files words here_too="$scratch/here" lines=captures/chromium-sim-16a.lines text=generated/rtp_wire-Linux-$(uname -m).s
+    local it files words here_too="$scratch/here" lines=captures/chromium-sim-16a.lines text
+    text=generated/rtp_wire-Linux-$(uname -m).s
     for it in receive forward sfu_lines; do
         files=("bindings/examples/$it.c") words=()
         [ $it != sfu_lines ] || files+=(bindings/examples/sfu.c)
@@ -177,9 +178,9 @@ if ! "$here/systems/digest.py" >"$scratch/calls.h" 2>"$scratch/said"; then
     said "the hostile calls and the digest are left out: $(tail -n 1 "$scratch/said")"
 fi
 for system in "${all[@]}"; do
-    missing=$(needs "$system")
-    if [ -n "$missing" ]; then
-        said "$system: left out, for want of: $missing"
+    wanting=$(needs "$system")
+    if [ -n "$wanting" ]; then
+        said "$system: left out, for want of: $wanting"
     else
         try "$system"
     fi

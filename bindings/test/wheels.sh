@@ -36,12 +36,12 @@ echo "installed without a compiler: $(grep '^Ran ' "$scratch/said")"
 PYTHONPATH=$scratch/site python3 - >"$scratch/sizes.h" <<'PYTHON'
 import ctypes, re
 from importlib.metadata import version
-from rtp_wire import _declared, _library
+from rtp_wire import _library, _loaded
 
-for name, it in vars(_declared).items():
+for name, it in vars(_library).items():
     if name.startswith("Raw") and issubclass(it, ctypes.Structure):
         print(f"SIZE(rtpw{re.sub('([A-Z])', lambda m: '_' + m[1].lower(), name[3:])}, {ctypes.sizeof(it)})")
-for name in _library.FUNCTIONS:
+for name in _loaded.FUNCTIONS:
     print(f"FUNCTION({name})")
 print(f'#define VERSION "{version("rtp-wire")}"')
 PYTHON

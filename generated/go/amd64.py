@@ -11,8 +11,7 @@ import struct
 from linked import APART_AT, MOST_UNASKED, insist
 
 NAME, TOOLS, FILL, AFTER = "amd64", "", "", 4
-SETS_STACK = "\tMOVQ AX, SP"
-RETURN_ADDRESS, RED_ZONE, IS_TRACKED = 8, 128, True  # what a function may use below its stack pointer is the red zone
+RETURN_ADDRESS, RED_ZONE = 8, 128  # what a function may use below its stack pointer is the red zone
 ABSOLUTE = (1, 10, 11)
 NEVER = re.compile(r"%[fg]s:|\b(syscall|int|ldmxcsr|fldcw|std|[xyz]*mm(1[6-9]|[23]\d)|[yz]mm\d+)\b|\b(call|callq)\s+\*")
 REGISTER = ["AX", "CX", "DX", "BX", "SP", "BP", "SI", "DI"] + [f"R{i}" for i in range(8, 16)]

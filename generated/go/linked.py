@@ -55,7 +55,7 @@ class Linked:
         others = {name for name, it in named.items() if it.flags & 2 and it.size} - {".apart", ".code", ".table", ".eh_frame"}
         insist(not others, "sections beside the code and the constants:", *others)
         self.code, self.table = bytearray(data(named[".code"])), data(named.get(".table"))
-        self.apart_code = data(named.get(".apart"))
+        self.apart_code = bytearray(data(named.get(".apart")))
         symtab = named[".symtab"]
         symbols = [(string(sections[symtab.link], name), info & 15, value) for name, info, _, _, value, _ in rows(symtab, "<IBBHQQ")]
         insist(all(kind != 6 for _, kind, _ in symbols), "thread-local data")
@@ -138,6 +138,11 @@ class Linked:
     def frame(self, begin):
         """The most that a function takes by itself."""
         return max(self.taken[p] for p in range(begin, self.end[begin]))
+
+    def put(self, at, words):
+        """Puts other bytes there."""
+        code, base = (self.code, 0) if at < APART_AT else (self.apart_code, APART_AT)
+        code[at - base : at - base + len(words)] = words
 
     def bytes_of(self, begin):
         """The bytes of a function that lies apart."""

@@ -10,9 +10,9 @@ information and the call graph: on amd64 it doesn't ask for the stack where that
 don't, and else it has a frame with room for all. FOLDER/*_ARCH.bytes and FOLDER/*_ARCH.sites have what is compared with
 what Go linked: these bytes, and the places that Go's linker fills in, with what it has to fill in where that is known.
 
-On amd64 Go is told at each instruction how far the caller's frame is. Of a function that doesn't ask for its stack its
-linker takes no frame as large as those of two of the library have. Each of these, which no other calls, stands behind the
-beginning of its function of Go, which asks.
+Go is told at each instruction how far the caller's frame is, and on arm64 each frame has its return address where Go looks
+for it (frames.py). Of a function that doesn't ask for its stack its linker takes no frame as large as those of two of the
+library have. Each of these, which no other calls, stands behind the beginning of its function of Go, which asks.
 
 What Go's assembler text can't carry is refused: recursion, calls by pointer, data that change, thread-local data, names
 from outside, addresses in the code, wrong frame information, and on arm64 the registers x18 and x28."""
@@ -35,7 +35,7 @@ class Text:
     """Lines of text for Go's assembler."""
 
     def __init__(self, processor):
-        self.processor, self.lines, self.pending, self.start = processor, [], bytearray(), 0
+        self.processor, self.lines, self.pending, self.start, self.words = processor, [], bytearray(), 0, processor.WORDS
 
     def emit(self, line):
         self.flush()
@@ -46,8 +46,9 @@ class Text:
         i = 0
         while i < len(self.pending):
             left, at = len(self.pending) - i, self.start + i
-            size, word = next((size, word) for size, word, multiple in self.processor.WORDS if left >= size and at % multiple == 0)
-            self.lines.append(f"\t{word} $0x{int.from_bytes(self.pending[i:i + size], 'little'):0{2 * size}x}")
+            size, word = next((size, word) for size, word, multiple in self.words if left >= size and at % multiple == 0)
+            # As few characters as there can be, since a text is mostly these.
+            self.lines.append(f"{word} $0x{int.from_bytes(self.pending[i:i + size], 'little'):x}")
             i += size
         self.pending.clear()
 
@@ -91,9 +92,6 @@ class Text:
         self.emit(f"TEXT {linked.name}<>(SB), NOSPLIT|NOFRAME, $0-0")
         self.emit("\tNO_LOCAL_POINTERS")
         self.processor.write_code(self, linked)
-        if not self.processor.IS_TRACKED:
-            self.emit("\t// Never reached: by it Go knows that it can't tell where the stack pointer is, and no traceback goes on.")
-            self.emit(self.processor.SETS_STACK)
         name, base = self.processor.after_code(self, linked)
         self.emit("")
         for i, (to,) in enumerate(struct.iter_unpack("<Q", linked.table)):
@@ -121,8 +119,7 @@ def main():
     names = [it.name for it in functions]
     objects = list(objects_of(processor, (text, memory), work))
     linked = Linked("rtp_wire", processor, objects, names, work)
-    if processor.IS_TRACKED:
-        linked = Linked("rtp_wire", processor, objects, names, work, linked.too_large())
+    linked = Linked("rtp_wire", processor, objects, names, work, linked.too_large())
     out = Text(processor)
     out.emit(f"// Made by generated/go/make of generated/{Path(text).name} and generated/go/{Path(memory).name}: do not edit.")
     out.lines += ["", "//go:build gc", "", '#include "textflag.h"', '#include "funcdata.h"', ""]

@@ -433,6 +433,79 @@ static void elements_are_written_in_one_form(void) {
     CHECK(len == 24 && memcmp(buf + 12, "\x10\0\0\x02\x0E\0\x02\x02\xBB\xCC\0\0", 12) == 0);
 }
 
+static void fixed_parts_are_read(void) {
+    static const uint8_t datagram[] = {0xB1, 0xE0, 0, 5, 0, 0, 0, 160, 0, 0, 0, 7, 0, 0, 0, 9, 0xBE, 0xDE,
+                                       0, 1, 0x10, 0x8A, 0, 0, 'h', 'i', 0, 2};
+    rtpw_fixed_part fixed;
+    rtpw_layout layout;
+    memset(&fixed, 0xEE, sizeof fixed);
+    memset(&layout, 0xEE, sizeof layout);
+    CHECK(rtpw_read_fixed_part(datagram, 11, &fixed, &layout) == RTPW_CUT_FIXED_PART);
+    CHECK(rtpw_read_fixed_part(datagram, 15, &fixed, &layout) == RTPW_CUT_SOURCES);
+    CHECK(rtpw_read_fixed_part(datagram, 19, &fixed, &layout) == RTPW_CUT_BLOCK_HEADER);
+    CHECK(rtpw_read_fixed_part(datagram, 23, &fixed, &layout) == RTPW_CUT_BLOCK);
+    CHECK(fixed.version == 0xEE && fixed.ssrc == 0xEEEEEEEE && layout.csrc_count == 0xEE);
+    CHECK(rtpw_read_fixed_part(datagram, sizeof datagram, &fixed, &layout) == RTPW_OK);
+    CHECK(fixed.version == 2 && fixed.has_padding == 1 && fixed.has_extension == 1 && fixed.marker == 1);
+    CHECK(fixed.payload_type == 96 && fixed.sequence_number == 5 && fixed.timestamp == 160 && fixed.ssrc == 7);
+    CHECK(layout.payload_at == 24 && layout.unpadded_len == 2 && layout.padding_fits == 1 && layout.body_at == 20);
+    CHECK(layout.block_profile == 0xBEDE && layout.block_form == RTPW_ONE_BYTE_FORM && layout.csrc_count == 1);
+    CHECK(rtpw_read_fixed_part((const uint8_t *)"\x80\0\0\0\0\0\0\0\0\0\0\1\xFF", 13, &fixed, &layout) == RTPW_OK);
+    CHECK(fixed.has_padding == 0 && fixed.has_extension == 0 && fixed.marker == 0 && fixed.payload_type == 0);
+    CHECK(fixed.ssrc == 1 && layout.payload_at == 12 && layout.body_at == 12 && layout.unpadded_len == 1);
+    CHECK(layout.block_profile == 0 && layout.block_form == RTPW_NO_BLOCK && layout.csrc_count == 0);
+    CHECK(rtpw_read_fixed_part((const uint8_t *)"\xA0\0\0\0\0\0\0\0\0\0\0\1\2", 13, &fixed, &layout) == RTPW_OK);
+    CHECK(fixed.has_padding == 1 && layout.padding_fits == 0 && layout.unpadded_len == 0);
+}
+
+static void fixed_parts_are_written(void) {
+    rtpw_fixed_part fixed = {7, 1, 1, 1, 127, 0xB798, 10000, 44};
+    uint8_t buf[16];
+    memset(buf, 0xEE, sizeof buf);
+    CHECK(rtpw_write_fixed_part(&fixed, buf, 11) == RTPW_SHORT_BUFFER);
+    fixed.payload_type = 128;
+    CHECK(rtpw_write_fixed_part(&fixed, buf, 0) == RTPW_BAD_FIELD);
+    CHECK(rtpw_write_fixed_part(&fixed, buf, 16) == RTPW_BAD_FIELD && buf[0] == 0xEE);
+    fixed.payload_type = 127;
+    CHECK(rtpw_write_fixed_part(&fixed, buf, 12) == RTPW_OK);
+    CHECK(memcmp(buf, "\xA0\xFF\xB7\x98\0\0\x27\x10\0\0\0\x2C\xEE", 13) == 0);
+    fixed.has_padding = fixed.marker = 0;
+    fixed.payload_type = 33;
+    CHECK(rtpw_write_fixed_part(&fixed, buf, 16) == RTPW_OK);
+    CHECK(memcmp(buf, "\x80\x21\xB7\x98\0\0\x27\x10\0\0\0\x2C\xEE", 13) == 0);
+}
+
+static void data_elements_are_written(void) {
+    static const uint8_t one[1] = {0xAA}, two[2] = {0xBB, 0xCC};
+    rtpw_fixed_part fixed = {0, 0, 0, 0, 33, 47000, 10000, 44};
+    rtpw_data_element elements[2] = {{1, one, 1, 5}, {2, two, 2, 6}};
+    uint8_t buf[32];
+    size_t len = 7;
+    memset(buf, 0xEE, sizeof buf);
+    CHECK(rtpw_write_data_elements(&fixed, elements, 2, RTPW_NO_BLOCK, buf, 32, &len) == RTPW_BAD_FIELD);
+    CHECK(rtpw_write_data_elements(&fixed, elements, 2, RTPW_OTHER_FORM, buf, 32, &len) == RTPW_BAD_FIELD);
+    CHECK(rtpw_write_data_elements(&fixed, elements, 2, RTPW_ONE_BYTE_FORM, buf, 23, &len) == RTPW_SHORT_BUFFER);
+    elements[0].id = 15;
+    CHECK(rtpw_write_data_elements(&fixed, elements, 2, RTPW_ONE_BYTE_FORM, buf, 32, &len) == RTPW_BAD_FIELD);
+    elements[0].id = 0;
+    CHECK(rtpw_write_data_elements(&fixed, elements, 2, RTPW_TWO_BYTE_FORM, buf, 32, &len) == RTPW_BAD_FIELD);
+    elements[0].id = 1;
+    fixed.payload_type = 128;
+    CHECK(rtpw_write_data_elements(&fixed, elements, 2, RTPW_ONE_BYTE_FORM, buf, 0, &len) == RTPW_BAD_FIELD);
+    fixed.payload_type = 33;
+    CHECK(len == 7 && buf[0] == 0xEE);
+    CHECK(rtpw_write_data_elements(&fixed, elements, 2, RTPW_ONE_BYTE_FORM, buf, 24, &len) == RTPW_OK && len == 24);
+    CHECK(memcmp(buf, "\x90\x21\xB7\x98\0\0\x27\x10\0\0\0\x2C\xBE\xDE\0\x02\x10\xAA\x21\xBB\xCC\0\0\0\xEE", 25) == 0);
+    CHECK(rtpw_write_data_elements(&fixed, elements, 2, RTPW_TWO_BYTE_FORM, buf, 32, &len) == RTPW_OK && len == 24);
+    CHECK(memcmp(buf + 12, "\x10\0\0\x02\x01\x01\xAA\x02\x02\xBB\xCC\0\xEE", 13) == 0);
+    elements[0].data = NULL;
+    elements[0].data_len = 0;
+    CHECK(rtpw_write_data_elements(&fixed, elements, 1, RTPW_TWO_BYTE_FORM, buf, 32, &len) == RTPW_OK && len == 20);
+    CHECK(memcmp(buf + 12, "\x10\0\0\x01\x01\0\0\0", 8) == 0);
+    CHECK(rtpw_write_data_elements(&fixed, elements, 0, RTPW_ONE_BYTE_FORM, buf, 32, &len) == RTPW_OK && len == 16);
+    CHECK(memcmp(buf + 12, "\xBE\xDE\0\0", 4) == 0);
+}
+
 static uint8_t kind_of(const char *uri) {
     return rtpw_kind_of_uri((const uint8_t *)uri, strlen(uri));
 }
@@ -608,6 +681,9 @@ int main(void) {
     layers_are_refused();
     elements_are_written();
     elements_are_written_in_one_form();
+    fixed_parts_are_read();
+    fixed_parts_are_written();
+    data_elements_are_written();
     maps_are_filled();
     is_renumbered();
     kinds_without_a_field();

@@ -333,6 +333,31 @@ static void write_elements(void) {
     done(rtpw_write_elements(data, 2, elements, 1, RTPW_TWO_BYTE_FORM, bytes, 40, len));
     set(bytes, *len);
 }
+static void read_fixed_part(void) {
+    const uint8_t *bytes = PACKET;
+    rtpw_fixed_part *fixed = out(sizeof *fixed);
+    rtpw_layout *layout = out(sizeof *layout);
+    done(rtpw_read_fixed_part(bytes, LEN, fixed, layout));
+    set(fixed, sizeof *fixed);
+    set(layout, sizeof *layout);
+}
+static void write_fixed_part(void) {
+    rtpw_fixed_part it = {2, 0, 0, 1, 96, 7, 8, 9};
+    const rtpw_fixed_part *fixed = in(&it, sizeof it);
+    uint8_t *bytes = out(40);
+    done(rtpw_write_fixed_part(fixed, bytes, 40));
+    set(bytes, 12);
+}
+static void write_data_elements(void) {
+    rtpw_fixed_part it = {2, 0, 0, 1, 96, 7, 8, 9};
+    const rtpw_fixed_part *fixed = in(&it, sizeof it);
+    rtpw_data_element given = {1, DATA, 2, 0};
+    const rtpw_data_element *elements = in(&given, sizeof given);
+    uint8_t *bytes = out(40);
+    size_t *len = out(sizeof *len);
+    done(rtpw_write_data_elements(fixed, elements, 1, RTPW_ONE_BYTE_FORM, bytes, 40, len));
+    set(bytes, *len);
+}
 static void read_send_time(void) {
     const uint8_t *data = in("\1\2\3", 3);
     uint32_t *it = out(sizeof *it);
@@ -947,6 +972,9 @@ static const struct called cases[] = {
     CASE(write_with),
     CASE(write_with_form),
     CASE(write_elements),
+    CASE(read_fixed_part),
+    CASE(write_fixed_part),
+    CASE(write_data_elements),
     CASE(read_send_time),
     CASE(write_send_time),
     CASE(read_transmission_offset),

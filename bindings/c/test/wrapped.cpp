@@ -250,6 +250,12 @@ void writes() {
     CHECK(*rtpw::write_with(header, level, above, 1, buf) == 20);
     CHECK(same({buf + 12, 8}, {0x10, 0, 0, 1, 20, 1, 9, 0}));
     CHECK(*rtpw::write_elements(level, chosen, 1, RTPW_ONE_BYTE_FORM, buf) == 2 && same({buf, 2}, {0x30, 9}));
+    rtpw_fixed_part fixed = {2, 0, 0, 1, 96, 5, 6, 7};
+    rtpw_layout layout;
+    const rtpw_data_element pointed[] = {{3, level, 1, 0}};
+    CHECK(rtpw::write_fixed_part(fixed, buf) == rtpw::status::ok && buf[0] == 0x80 && buf[1] == 0xE0);
+    CHECK(*rtpw::write_data_elements(fixed, pointed, RTPW_ONE_BYTE_FORM, buf) == 20 && buf[16] == 0x30 && buf[17] == 9);
+    CHECK((*rtpw::read_fixed_part(buf, layout)).ssrc == 7 && layout.payload_at == 20 && layout.body_at == 16);
 }
 
 void receives() {

@@ -50,8 +50,8 @@ var (
 )
 
 // errorOf is the error for which bytes are no packet: pion's too, where it has one.
-func errorOf(err error) error {
-	switch err {
+func errorOf(cause rtpwire.Cause) error {
+	switch cause {
 	case rtpwire.CutFixedPart:
 		return errCutFixedPart
 	case rtpwire.CutSources:
@@ -61,6 +61,6 @@ func errorOf(err error) error {
 	case rtpwire.CutBlock:
 		return errCutBlock
 	default:
-		return err
+		return cause
 	}
 }

@@ -52,78 +52,100 @@ type Header struct {
 //
 // Where the buffer has no header, errors.As finds the rtpwire.Cause in the error, and errors.Is rtpwire.ErrNotAPacket.
 func (h *Header) Unmarshal(buf []byte) (n int, err error) {
-	var parts rtpwire.PacketFields
-	if err := parts.Parse(buf); err != nil {
-		return 0, errorOf(err)
+	var layout rtpwire.Layout
+	if cause := h.fixedPart().Parse(buf, &layout); cause != 0 {
+		return 0, errorOf(cause)
 	}
-	if h.take(&parts) {
-		h.takeLists(&parts, buf)
+	if !h.takeNone(&layout) {
+		h.takeMore(&layout, buf)
 	}
-	return parts.HeaderLen(), nil
+	return layout.HeaderLen(), nil
 }
 
-// take gives the header the fields of the packet with these parts. It is true where takeLists has more to take. What stands
-// between Timestamp and SSRC keeps the compiler from reading both at once: the library has written them one by one, so that
-// a processor would have to wait until they are in memory.
-func (h *Header) take(parts *rtpwire.PacketFields) bool {
-	h.Timestamp = parts.Timestamp
-	h.Version, h.Padding, h.Marker = 2, parts.HasPadding, parts.Marker
-	h.SSRC = parts.SSRC
-	h.PayloadType, h.SequenceNumber = parts.PayloadType, parts.SequenceNumber
-	h.Extension, h.ExtensionProfile = false, 0
-	h.CSRC, h.Extensions = h.CSRC[:0], h.Extensions[:0]
-	return parts.HeaderLen() != 12 || h.CSRC == nil
+// takeNone takes away what stood behind the fixed part of the packet before. It is false where takeMore has to give the header
+// what the one that is laid out so has there, and nothing changes then.
+func (h *Header) takeNone(layout *rtpwire.Layout) bool {
+	if layout.HeaderLen() != 12 || h.CSRC == nil {
+		return false
+	}
+	h.ExtensionProfile, h.CSRC, h.Extensions = 0, h.CSRC[:0], h.Extensions[:0]
+	return true
 }
 
-// takeLists gives it the contributing sources, and the elements of the block.
-func (h *Header) takeLists(parts *rtpwire.PacketFields, buf []byte) {
-	if h.CSRC == nil || parts.CSRCCount() != 0 {
-		h.takeSources(parts, buf)
+// takeMore gives the header the contributing sources, and the elements of the block. Where there is room for them and they are
+// as usual it calls the library once, and takeBehind takes what else there is.
+func (h *Header) takeMore(layout *rtpwire.Layout, buf []byte) {
+	h.ExtensionProfile, h.CSRC = layout.BlockProfile(), h.CSRC[:0]
+	if h.CSRC == nil || layout.CSRCCount() != 0 {
+		h.takeSources(layout, buf)
 	}
-	form, body := parts.Block(buf)
-	if form == rtpwire.NoBlock {
+	form, at := layout.BlockAt()
+	if form != rtpwire.OneByteForm && form != rtpwire.TwoByteForm || cap(h.Extensions) == 0 {
+		h.takeBehind(0, layout, buf, at)
 		return
 	}
-	h.Extension, h.ExtensionProfile = true, parts.BlockProfile()
-	if form == rtpwire.OtherForm {
+	var places rtpwire.Places
+	header := buf[:layout.HeaderLen()] // the places are counted from its first byte
+	count, to := places.Fill(form, header, at), h.Extensions
+	if count > cap(to) {
+		_, at := layout.BlockAt()
+		h.takeBehind(0, layout, buf, at)
+		return
+	}
+	to = to[:count]
+	h.Extensions = to
+	for i := range places[:count] {
+		it := &places[i]
+		end := it.At + it.Len
+		if it.ID == 0 {
+			h.takeBehind(i, layout, buf, end)
+			return
+		}
+		to[i] = Extension{it.ID, header[it.At:end:end]}
+	}
+	if count == len(places) {
+		last := &places[len(places)-1]
+		h.takeBehind(count, layout, buf, last.At+last.Len)
+	}
+}
+
+// takeBehind gives the header, behind so many extensions that it keeps, the elements of the block from this place of the
+// packet on, without those that have the id 0; of a block of another form the body.
+func (h *Header) takeBehind(kept int, layout *rtpwire.Layout, buf []byte, at int) {
+	h.Extensions = h.Extensions[:kept]
+	form, body := layout.Block(buf)
+	switch form {
+	case rtpwire.NoBlock:
+		return
+	case rtpwire.OtherForm:
 		h.Extensions = append(h.Extensions, Extension{0, body})
 		return
 	}
-	var room [8]rtpwire.Place
-	places := parts.AppendPlaces(room[:0], buf)
-	if cap(h.Extensions) < len(places) {
-		h.Extensions = make([]Extension, len(places))
-	}
-	all, below := h.Extensions[:len(places)], uint32(0)
-	for i := range places {
-		it := &places[i]
-		end := it.At + it.Len
-		all[i] = Extension{it.ID, body[it.At:end:end]}
-		below |= uint32(it.ID) - 1 // below 0 of the id 0 alone
-	}
-	h.Extensions = all
-	if int32(below) < 0 {
-		h.dropNone()
-	}
-}
-
-// dropNone takes away what has the id 0, which no element has.
-func (h *Header) dropNone() {
-	kept := h.Extensions[:0]
-	for _, it := range h.Extensions {
-		if it.id != 0 {
-			kept = append(kept, it)
+	var places rtpwire.Places
+	header := buf[:layout.HeaderLen()]
+	for count := len(places); count == len(places); {
+		count = places.Fill(form, header, at)
+		all := h.Extensions
+		if cap(all)-len(all) < count {
+			all = append(all, make([]Extension, count)...)[:len(all)]
 		}
+		for i := range places[:count] {
+			it := &places[i]
+			at = it.At + it.Len
+			if it.ID != 0 {
+				all = append(all, Extension{it.ID, header[it.At:at:at]})
+			}
+		}
+		h.Extensions = all
 	}
-	h.Extensions = kept
 }
 
-func (h *Header) takeSources(parts *rtpwire.PacketFields, buf []byte) {
+func (h *Header) takeSources(layout *rtpwire.Layout, buf []byte) {
 	if h.CSRC == nil {
 		h.CSRC = []uint32{}
 	}
 	var packet rtpwire.Packet
-	if parts.CSRCCount() != 0 && packet.Parse(buf, nil) == nil {
+	if layout.CSRCCount() != 0 && packet.Parse(buf, nil) == nil {
 		h.CSRC = append(h.CSRC, packet.CSRC()...)
 	}
 }
@@ -144,33 +166,42 @@ func (h Header) Marshal() (buf []byte, err error) {
 // number of words; and rtpwire.ErrBadField where no header can carry what there is: a payload type above 127, more than 15
 // contributing sources, or an element whose id or length its form can't carry.
 func (h Header) MarshalTo(buf []byte) (n int, err error) {
-	if h.Extension || len(h.CSRC) != 0 || h.PayloadType > 127 || len(buf) < len(fixed) {
-		return h.write(buf)
+	if h.Extension || len(h.CSRC) != 0 {
+		return h.writeLists(buf)
 	}
-	at := (*[len(fixed)]byte)(buf)
-	*at = fixed
-	if h.Padding {
-		*at = fixedPadded
+	if !h.fixedPart().WriteInto(buf) {
+		return 0, h.fault()
 	}
-	var fields rtpwire.Fields
-	fields.SetTimestamp(h.Timestamp)
-	fields.SetSSRC(h.SSRC)
-	fields.SetSequenceNumber(h.SequenceNumber)
-	fields.SetPayloadType(h.PayloadType)
-	fields.SetMarker(h.Marker)
-	return len(at), fields.Apply(at[:])
+	return 12, nil
 }
 
-// fixed is a header of the twelve bytes that each one has, and fixedPadded one with P, as the library writes them: over a
-// copy it writes the fields faster than all of a header.
-var fixed, fixedPadded = fixedPart(false), fixedPart(true)
-
-func fixedPart(hasPadding bool) (buf [12]byte) {
-	_, _ = (&rtpwire.Header{HasPadding: hasPadding}).WriteInto(buf[:], nil)
-	return buf
+// fault is why no header without contributing sources and block is written.
+func (h *Header) fault() error {
+	if h.PayloadType > 127 {
+		return rtpwire.ErrBadField
+	}
+	return io.ErrShortBuffer
 }
 
-// write writes the header to the front of the buffer, as MarshalTo does.
+// writeLists writes a header with contributing sources or a block to the front of the buffer, as MarshalTo does.
+func (h *Header) writeLists(buf []byte) (n int, err error) {
+	switch {
+	case len(h.CSRC) != 0:
+		n, err = h.write(buf)
+	case h.ExtensionProfile == extensionProfileOneByte:
+		n, err = h.fixedPart().WriteWith(buf, rtpwire.OneByteForm, h.elements())
+	case h.ExtensionProfile == extensionProfileTwoByte:
+		n, err = h.fixedPart().WriteWith(buf, rtpwire.TwoByteForm, h.elements())
+	default:
+		n, err = h.write(buf)
+	}
+	if err == rtpwire.ErrShortBuffer {
+		err = io.ErrShortBuffer
+	}
+	return n, err
+}
+
+// write writes a header with contributing sources, or a block of another form than the two.
 func (h *Header) write(buf []byte) (n int, err error) {
 	var w rtpwire.Header
 	w.Timestamp, w.SSRC, w.SequenceNumber = h.Timestamp, h.SSRC, h.SequenceNumber
@@ -189,9 +220,6 @@ func (h *Header) write(buf []byte) (n int, err error) {
 		n, err = h.writeElements(&w, buf, rtpwire.TwoByteForm)
 	default:
 		n, err = h.writeBlock(&w, buf)
-	}
-	if err == rtpwire.ErrShortBuffer {
-		err = io.ErrShortBuffer
 	}
 	return n, err
 }

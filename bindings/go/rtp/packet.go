@@ -18,17 +18,17 @@ type Packet struct {
 // returns the errors of [Header.Unmarshal], and one that is no rtpwire.Cause where the padding's last byte counts more bytes
 // than the payload has.
 func (p *Packet) Unmarshal(buf []byte) error {
-	var parts rtpwire.PacketFields
-	if err := parts.Parse(buf); err != nil {
-		return errorOf(err)
+	var layout rtpwire.Layout
+	if cause := p.Header.fixedPart().Parse(buf, &layout); cause != 0 {
+		return errorOf(cause)
 	}
-	payload, ok := parts.UnpaddedPayload(buf)
+	payload, ok := layout.UnpaddedPayload(buf)
 	if !ok {
 		return errTooSmall
 	}
-	p.Payload, p.PaddingSize = payload, byte(len(buf)-parts.HeaderLen()-len(payload))
-	if p.Header.take(&parts) {
-		p.Header.takeLists(&parts, buf)
+	p.Payload, p.PaddingSize = payload, byte(len(buf)-layout.HeaderLen()-len(payload))
+	if !p.Header.takeNone(&layout) {
+		p.Header.takeMore(&layout, buf)
 	}
 	return nil
 }

@@ -148,6 +148,47 @@ func TestFixedPart(t *testing.T) {
 	}
 }
 
+// A header takes the elements whatever room it has from the packet before, also more of them than are told at once, and where
+// one of the id 0 stands anywhere among them.
+func TestElementsInTheRoomThereIs(t *testing.T) {
+	fixed := []byte{0x90, 96, 0, 5, 0, 0, 0, 160, 0, 0, 0, 7}
+	for room := 0; room <= 16; room++ {
+		for count := 0; count <= 14; count++ {
+			for none := 0; none <= count+1; none++ { // behind the elements up to this one; the last is that it stands nowhere
+				var body, wanted []byte
+				for id := 1; id <= count; id++ {
+					if none == id-1 {
+						body = append(body, 0x01, 0xA, 0xB)
+					}
+					body, wanted = append(body, byte(id<<4), byte(100+id)), append(wanted, byte(id))
+				}
+				if none == count {
+					body = append(body, 0x01, 0xA, 0xB)
+				}
+				for len(body)%4 != 0 {
+					body = append(body, 0)
+				}
+				packet := append(append(fixed[:12:12], 0xBE, 0xDE, 0, byte(len(body)/4)), body...)
+				before := blockOf(0x1000, 3, room)
+				var header rtp.Header
+				if _, err := header.Unmarshal(before); err != nil || len(header.Extensions) != room {
+					t.Fatal(room, err)
+				}
+				n, err := header.Unmarshal(append(packet, 1, 2, 3, 4))
+				if n != len(packet) || err != nil || header.ExtensionProfile != 0xBEDE || len(header.Extensions) != count ||
+					!bytes.Equal(header.GetExtensionIDs(), wanted) {
+					t.Fatal(room, count, none, n, err, header)
+				}
+				for id := 1; id <= count; id++ {
+					if data := header.GetExtension(uint8(id)); len(data) != 1 || cap(data) != 1 || data[0] != byte(100+id) {
+						t.Fatal(room, count, none, id, data)
+					}
+				}
+			}
+		}
+	}
+}
+
 // One header is read into again: nothing of the packet before stays, and no memory is taken.
 func TestReadAgain(t *testing.T) {
 	var packet rtp.Packet

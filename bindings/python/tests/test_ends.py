@@ -446,7 +446,7 @@ class Names(unittest.TestCase):
     def test_a_name_that_is_given_twice_is_one(self) -> None:
         # what C writes to has to be kept: the columns of a name are made once
         names = ["audio_level", "mid", "audio_level", "send_time", "mid"]
-        with patch("rtp_wire._library.columns_parse") as call:
+        with patch("rtp_wire._many.columns_parse") as call:
             columns = Columns.parse(PACKET, [0], [21], Map.standard(), names)
         values, count = call.call_args[0][8:10]
         self.assertEqual((count, len(values)), (6, 6))

@@ -13,7 +13,7 @@ from pathlib import Path
 from typing import Any, Dict, Iterator, List, Tuple, Type
 
 import rtp_wire
-from rtp_wire import Cause, Form, Kind, Status, _errors, _library
+from rtp_wire import Cause, Form, Kind, Status, _column, _errors, _library, _loaded
 
 HERE = Path(__file__).resolve().parent.parent
 # In the repository, and in a source distribution.
@@ -51,7 +51,7 @@ STRUCTS = {
     "rtpw_dependency_descriptor": _library.RawDependencyDescriptor,
     "rtpw_whole_packet": _library.RawWholePacket,
     "rtpw_whole_datagram": _library.RawWholeDatagram,
-    "column": _library.RawColumn,
+    "column": _column.RawColumn,
 }
 SOURCES = [it.read_text("utf-8") for it in sorted(HERE.glob("src/*.c"))]
 # Of the receivers for a sender that may start again the package has the one with a window of any size, and its version
@@ -105,7 +105,7 @@ def facts() -> Iterator[str]:
 
 class Library(unittest.TestCase):
     def test_each_function_is_declared_as_in_the_header_file(self) -> None:
-        functions = {name: it for name, it in _library.FUNCTIONS.items() if name.startswith("rtpw_")}
+        functions = {name: it for name, it in _loaded.FUNCTIONS.items() if name.startswith("rtpw_")}
         wanted = {name: (result, parameters) for name, result, parameters in declared()}
         self.assertEqual({name: (it.restype, list(it.argtypes)) for name, it in functions.items()}, wanted)
         self.assertGreater(len(wanted), 39)
@@ -114,10 +114,10 @@ class Library(unittest.TestCase):
         used = "".join(
             it.read_text("utf-8")
             for it in (HERE / "src/rtp_wire").glob("_[a-z]*.py")
-            if it.stem not in ("_library", "_declared", "_loaded")
+            if it.stem not in ("_library", "_loaded")
         )
         used += "".join([(HERE / "src/rtp_wire/__init__.py").read_text("utf-8"), *SOURCES])
-        for name in _library.FUNCTIONS:
+        for name in _loaded.FUNCTIONS:
             self.assertRegex(used, rf"_library\.{name[5:]}\b|\b{name}\(")
 
     def test_each_field_lies_where_it_does_in_c(self) -> None:

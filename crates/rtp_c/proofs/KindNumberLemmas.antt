@@ -1,5 +1,7 @@
 -- The numbers of the known kinds, and their URIs.
-use Rattle.rtp_c.proofs.Common.{◌≡◌, ◌≢◌, ◌↔◌, ℕ, zero, suc, ◌+◌, ◌-◌, ◌≤◌, List, [], ◌∷◌, length, Bool, true, false, ◌&&◌, if◌then◌else◌, nat_le, get_or, Option, None, Some, arith, refl, sym, ap, ◌∙◌, subst, nat_eq, IsUtf8, IsAscii, and_parts, leb-true, eqb-true, KnownKind, AbsoluteSendTime, AbsoluteCaptureTime, AudioLevel, TransmissionTimeOffset, VideoOrientation, TransportSequenceNumber, PlayoutDelay, VideoContentType, VideoTiming, RtpStreamId, RepairedRtpStreamId, RtpMid, FrameMarking, ColorSpace, VideoLayersAllocation}
+use Rattle.rtp_c.proofs.Common.{◌≡◌, ◌≢◌, ◌↔◌, ℕ, zero, suc, ◌+◌, ◌-◌, ◌≤◌, List, [], ◌∷◌, length, Bool, true, false, ◌&&◌, if◌then◌else◌, nat_le, get_or, Option, None, Some, arith, refl, sym, ap, ◌∙◌, subst, nat_eq, IsUtf8, IsAscii, and_parts, leb-true, eqb-true, KnownKind, AbsoluteSendTime}
+use Rattle.std.specs.Prelude.{map, ◌++◌}
+use Rattle.rtp_values.specs.KnownKind.{every_kind}
 use Rattle.std.proofs.lemmas.Str.{IsUtf8-from_ascii}
 use Rattle.rtp_c.specs.declared.bare_kind.BareKind.{BareKind}
 use Rattle.rtp_c.specs.declared.bare_kind.BareKind.TheVariants.{MixerLevels, TransportNumber2, DependencyDescriptor, Ntp64, Ntp56}
@@ -9,20 +11,7 @@ use Rattle.rtp_c.specs.KindNumbers.{kind_number, kind_numbered, numbered_kinds, 
 pub number_of_kind : (kind : KnownKind) → kind_numbered (kind_number kind) ≡ Some kind
 unfolding kind_numbered
 number_of_kind AbsoluteSendTime = refl
-number_of_kind AbsoluteCaptureTime = refl
-number_of_kind AudioLevel = refl
-number_of_kind TransmissionTimeOffset = refl
-number_of_kind VideoOrientation = refl
-number_of_kind TransportSequenceNumber = refl
-number_of_kind PlayoutDelay = refl
-number_of_kind VideoContentType = refl
-number_of_kind VideoTiming = refl
-number_of_kind RtpStreamId = refl
-number_of_kind RepairedRtpStreamId = refl
-number_of_kind RtpMid = refl
-number_of_kind FrameMarking = refl
-number_of_kind ColorSpace = refl
-number_of_kind VideoLayersAllocation = refl
+number_of_kind _ = refl
 
 pub number_zero : kind_numbered 0 ≡ None
 unfolding kind_numbered
@@ -161,8 +150,8 @@ numbered≢0 (Known kind) = number≢0 kind
 numbered≢0 (Bare kind) = λ is. omega (arith, is, bare_high kind)
 
 -- nor have two kinds one URI
-every_kind : List NumberedKind
-every_kind = Known AbsoluteSendTime ∷ Known AbsoluteCaptureTime ∷ Known AudioLevel ∷ Known TransmissionTimeOffset ∷ Known VideoOrientation ∷ Known TransportSequenceNumber ∷ Known PlayoutDelay ∷ Known VideoContentType ∷ Known VideoTiming ∷ Known RtpStreamId ∷ Known RepairedRtpStreamId ∷ Known RtpMid ∷ Known FrameMarking ∷ Known ColorSpace ∷ Known VideoLayersAllocation ∷ Bare MixerLevels ∷ Bare TransportNumber2 ∷ Bare DependencyDescriptor ∷ Bare Ntp64 ∷ Bare Ntp56 ∷ []
+every_numbered : List NumberedKind
+every_numbered = map Known every_kind ++ map Bare bare_kinds
 
 are_same : List ℕ → List ℕ → Bool
 are_same [] [] = true
@@ -175,12 +164,12 @@ number_with : List NumberedKind → List ℕ → ℕ
 number_with [] uri = 0
 number_with (kind ∷ kinds) uri = if are_same (uri_of kind) uri then number_of kind else number_with kinds uri
 
-all_by_uri : all_pass (λ number kind. nat_eq (number_with every_kind (uri_of (Known kind))) number) 0 numbered_kinds ≡ true
-unfolding all_pass every_kind are_same number_with
+all_by_uri : all_pass (λ number kind. nat_eq (number_with every_numbered (uri_of (Known kind))) number) 0 numbered_kinds ≡ true
+unfolding all_pass every_numbered are_same number_with
 all_by_uri = refl
 
-number_by_uri : (kind : NumberedKind) → number_with every_kind (uri_of kind) ≡ number_of kind
-unfolding every_kind are_same number_with
+number_by_uri : (kind : NumberedKind) → number_with every_numbered (uri_of kind) ≡ number_of kind
+unfolding every_numbered are_same number_with
 number_by_uri (Known kind) = eqb-true _ (kind_number kind) (numbered_passes _ all_by_uri (kind_number kind) kind (number_of_kind kind))
 number_by_uri (Bare MixerLevels) = refl
 number_by_uri (Bare TransportNumber2) = refl
@@ -189,7 +178,7 @@ number_by_uri (Bare Ntp64) = refl
 number_by_uri (Bare Ntp56) = refl
 
 one_uri : (a b : NumberedKind) → uri_of a ≡ uri_of b → a ≡ b
-one_uri a b same = one_numbered a b (sym (number_by_uri a) ∙ ap (number_with every_kind) same ∙ number_by_uri b)
+one_uri a b same = one_numbered a b (sym (number_by_uri a) ∙ ap (number_with every_numbered) same ∙ number_by_uri b)
 
 -- so a kind is found by the URI where its number is
 pub found_by_uri : (found : NumberedKind) (number : ℕ) (uri : List ℕ) → uri_of found ≡ uri → number ≡ number_of found

@@ -1,12 +1,15 @@
 -- The bits of the kinds in a set, and the kinds that are put into it.
-use Rattle.std.proofs.Common.{◌≡◌, ◌≢◌, ◌⊎◌, ◌↔◌, inl, inr, ℕ, Some, None, is_some, ◌+◌, ◌<◌, ◌≤◌, List, Bool, true, false, bit_or, refl, sym, ap, ◌∙◌, arith}
+use Rattle.std.proofs.Common.{◌≡◌, ◌≢◌, ◌⊎◌, ◌↔◌, inl, inr, ℕ, zero, suc, [], ◌∷◌, length, get_or, eqb-true, Some, None, is_some, ◌+◌, ◌<◌, ◌≤◌, List, Bool, true, false, bit_or, refl, sym, ap, ◌∙◌, subst, arith}
 use Rattle.std.specs.Int.{bit_at}
-use Rattle.std.proofs.lemmas.Bool.{cases_lt, cases_eq}
+use Rattle.std.proofs.lemmas.Bool.{cases_lt, cases_eq, and_parts}
 use Rattle.std.proofs.lemmas.Nat.Bits.{bit_at-zero, bit_at-lt, bit_at_or}
 use Rattle.rtp_values.specs.declared.known_kind.KnownKind.{KnownKind}
-use Rattle.rtp_values.specs.KindSet.{has}
+use Rattle.rtp_values.specs.declared.value.values.ExtensionValues.{ExtensionValues}
+use Rattle.rtp_values.specs.KnownKind.{extension_of_kind, every_kind}
+use Rattle.rtp_values.specs.KindSet.{has, HasValue}
+use Rattle.rtp_values.proofs.KindSetLemmas.{SayWhatIsThere, flags_say, or_both}
 use Rattle.rtp_c.specs.KindNumbers.{kind_number}
-use Rattle.std.specs.Prelude.{if◌then◌else◌}
+use Rattle.std.specs.Prelude.{if◌then◌else◌, ◌||◌, ◌&&◌, nat_eq}
 use Rattle.rtp_c.specs.Given.{given, is_nonzero}
 use Rattle.rtp_c.specs.LeftOut.{AreBitsOf}
 use Rattle.rtp_c.proofs.KindNumberLemmas.{one_kind, kind_low, number_of_kind}
@@ -63,6 +66,34 @@ bits-next flags kind bits bit own others are = record {
       | inr more ↦ absurd (other (omega (arith, low, more)))
     ]
 
+-- whether the kinds have the numbers from one on
+have_numbers : ℕ → List KnownKind → Bool
+have_numbers number [] = true
+have_numbers number (kind ∷ kinds) = nat_eq (kind_number kind) number && have_numbers (suc number) kinds
+
+number-at : (kinds : List KnownKind) (number index : ℕ) (d : KnownKind) → have_numbers number kinds ≡ true → index < length kinds
+    → kind_number (get_or kinds index d) ≡ number + index
+unfolding have_numbers
+number-at [] number index d have within = absurd (omega arith)
+number-at (kind ∷ kinds) number zero d have within =
+    omega (arith, eqb-true (kind_number kind) number (and_parts (nat_eq (kind_number kind) number) (have_numbers (suc number) kinds) have).0)
+number-at (kind ∷ kinds) number (suc index) d have within =
+    omega (arith, number-at kinds (suc number) index d (and_parts (nat_eq (kind_number kind) number) (have_numbers (suc number) kinds) have).1 (omega arith))
+
+every_number : have_numbers 1 every_kind ≡ true
+unfolding have_numbers
+every_number = refl
+
+-- the bit of the kind at an index is put beside those of the kinds before it
+pub bits-kind : (flags : List Bool) (index : ℕ) (d : KnownKind) (bits bit : ℕ) → index < length every_kind
+    → (bit_at bit (kind_number (get_or every_kind index d)) ≡ 1) ↔ (has flags (get_or every_kind index d) ≡ true)
+    → ((place : ℕ) → place ≢ kind_number (get_or every_kind index d) → bit_at bit place ≡ 0) → AreBitsBelow flags (index + 1) bits
+    → AreBitsBelow flags (index + 1 + 1) (bit_or bits bit)
+bits-kind flags index d bits bit within own others are =
+    let number : kind_number (get_or every_kind index d) ≡ index + 1 = omega (arith, number-at every_kind 1 index d every_number within) in
+    subst (λ (n : ℕ). AreBitsBelow flags (n + 1) (bit_or bits bit)) number
+    (bits-next flags (get_or every_kind index d) bits bit own others (subst (λ (n : ℕ). AreBitsBelow flags n bits) (sym number) are))
+
 not_set : (bit : ℕ) → bit < 2 → (bit ≡ 1 → ⊥) → bit ≡ 0
 not_set bit few other = elim (cases_eq bit 1) [
   | inl one ↦ absurd (other one)
@@ -116,5 +147,16 @@ flag-of : {A : Type 0} (flag : Bool) (value : A) → flag ≡ is_some (if flag t
 flag-of true value = refl
 flag-of false value = refl
 
-pub flag-some : {A : Type 0} (flag : Bool) (has : ℕ) (value : A) → flag ≡ is_nonzero has → flag ≡ is_some (given has value)
-flag-some flag has value is = is ∙ flag-of (is_nonzero has) value
+pub flag_some : {A : Type 0} (flag : Bool) (has : ℕ) (value : A) → flag ≡ is_nonzero has → flag ≡ is_some (given has value)
+flag_some flag has value is = is ∙ flag-of (is_nonzero has) value
+
+-- so does one flag of two values
+pub either_some : {A B : Type 0} (flag other : Bool) (has also : ℕ) (value : A) (more : B) → flag ≡ is_nonzero has → other ≡ is_nonzero also
+    → (flag || other) ≡ (is_some (given has value) || is_some (given also more))
+either_some flag other has also value more is too = or_both _ _ _ _ (flag_some flag has value is) (flag_some other also more too)
+
+-- the kinds of a set that has these flags are those of which a value is given
+pub kinds_given : (values shown : ExtensionValues) (flags result : List Bool) → values ≡ shown → ((kind : KnownKind) → has result kind ≡ has flags kind)
+    → SayWhatIsThere flags every_kind values → (kind : KnownKind) → (has result kind ≡ true) ↔ HasValue (extension_of_kind kind) shown
+kinds_given values shown flags result same is say kind =
+    subst (λ (b : Bool). (b ≡ true) ↔ HasValue (extension_of_kind kind) shown) (sym (is kind)) (flags_say values shown flags same say kind)

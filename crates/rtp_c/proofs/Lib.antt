@@ -5,6 +5,7 @@ mod RoutedLemmas
 mod StatusLemmas
 mod HeaderStatusLemmas
 mod PacketLemmas
+mod PacketReadLemmas
 mod WholePacketLemmas
 mod ChangeLemmas
 mod PutLemmas

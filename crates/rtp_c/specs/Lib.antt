@@ -29,6 +29,8 @@ pub mod ElementData
 pub mod SetFields
 pub mod WrittenElements
 pub mod WrittenHeader
+pub mod FixedPart
+pub mod DataElements
 pub mod StandardData
 pub mod StandardTimes
 pub mod StandardOffset

@@ -1,18 +1,18 @@
 //! A packet, changed in its buffer.
 
-ghost use Rattle.std.specs.Prelude.{◌≡◌, ◌≢◌, ◌↔◌, ◌+◌, ◌*◌, ◌≤◌, ◌<◌, ℕ, List, length, slice_set, IfOk, IfErr, IfSome, IsErr, IsOkAnd};
+ghost use Rattle.std.specs.Prelude.{◌≡◌, ◌≢◌, ◌↔◌, ◌+◌, ◌*◌, ◌≤◌, ◌<◌, List, length, slice_set, IfOk, IfErr, IfSome, IsErr, IsOkAnd};
 ghost use Rattle.rtp_ext.specs.Elements.{Element};
 ghost use Rattle.rtp_ext.specs.ElementsInPlace.{HasNone, HasLastOf, SetsLast, ChangesIds, all_but};
 ghost use Rattle.rtp_ext.specs.ElementPlaces.{WritesLast};
 ghost use Rattle.rtp_wire.specs.Packet.{PacketParts, IsPacket, header_len_of};
 ghost use Rattle.rtp_wire.specs.ChangedPacket.{ChangesOnly, ChangesOnlyBody};
-ghost use Rattle.rtp_wire.specs.GivenFields.{with_header_fields, LieBetween};
+ghost use Rattle.rtp_wire.specs.GivenFields.{with_header_fields};
 ghost use Rattle.rtp_wire.specs.NotAHeader.{IsNoPacket};
 ghost use Rattle.rtp_wire.specs.PacketElements.{AreElementsOf};
 ghost use Rattle.rtp_wire.specs.PartsAt.{HasLayout};
 ghost use Rattle.rtp_c.specs.Status.{ok, none, bad_field, IsCauseStatus};
 ghost use Rattle.rtp_c.specs.ChangedElements.{BecomesPacket};
-ghost use Rattle.rtp_c.specs.SetFields.{fields_given, CanBeSet};
+ghost use Rattle.rtp_c.specs.SetFields.{fields_given, CanBeSet, SetsParts, ChangesOnlyFields};
 
 use super::given::given;
 use super::status::{BAD_FIELD, NONE, OK, refusal_status};
@@ -84,13 +84,8 @@ pub fn layout_of(datagram: &[u8]) -> Result<(usize, Option<ExtensionsForm>), i32
 #[inline(always)]
 fn set(datagram: &mut [u8], fields: &Fields) -> i32
     requires { IfSome fields.now.payload_type (λ pt. pt ≤ 127) }
-    ensures set { (parts : PacketParts) → IsPacket datagram.old parts →
-        (result ≡ ok) × IsPacket datagram.new (with_header_fields fields.now parts) }
-    ensures cause { result ≢ ok → IsCauseStatus datagram.old result }
-    ensures refused { result ≢ ok ↔ IsNoPacket datagram.old }
-    ensures bytes { (start end : ℕ) → LieBetween fields.now start end →
-        ChangesOnly start end datagram.old datagram.new }
-    ensures unchanged { result ≢ ok → datagram.new ≡ datagram.old }
+    ensures { SetsParts (with_header_fields fields.now) (ChangesOnlyFields fields.now)
+        datagram.old datagram.new result }
 {
     match layout_of(datagram) {
         Err(status) => status,
@@ -105,12 +100,8 @@ fn set(datagram: &mut [u8], fields: &Fields) -> i32
 /// holds no packet, and then nothing changes.
 #[unsafe(no_mangle)]
 pub extern "C" fn rtpw_set_marker(datagram: &mut [u8], marker: bool) -> i32
-    ensures set { (parts : PacketParts) → IsPacket datagram.old parts →
-        (result ≡ ok) × IsPacket datagram.new (record parts { marker = marker }) }
-    ensures cause { result ≢ ok → IsCauseStatus datagram.old result }
-    ensures refused { result ≢ ok ↔ IsNoPacket datagram.old }
-    ensures bytes { ChangesOnly 1 2 datagram.old datagram.new }
-    ensures unchanged { result ≢ ok → datagram.new ≡ datagram.old }
+    ensures { SetsParts (λ parts. record parts { marker = marker })
+        (ChangesOnly 1 2) datagram.old datagram.new result }
 {
     let fields = Fields {
         marker: Some(marker),
@@ -124,13 +115,11 @@ pub extern "C" fn rtpw_set_marker(datagram: &mut [u8], marker: bool) -> i32
 /// `OK` nothing changes.
 #[unsafe(no_mangle)]
 pub extern "C" fn rtpw_set_payload_type(datagram: &mut [u8], payload_type: u8) -> i32
-    ensures set { (parts : PacketParts) → IsPacket datagram.old parts → payload_type ≤ 127 →
-        (result ≡ ok) × IsPacket datagram.new (record parts { payload_type = payload_type }) }
-    ensures too_high { 127 < payload_type → result ≡ bad_field }
-    ensures cause { payload_type ≤ 127 → result ≢ ok → IsCauseStatus datagram.old result }
-    ensures refused { payload_type ≤ 127 → result ≢ ok ↔ IsNoPacket datagram.old }
-    ensures bytes { ChangesOnly 1 2 datagram.old datagram.new }
-    ensures unchanged { result ≢ ok → datagram.new ≡ datagram.old }
+    ensures set { payload_type ≤ 127 →
+        SetsParts (λ parts. record parts { payload_type = payload_type })
+        (ChangesOnly 1 2) datagram.old datagram.new result }
+    ensures too_high { 127 < payload_type →
+        (result ≡ bad_field) × (datagram.new ≡ datagram.old) }
 {
     if payload_type > 127 {
         return BAD_FIELD;
@@ -146,12 +135,8 @@ pub extern "C" fn rtpw_set_payload_type(datagram: &mut [u8], payload_type: u8) -
 /// which the buffer holds no packet, and then nothing changes.
 #[unsafe(no_mangle)]
 pub extern "C" fn rtpw_set_sequence_number(datagram: &mut [u8], number: u16) -> i32
-    ensures set { (parts : PacketParts) → IsPacket datagram.old parts →
-        (result ≡ ok) × IsPacket datagram.new (record parts { sequence_number = number }) }
-    ensures cause { result ≢ ok → IsCauseStatus datagram.old result }
-    ensures refused { result ≢ ok ↔ IsNoPacket datagram.old }
-    ensures bytes { ChangesOnly 2 4 datagram.old datagram.new }
-    ensures unchanged { result ≢ ok → datagram.new ≡ datagram.old }
+    ensures { SetsParts (λ parts. record parts { sequence_number = number })
+        (ChangesOnly 2 4) datagram.old datagram.new result }
 {
     let fields = Fields {
         sequence_number: Some(number),
@@ -164,12 +149,8 @@ pub extern "C" fn rtpw_set_sequence_number(datagram: &mut [u8], number: u16) -> 
 /// the buffer holds no packet, and then nothing changes.
 #[unsafe(no_mangle)]
 pub extern "C" fn rtpw_set_timestamp(datagram: &mut [u8], timestamp: u32) -> i32
-    ensures set { (parts : PacketParts) → IsPacket datagram.old parts →
-        (result ≡ ok) × IsPacket datagram.new (record parts { timestamp = timestamp }) }
-    ensures cause { result ≢ ok → IsCauseStatus datagram.old result }
-    ensures refused { result ≢ ok ↔ IsNoPacket datagram.old }
-    ensures bytes { ChangesOnly 4 8 datagram.old datagram.new }
-    ensures unchanged { result ≢ ok → datagram.new ≡ datagram.old }
+    ensures { SetsParts (λ parts. record parts { timestamp = timestamp })
+        (ChangesOnly 4 8) datagram.old datagram.new result }
 {
     let fields = Fields {
         timestamp: Some(timestamp),
@@ -182,12 +163,8 @@ pub extern "C" fn rtpw_set_timestamp(datagram: &mut [u8], timestamp: u32) -> i32
 /// buffer holds no packet, and then nothing changes.
 #[unsafe(no_mangle)]
 pub extern "C" fn rtpw_set_ssrc(datagram: &mut [u8], ssrc: u32) -> i32
-    ensures set { (parts : PacketParts) → IsPacket datagram.old parts →
-        (result ≡ ok) × IsPacket datagram.new (record parts { ssrc = ssrc }) }
-    ensures cause { result ≢ ok → IsCauseStatus datagram.old result }
-    ensures refused { result ≢ ok ↔ IsNoPacket datagram.old }
-    ensures bytes { ChangesOnly 8 12 datagram.old datagram.new }
-    ensures unchanged { result ≢ ok → datagram.new ≡ datagram.old }
+    ensures { SetsParts (λ parts. record parts { ssrc = ssrc })
+        (ChangesOnly 8 12) datagram.old datagram.new result }
 {
     let fields = Fields {
         ssrc: Some(Ssrc::from(ssrc)),
@@ -201,15 +178,11 @@ pub extern "C" fn rtpw_set_ssrc(datagram: &mut [u8], ssrc: u32) -> i32
 /// for which the buffer holds no packet. Where it isn't `OK` nothing changes.
 #[unsafe(no_mangle)]
 pub extern "C" fn rtpw_set_fields(datagram: &mut [u8], fields: &FieldsView) -> i32
-    ensures set { (parts : PacketParts) → IsPacket datagram.old parts → CanBeSet fields.now →
-        (result ≡ ok) × IsPacket datagram.new (with_header_fields (fields_given fields.now) parts) }
+    ensures set { CanBeSet fields.now →
+        SetsParts (with_header_fields (fields_given fields.now))
+        (ChangesOnlyFields (fields_given fields.now)) datagram.old datagram.new result }
     ensures too_high { 0 < fields.now.has_payload_type → 127 < fields.now.payload_type →
-        result ≡ bad_field }
-    ensures cause { CanBeSet fields.now → result ≢ ok → IsCauseStatus datagram.old result }
-    ensures refused { CanBeSet fields.now → result ≢ ok ↔ IsNoPacket datagram.old }
-    ensures bytes { (start end : ℕ) → LieBetween (fields_given fields.now) start end →
-        ChangesOnly start end datagram.old datagram.new }
-    ensures unchanged { result ≢ ok → datagram.new ≡ datagram.old }
+        (result ≡ bad_field) × (datagram.new ≡ datagram.old) }
 {
     if fields.has_payload_type != 0 && fields.payload_type > 127 {
         return BAD_FIELD;

@@ -9,7 +9,7 @@ ghost use Rattle.rtp_values.specs.StandardLevels.{IsLevel};
 ghost use Rattle.rtp_c.specs.Told.{degrees_of};
 ghost use Rattle.rtp_c.specs.Given.{given, text_in, turn_of, is_nonzero, IsTextIn, CanBeGiven};
 
-use super::values::{Time, ValuesView};
+use super::values::ValuesView;
 use rtp_values::VideoOrientation;
 use std::simd::prelude::*;
 
@@ -113,59 +113,20 @@ fn is_mid_text(bytes: &[u8; 17]) -> bool
     bytes[id_bytes_in_front(bytes)] == 0
 }
 
-// Whether a text that is there is one.
+// Whether these are the degrees of an orientation.
 #[inline(always)]
-fn can_be_text(has: u8, bytes: &[u8]) -> bool
-    ensures { IsTrue result ↔ (0 < has → IsTextIn bytes.now (text_in bytes.now)) }
+fn is_orientation(degrees: u16) -> bool
+    ensures { IsTrue result ↔ degrees_of (turn_of degrees) ≡ degrees }
 {
-    if has == 0 {
-        return true;
-    }
-    is_text(bytes)
-}
-
-// Whether an orientation that is there is one.
-#[inline(always)]
-fn can_be_orientation(has: u8, degrees: u16) -> bool
-    ensures { IsTrue result ↔ (0 < has → degrees_of (turn_of degrees) ≡ degrees) }
-{
-    if has == 0 {
-        return true;
-    }
     orientation_of(degrees).is_some()
 }
 
-// Whether an audio level that is there is one (RFC 6464, 3).
+// Whether this is an audio level (RFC 6464, 3).
 #[inline(always)]
-fn can_be_level(has: u8, level: i8) -> bool
-    ensures { IsTrue result ↔ (0 < has → IsLevel level) }
+fn is_level(level: i8) -> bool
+    ensures { IsTrue result ↔ IsLevel level }
 {
-    if has == 0 {
-        return true;
-    }
     (-127..=0).contains(&level)
-}
-
-// Whether a time that is there is one: of a clock that has ticks.
-#[inline(always)]
-fn can_be_time(has: u8, time: &Time) -> bool
-    ensures { IsTrue result ↔ (0 < has → 0 < time.now.hertz) }
-{
-    if has == 0 {
-        return true;
-    }
-    time.hertz != 0
-}
-
-// Whether a tag that is there is one.
-#[inline(always)]
-fn can_be_mid(has: u8, bytes: &[u8; 17]) -> bool
-    ensures { IsTrue result ↔ (0 < has → IsTextIn bytes.now (text_in bytes.now)) }
-{
-    if has == 0 {
-        return true;
-    }
-    is_mid_text(bytes)
 }
 
 // Whether the texts that are there are such.
@@ -176,12 +137,13 @@ fn can_be_texts(view: &ValuesView) -> bool
         × (0 < view.now.has_repaired_rid
         → IsTextIn view.now.repaired_rid (text_in view.now.repaired_rid))) }
 {
-    can_be_mid(view.has_mid, &view.mid)
-        && can_be_text(view.has_rid, &view.rid)
-        && can_be_text(view.has_repaired_rid, &view.repaired_rid)
+    (view.has_mid == 0 || is_mid_text(&view.mid))
+        && (view.has_rid == 0 || is_text(&view.rid))
+        && (view.has_repaired_rid == 0 || is_text(&view.repaired_rid))
 }
 
-// Whether the level, the orientation and the times that are there are such.
+// Whether the level, the orientation and the times that are there are such. A clock of a time has
+// ticks.
 #[inline(always)]
 fn can_be_numbers(view: &ValuesView) -> bool
     ensures { IsTrue result ↔ ((0 < view.now.has_audio_level → IsLevel view.now.audio_level)
@@ -190,10 +152,10 @@ fn can_be_numbers(view: &ValuesView) -> bool
         × (0 < view.now.has_playout_delay_min → 0 < view.now.playout_delay_min.hertz)
         × (0 < view.now.has_playout_delay_max → 0 < view.now.playout_delay_max.hertz)) }
 {
-    can_be_orientation(view.has_video_orientation, view.video_orientation)
-        && can_be_time(view.has_playout_delay_min, &view.playout_delay_min)
-        && can_be_time(view.has_playout_delay_max, &view.playout_delay_max)
-        && can_be_level(view.has_audio_level, view.audio_level)
+    (view.has_video_orientation == 0 || is_orientation(view.video_orientation))
+        && (view.has_playout_delay_min == 0 || view.playout_delay_min.hertz != 0)
+        && (view.has_playout_delay_max == 0 || view.playout_delay_max.hertz != 0)
+        && (view.has_audio_level == 0 || is_level(view.audio_level))
 }
 
 // Whether each audio level, orientation, time and text that is there is one.

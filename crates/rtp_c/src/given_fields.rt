@@ -8,7 +8,7 @@ ghost use Rattle.rtp_c.specs.Given.{is_nonzero, AreGivenFields, IsGivenHeader};
 use super::given_values::GivenValues;
 use super::header::HeaderView;
 use rtp_base::{Pt, Ssrc};
-use rtp_wire::GetFields;
+use rtp_wire::{FixedFields, GetFields};
 use std::marker::Model;
 
 /// The fields that C gives, each looked at when it is written, of a payload type and as many sources
@@ -84,43 +84,17 @@ impl<'a> GetFields for GivenFields<'a> {
     ghost header = { λ fields. fields };
 
     #[inline(always)]
-    fn has_padding(&self) -> bool {
-        self.view.has_padding != 0
-    }
-
-    #[inline(always)]
-    fn has_extension(&self) -> bool {
-        self.has_extension
-    }
-
-    #[inline(always)]
-    fn marker(&self) -> bool {
-        self.view.marker != 0
-    }
-
-    #[inline(always)]
-    fn payload_type(&self) -> Pt {
-        Pt::from(self.view.payload_type)
-    }
-
-    #[inline(always)]
-    fn sequence_number(&self) -> u16 {
-        self.view.sequence_number
-    }
-
-    #[inline(always)]
-    fn timestamp(&self) -> u32 {
-        self.view.timestamp
-    }
-
-    #[inline(always)]
-    fn ssrc(&self) -> Ssrc {
-        Ssrc::from(self.view.ssrc)
-    }
-
-    #[inline(always)]
-    fn csrc_count(&self) -> usize {
-        count_in(self.view)
+    fn fixed(&self) -> FixedFields {
+        FixedFields {
+            has_padding: self.view.has_padding != 0,
+            has_extension: self.has_extension,
+            csrc_count: count_in(self.view),
+            marker: self.view.marker != 0,
+            payload_type: Pt::from(self.view.payload_type),
+            sequence_number: self.view.sequence_number,
+            timestamp: self.view.timestamp,
+            ssrc: Ssrc::from(self.view.ssrc),
+        }
     }
 
     #[inline(always)]

@@ -27,36 +27,14 @@ fn given_resolution(view: &Layer) -> Option<ResolutionAndFramerate>
     })
 }
 
-// The rates that count.
+// The first of the values, as many as count.
 #[inline(always)]
-fn given_rates(view: &Layer) -> &[TemporalLayerAllocation]
-    ensures { result.now ≡ take view.now.rates view.now.kbps }
+fn counted<T, const N: usize>(values: &[T; N], count: u8) -> &[T]
+    ensures { result.now ≡ take count values.now }
 {
-    match view.kbps.get(..usize::from(view.rates)) {
-        Some(rates) => rates,
-        None => &view.kbps,
-    }
-}
-
-// The layers that count.
-#[inline(always)]
-fn given_layers(view: &Stream) -> &[Layer]
-    ensures { result.now ≡ take view.now.count view.now.layers }
-{
-    match view.layers.get(..usize::from(view.count)) {
-        Some(layers) => layers,
-        None => &view.layers,
-    }
-}
-
-// The streams that count.
-#[inline(always)]
-fn given_streams(view: &Layers) -> &[Stream]
-    ensures { result.now ≡ take view.now.count view.now.streams }
-{
-    match view.streams.get(..usize::from(view.count)) {
-        Some(streams) => streams,
-        None => &view.streams,
+    match values.get(..usize::from(count)) {
+        Some(counted) => counted,
+        None => values,
     }
 }
 
@@ -68,7 +46,7 @@ impl Lendable for Layer {
     #[inline(always)]
     fn lend(&self) -> LentLayer<'_> {
         LentLayer {
-            temporal_layers: given_rates(self),
+            temporal_layers: counted(&self.kbps, self.rates),
             resolution_and_framerate: given_resolution(self),
         }
     }
@@ -83,7 +61,7 @@ impl Layered for Stream {
 
     #[inline(always)]
     fn layers(&self) -> LentLayers<'_, Layer> {
-        LentLayers::of(given_layers(self))
+        LentLayers::of(counted(&self.layers, self.count))
     }
 }
 
@@ -92,7 +70,10 @@ impl Layered for Stream {
 fn has_few_layers(view: &Stream) -> bool
     ensures { IsTrue result ↔ HasFewLayers view.now }
 {
-    view.count <= 4 && given_layers(view).iter().all(|layer| layer.rates <= 4)
+    view.count <= 4
+        && counted(&view.layers, view.count)
+            .iter()
+            .all(|layer| layer.rates <= 4)
 }
 
 // Whether each of the streams, and each of its layers that counts, has a count of at most four.
@@ -107,7 +88,7 @@ fn have_few_layers(streams: &[Stream]) -> bool
 fn has_few(view: &Layers) -> bool
     ensures { IsTrue result ↔ IsGivenLayers view.now (allocation_in view.now) }
 {
-    view.count <= 4 && have_few_layers(given_streams(view))
+    view.count <= 4 && have_few_layers(counted(&view.streams, view.count))
 }
 
 // The values with the layers that are given, where an element can carry them.
@@ -125,6 +106,6 @@ pub fn with_given_layers<'a, V: ElementValues>(
     }
     CarriedLayers::measure(
         values,
-        LentAllocation::new(view.current, given_streams(view)),
+        LentAllocation::new(view.current, counted(&view.streams, view.count)),
     )
 }

@@ -237,6 +237,7 @@ fn is_set(has: u8) -> bool
 }
 
 impl<'a> ValueKinds for GivenValues<'a> {
+    #[tactic(auto, using(crate::proofs::LeftOutLemmas::kinds_given, crate::proofs::LeftOutLemmas::flag_some, crate::proofs::LeftOutLemmas::either_some))]
     fn kinds(&self) -> KindSet {
         let view = self.view;
         KindSet::from_flags([

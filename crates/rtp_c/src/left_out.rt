@@ -17,7 +17,7 @@ use super::given_layers::with_given_layers;
 use super::header::HeaderView;
 use super::kinds::StoredMap;
 use super::layers::Layers;
-use super::numbers::number_of;
+use super::numbers::{KINDS, number_of};
 use super::status::{BAD_FIELD, OK};
 use super::values::ValuesView;
 use rtp_values::KnownKind;
@@ -36,26 +36,15 @@ fn bit_of(kinds: &KindSet, kind: KnownKind) -> u32
     }
 }
 
-// The bits of the kinds in the set, each at the place of its number. The kinds are named one by
-// one: a loop over their numbers takes four times as many instructions.
+// The bits of the kinds in the set, each at the place of its number.
 fn bits_of(kinds: &KindSet) -> u32
     ensures { AreBitsOf (λ kind. has kinds.now kind ≡ true) result }
 {
-    bit_of(kinds, KnownKind::AbsoluteSendTime)
-        | bit_of(kinds, KnownKind::AbsoluteCaptureTime)
-        | bit_of(kinds, KnownKind::AudioLevel)
-        | bit_of(kinds, KnownKind::TransmissionTimeOffset)
-        | bit_of(kinds, KnownKind::VideoOrientation)
-        | bit_of(kinds, KnownKind::TransportSequenceNumber)
-        | bit_of(kinds, KnownKind::PlayoutDelay)
-        | bit_of(kinds, KnownKind::VideoContentType)
-        | bit_of(kinds, KnownKind::VideoTiming)
-        | bit_of(kinds, KnownKind::RtpStreamId)
-        | bit_of(kinds, KnownKind::RepairedRtpStreamId)
-        | bit_of(kinds, KnownKind::RtpMid)
-        | bit_of(kinds, KnownKind::FrameMarking)
-        | bit_of(kinds, KnownKind::ColorSpace)
-        | bit_of(kinds, KnownKind::VideoLayersAllocation)
+    let mut bits = 0;
+    for kind in &KINDS {
+        bits |= bit_of(kinds, *kind);
+    }
+    bits
 }
 
 // Puts the kind into the set where this holds.

@@ -1,13 +1,31 @@
 //! Where the elements of a block lie, several told in one call.
 
-ghost use Rattle.std.specs.Prelude.{◌≡◌, ◌≢◌, ◌<◌, ◌≤◌, ◌⊎◌, Option, Some, length, take, drop};
+ghost use Rattle.std.specs.Prelude.{◌≡◌, ◌≢◌, ◌-◌, ◌<◌, ◌≤◌, ◌⊎◌, Option, Some, length, take, drop};
 ghost use Rattle.rtp_ext.specs.declared.form.ExtensionsForm.{ExtensionsForm};
 ghost use Rattle.rtp_ext.specs.ElementReading.{BeginsWithNoElement};
 ghost use Rattle.rtp_c.specs.ElementView.{AreNextElements, end_after};
 ghost use Rattle.rtp_c.specs.PacketView.{form_number};
 
 use super::packet::{ElementView, form_of};
-use rtp_ext::{ExtensionsForm, next_place};
+use rtp_ext::{ExtensionsForm, Place, next_place};
+
+// Tells where an element lies, field by field, since a whole struct would have the bytes behind its id
+// written too.
+#[inline(always)]
+fn put_place(view: &mut ElementView, place: &Place)
+    requires { place.now.data_start ≤ place.now.end }
+    ensures { view.new ≡ record {
+      data_at = place.now.data_start;
+      data_len = place.now.end - place.now.data_start;
+      end = place.now.end;
+      id = place.now.id;
+    } }
+{
+    view.data_at = place.data_start;
+    view.data_len = place.end - place.data_start;
+    view.end = place.end;
+    view.id = place.id;
+}
 
 // Tells the elements from the offset on, as many as there is room for, and returns how many.
 fn put_elements(form: ExtensionsForm, body: &[u8], at: usize, elements: &mut [ElementView]) -> usize
@@ -24,12 +42,7 @@ fn put_elements(form: ExtensionsForm, body: &[u8], at: usize, elements: &mut [El
         let Some(place) = next_place(form, body, from) else {
             return count;
         };
-        elements[count] = ElementView {
-            data_at: place.data_start,
-            data_len: place.end - place.data_start,
-            end: place.end,
-            id: place.id,
-        };
+        put_place(&mut elements[count], &place);
         from = place.end;
         count += 1;
     }

@@ -19,6 +19,25 @@ const LAST_NUMBER: u8 = 20;
 // The least number of the caller's own.
 const FIRST_OWN: u8 = 128;
 
+// The known kinds in the order of their numbers.
+pub(super) const KINDS: [KnownKind; 15] = [
+    KnownKind::AbsoluteSendTime,
+    KnownKind::AbsoluteCaptureTime,
+    KnownKind::AudioLevel,
+    KnownKind::TransmissionTimeOffset,
+    KnownKind::VideoOrientation,
+    KnownKind::TransportSequenceNumber,
+    KnownKind::PlayoutDelay,
+    KnownKind::VideoContentType,
+    KnownKind::VideoTiming,
+    KnownKind::RtpStreamId,
+    KnownKind::RepairedRtpStreamId,
+    KnownKind::RtpMid,
+    KnownKind::FrameMarking,
+    KnownKind::ColorSpace,
+    KnownKind::VideoLayersAllocation,
+];
+
 // Whether the number is that of a kind or one of the caller's own.
 #[inline(always)]
 pub fn is_named(number: u8) -> bool

@@ -6,6 +6,7 @@ ghost use Rattle.rtp_wire.specs.NotAHeader.{IsNoPacket};
 ghost use Rattle.rtp_wire.specs.Packet.{PacketParts, IsPacket};
 ghost use Rattle.rtp_wire.specs.Padding.{padding_count};
 ghost use Rattle.rtp_c.specs.Status.{ok, bad_field, IsCauseStatus};
+ghost use Rattle.rtp_c.specs.SetFields.{SetsParts};
 
 use super::changing::layout_of;
 use super::status::{BAD_FIELD, OK};
@@ -16,12 +17,8 @@ use rtp_wire::RtpPacketMut;
 /// no packet, and then nothing changes.
 #[unsafe(no_mangle)]
 pub extern "C" fn rtpw_set_padding(datagram: &mut [u8], has_padding: bool) -> i32
-    ensures set { (parts : PacketParts) → IsPacket datagram.old parts →
-        (result ≡ ok) × IsPacket datagram.new (record parts { has_padding = has_padding }) }
-    ensures cause { result ≢ ok → IsCauseStatus datagram.old result }
-    ensures refused { result ≢ ok ↔ IsNoPacket datagram.old }
-    ensures bytes { ChangesOnly 0 1 datagram.old datagram.new }
-    ensures unchanged { result ≢ ok → datagram.new ≡ datagram.old }
+    ensures { SetsParts (λ parts. record parts { has_padding = has_padding })
+        (ChangesOnly 0 1) datagram.old datagram.new result }
 {
     match layout_of(datagram) {
         Err(status) => status,

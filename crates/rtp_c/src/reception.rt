@@ -1,10 +1,10 @@
 //! What a receiver reports of the packets that came from a source.
 
-ghost use Rattle.std.specs.Prelude.{◌≡◌, ◌≢◌, ◌↔◌, ◌<◌, ◌⊎◌, List, ◌∷◌, length};
+ghost use Rattle.std.specs.Prelude.{◌≡◌, ◌≢◌, ◌↔◌, ◌⊎◌, List, ◌∷◌};
 ghost use Rattle.rtp_receive.specs.Reception.{ReceivedPacket, IsReportOn, block_bytes};
 ghost use Rattle.rtp_receive.specs.ReceptionState.{AreOf};
-ghost use Rattle.rtp_c.specs.Status.{ok, none, short_buffer};
-ghost use Rattle.rtp_c.specs.StandardData.{StandAtFront};
+ghost use Rattle.rtp_c.specs.Status.{ok, none};
+ghost use Rattle.rtp_c.specs.StandardData.{PutsBytes};
 
 use super::standard::put_data;
 use super::status::{NONE, OK};
@@ -63,11 +63,8 @@ pub extern "C" fn rtpw_write_report(
     buf: &mut [u8],
     len: &mut usize,
 ) -> i32
-    ensures written { result ≡ ok →
-        StandAtFront (block_bytes ssrc report.now last_report delay) buf.old buf.new len.new }
-    ensures short { (result ≡ short_buffer) ↔ (length buf.old < 24) }
-    ensures statuses { (result ≡ ok) ⊎ (result ≡ short_buffer) }
-    ensures unchanged { result ≢ ok → (buf.new ≡ buf.old) × (len.new ≡ len.old) }
+    ensures { PutsBytes (block_bytes ssrc report.now last_report delay)
+        buf.old buf.new len.old len.new result }
 {
     put_data(
         &report.to_block(Ssrc::from(ssrc), last_report, delay),

@@ -22,7 +22,7 @@ use super::stored_slots::StoredSlots;
 use super::template::StoredTemplate;
 use rtp_base::{Pt, Ssrc};
 use rtp_ext::ExtensionsForm;
-use rtp_route::{clear_padding, fill_joined, write_retransmission};
+use rtp_route::{clear_padding, fill_joined, put_header, write_retransmission};
 use rtp_wire::{Fields, RtpPacket, RtpPacketMut};
 
 /// One of the receivers of a group, and the header that it gets: `rtpw_routed_header` in C, 48
@@ -106,13 +106,13 @@ fn write_again(
     Some(len)
 }
 
-// Copies a header. It stays out of line, so that the loop over the receivers keeps its registers.
-#[inline(never)]
+// Copies a header.
+#[inline(always)]
 fn copy_header(buf: &mut [u8], header: &[u8])
     requires { length buf.old ≡ length header.now }
     ensures { buf.new ≡ header.now }
 {
-    buf.copy_from_slice(header);
+    put_header(buf, header);
 }
 
 // Sets the fields that are given in a header alone, one by one: each is read when it is set, so that

@@ -30,13 +30,13 @@ impl<'a> StoredSlots<'a> {
         }
         let mut total = 0;
         for index in 0..made.count as usize {
-            let len = made.data_len[index];
-            if made.data_at[index] as usize + len as usize > header_len {
+            let len = made.data_len[index] as usize;
+            if made.data_at[index] as usize + len > header_len {
                 return None;
             }
-            total += len as u16;
+            total += len;
         }
-        if total != made.data_total {
+        if total != made.data_total as usize {
             return None;
         }
         Some(StoredSlots { made })

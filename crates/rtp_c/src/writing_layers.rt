@@ -1,11 +1,11 @@
 //! What C gives to be written with its layer allocation, a header, from fields, values and layers
 //! to bytes.
 
-ghost use Rattle.std.specs.Prelude.{◌≡◌, ◌≢◌, ◌↔◌, ◌≤◌, ◌⊎◌, length};
+ghost use Rattle.std.specs.Prelude.{◌≡◌, ◌≢◌, ◌↔◌, ◌⊎◌};
 ghost use Rattle.rtp_wire.specs.declared.header.rtp_header.RtpHeader.{RtpHeader as Header};
-ghost use Rattle.rtp_c.specs.Status.{ok, short_buffer, bad_field};
+ghost use Rattle.rtp_c.specs.Status.{ok, bad_field};
 ghost use Rattle.rtp_c.specs.GivenLayers.{IsGivenWithLayers};
-ghost use Rattle.rtp_c.specs.WrittenHeader.{IsLengthOf, IsWrittenHeader, IsTooLong};
+ghost use Rattle.rtp_c.specs.WrittenHeader.{IsLengthOf, WritesHeader};
 
 use super::given_fields::given_header;
 use super::given_layers::with_given_layers;
@@ -56,15 +56,8 @@ pub extern "C" fn rtpw_write_layers(
     buf: &mut [u8],
     len: &mut usize,
 ) -> i32
-    ensures written { result ≡ ok → IsWrittenHeader map.now.kind
-        (IsGivenWithLayers header.now layers.now) buf.old buf.new len.new }
-    ensures within { result ≡ ok → len.new ≤ length buf.new }
-    ensures short { result ≡ short_buffer → IsTooLong map.now.kind
-        (IsGivenWithLayers header.now layers.now) (length buf.old) }
-    ensures bad_field { (result ≡ bad_field) ↔
-        ((h : Header) → IsGivenWithLayers header.now layers.now h → ⊥) }
-    ensures statuses { (result ≡ ok) ⊎ ((result ≡ short_buffer) ⊎ (result ≡ bad_field)) }
-    ensures unchanged { result ≢ ok → (buf.new ≡ buf.old) × (len.new ≡ len.old) }
+    ensures { WritesHeader map.now.kind (IsGivenWithLayers header.now layers.now)
+        buf.old buf.new len.old len.new result }
 {
     let Some((fields, without)) = given_header(header) else {
         return BAD_FIELD;

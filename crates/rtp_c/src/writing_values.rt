@@ -1,10 +1,10 @@
 //! A header that C gives to be written, with its values.
 
-ghost use Rattle.std.specs.Prelude.{◌≡◌, ◌≢◌, ◌↔◌, ◌≤◌, ◌⊎◌, length, false, true};
+ghost use Rattle.std.specs.Prelude.{◌≡◌, ◌≢◌, ◌↔◌, ◌⊎◌, false, true};
 ghost use Rattle.rtp_wire.specs.declared.header.rtp_header.RtpHeader.{RtpHeader as Header};
-ghost use Rattle.rtp_c.specs.Status.{ok, short_buffer, bad_field};
+ghost use Rattle.rtp_c.specs.Status.{ok, bad_field};
 ghost use Rattle.rtp_c.specs.Given.{is_nonzero, AreGivenValues, IsGivenHeader};
-ghost use Rattle.rtp_c.specs.WrittenHeader.{IsLengthOf, IsWrittenHeader, IsTooLong, WritesHeader};
+ghost use Rattle.rtp_c.specs.WrittenHeader.{IsLengthOf, WritesHeader};
 
 use super::given_fields::{GivenFields, given_header};
 use super::given_values::GivenValues;
@@ -50,14 +50,8 @@ pub extern "C" fn rtpw_write(
     buf: &mut [u8],
     len: &mut usize,
 ) -> i32
-    ensures written { result ≡ ok →
-        IsWrittenHeader map.now.kind (IsGivenHeader header.now) buf.old buf.new len.new }
-    ensures within { result ≡ ok → len.new ≤ length buf.new }
-    ensures short { result ≡ short_buffer →
-        IsTooLong map.now.kind (IsGivenHeader header.now) (length buf.old) }
-    ensures bad_field { (result ≡ bad_field) ↔ ((h : Header) → IsGivenHeader header.now h → ⊥) }
-    ensures statuses { (result ≡ ok) ⊎ ((result ≡ short_buffer) ⊎ (result ≡ bad_field)) }
-    ensures unchanged { result ≢ ok → (buf.new ≡ buf.old) × (len.new ≡ len.old) }
+    ensures { WritesHeader map.now.kind (IsGivenHeader header.now) buf.old buf.new len.old len.new
+        result }
 {
     if header.has_extension == 0 {
         return write_without_block(map, header, buf, len);

@@ -143,10 +143,10 @@ sole-no_zero id bytes elements above sole =
     ∙ (ap (λ es. sole.before ++ (id, sole.was) ∷ es) (without-none 0 sole.after sole.no_zero_after) ∙ sym sole.in_order)))
 
 -- zeros to the end
-pub row_to-zeros : (form : ExtensionsForm) (elements : List Element) (body : List ℕ) (len n : ℕ) → length body ≡ n → take len body ≡ elements_bytes form elements
+pub row_to-zeros : (form : ExtensionsForm) (elements : List Element) (body : List ℕ) {len n : ℕ} → length body ≡ n → take len body ≡ elements_bytes form elements
     → len ≡ length (elements_bytes form elements) → len ≤ n → overwritten body len (replicate (length body - len) 0) ≡ row_to form elements n
 unfolding overwritten
-row_to-zeros form elements body len n long row_is len_is fits =
+row_to-zeros form elements body {len} {n} long row_is len_is fits =
     let zeros : List ℕ = replicate (length body - len) 0 in
     let none : drop (len + length zeros) body ≡ [] = drop_all (len + length zeros) body (omega (arith, length-replicate {A = ℕ} (length body - len) 0)) in
     let left : length body - len ≡ n - length (elements_bytes form elements) = omega arith in

@@ -12,7 +12,7 @@ use Rattle.rtp_values.specs.declared.known_kind.KnownKind.TheVariants as known
 use Rattle.rtp_values.specs.KnownKind.{extension_of_kind}
 use Rattle.rtp_values.specs.Values.{TakesMemory, with_fields}
 use Rattle.rtp_values.specs.KindBytes.{ReadsInto}
-use Rattle.rtp_values.proofs.FieldLemmas.{Reads-same, SameFields-each, SameFields-others}
+use Rattle.rtp_values.proofs.FieldLemmas.{Reads-same, SameFields-others}
 use Rattle.rtp_ext.specs.Elements.{Element}
 use Rattle.rtp_ext.specs.ExtensionMap.{Slots, extension_at}
 use Rattle.rtp_ext.specs.BlockValues.{Carries, ReadElements, ShowsApart}
@@ -38,7 +38,7 @@ ReadsInto-apart ShowsValues ShowsLayers kind bytes old new layers said differs i
     SameFields-others kind VideoLayersAllocation bare read.0 (λ same. differs (sym same)) in
     let none : read.0.video_layers_allocation ≡ None =
     ap (λ (v : ExtensionValues). v.video_layers_allocation) read.3
-    ∙ SameFields-each VideoLayersAllocation bare (with_fields kind bare read.0) stays in (
+    ∙ ap (λ (v : ExtensionValues). v.video_layers_allocation) stays in (
       after,
       record {
         values_are = subst (ShowsValues new) (λ i. record read.0 { video_layers_allocation = none i }) read.1;
@@ -50,13 +50,13 @@ ReadsInto-apart ShowsValues ShowsLayers kind bytes old new layers said differs i
     )
 
 -- the allocation that counts in a row was read into the layers
-pub ReadElements-layers : {V L : Type 0} (ShowsValues : V → ExtensionValues → Type 0) (ShowsLayers : L → Allocation → Type 0) (exts : Slots) (element : Element)
-    (row : List Element) (bytes : List ℕ) (view : V) (old new : L) (said : Bool) → extension_at exts element.0 ≡ Some VideoLayersAllocation
+pub ReadElements-layers : {V L : Type 0} (ShowsValues : V → ExtensionValues → Type 0) (ShowsLayers : L → Allocation → Type 0) {exts : Slots} (element : Element)
+    {row : List Element} {bytes : List ℕ} (view : V) (old new : L) (said : Bool) → extension_at exts element.0 ≡ Some VideoLayersAllocation
     → ((kind : Extension) → kind ≢ VideoLayersAllocation → All (λ e. Carries exts kind e → ⊥) row) → IsLastAllocation exts row element.1 bytes
     → (a : Allocation) × Means bytes a × ShowsLayers new a
     → ReadElements (ShowsApart ShowsValues ShowsLayers) exts (element ∷ row) (view, old, said) (view, new, true)
-ReadElements-layers ShowsValues ShowsLayers exts element row bytes view old new said mapped no_other is read =
-    ReadElements-row (ShowsApart ShowsValues ShowsLayers) exts element row bytes (view, old, said) (view, new, true) (Ok (Some (record {}))) mapped no_other is refl
+ReadElements-layers ShowsValues ShowsLayers element view old new said mapped no_other is read =
+    ReadElements-row (ShowsApart ShowsValues ShowsLayers) element (view, old, said) (view, new, true) (Ok (Some (record {}))) mapped no_other is refl
     (λ _ before shown. (
       record before { video_layers_allocation = Some read.0 },
       record { values_are = shown.values_are; layers_are = read.2; said = refl },
@@ -70,13 +70,13 @@ some_meaning bytes None is = absurd is
 some_meaning bytes (Some a) is = (a, is)
 
 -- none of a row was read, and the layers stay
-pub ReadElements-no_layers : {V L : Type 0} (ShowsValues : V → ExtensionValues → Type 0) (ShowsLayers : L → Allocation → Type 0) (exts : Slots) (element : Element)
-    (row : List Element) (bytes : List ℕ) (view : V) (old new : L) (said read : Bool) → extension_at exts element.0 ≡ Some VideoLayersAllocation
+pub ReadElements-no_layers : {V L : Type 0} (ShowsValues : V → ExtensionValues → Type 0) (ShowsLayers : L → Allocation → Type 0) {exts : Slots} (element : Element)
+    {row : List Element} {bytes : List ℕ} (view : V) {old new : L} (said : Bool) {read : Bool} → extension_at exts element.0 ≡ Some VideoLayersAllocation
     → ((kind : Extension) → kind ≢ VideoLayersAllocation → All (λ e. Carries exts kind e → ⊥) row) → IsLastAllocation exts row element.1 bytes
     → ((a : Allocation) → Means bytes a → (read ≡ true) × ShowsLayers new a) → read ≡ false → new ≡ old
     → ReadElements (ShowsApart ShowsValues ShowsLayers) exts (element ∷ row) (view, old, said) (view, new, said)
-ReadElements-no_layers ShowsValues ShowsLayers exts element row bytes view old new said read mapped no_other is only unread same =
-    ReadElements-row (ShowsApart ShowsValues ShowsLayers) exts element row bytes (view, old, said) (view, new, said) (Ok None) mapped no_other is refl
+ReadElements-no_layers ShowsValues ShowsLayers element {bytes} view {old} {new} said mapped no_other is only unread same =
+    ReadElements-row (ShowsApart ShowsValues ShowsLayers) element (view, old, said) (view, new, said) (Ok None) mapped no_other is refl
     (λ other. absurd cc)
     (λ good. let means = some_meaning bytes good.0.video_layers_allocation good.1 in absurd (false≢true (sym unread ∙ (only means.0 means.1).0)))
     (λ _ i. (view, same i, said))

@@ -7,10 +7,10 @@ use Rattle.rtp_ext.proofs.LastPlaceLemmas.{AreElements-same}
 use Rattle.rtp_ext.proofs.PutLemmas.{put_among-last, put_among-none, without-none}
 use Rattle.rtp_ext.proofs.AnewLemmas.{others-without, without-around, without-still_none, no_zero_left}
 
-pub HasRows-gathered : (form : ExtensionsForm) (id : ℕ) (body g1 g2 : List ℕ) (start end body_len front count : ℕ) → start ≤ end → end ≤ body_len → body_len ≤ length body
+pub HasRows-gathered : {form : ExtensionsForm} {id : ℕ} (body : List ℕ) {g1 g2 : List ℕ} (start end body_len : ℕ) {front count : ℕ} → start ≤ end → end ≤ body_len → body_len ≤ length body
     → IsGathered form id (take start body) g1 front → IsGathered form id (slice_range (g1 ++ drop start body) end body_len) g2 count
     → HasRows form id body (put_mid end (body_len - end) (g1 ++ drop start body) g2) start end body_len front count
-HasRows-gathered form id body g1 g2 start end body_len front count order after within first second =
+HasRows-gathered {form} body {g1} {g2} start end body_len {front} {count} order after within first second =
     let body1 : List ℕ = g1 ++ drop start body in
     let new : List ℕ = put_mid end (body_len - end) body1 g2 in
     let long1 : length g1 ≡ start = first.length_is ∙ length-take-le start body (omega arith) in
@@ -61,8 +61,8 @@ pub record IsSplit (form : ExtensionsForm) (id : ℕ) (body : List ℕ) (start e
 AreElements-nothing : (form : ExtensionsForm) → AreElements form [] []
 AreElements-nothing form = record { pieces = []; tail = []; are_pieces = tt; is_tail = ended refl; body_is = refl; elements_are = refl }
 
-pub AreElements-whole : (form : ExtensionsForm) (bytes : List ℕ) (elements : List Element) → AreWhole form bytes elements → AreElements form bytes elements
-AreElements-whole form bytes elements whole =
+pub AreElements-whole : {form : ExtensionsForm} {bytes : List ℕ} {elements : List Element} → AreWhole form bytes elements → AreElements form bytes elements
+AreElements-whole {form} {bytes} {elements} whole =
     subst (λ b. AreElements form b elements) (append-nil bytes)
     (subst (AreElements form (bytes ++ [])) (append-nil elements) (AreElements-after form bytes [] elements [] whole (AreElements-nothing form)))
 
@@ -82,23 +82,23 @@ put_behind id elements comes none =
     ∙ (ap (λ es. es ++ comes) (sym (without-none id (without 0 elements) none) ∙ others-without id elements)
     ∙ ap (λ es. others id elements ++ es) (sym (append-nil comes)))
 
-split_at : (form : ExtensionsForm) (body : List ℕ) (id : ℕ) (place : Place) → LiesLast form (AreElements form) id body place → place.id ≡ id → 1 ≤ id
+split_at : {form : ExtensionsForm} {body : List ℕ} {id : ℕ} {place : Place} → LiesLast form (AreElements form) id body place → place.id ≡ id → 1 ≤ id
     → IsSplit form id body place.start place.end
-split_at form body id place is id_is above =
+split_at {form} {body} {id} {place} is id_is above =
     let here : List ℕ = element_bytes form (place.id, is.lies.bytes) in
     let front : take place.start body ≡ is.lies.front = ap (take place.start) is.lies.body_is ∙ take_at is.lies.front (here ++ is.lies.after) place.start (sym is.lies.start_is) in
-    let long = length-lies form body place is.lies in
+    let long = length-lies is.lies in
     let whole : body ≡ (is.lies.front ++ here) ++ is.lies.after = is.lies.body_is ∙ sym (append_assoc is.lies.front here is.lies.after) in
     let end : length (is.lies.front ++ here) ≡ place.end = let s = is.lies.start_is in omega (arith, length-append is.lies.front here) in
     let rest : drop place.end body ≡ is.lies.after = ap (drop place.end) whole ∙ drop_at (is.lies.front ++ here) is.lies.after place.end end in
     let all : AreElements form body ((is.before ++ (place.id, is.lies.bytes) ∷ []) ++ is.after) =
     subst (λ b. AreElements form b ((is.before ++ (place.id, is.lies.bytes) ∷ []) ++ is.after)) (sym whole)
     (AreElements-after form (is.lies.front ++ here) is.lies.after (is.before ++ (place.id, is.lies.bytes) ∷ []) is.after
-    (AreWhole-append form is.lies.front here is.before ((place.id, is.lies.bytes) ∷ []) is.whole (AreWhole-element form (place.id, is.lies.bytes) is.lies.is_element)) is.left) in
+    (AreWhole-append is.whole (AreWhole-element form (place.id, is.lies.bytes) is.lies.is_element)) is.left) in
     record {
       before = is.before;
       after = is.after;
-      front_has = subst (λ b. AreElements form b is.before) (sym front) (AreElements-whole form is.lies.front is.before is.whole);
+      front_has = subst (λ b. AreElements form b is.before) (sym front) (AreElements-whole is.whole);
       rest_has = subst (λ b. AreElements form b is.after) (sym rest) is.left;
       order = let s = is.lies.start_is in omega arith;
       within = omega (arith, ap length whole, length-append (is.lies.front ++ here) is.lies.after);
@@ -110,9 +110,9 @@ split_at form body id place is id_is above =
     }
 
 -- where none of the id is left, by where reading ends
-split_none : (form : ExtensionsForm) (body : List ℕ) (id end : ℕ) (elements : List Element) → AreElements form body elements → AreElements form (take end body) elements
+split_none : {form : ExtensionsForm} {body : List ℕ} (id end : ℕ) {elements : List Element} → AreElements form body elements → AreElements form (take end body) elements
     → AreElements form (drop end body) [] → end ≤ length body → HasNone (without 0 elements) id → IsSplit form id body end end
-split_none form body id end elements are front rest within none = record {
+split_none {form} {body} id end {elements} are front rest within none = record {
   before = elements;
   after = [];
   front_has = front;
@@ -124,7 +124,7 @@ split_none form body id end elements are front rest within none = record {
 }
 
 -- up to where reading ends, and from there on
-module _ (form : ExtensionsForm) (body : List ℕ) (id : ℕ) (survey : Survey) (is : IsSurvey form body id survey) where
+module _ {form : ExtensionsForm} {body : List ℕ} {id : ℕ} {survey : Survey} (is : IsSurvey form body id survey) where
   pub read_front : take survey.end body ≡ is.read.passed
   read_front = ap (take survey.end) is.read.body_is ∙ take_at is.read.passed is.read.left survey.end (sym is.read.at_is)
 
@@ -141,31 +141,31 @@ module _ (form : ExtensionsForm) (body : List ℕ) (id : ℕ) (survey : Survey) 
   pub read_elements : (elements : List Element) → AreElements form body elements → AreElements form (take survey.end body) elements
   read_elements elements are =
       subst (λ b. AreElements form b elements) (sym read_front)
-      (AreElements-whole form is.read.passed elements (subst (AreWhole form is.read.passed) (AreElements-same form body is.elements elements is.are_elements are) read_whole))
+      (AreElements-whole (subst (AreWhole form is.read.passed) (AreElements-same form body is.elements elements is.are_elements are) read_whole))
 
   split_read : HasNone (without 0 is.elements) id → IsSplit form id body survey.end survey.end
   split_read none =
-      split_none form body id survey.end is.elements is.are_elements (read_elements is.elements is.are_elements)
+      split_none id survey.end is.are_elements (read_elements is.elements is.are_elements)
       (subst (λ b. AreElements form b []) (sym read_rest) is.none_left) read_within none
 
 -- by a survey, around what goes last
-pub IsSplit-surveyed : (form : ExtensionsForm) (body : List ℕ) (id : ℕ) (survey : Survey) (start end : ℕ) → IsSurvey form body id survey
+pub IsSplit-surveyed : {form : ExtensionsForm} {body : List ℕ} {id : ℕ} {survey : Survey} {start end : ℕ} → IsSurvey form body id survey
     → start ≡ start_around id survey.end survey.last → end ≡ end_around id survey.end survey.last → IsSplit form id body start end
-IsSplit-surveyed form body id survey start end is start_is end_is = by_last survey.last is.last_is is.none_is start_is end_is
+IsSplit-surveyed {form} {body} {id} {survey} {start} {end} is start_is end_is = by_last survey.last is.last_is is.none_is start_is end_is
   where
     by_last : (last : Option Place) → IfSome last (λ place. (place.id ≡ id) × LiesLast form (AreElements form) id body place) → IfNone last (HasNone is.elements id)
         → start ≡ start_around id survey.end last → end ≡ end_around id survey.end last → IsSplit form id body start end
     by_last None known has_none start_is end_is =
         subst (λ (s : ℕ). IsSplit form id body s end) (sym start_is) (subst (λ (e : ℕ). IsSplit form id body survey.end e) (sym end_is)
-        (split_read form body id survey is (without-still_none id is.elements has_none)))
+        (split_read is (without-still_none id is.elements has_none)))
     by_last (Some place) known has_none start_is end_is = by_test (id == 0) refl start_is end_is
       where
         by_test : (b : Bool) → (id == 0) ≡ b → start ≡ cond b survey.end place.start → end ≡ cond b survey.end place.end → IsSplit form id body start end
         by_test true zero_id start_is end_is =
             let none : HasNone (without 0 is.elements) id =
             subst (λ (i : ℕ). HasNone (without 0 is.elements) i) (sym (eqb-true id 0 zero_id)) (All-from_recursion (λ (e : Element). e.0 ≢ 0) (without 0 is.elements) (no_zero_left is.elements)) in
-            subst (λ (s : ℕ). IsSplit form id body s end) (sym start_is) (subst (λ (e : ℕ). IsSplit form id body survey.end e) (sym end_is) (split_read form body id survey is none))
+            subst (λ (s : ℕ). IsSplit form id body s end) (sym start_is) (subst (λ (e : ℕ). IsSplit form id body survey.end e) (sym end_is) (split_read is none))
         by_test false other start_is end_is =
             let above : id ≢ 0 = λ same. false≢true (sym other ∙ eq-eqb id 0 same) in
             subst (λ (s : ℕ). IsSplit form id body s end) (sym start_is) (subst (λ (e : ℕ). IsSplit form id body place.start e) (sym end_is)
-            (split_at form body id place known.1 known.0 (omega arith)))
+            (split_at known.1 known.0 (omega arith)))

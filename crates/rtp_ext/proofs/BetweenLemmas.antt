@@ -2,11 +2,11 @@
 use Rattle.rtp_ext.proofs.Common.{◌≡◌, ℕ, ◌+◌, ◌-◌, ◌≤◌, List, ◌++◌, length, take, drop, append_assoc, length-append, length-drop, length-take-le, arith, sym, ap, ◌∙◌, slice_range, drop_at, take_at, take-append-le, take-take, paste}
 use Rattle.rtp_base.specs.Overwriting.{overwritten}
 
-pub between_is : (body moved new xs : List ℕ) (front at count end : ℕ) → end ≡ front + length xs → front ≤ at → at + count ≤ length body → front + length xs + count ≤ length body
+pub between_is : (body : List ℕ) {moved new : List ℕ} (xs : List ℕ) (front at count end : ℕ) → end ≡ front + length xs → front ≤ at → at + count ≤ length body → front + length xs + count ≤ length body
     → moved ≡ paste body end (drop at body) (at + count - at) → new ≡ overwritten moved front xs
     → take (end + count) new ≡ take front body ++ (xs ++ slice_range body at (at + count))
 unfolding overwritten
-between_is body moved new xs front at count end end-is order within room moved-is new-is =
+between_is body {moved} {new} xs front at count end end-is order within room moved-is new-is =
     let n : ℕ = at + count - at in
     let middle : List ℕ = take n (drop at body) in
     let rest : List ℕ = drop (end + n) body in

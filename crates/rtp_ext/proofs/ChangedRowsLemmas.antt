@@ -12,7 +12,7 @@ first_fits TwoByte TwoByte xs ys n at fits order within = fits
 first_fits OneByte TwoByte xs ys n at fits order within = omega (arith, fits, length-two ys)
 first_fits TwoByte OneByte xs ys n at fits order within = omega (arith, order, within, length-two xs)
 
-module _ (form new_form : ExtensionsForm) (body1 body2 body3 : List ℕ) (r0 at r1 : ℕ) (rows : HasRowsFor form new_form body1 r0 at r1)
+module _ {form new_form : ExtensionsForm} {body1 body2 body3 : List ℕ} {r0 at r1 : ℕ} (rows : HasRowsFor form new_form body1 r0 at r1)
     (copied : body2 ≡ paste body1 (length body1 - r1) (drop at body1) (at + r1 - at)) (again : body3 ≡ paste body2 (length body1 - r1 - r0) (drop 0 body2) (r0 - 0)) where
   abbrev xs : List Element
   xs = rows.before

@@ -26,9 +26,9 @@ medium_of audio (Some entry) extension is tested =
     subst (λ (e : Extension). of_medium audio (Some entry) ≡ Some (unlocked e)) same
     (ap (λ (b : Bool). if b then Some (unlocked entry.extension) else None) (ap (is_of_medium audio) same ∙ tested))
 
-pub IsOfMediumBut-start : (audio : Bool) (from : Slots) (left : List (ℕ × Extension)) (to : Slots) → ListsItems from (is_of_medium audio) left → IsEmpty to
+pub IsOfMediumBut-start : (audio : Bool) {from : Slots} {left : List (ℕ × Extension)} (to : Slots) → ListsItems from (is_of_medium audio) left → IsEmpty to
     → IsOfMediumBut audio from left to
-IsOfMediumBut-start audio from left to listing empty = record {
+IsOfMediumBut-start audio {from} to listing empty = record {
   mapped = listing.mapped;
   each = λ id. elim (medium_or_none audio (entry_at from id)) [
     | inl none ↦ inl (empty id ∙ sym none)
@@ -40,10 +40,10 @@ id_of_mapped : (from : Slots) (id : ℕ) (extension : Extension) → extension_a
 id_of_mapped from zero extension is below = cc
 id_of_mapped from (suc k) extension is below = (omega arith, omega arith)
 
-pub IsOfMediumBut-next : (audio : Bool) (from : Slots) (left more : List (ℕ × Extension)) (to new : Slots) (item : ℕ × Extension) (put : Extension)
+pub IsOfMediumBut-next : {audio : Bool} {from : Slots} {left : List (ℕ × Extension)} (more : List (ℕ × Extension)) {to : Slots} (new : Slots) (item : ℕ × Extension) {put : Extension}
     → IsOfMediumBut audio from left to → left ≡ item ∷ more → item.0 < 256 → item.1 ≡ put → (IsId item.0 → Sets to new item.0 (unlocked put))
     → IsOfMediumBut audio from more new
-IsOfMediumBut-next audio from left more to new item put are is below same sets =
+IsOfMediumBut-next {audio} {from} more {to} new item {put} are is below same sets =
     record {
       mapped = All-tail Mapped item more whole.mapped;
       each = λ id. elim (cases_eq id item.0) [
@@ -87,9 +87,9 @@ IsCopiedTo-start from to long empty = record {
 }
 
 -- the next one is copied
-pub IsCopiedTo-next : (from to : Slots) (passed : ℕ) (copy : Option Entry) → IsCopiedTo from to passed → passed < length from
+pub IsCopiedTo-next : {from to : Slots} {passed : ℕ} {copy : Option Entry} → IsCopiedTo from to passed → passed < length from
     → copy ≡ get_or from passed None → IsCopiedTo from (set to passed copy) (passed + 1)
-IsCopiedTo-next from to passed copy are within same = record {
+IsCopiedTo-next {from} {to} {passed} {copy} are within same = record {
   long = length-set to passed copy ∙ are.long;
   before = λ k below. elim (cases_eq k passed) [
     | inl here ↦
@@ -101,8 +101,8 @@ IsCopiedTo-next from to passed copy are within same = record {
 }
 
 -- all are, as none stands behind
-pub IsCopiedTo-end : (from to : Slots) (last passed : ℕ) → IsCopiedTo from to passed → HasNoIdAbove last from → last ≤ passed → to ≡ from
-IsCopiedTo-end from to last passed are none past = same_lists to from are.long each
+pub IsCopiedTo-end : {from to : Slots} (last : ℕ) {passed : ℕ} → IsCopiedTo from to passed → HasNoIdAbove last from → last ≤ passed → to ≡ from
+IsCopiedTo-end {from} {to} last {passed} are none past = same_lists to from are.long each
   where
     there : (k : ℕ) → get_or to k None ≡ get_or from k None
     there k = elim (cases_lt k passed) [

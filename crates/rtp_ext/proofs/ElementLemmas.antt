@@ -55,11 +55,11 @@ pub two_byte-cut : (id count : ℕ) (bytes : List ℕ) → length bytes < count 
 two_byte-cut id count bytes cut = rw (lt-leb count (length bytes) cut) refl
 
 -- what follows the padding begins with none
-pub first_unpadded : (first : ℕ) (bytes rest after : List ℕ) → rest ≡ without_padding bytes → IsFirstAndRest rest first after → 1 ≤ first
+pub first_unpadded : (first : ℕ) (bytes : List ℕ) {rest : List ℕ} (after : List ℕ) → rest ≡ without_padding bytes → IsFirstAndRest rest first after → 1 ≤ first
 unfolding without_padding
-first_unpadded first [] rest after is begins = cc
-first_unpadded first (zero ∷ bytes) rest after is begins = first_unpadded first bytes rest after is begins
-first_unpadded first (suc byte ∷ bytes) rest after is begins = let same : first ≡ suc byte = cc in omega arith
+first_unpadded first [] after is begins = cc
+first_unpadded first (zero ∷ bytes) after is begins = first_unpadded first bytes after is begins
+first_unpadded first (suc byte ∷ bytes) after is begins = let same : first ≡ suc byte = cc in omega arith
 
 -- the padding as code passes it
 pub without_padding-none : (bytes : List ℕ) → length bytes ≡ 0 → without_padding bytes ≡ bytes
@@ -72,9 +72,9 @@ unfolding without_padding
 without_padding-other zero bytes after first other = absurd (other refl)
 without_padding-other (suc byte) bytes after first other = ap without_padding first.0 ∙ sym first.0
 
-pub without_padding-zero : (byte : ℕ) (bytes after : List ℕ) → IsFirstAndRest bytes byte after → byte ≡ 0 → without_padding bytes ≡ without_padding after
+pub without_padding-zero : {byte : ℕ} (bytes after : List ℕ) → IsFirstAndRest bytes byte after → byte ≡ 0 → without_padding bytes ≡ without_padding after
 unfolding without_padding
-without_padding-zero byte bytes after first is = ap without_padding (first.0 ∙ ap (λ b. b ∷ after) is)
+without_padding-zero bytes after first is = ap without_padding (first.0 ∙ ap (λ b. b ∷ after) is)
 
 -- words of 16 bytes: where the number is 0, each byte is
 pub sum_through-zero : (f : ℕ → ℕ) (last i : ℕ) → sum_through f last ≡ 0 → i ≤ last → f i ≡ 0

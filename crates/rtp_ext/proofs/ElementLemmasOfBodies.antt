@@ -39,27 +39,27 @@ elements_left-cut TwoByte (id, bytes) (byte ∷ count ∷ tail) (next ∷ missin
     let total : length bytes ≡ length tail + suc (length missing) = ap length after ∙ length-append tail (next ∷ missing) in
     elements_left-two_byte_cut byte count tail (omega arith) (omega arith)
 
-pub elements_left-tail : (form : ExtensionsForm) (tail : List ℕ) → IsTail form tail → elements_left form tail ≡ []
-elements_left-tail form tail (ended none) = rw none (elements_left-none form)
-elements_left-tail form tail (cut_short element missing is some missed split) = elements_left-cut form element tail missing is some missed split
-elements_left-tail OneByte tail (stopped first others one high is) =
+pub elements_left-tail : (form : ExtensionsForm) {tail : List ℕ} → IsTail form tail → elements_left form tail ≡ []
+elements_left-tail form (ended none) = rw none (elements_left-none form)
+elements_left-tail form {tail} (cut_short element missing is some missed split) = elements_left-cut form element tail missing is some missed split
+elements_left-tail OneByte (stopped first others one high is) =
     ap (elements_left OneByte) is ∙ elements_left-one_byte_end first others (omega arith) (inl (omega arith))
-elements_left-tail TwoByte tail (stopped first others one high is) = cc
+elements_left-tail TwoByte (stopped first others one high is) = cc
 
-elements_left-pieces : (form : ExtensionsForm) (pieces : List (Option Element)) (tail : List ℕ) → AllByRecursion (IsPiece form) pieces → IsTail form tail
+elements_left-pieces : {form : ExtensionsForm} (pieces : List (Option Element)) {tail : List ℕ} → AllByRecursion (IsPiece form) pieces → IsTail form tail
     → filter_map (λ piece. piece) pieces ≡ elements_left form (flat_map (piece_bytes form) pieces ++ tail)
-elements_left-pieces form [] tail are is = sym (elements_left-tail form tail is)
-elements_left-pieces form (None ∷ pieces) tail are is =
-    elements_left-pieces form pieces tail are.1 is ∙ sym (elements_left-padding form (flat_map (piece_bytes form) pieces ++ tail))
-elements_left-pieces form (Some element ∷ pieces) tail are is =
+elements_left-pieces {form} [] are is = sym (elements_left-tail form is)
+elements_left-pieces {form} (None ∷ pieces) {tail} are is =
+    elements_left-pieces pieces are.1 is ∙ sym (elements_left-padding form (flat_map (piece_bytes form) pieces ++ tail))
+elements_left-pieces {form} (Some element ∷ pieces) {tail} are is =
     let rest : List ℕ = flat_map (piece_bytes form) pieces ++ tail in
-    ap (λ es. element ∷ es) (elements_left-pieces form pieces tail are.1 is)
+    ap (λ es. element ∷ es) (elements_left-pieces pieces are.1 is)
     ∙ (sym (elements_left-element form element rest are.0)
     ∙ ap (elements_left form) (sym (append_assoc (element_bytes form element) (flat_map (piece_bytes form) pieces) tail)))
 
 pub AreElements-only : (form : ExtensionsForm) (body : List ℕ) (elements : List Element) → AreElements form body elements → elements ≡ elements_left form body
 AreElements-only form body elements are =
-    are.elements_are ∙ (elements_left-pieces form are.pieces are.tail are.are_pieces are.is_tail ∙ ap (elements_left form) (sym are.body_is))
+    are.elements_are ∙ (elements_left-pieces are.pieces are.are_pieces are.is_tail ∙ ap (elements_left form) (sym are.body_is))
 
 -- bytes, of which each is below 256
 abbrev pub AreBytes : List ℕ → Type 0

@@ -15,8 +15,8 @@ without-weaker P Q id (element ∷ elements) weaker all =
     by_test false is rest = (is refl, rest)
 
 -- one more element, of the id or of another
-pub without-this : (id : ℕ) (elements : List Element) (element : Element) → element.0 ≡ id → without id (elements ++ element ∷ []) ≡ without id elements
-without-this id elements element this =
+pub without-this : {id : ℕ} (elements : List Element) (element : Element) → element.0 ≡ id → without id (elements ++ element ∷ []) ≡ without id elements
+without-this {id} elements element this =
     filter-append (λ (e : Element). not (has_id id e)) elements (element ∷ [])
     ∙ ap (λ (b : Bool). without id elements ++ cond (not b) (element ∷ []) []) (eq-eqb element.0 id this)
     ∙ append-nil (without id elements)
@@ -111,7 +111,7 @@ IsGatheredTo-start form id body = record {
   gap_is = refl;
 }
 
-module _ (form : ExtensionsForm) (id : ℕ) (old body : List ℕ) (at len : ℕ) (place : Place) (was : IsGatheredTo form id old body at len) (next : IsNextPlace form body at place) where
+module _ {form : ExtensionsForm} {id : ℕ} {old body : List ℕ} {at len : ℕ} {place : Place} (was : IsGatheredTo form id old body at len) (next : IsNextPlace form body at place) where
   element : Element
   element = (place.id, next.bytes)
 
@@ -131,8 +131,7 @@ module _ (form : ExtensionsForm) (id : ℕ) (old body : List ℕ) (at len : ℕ)
 
   left_is : was.left ≡ here ++ next.after
   unfolding here
-  left_is =
-      left_next form body (row ++ was.gap) was.left at place front_is front_len next
+  left_is = left_next (row ++ was.gap) was.left front_is front_len next
       ∙ sym (append_assoc (replicate next.padding 0) (element_bytes form (place.id, next.bytes)) next.after)
 
   here_len : length here ≡ next.padding + (place.end - place.start)
@@ -158,8 +157,7 @@ module _ (form : ExtensionsForm) (id : ℕ) (old body : List ℕ) (at len : ℕ)
 
   whole_next : AreWhole form (was.passed ++ here) (was.elements ++ (place.id, next.bytes) ∷ [])
   unfolding here
-  whole_next =
-      AreWhole-append form was.passed (replicate next.padding 0 ++ element_bytes form (place.id, next.bytes)) was.elements ((place.id, next.bytes) ∷ [])
+  whole_next = AreWhole-append
       was.are_whole (AreWhole-next form next.padding (place.id, next.bytes) next.is_element)
 
   -- one that goes stays behind
@@ -193,8 +191,7 @@ module _ (form : ExtensionsForm) (id : ℕ) (old body : List ℕ) (at len : ℕ)
   bytes_at =
       let skipped : List ℕ = (row ++ was.gap) ++ replicate next.padding 0 in
       let split : body ≡ skipped ++ (element_bytes form (place.id, next.bytes) ++ next.after) =
-      front_is ∙ (ap (λ b. (row ++ was.gap) ++ b)
-      (left_next form body (row ++ was.gap) was.left at place front_is front_len next)
+      front_is ∙ (ap (λ b. (row ++ was.gap) ++ b) (left_next (row ++ was.gap) was.left front_is front_len next)
       ∙ sym (append_assoc (row ++ was.gap) (replicate next.padding 0) (element_bytes form (place.id, next.bytes) ++ next.after))) in
       let start : length skipped ≡ place.start =
       omega (arith, next.start_is, front_len, length-append (row ++ was.gap) (replicate next.padding 0), length-replicate {A = ℕ} next.padding 0) in
@@ -229,16 +226,16 @@ module _ (form : ExtensionsForm) (id : ℕ) (old body : List ℕ) (at len : ℕ)
       }
 
 -- an element that stands at the end of the row already
-pub start-same : (form : ExtensionsForm) (id : ℕ) (old body : List ℕ) (at len : ℕ) (place : Place) → IsGatheredTo form id old body at len → IsNextPlace form body at place
+pub start-same : {form : ExtensionsForm} {id : ℕ} {old body : List ℕ} {at len : ℕ} {place : Place} → IsGatheredTo form id old body at len → IsNextPlace form body at place
     → place.start ≤ len → body ≡ paste body len (drop place.start body) (place.end - place.start)
-start-same form id old body at len place was next early =
+start-same {body} {len} {place} was next early =
     let same : place.start ≡ len = omega (arith, was.gap_is, next.start_is) in
     sym (ap (λ k. paste body len (drop k body) (place.end - place.start)) same ∙ paste-same body len (place.end - place.start))
 
 -- where reading ends
-pub IsGathered-end : (form : ExtensionsForm) (id : ℕ) (old body : List ℕ) (at len : ℕ) → IsGatheredTo form id old body at len → BeginsWithNoElement form (drop at body)
+pub IsGathered-end : {form : ExtensionsForm} {id : ℕ} {old body : List ℕ} {at len : ℕ} → IsGatheredTo form id old body at len → BeginsWithNoElement form (drop at body)
     → IsGathered form id old body len
-IsGathered-end form id old body at len was none =
+IsGathered-end {form} {id} {body} {at} {len} was none =
     let row : List ℕ = elements_bytes form (others id was.elements) in
     let front_len : at ≡ length (row ++ was.gap) = omega (arith, was.gap_is, was.len_is, length-append row was.gap) in
     let left : drop at body ≡ was.left =
@@ -248,7 +245,7 @@ IsGathered-end form id old body at len was none =
       are_elements = subst (λ b. AreElements form b was.elements) (sym was.old_is)
           (subst (AreElements form (was.passed ++ was.left)) (append-nil was.elements)
           (AreElements-after form was.passed was.left was.elements [] was.are_whole
-          (subst (λ b. AreElements form b []) left (AreElements-none form (drop at body) none))));
+          (subst (λ b. AreElements form b []) left (AreElements-none none))));
       row_is = ap (take len) was.new_is ∙ take_at row (was.gap ++ was.left) len (sym was.len_is);
       len_is = was.len_is;
       length_is = omega (arith, ap length was.new_is, ap length was.old_is, was.at_is, was.gap_is, was.len_is, length-append row (was.gap ++ was.left), length-append was.gap was.left, length-append was.passed was.left);

@@ -6,38 +6,38 @@ use Rattle.rtp_ext.proofs.ValuesLaws.{ReadElements-none}
 -- ---- what an id is mapped to
 
 -- an element whose id is mapped to a kind, and to the layer allocation
-pub mapped-to : (exts : Slots) (id : ℕ) (found : Option KnownKind) (kind : KnownKind) → option_map extension_of_kind found ≡ extension_at exts id → found ≡ Some kind
+pub mapped-to : (exts : Slots) (id : ℕ) {found : Option KnownKind} (kind : KnownKind) → option_map extension_of_kind found ≡ extension_at exts id → found ≡ Some kind
     → extension_at exts id ≡ Some (extension_of_kind kind)
-mapped-to exts id found kind at is = sym at ∙ ap (option_map extension_of_kind) is
+mapped-to exts id kind at is = sym at ∙ ap (option_map extension_of_kind) is
 
-pub mapped-to-layers : (exts : Slots) (id : ℕ) (found : Option KnownKind) (kind same : KnownKind) → option_map extension_of_kind found ≡ extension_at exts id → found ≡ Some kind
+pub mapped-to-layers : (exts : Slots) (id : ℕ) {found : Option KnownKind} {kind same : KnownKind} → option_map extension_of_kind found ≡ extension_at exts id → found ≡ Some kind
     → kind ≡ same → extension_of_kind same ≡ VideoLayersAllocation → extension_at exts id ≡ Some VideoLayersAllocation
-mapped-to-layers exts id found kind same at is kind_is layers =
-    mapped-to exts id found kind at is ∙ ap (λ k. Some (extension_of_kind k)) kind_is ∙ ap (λ extension. Some extension) layers
+mapped-to-layers exts id {kind} at is kind_is layers =
+    mapped-to exts id kind at is ∙ ap (λ k. Some (extension_of_kind k)) kind_is ∙ ap (λ extension. Some extension) layers
 
 -- a test whether the kind is that of the allocation
-pub kind-tested : (found : Option KnownKind) (test : Bool) → test ≡ option_eq (sameb the_type) found (Some known.VideoLayersAllocation)
+pub kind-tested : (found : Option KnownKind) {test : Bool} → test ≡ option_eq (sameb the_type) found (Some known.VideoLayersAllocation)
     → (IsTrue test ↔ (option_map extension_of_kind found ≡ Some VideoLayersAllocation))
-kind-tested None test is = (λ yes. absurd (false≢true (sym is ∙ yes)), λ some. absurd cc)
-kind-tested (Some known.VideoLayersAllocation) test is = (λ yes. refl, λ some. is)
-kind-tested (Some _) test is = (λ yes. absurd (false≢true (sym is ∙ yes)), λ some. absurd cc)
+kind-tested None is = (λ yes. absurd (false≢true (sym is ∙ yes)), λ some. absurd cc)
+kind-tested (Some known.VideoLayersAllocation) is = (λ yes. refl, λ some. is)
+kind-tested (Some _) is = (λ yes. absurd (false≢true (sym is ∙ yes)), λ some. absurd cc)
 
-pub kind-untested : (found : Option KnownKind) (test : Bool) → test ≡ not (option_eq (sameb the_type) found (Some known.VideoLayersAllocation)) → test ≡ false
+pub kind-untested : (found : Option KnownKind) {test : Bool} → test ≡ not (option_eq (sameb the_type) found (Some known.VideoLayersAllocation)) → test ≡ false
     → option_map extension_of_kind found ≡ Some VideoLayersAllocation
-kind-untested None test is false_is = absurd (false≢true (sym false_is ∙ is))
-kind-untested (Some known.VideoLayersAllocation) test is false_is = refl
-kind-untested (Some _) test is false_is = absurd (false≢true (sym false_is ∙ is))
+kind-untested None is false_is = absurd (false≢true (sym false_is ∙ is))
+kind-untested (Some known.VideoLayersAllocation) is false_is = refl
+kind-untested (Some _) is false_is = absurd (false≢true (sym false_is ∙ is))
 
 -- ---- which data count
 
-IsLastAllocation-passed : (exts : Slots) (done : List Element) (element : Element) (first bytes : List ℕ)
+IsLastAllocation-passed : {exts : Slots} {done : List Element} (element : Element) {first bytes : List ℕ}
     → (Carries exts VideoLayersAllocation element → ⊥) → IsLastAllocation exts done first bytes
     → IsLastAllocation exts (done ++ element ∷ []) first bytes
-IsLastAllocation-passed exts done element first bytes not_carried (last_is before after found is carries later bytes_are) =
+IsLastAllocation-passed {exts} element not_carried (last_is before after found is carries later bytes_are) =
     last_is before (after ++ element ∷ []) found
     (ap (λ es. es ++ element ∷ []) is ∙ append_assoc before (found ∷ after) (element ∷ []))
     carries (All-push (λ e. Carries exts VideoLayersAllocation e → ⊥) after element later not_carried) bytes_are
-IsLastAllocation-passed exts done element first bytes not_carried (none_is never bytes_are) =
+IsLastAllocation-passed {exts} {done} element not_carried (none_is never bytes_are) =
     none_is (All-push (λ e. Carries exts VideoLayersAllocation e → ⊥) done element never not_carried) bytes_are
 
 IsLastAllocation-taken : (exts : Slots) (done : List Element) (element : Element) (first : List ℕ)
@@ -52,22 +52,22 @@ one_less : (elements done left : List Element) (element : Element) → elements 
 one_less elements done left element is = is ∙ sym (append_assoc done (element ∷ []) left)
 
 -- one more element carries nothing
-pub EndsRow-passed : (exts : Slots) (first : List ℕ) (elements left : List Element) (element : Element) (bytes : List ℕ)
+pub EndsRow-passed : {exts : Slots} {first : List ℕ} {elements : List Element} (left : List Element) (element : Element) {bytes : List ℕ}
     → ((kind : Extension) → Carries exts kind element → ⊥) → EndsRow exts first elements (element ∷ left) bytes
     → EndsRow exts first elements left bytes
-EndsRow-passed exts first elements left element bytes nothing was = record {
+EndsRow-passed {exts} {elements} left element nothing was = record {
   row = was.row ++ element ∷ [];
   elements_are = one_less elements was.row left element was.elements_are;
   no_other = λ kind differs. All-push (λ e. Carries exts kind e → ⊥) was.row element (was.no_other kind differs) (nothing kind);
-  last = IsLastAllocation-passed exts was.row element first bytes (nothing VideoLayersAllocation) was.last;
+  last = IsLastAllocation-passed element (nothing VideoLayersAllocation) was.last;
   memory = was.memory;
 }
 
 -- one more element carries an allocation
-pub EndsRow-taken : (exts : Slots) (first : List ℕ) (elements left : List Element) (element : Element) (bytes : List ℕ)
+pub EndsRow-taken : {exts : Slots} {first : List ℕ} {elements : List Element} (left : List Element) (element : Element) {bytes : List ℕ}
     → 2 ≤ length first → Carries exts VideoLayersAllocation element → EndsRow exts first elements (element ∷ left) bytes
     → EndsRow exts first elements left element.1
-EndsRow-taken exts first elements left element bytes long carries was = record {
+EndsRow-taken {exts} {first} {elements} left element long carries was = record {
   row = was.row ++ element ∷ [];
   elements_are = one_less elements was.row left element was.elements_are;
   no_other = λ kind differs. All-push (λ e. Carries exts kind e → ⊥) was.row element (was.no_other kind differs)
@@ -77,21 +77,21 @@ EndsRow-taken exts first elements left element bytes long carries was = record {
 }
 
 -- what is left begins with these elements
-pub EndsRow-left : (exts : Slots) (first : List ℕ) (elements left these : List Element) (bytes : List ℕ) → left ≡ these
+pub EndsRow-left : {exts : Slots} {first : List ℕ} {elements left these : List Element} {bytes : List ℕ} → left ≡ these
     → EndsRow exts first elements left bytes → EndsRow exts first elements these bytes
-EndsRow-left exts first elements left these bytes same was = subst (λ es. EndsRow exts first elements es bytes) same was
+EndsRow-left {exts} {first} {elements} {bytes} same was = subst (λ es. EndsRow exts first elements es bytes) same was
 
 -- ---- what is read
 
 -- what elements and those behind them make of the fields of a kind
-AreFields-joined : (exts : Slots) (xs ys : List Element) (kind : Extension) (u v w : ExtensionValues)
+AreFields-joined : {exts : Slots} {xs ys : List Element} {kind : Extension} {u v w : ExtensionValues}
     → AreFields exts xs kind u v → AreFields exts ys kind v w → AreFields exts (xs ++ ys) kind u w
-AreFields-joined exts xs ys kind u v w fields (last before after x is mapped reads later) =
+AreFields-joined {xs} fields (last before after x is mapped reads later) =
     last (xs ++ before) after x (ap (λ es. xs ++ es) is ∙ sym (append_assoc xs before (x ∷ after))) mapped reads later
-AreFields-joined exts xs ys kind u v w (last before after x is mapped reads later) (none never same) =
+AreFields-joined {exts} {ys} {kind} {v} {w} (last before after x is mapped reads later) (none never same) =
     last before (after ++ ys) x (ap (λ es. es ++ ys) is ∙ append_assoc before (x ∷ after) ys) mapped (Reads-same kind x.1 v w reads same)
     (All-append (λ e. Carries exts kind e → ⊥) after ys later never)
-AreFields-joined exts xs ys kind u v w (none before same_before) (none never same) =
+AreFields-joined {exts} {xs} {ys} {kind} {u} {v} {w} (none before same_before) (none never same) =
     none (All-append (λ e. Carries exts kind e → ⊥) xs ys before never) (SameFields-trans kind u v w same_before same)
 
 ReadElements-joined : {V : Type 0} (Shows : V → ExtensionValues → Type 0) (exts : Slots) (xs ys : List Element) (old between new : V)
@@ -99,17 +99,17 @@ ReadElements-joined : {V : Type 0} (Shows : V → ExtensionValues → Type 0) (e
 ReadElements-joined Shows exts xs ys old between new first second before shows =
     let so_far = first before shows in
     let next = second so_far.0 so_far.1 in
-    (next.0, next.1, λ kind. AreFields-joined exts xs ys kind before so_far.0 next.0 (so_far.2 kind) (next.2 kind))
+    (next.0, next.1, λ kind. AreFields-joined (so_far.2 kind) (next.2 kind))
 
 -- the data that count in a row were read: that reads the element of the first data and the row
-pub ReadElements-row : {V : Type 0} (Shows : V → ExtensionValues → Type 0) (exts : Slots) (element : Element) (row : List Element) (bytes : List ℕ)
+pub ReadElements-row : {V : Type 0} (Shows : V → ExtensionValues → Type 0) {exts : Slots} (element : Element) {row : List Element} {bytes : List ℕ}
     (old new : V) (result : Result (Option (Unit {0})) AllocError) → extension_at exts element.0 ≡ Some VideoLayersAllocation
     → ((kind : Extension) → kind ≢ VideoLayersAllocation → All (λ e. Carries exts kind e → ⊥) row)
     → IsLastAllocation exts row element.1 bytes → IsOk result
     → (result ≡ Ok (Some (record {})) → ReadsInto Shows VideoLayersAllocation bytes old new)
     → (IsWellFormed VideoLayersAllocation bytes → IfOk result (λ answer. answer ≡ Some (record {})))
     → (result ≢ Ok (Some (record {})) → new ≡ old) → ReadElements Shows exts (element ∷ row) old new
-ReadElements-row Shows exts element row bytes old new result mapped no_other is ok found only unchanged before shows =
+ReadElements-row Shows {exts} element {row} {bytes} old new result mapped no_other is ok found only unchanged before shows =
     let all = by_answer result refl in (
       all.0,
       all.1,
@@ -181,10 +181,9 @@ IsReadTo-more Shows exts elements left next these old between new is reads was =
 }
 
 -- no element is left
-pub IsReadTo-end : {V : Type 0} (Shows : V → ExtensionValues → Type 0) (exts : Slots) (elements left : List Element) (old new : V)
+pub IsReadTo-end : {V : Type 0} (Shows : V → ExtensionValues → Type 0) {exts : Slots} {elements left : List Element} {old new : V}
     → left ≡ [] → IsReadTo Shows exts elements left old new → ReadElements Shows exts elements old new
-IsReadTo-end Shows exts elements left old new ended was =
-    subst (λ es. ReadElements Shows exts es old new)
+IsReadTo-end Shows {exts} {old} {new} ended was = subst (λ es. ReadElements Shows exts es old new)
     (sym (was.elements_are ∙ ap (λ es. was.done ++ es) ended ∙ append-nil was.done)) was.values_are
 
 -- ---- where memory is taken: once for a row
@@ -213,9 +212,9 @@ IsPastRow-other exts left element not_one earlier previous is allocation =
     absurd (not_one (subst (IsAllocation exts) (only-last earlier element previous is) allocation))
 
 -- a row was passed, which its first element alone makes where that takes no memory
-pub IsPastRow-row : (exts : Slots) (elements row left : List Element) (element : Element) → elements ≡ row ++ left
+pub IsPastRow-row : (exts : Slots) {elements : List Element} (row left : List Element) (element : Element) → elements ≡ row ++ left
     → (2 ≤ length element.1 → EndsBefore exts left) → (length element.1 < 2 → left ≡ elements) → IsPastRow exts (element ∷ row) left
-IsPastRow-row exts elements row left element parts whole short = elim (cases_lt (length element.1) 2) [
+IsPastRow-row exts row left element parts whole short = elim (cases_lt (length element.1) 2) [
   | inl few ↦
       let alone : row ≡ [] = nil_from_length row (omega (arith, ap length parts, ap length (short few), length-append row left)) in
       subst (λ es. IsPastRow exts (element ∷ es) left) (sym alone) (IsPastRow-other exts left element (λ allocation. omega (arith, few, allocation.1.1)))
@@ -231,11 +230,11 @@ IsReadPastRow-start Shows exts elements old = record {
 }
 
 -- these elements are passed too
-pub IsReadPastRow-more : {V : Type 0} (Shows : V → ExtensionValues → Type 0) (exts : Slots) (elements left next others : List Element) (first : Element) (old between new : V)
+pub IsReadPastRow-more : {V : Type 0} (Shows : V → ExtensionValues → Type 0) {exts : Slots} {elements left : List Element} (next others : List Element) (first : Element) {old between : V} (new : V)
     → left ≡ (first ∷ others) ++ next → ReadElements Shows exts (first ∷ others) between new → IsPastRow exts (first ∷ others) next
     → IsReadPastRow Shows exts elements left old between → IsReadPastRow Shows exts elements next old new
 unfolding IsReadTo-more
-IsReadPastRow-more Shows exts elements left next others first old between new is reads past was = record {
+IsReadPastRow-more Shows {exts} {elements} {left} next others first {old} {between} new is reads past was = record {
   is_read = IsReadTo-more Shows exts elements left next (first ∷ others) old between new is reads was.is_read;
   past_row = λ earlier previous last_is allocation.
       let behind = last-behind was.is_read.done others earlier first previous last_is in
@@ -243,10 +242,10 @@ IsReadPastRow-more Shows exts elements left next others first old between new is
 }
 
 -- memory was refused to an allocation
-pub IsReadPastRow-refused : {V : Type 0} (Shows : V → ExtensionValues → Type 0) (exts : Slots) (elements left next : List Element) (element : Element) (old between new : V)
+pub IsReadPastRow-refused : {V : Type 0} (Shows : V → ExtensionValues → Type 0) {exts : Slots} {elements left : List Element} (next : List Element) (element : Element) {old between new : V}
     → left ≡ element ∷ next → extension_at exts element.0 ≡ Some VideoLayersAllocation → 2 ≤ length element.1 → new ≡ between
     → IsReadPastRow Shows exts elements left old between → ReadUntilRefused Shows exts elements old new
-IsReadPastRow-refused Shows exts elements left next element old between new is mapped long unchanged was = record {
+IsReadPastRow-refused Shows {exts} next element {old} is mapped long unchanged was = record {
   at = record {
     before = was.is_read.done;
     element = element;

@@ -14,7 +14,7 @@ module _ (form : ExtensionsForm) (body left : List ℕ) (id : ℕ) (bytes after 
   left_within = omega arith
 
   total : length body - length left + begins.padding + length (element_header form id (length bytes)) + length bytes + length after ≡ length body
-  total = length-begins form body left (length body - length left) id bytes after left_within was.left_is begins
+  total = length-begins body (length body - length left) id bytes left_within was.left_is begins
 
   pub IsLeft-next : IsLeft body after
   IsLeft-next =
@@ -32,7 +32,7 @@ module _ (form : ExtensionsForm) (body left : List ℕ) (id : ℕ) (bytes after 
   -- by the place that was made of it
   pub next_left : (place : Place) → place.id ≡ id → place.start + length (element_header form id (length bytes)) ≡ place.data_start
       → place.data_start + length bytes ≡ place.end → place.end + length after ≡ length body → IsNextPlace form body (length body - length left) place
-  next_left place = IsNextPlace-begins form body left (length body - length left) id bytes after left_within was.left_is begins place
+  next_left place = IsNextPlace-begins body (length body - length left) id bytes left_within was.left_is begins place
 
   -- by the place that it has
   pub place_left : Place

@@ -3,21 +3,21 @@ use Rattle.std.proofs.Common.{◌≡◌, ◌≢◌, ◌↔◌, inl, inr, ℕ, Li
 use Rattle.std.specs.List.{AllByRecursion}
 use Rattle.std.specs.Option.{option_map}
 use Rattle.rtp_values.specs.declared.kind.Extension.{Extension}
-use Rattle.rtp_values.specs.declared.kind.Extension.TheVariants.{AbsoluteSendTime, AbsoluteCaptureTime, AudioLevel, TransmissionTimeOffset, VideoOrientation, TransportSequenceNumber, PlayoutDelay, VideoContentType, VideoTiming, RtpStreamId, RepairedRtpStreamId, RtpMid, FrameMarking, ColorSpace, VideoLayersAllocation, UnknownUri}
+use Rattle.rtp_values.specs.declared.kind.Extension.TheVariants.{AbsoluteSendTime, AudioLevel, PlayoutDelay, VideoLayersAllocation}
 use Rattle.rtp_values.specs.declared.known_kind.KnownKind.{KnownKind}
 use Rattle.rtp_values.specs.declared.value.values.ExtensionValues.{ExtensionValues}
 use Rattle.rtp_values.specs.KnownKind.{extension_of_kind}
 use Rattle.rtp_values.specs.KindSet.{has, HasValue}
 use Rattle.rtp_values.specs.Spelling.{spelled_data, carried_values, element_allocation}
 use Rattle.rtp_values.specs.Values.{no_values, SameFields}
-use Rattle.rtp_values.proofs.FieldLemmas.{AreSame, SameFields-each, SameFields-sym, SameFields-trans}
+use Rattle.rtp_values.proofs.FieldLemmas.{SameFields-sym, SameFields-trans}
 use Rattle.rtp_values.proofs.KindLemmas.{same_or_not}
+use Rattle.rtp_values.proofs.KindSetLemmas.{same_kind}
 use Rattle.rtp_ext.specs.ExtensionMap.{Slots, items_from}
 use Rattle.rtp_ext.specs.KindsById.{known_slots}
 use Rattle.rtp_ext.specs.WrittenBlock.{image_values, IsLeftOut}
 use Rattle.rtp_ext.proofs.FormLemmas.{Item}
 use Rattle.rtp_ext.proofs.KnownItemsLemmas.{image_known}
-use Rattle.rtp_ext.proofs.RenamedIdLemmas.{same_kind}
 use Rattle.rtp_ext.proofs.WrittenValuesLemmas.{find_last, image-there, image-absent, carried-none, others, without_data, map-none, both-none}
 
 -- none of the items is of the kind and has data
@@ -26,24 +26,14 @@ NoneHasData values kind items = AllByRecursion (λ item. item.1 ≡ kind → spe
 
 -- ---- where nothing is carried there are no data
 
-data-none : (values : ExtensionValues) (kind : Extension) → AreSame kind no_values (carried_values values) → spelled_data kind values ≡ None
+data-none : (values : ExtensionValues) (kind : Extension) → SameFields kind no_values (carried_values values) → spelled_data kind values ≡ None
 unfolding carried_values
-data-none values AbsoluteSendTime is = map-none _ _ values.abs_send_time is
-data-none values AbsoluteCaptureTime is = ap (option_map _) is
-data-none values AudioLevel is = both-none _ _ values.audio_level values.voice_activity is.0
-data-none values TransmissionTimeOffset is = ap (option_map _) is
-data-none values VideoOrientation is = ap (option_map _) is
-data-none values TransportSequenceNumber is = ap (option_map _) is
-data-none values PlayoutDelay is = both-none _ _ values.play_delay_min values.play_delay_max is.0
-data-none values VideoContentType is = ap (option_map _) is
-data-none values VideoTiming is = ap (option_map _) is
-data-none values RtpStreamId is = ap (option_map _) is
-data-none values RepairedRtpStreamId is = ap (option_map _) is
-data-none values RtpMid is = ap (option_map _) is
-data-none values FrameMarking is = ap (option_map _) is
-data-none values VideoLayersAllocation is = map-none _ _ (element_allocation values.video_layers_allocation) is
-data-none values ColorSpace is = refl
-data-none values (UnknownUri uri) is = refl
+data-none values AbsoluteSendTime same = map-none _ _ values.abs_send_time (ap (λ (v : ExtensionValues). v.abs_send_time) same)
+data-none values AudioLevel same = both-none _ _ values.audio_level values.voice_activity (ap (λ (v : ExtensionValues). v.audio_level) same)
+data-none values PlayoutDelay same = both-none _ _ values.play_delay_min values.play_delay_max (ap (λ (v : ExtensionValues). v.play_delay_min) same)
+data-none values VideoLayersAllocation same =
+    map-none _ _ (element_allocation values.video_layers_allocation) (ap (λ (v : ExtensionValues). v.video_layers_allocation) same)
+data-none values kind same = ap (spelled_data kind) same
 
 -- ---- what the written elements are read as has no value of a kind exactly where none of them is of it
 
@@ -74,7 +64,7 @@ image-absent_data exts known values kind is absent =
           SameFields-trans kind no_values (image_values known values) (carried_values values) image
           (SameFields-sym kind (carried_values values) (image_values known values) (image-there known values kind found)) in
           without_data kind values (items_from 0 known)
-          (data-none values kind (SameFields-each kind no_values (carried_values values) carried))
+          (data-none values kind carried)
       | inr none_left ↦ others kind values (items_from 0 known) none_left
     ]
 

@@ -29,9 +29,9 @@ IsListed-none slots empty = record {
 }
 
 -- an id above the others is set
-pub IsListed-set : (old new : Slots) (items : List (ℕ × Extension)) (bound id : ℕ) (extension : Extension) → bound ≤ id
+pub IsListed-set : {old new : Slots} {items : List (ℕ × Extension)} {bound id : ℕ} (extension : Extension) → bound ≤ id
     → IsListed old items bound → Sets old new id (unlocked extension) → IsListed new (items ++ (id, extension) ∷ []) (id + 1)
-IsListed-set old new items bound id extension above listed sets = record {
+IsListed-set {new} {items} {bound} {id} extension above listed sets = record {
   listing = record {
     rising = IsRising-snoc items (id, extension) listed.listing.rising below;
     mapped = All-append Mapped items ((id, extension) ∷ []) mapped
@@ -92,8 +92,8 @@ Contains-more passed k items extension found =
     let same : passed + 1 + k + 1 ≡ passed + suc k + 1 = omega arith in
     subst (λ (n : ℕ). Contains items (n, extension)) same found
 
-AreItems-none : (passed : ℕ) (left : Slots) (items : List (ℕ × Extension)) → AreItems (passed + 1) left items → AreItems passed (None ∷ left) items
-AreItems-none passed left items rest = record {
+AreItems-none : (passed : ℕ) {left : Slots} {items : List (ℕ × Extension)} → AreItems (passed + 1) left items → AreItems passed (None ∷ left) items
+AreItems-none passed {left} {items} rest = record {
   rising = rest.rising;
   above = All-weaker (λ item. passed + 1 < item.0) (λ item. passed < item.0) (λ item less. omega arith) items rest.above;
   here = All-weaker (IsItem (passed + 1) left) (IsItem passed (None ∷ left)) (IsItem-more passed None left) items rest.here;
@@ -105,9 +105,9 @@ AreItems-none passed left items rest = record {
     all zero extension is = cc
     all (suc k) extension is = Contains-more passed k items extension (rest.all k extension is)
 
-AreItems-some : (passed : ℕ) (entry : Entry) (left : Slots) (items : List (ℕ × Extension)) → AreItems (passed + 1) left items
+AreItems-some : (passed : ℕ) (entry : Entry) {left : Slots} {items : List (ℕ × Extension)} → AreItems (passed + 1) left items
     → AreItems passed (Some entry ∷ left) ((passed + 1, entry.extension) ∷ items)
-AreItems-some passed entry left items rest = record {
+AreItems-some passed entry {left} {items} rest = record {
   rising = (rest.above, rest.rising);
   above = All-cons (λ item. passed < item.0) (passed + 1, entry.extension) items (omega arith)
       (All-weaker (λ item. passed + 1 < item.0) (λ item. passed < item.0) (λ item less. omega arith) items rest.above);
@@ -136,9 +136,9 @@ items_from-items passed [] = record {
   here = All-nil (IsItem passed []);
   all = λ k extension is. cc;
 }
-items_from-items passed (None ∷ left) = AreItems-none passed left (items_from (passed + 1) left) (items_from-items (passed + 1) left)
+items_from-items passed (None ∷ left) = AreItems-none passed (items_from-items (passed + 1) left)
 items_from-items passed (Some entry ∷ left) =
-    AreItems-some passed entry left (items_from (passed + 1) left) (items_from-items (passed + 1) left)
+    AreItems-some passed entry (items_from-items (passed + 1) left)
 
 -- the ids of the slots that are left are above the number of those passed
 pub above_passed : (passed : ℕ) (left : Slots) → All (λ item. passed < item.0) (items_from passed left)
@@ -233,9 +233,9 @@ IsRising-filter p (item ∷ items) rising =
     ]
 
 -- those that pass a test
-pub ListsItems-filter : (slots : Slots) (passes : Extension → Bool) (items : List (ℕ × Extension)) → ListsItems slots (λ _. true) items
+pub ListsItems-filter : {slots : Slots} (passes : Extension → Bool) {items : List (ℕ × Extension)} → ListsItems slots (λ _. true) items
     → ListsItems slots passes (filter (λ item. passes item.1) items)
-ListsItems-filter slots passes items listing = record {
+ListsItems-filter {slots} passes {items} listing = record {
   rising = IsRising-filter (λ item. passes item.1) items listing.rising;
   mapped = All-weaker (λ item. ((extension_at slots item.0 ≡ Some item.1) × (true ≡ true)) × (passes item.1 ≡ true)) (λ item. (extension_at slots item.0 ≡ Some item.1) × (passes item.1 ≡ true)) (λ item both. (both.0.0, both.1)) (filter (λ item. passes item.1) items)
       (All-filter (λ item. passes item.1) (λ item. (extension_at slots item.0 ≡ Some item.1) × (true ≡ true)) items listing.mapped);

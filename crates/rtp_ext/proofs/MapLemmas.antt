@@ -15,11 +15,11 @@ entry_at-slot slots k zero is = absurd (omega arith)
 entry_at-slot slots k (suc j) is = ap (λ (index : ℕ). get_or slots index None) (omega arith)
 
 -- two lists that differ in one index
-pub entry_at-other : (slots new : Slots) (index id : ℕ) → index + 1 ≡ id
+pub entry_at-other : (slots new : Slots) (index : ℕ) {id : ℕ} → index + 1 ≡ id
     → ((k : ℕ) → k ≢ index → get_or new k None ≡ get_or slots k None)
     → (j : ℕ) → j ≢ id → entry_at new j ≡ entry_at slots j
-entry_at-other slots new index id is same zero other = refl
-entry_at-other slots new index id is same (suc j) other = same j (λ here. other (omega arith))
+entry_at-other slots new index is same zero other = refl
+entry_at-other slots new index is same (suc j) other = same j (λ here. other (omega arith))
 
 -- the number with two exchanged
 exchanged : ℕ → ℕ → ℕ → ℕ
@@ -73,9 +73,9 @@ locked-at : (slots : Slots) (id : ℕ) (extension : Extension) → entry_at slot
 locked-at slots id extension is = subst IsLocked (sym is) refl
 
 -- an entry is locked where it is
-pub IsRenumbered-locked : (old new : Slots) (id : ℕ) (extension : Extension) → extension_at old id ≡ Some extension
+pub IsRenumbered-locked : {old new : Slots} {id : ℕ} (extension : Extension) → extension_at old id ≡ Some extension
     → Sets old new id (locked extension) → IsRenumbered old new
-IsRenumbered-locked old new id extension was sets = record {
+IsRenumbered-locked {old} {new} {id} extension was sets = record {
   moved = λ j. j;
   back = λ j. j;
   once = λ j. refl;
@@ -91,9 +91,9 @@ IsRenumbered-locked old new id extension was sets = record {
 }
 
 -- two entries change slots, and the first is locked now
-pub IsRenumbered-exchanged : (old new : Slots) (from to : ℕ) (extension : Extension) → from ≢ to
+pub IsRenumbered-exchanged : {old new : Slots} {from to : ℕ} {extension : Extension} → from ≢ to
     → extension_at old from ≡ Some extension → Exchanges old new from to extension → IsRenumbered old new
-IsRenumbered-exchanged old new from to extension apart was change = record {
+IsRenumbered-exchanged {old} {new} {from} {to} {extension} apart was change = record {
   moved = exchanged from to;
   back = exchanged from to;
   once = λ j. exchanged-twice from to j apart;
@@ -131,23 +131,23 @@ pub record IsStep (old new : Slots) (id : ℕ) (extension : Extension) : Type 0 
   pub renumbered : IsRenumbered old new
 
 -- the entry of the lowest id is locked where it is
-pub IsStep-locked : (old new : Slots) (id : ℕ) (extension : Extension) → IsId id → IsLowest old extension id
+pub IsStep-locked : {old : Slots} (new : Slots) {id : ℕ} {extension : Extension} → IsId id → IsLowest old extension id
     → Puts old new id (option_map (λ entry. locked entry.extension) (entry_at old id)) → IsStep old new id extension
-IsStep-locked old new id extension is_id lowest puts =
+IsStep-locked {old} new {id} {extension} is_id lowest puts =
     let sets : Sets old new id (locked extension) = record {
       this = puts.this ∙ lock-of (entry_at old id) extension lowest.mapped;
       others = puts.others;
     } in
     record {
       step = same_slot is_id lowest sets;
-      renumbered = IsRenumbered-locked old new id extension lowest.mapped sets;
+      renumbered = IsRenumbered-locked extension lowest.mapped sets;
     }
 
 -- it is put in the place of the entry in its way, and locked there
-pub IsStep-moved : (old between new : Slots) (from id : ℕ) (extension : Extension) → IsId id → IsLowest old extension from → from ≢ id
+pub IsStep-moved : {old between new : Slots} {from id : ℕ} {extension : Extension} → IsId id → IsLowest old extension from → from ≢ id
     → (IsLockedAt old from → ⊥) → Swaps old between from id → Puts between new id (option_map (λ entry. locked entry.extension) (entry_at between id))
     → IsStep old new id extension
-IsStep-moved old between new from id extension is_id lowest apart free swaps puts =
+IsStep-moved {old} {between} {new} {from} {id} {extension} is_id lowest apart free swaps puts =
     let exchange : Exchanges old new from id extension = record {
       here = puts.this ∙ lock-of (entry_at between id) extension (ap extension_of swaps.there ∙ lowest.mapped);
       there = puts.others from apart ∙ swaps.here;
@@ -155,24 +155,24 @@ IsStep-moved old between new from id extension is_id lowest apart free swaps put
     } in
     record {
       step = moved from is_id lowest apart free exchange;
-      renumbered = IsRenumbered-exchanged old new from id extension apart lowest.mapped exchange;
+      renumbered = IsRenumbered-exchanged apart lowest.mapped exchange;
     }
 
 -- what the items from an index on give
-pub left_from : {X Y : Type 0} (f : X → Y) (items : List X) (i : ℕ) (item : X) → i < length items → item ≡ get_or items i item
+pub left_from : {X Y : Type 0} (f : X → Y) (items : List X) (i : ℕ) {item : X} → i < length items → item ≡ get_or items i item
     → drop i (map f items) ≡ f item ∷ drop (i + 1) (map f items)
-left_from f items i item here is =
+left_from f items i {item} here is =
     let first : get_or (map f items) i (f item) ≡ f item = get_or-map f items i item ∙ ap f (sym is) in
     let next : suc i ≡ i + 1 = omega arith in
     drop-cons (map f items) i (f item) (omega (arith, here, length-map items f))
     ∙ (ap (λ s. s ∷ drop (suc i) (map f items)) first ∙ ap (λ (k : ℕ). f item ∷ drop k (map f items)) next)
 
 -- a step more at the front of those that are left
-pub AreRemapped-more : {X : Type 0} (f : X → ℕ × Extension) (steps : List X) (i : ℕ) (step : X) (old between new : Slots)
+pub AreRemapped-more : {X : Type 0} (f : X → ℕ × Extension) (steps : List X) (i : ℕ) {step : X} {old between : Slots} (new : Slots)
     → i < length steps → step ≡ get_or steps i step → Remaps old (f step).0 (f step).1 between
     → AreRemapped between (drop (i + 1) (map f steps)) new → AreRemapped old (drop i (map f steps)) new
-AreRemapped-more f steps i step old between new here is one rest =
-    subst (λ ss. AreRemapped old ss new) (sym (left_from f steps i step here is)) (between, one, rest)
+AreRemapped-more f steps i {old} {between} new here is one rest =
+    subst (λ ss. AreRemapped old ss new) (sym (left_from f steps i here is)) (between, one, rest)
 
 -- what an id stands for, once each index has been changed alike and an empty one stays so
 pub entry_at-map : (f : Option Entry → Option Entry) (slots : Slots) (id : ℕ) → f None ≡ None

@@ -14,9 +14,9 @@ zero_there zero id = refl
 zero_there (suc n) zero = refl
 zero_there (suc n) (suc id) = zero_there n id
 
-pub HasNewBytesBut-start : (from to : Slots) (left : List (ℕ × Extension)) (bytes : List ℕ) → left ≡ items_from 0 from → bytes ≡ replicate 256 0
+pub HasNewBytesBut-start : (from to : Slots) {left : List (ℕ × Extension)} (bytes : List ℕ) → left ≡ items_from 0 from → bytes ≡ replicate 256 0
     → HasNewBytesBut from to left bytes
-HasNewBytesBut-start from to left bytes is zeros =
+HasNewBytesBut-start from to bytes is zeros =
     subst (λ (items : List (ℕ × Extension)). HasNewBytesBut from to items bytes) (sym is)
     (subst (HasNewBytesBut from to (items_from 0 from)) (sym zeros) (record {
       long = refl;
@@ -34,15 +34,15 @@ pub record IsLowestOf (to : Slots) (extension : Extension) (lowest : Option ℕ)
   pub valid : IfSome lowest IsId
   pub none : IfNone lowest (IsUnmapped to extension)
 
-lowest_new : (from to : Slots) (id : ℕ) (extension : Extension) (lowest : Option ℕ) → extension_at from id ≡ Some extension → IsLowestOf to extension lowest
+lowest_new : (from : Slots) {to : Slots} (id : ℕ) {extension : Extension} (lowest : Option ℕ) → extension_at from id ≡ Some extension → IsLowestOf to extension lowest
     → IsNewId from to id lowest
-lowest_new from to id extension None mapped is = λ other here. subst (IsUnmapped to) (one_kind (sym mapped ∙ here)) is.none
-lowest_new from to id extension (Some new) mapped is = (extension, mapped, is.found)
+lowest_new from {to} id None mapped is = λ other here. subst (IsUnmapped to) (one_kind (sym mapped ∙ here)) is.none
+lowest_new from id {extension} (Some new) mapped is = (extension, mapped, is.found)
 
-pub HasNewBytesBut-next : (from to : Slots) (left more : List (ℕ × Extension)) (bytes : List ℕ) (item : ℕ × Extension) (at byte : ℕ) (lowest : Option ℕ)
+pub HasNewBytesBut-next : {from to : Slots} {left : List (ℕ × Extension)} (more : List (ℕ × Extension)) {bytes : List ℕ} (item : ℕ × Extension) {at byte : ℕ} (lowest : Option ℕ)
     → HasNewBytesBut from to left bytes → left ≡ item ∷ more → item.0 < 256 → at ≡ item.0 → byte ≡ byte_of_id lowest → IsLowestOf to item.1 lowest
     → HasNewBytesBut from to more (set bytes at byte)
-HasNewBytesBut-next from to left more bytes item at byte lowest are is within there said of =
+HasNewBytesBut-next {from} {to} more {bytes} item {byte} lowest are is within there said of =
     subst (λ (n : ℕ). HasNewBytesBut from to more (set bytes n byte)) (sym there) (record {
       long = length-set bytes item.0 byte ∙ whole.long;
       mapped = All-tail (λ i. extension_at from i.0 ≡ Some i.1) item more whole.mapped;
@@ -68,4 +68,4 @@ HasNewBytesBut-next from to left more bytes item at byte lowest are is within th
     this =
         subst (λ (b : ℕ). IsNewId from to item.0 (id_in_byte b)) (sym (get_or-set_same bytes item.0 byte 0 (omega (arith, within, whole.long))))
         (subst (IsNewId from to item.0) (sym new_byte)
-        (lowest_new from to item.0 item.1 lowest (All-head (λ i. extension_at from i.0 ≡ Some i.1) item more whole.mapped) of))
+        (lowest_new from item.0 lowest (All-head (λ i. extension_at from i.0 ≡ Some i.1) item more whole.mapped) of))

@@ -40,10 +40,10 @@ all_carried form ids (e ∷ elements) valid are can =
     ((carried_one form e (ids e.0) (valid e.0) (All-head (IsElement form) e elements are)).1 (All-head (CanRenumber form ids) e elements can))
     ∙ all_carried form ids elements valid (All-tail (IsElement form) e elements are) (All-tail (CanRenumber form ids) e elements can)
 
-pub carried-CanRenumber : (form : ExtensionsForm) (ids : ℕ → Option ℕ) (body : List ℕ) (elements : List Element) (carried : Bool)
+pub carried-CanRenumber : {form : ExtensionsForm} (ids : ℕ → Option ℕ) {body : List ℕ} {elements : List Element} {carried : Bool}
     → ((id new : ℕ) → ids id ≡ Some new → IsId new) → AreElements form body elements → carried ≡ list_all (λ (e : Element). carries_id form (ids e.0)) elements
     → IsTrue carried ↔ All (CanRenumber form ids) elements
-carried-CanRenumber form ids body elements carried valid are is =
+carried-CanRenumber {form} ids {body} {elements} valid are is =
     let all : All (IsElement form) elements = All-IsElement form body elements are in
     (λ test. carried_all form ids elements valid all (sym is ∙ test), λ can. is ∙ all_carried form ids elements valid all can)
 
@@ -90,9 +90,9 @@ set_each P ids passed new within before here k e below = elim (cases_lt k passed
       subst (λ i. P i (get_or (set ids passed new) i e)) same (subst (P passed) (sym (get_or-set_same ids passed new e within)) here)
 ]
 
-pub HasNewIdsTo-next : (from to : Slots) (ids : List (Option ℕ)) (passed : ℕ) (new : Option ℕ) → passed < 256 → HasNewIdsTo from to ids passed
+pub HasNewIdsTo-next : {from to : Slots} {ids : List (Option ℕ)} {passed : ℕ} (new : Option ℕ) → passed < 256 → HasNewIdsTo from to ids passed
     → IsNewId from to passed new → IfSome new IsId → HasNoIdAbove 255 from → HasNewIdsTo from to (set ids passed new) (passed + 1)
-HasNewIdsTo-next from to ids passed new within was is valid no_others = record {
+HasNewIdsTo-next {from} {to} {ids} {passed} new within was is valid no_others = record {
   long = length-set ids passed new ∙ was.long;
   no_others = λ below. no_others;
   new = λ id e below. set_each (IsNewId from to) ids passed new (omega (arith, was.long)) (λ k d here. was.new k d here) is id e below;
@@ -100,8 +100,8 @@ HasNewIdsTo-next from to ids passed new within was is valid no_others = record {
 }
 
 -- a table of the new ids from 0 on has the new id of each
-pub AreNewIds-table : (from to : Slots) (ids : List (Option ℕ)) (passed : ℕ) → 256 ≤ passed → HasNewIdsTo from to ids passed → AreNewIds from to ids
-AreNewIds-table from to ids passed whole are = λ id. elim (cases_lt id 256) [
+pub AreNewIds-table : {from to : Slots} {ids : List (Option ℕ)} {passed : ℕ} → 256 ≤ passed → HasNewIdsTo from to ids passed → AreNewIds from to ids
+AreNewIds-table {from} {to} {ids} whole are = λ id. elim (cases_lt id 256) [
   | inl below ↦ are.new id None (omega arith)
   | inr above ↦ subst (IsNewId from to id) (sym (get_or_past ids id None (omega (arith, are.long))))
       (λ extension is. absurd (unmapped (ap extension_of (are.no_others (omega arith) id (omega arith))) is))
@@ -163,12 +163,12 @@ pub HasNewBytesTo-next : (from to : Slots) (bytes : List ℕ) (passed : ℕ) (ne
 HasNewBytesTo-next from to bytes passed new within was is valid no_others =
     subst (λ (ids : List (Option ℕ)). HasNewIdsTo from to ids (passed + 1))
     (sym (map-set id_in_byte bytes passed (byte_of_id new) ∙ ap (set (map id_in_byte bytes) passed) (byte_said new valid)))
-    (HasNewIdsTo-next from to (map id_in_byte bytes) passed new within was is valid no_others)
+    (HasNewIdsTo-next new within was is valid no_others)
 
 -- the bytes of such a table say the new ids
 pub AreNewBytes-table : (from to : Slots) (bytes : List ℕ) (passed : ℕ) → 256 ≤ passed → HasNewBytesTo from to bytes passed → AreNewBytes from to bytes
 AreNewBytes-table from to bytes passed whole are = λ id.
-    subst (IsNewId from to id) (new_id-byte bytes id) (AreNewIds-table from to (map id_in_byte bytes) passed whole are id)
+    subst (IsNewId from to id) (new_id-byte bytes id) (AreNewIds-table whole are id)
 
 -- they make a table
 pub AreNewBytes-new : (from to : Slots) (bytes : List ℕ) → AreNewBytes from to bytes → AreNewIds from to (map id_in_byte bytes)

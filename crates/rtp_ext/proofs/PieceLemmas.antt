@@ -8,8 +8,8 @@ AllByRecursion-append P (x ∷ xs) ys all others = (all.0, AllByRecursion-append
 pub AreWhole-nil : (form : ExtensionsForm) → AreWhole form [] []
 AreWhole-nil form = record { pieces = []; are_pieces = tt; bytes_are = refl; elements_are = refl }
 
-pub AreWhole-append : (form : ExtensionsForm) (a b : List ℕ) (xs ys : List Element) → AreWhole form a xs → AreWhole form b ys → AreWhole form (a ++ b) (xs ++ ys)
-AreWhole-append form a b xs ys first second = record {
+pub AreWhole-append : {form : ExtensionsForm} {a b : List ℕ} {xs ys : List Element} → AreWhole form a xs → AreWhole form b ys → AreWhole form (a ++ b) (xs ++ ys)
+AreWhole-append {form} {b} {ys} first second = record {
   pieces = first.pieces ++ second.pieces;
   are_pieces = AllByRecursion-append (IsPiece form) first.pieces second.pieces first.are_pieces second.are_pieces;
   bytes_are = ap (λ l. l ++ b) first.bytes_are ∙ (ap (λ l. flat_map (piece_bytes form) first.pieces ++ l) second.bytes_are
@@ -50,9 +50,9 @@ AreWhole-element form element is = record { pieces = Some element ∷ []; are_pi
 pub AreWhole-next : (form : ExtensionsForm) (padding : ℕ) (element : Element) → IsElement form element
     → AreWhole form (replicate padding 0 ++ element_bytes form element) (element ∷ [])
 AreWhole-next form padding element is =
-    AreWhole-append form (replicate padding 0) (element_bytes form element) [] (element ∷ []) (AreWhole-zeros form padding) (AreWhole-element form element is)
+    AreWhole-append (AreWhole-zeros form padding) (AreWhole-element form element is)
 
-pub AreElements-none : (form : ExtensionsForm) (bytes : List ℕ) → BeginsWithNoElement form bytes → AreElements form bytes []
-AreElements-none form bytes none = subst (λ b. AreElements form b []) (sym none.bytes_are)
+pub AreElements-none : {form : ExtensionsForm} {bytes : List ℕ} → BeginsWithNoElement form bytes → AreElements form bytes []
+AreElements-none {form} none = subst (λ b. AreElements form b []) (sym none.bytes_are)
     (AreElements-after form (replicate none.padding 0) none.tail [] [] (AreWhole-zeros form none.padding)
     (record { pieces = []; tail = none.tail; are_pieces = tt; is_tail = none.is_tail; body_is = refl; elements_are = refl }))

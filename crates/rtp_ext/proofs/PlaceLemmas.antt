@@ -27,9 +27,9 @@ overwritten-at front was rest bytes at is as_many =
     ∙ drop_at (front ++ was) rest (at + length bytes) (length-append front was ∙ omega arith))
 
 -- what writing another header leaves, and writing zeros
-pub renumbered_at : (form : ExtensionsForm) (body front bytes after : List ℕ) (start len old id : ℕ) → body ≡ front ++ (element_bytes form (old, bytes) ++ after)
+pub renumbered_at : (form : ExtensionsForm) {body : List ℕ} (front bytes after : List ℕ) {start len : ℕ} (old id : ℕ) → body ≡ front ++ (element_bytes form (old, bytes) ++ after)
     → start ≡ length front → len ≡ length bytes → overwritten body start (element_header form id len) ≡ front ++ (element_bytes form (id, bytes) ++ after)
-renumbered_at form body front bytes after start len old id is start_is len_is =
+renumbered_at form {body} front bytes after {start} old id is start_is len_is =
     let header : List ℕ = element_header form id (length bytes) in
     let split : body ≡ front ++ (element_header form old (length bytes) ++ (bytes ++ after)) =
     is ∙ ap (λ b. front ++ b) (ap (λ b. b ++ after) (element_bytes-split form old bytes) ∙ append_assoc (element_header form old (length bytes)) bytes after) in
@@ -38,20 +38,20 @@ renumbered_at form body front bytes after start len old id is start_is len_is =
     ∙ (overwritten-at front (element_header form old (length bytes)) (bytes ++ after) header start start_is (length-header form old id (length bytes))
     ∙ ap (λ b. front ++ b) (sym (append_assoc header bytes after) ∙ ap (λ b. b ++ after) (sym (element_bytes-split form id bytes)))))
 
-pub zeros_at : (form : ExtensionsForm) (body front bytes after : List ℕ) (start count id : ℕ) → body ≡ front ++ (element_bytes form (id, bytes) ++ after)
+pub zeros_at : (form : ExtensionsForm) {body : List ℕ} (front bytes after : List ℕ) {start count : ℕ} (id : ℕ) → body ≡ front ++ (element_bytes form (id, bytes) ++ after)
     → start ≡ length front → count ≡ length (element_bytes form (id, bytes))
     → overwritten body start (replicate count 0) ≡ front ++ (replicate (length (element_bytes form (id, bytes))) 0 ++ after)
-zeros_at form body front bytes after start count id is start_is count_is =
+zeros_at form front bytes after {start} {count} id is start_is count_is =
     ap (λ b. overwritten b start (replicate count 0)) is
     ∙ (overwritten-at front (element_bytes form (id, bytes)) after (replicate count 0) start start_is (sym count_is ∙ sym (length-replicate count 0))
     ∙ ap (λ n. front ++ (replicate n 0 ++ after)) count_is)
 
-pub length-lies : (form : ExtensionsForm) (body : List ℕ) (place : Place) (lies : LiesAt form body place)
+pub length-lies : {form : ExtensionsForm} {body : List ℕ} {place : Place} (lies : LiesAt form body place)
     → place.end ≡ place.start + length (element_bytes form (place.id, lies.bytes))
-length-lies form body place lies = omega (arith, lies.data_is, lies.end_is, length-element form place.id lies.bytes)
+length-lies {form} {place} lies = omega (arith, lies.data_is, lies.end_is, length-element form place.id lies.bytes)
 
 -- the first element from an offset on
-module _ (form : ExtensionsForm) (body left : List ℕ) (at id : ℕ) (bytes after : List ℕ) (within : at ≤ length body) (left_is : left ≡ drop at body)
+module _ {form : ExtensionsForm} (body : List ℕ) {left : List ℕ} (at id : ℕ) (bytes : List ℕ) {after : List ℕ} (within : at ≤ length body) (left_is : left ≡ drop at body)
     (begins : BeginsWithElement form left (id, bytes) after) where
   pub length-begins : at + begins.padding + length (element_header form id (length bytes)) + length bytes + length after ≡ length body
   length-begins =
@@ -93,27 +93,27 @@ LiesAt-next form body at place within next = record {
 }
 
 -- the next element under another id, or as padding
-pub renumbered_next : (form : ExtensionsForm) (body new : List ℕ) (at : ℕ) (place : Place) (id : Option ℕ) → at ≤ length body → (next : IsNextPlace form body at place)
+pub renumbered_next : {form : ExtensionsForm} {body : List ℕ} (new : List ℕ) {at : ℕ} {place : Place} (id : Option ℕ) → at ≤ length body → (next : IsNextPlace form body at place)
     → ((lies : LiesAt form body place) → new ≡ lies.front ++ (bytes_under form (place.id, lies.bytes) id ++ lies.after))
     → new ≡ (take at body ++ replicate next.padding 0) ++ (bytes_under form (place.id, next.bytes) id ++ next.after)
 unfolding LiesAt-next
-renumbered_next form body new at place id within next written = written (LiesAt-next form body at place within next)
+renumbered_next {form} {body} new {at} {place} id within next written = written (LiesAt-next form body at place within next)
 
 -- a body that was passed up to the offset, and then up to the end of the next element
-pub left_next : (form : ExtensionsForm) (body passed left : List ℕ) (at : ℕ) (place : Place) → body ≡ passed ++ left → at ≡ length passed
+pub left_next : {form : ExtensionsForm} {body : List ℕ} (passed left : List ℕ) {at : ℕ} {place : Place} → body ≡ passed ++ left → at ≡ length passed
     → (next : IsNextPlace form body at place) → left ≡ replicate next.padding 0 ++ (element_bytes form (place.id, next.bytes) ++ next.after)
-left_next form body passed left at place is at_is next = sym (ap (drop at) is ∙ drop_at passed left at (sym at_is)) ∙ next.left_is
+left_next passed left {at} is at_is next = sym (ap (drop at) is ∙ drop_at passed left at (sym at_is)) ∙ next.left_is
 
-pub passed_next : (form : ExtensionsForm) (body passed left : List ℕ) (at : ℕ) (place : Place) → body ≡ passed ++ left → at ≡ length passed
+pub passed_next : {form : ExtensionsForm} {body : List ℕ} (passed left : List ℕ) {at : ℕ} {place : Place} → body ≡ passed ++ left → at ≡ length passed
     → (next : IsNextPlace form body at place) → body ≡ (passed ++ (replicate next.padding 0 ++ element_bytes form (place.id, next.bytes))) ++ next.after
-passed_next form body passed left at place is at_is next =
+passed_next {form} passed left {place} is at_is next =
     let element : List ℕ = element_bytes form (place.id, next.bytes) in
-    is ∙ (ap (λ b. passed ++ b) (left_next form body passed left at place is at_is next ∙ sym (append_assoc (replicate next.padding 0) element next.after))
+    is ∙ (ap (λ b. passed ++ b) (left_next passed left is at_is next ∙ sym (append_assoc (replicate next.padding 0) element next.after))
     ∙ sym (append_assoc passed (replicate next.padding 0 ++ element) next.after))
 
-pub end_next : (form : ExtensionsForm) (body passed : List ℕ) (at : ℕ) (place : Place) → at ≡ length passed
+pub end_next : {form : ExtensionsForm} {body : List ℕ} (passed : List ℕ) {at : ℕ} {place : Place} → at ≡ length passed
     → (next : IsNextPlace form body at place) → place.end ≡ length (passed ++ (replicate next.padding 0 ++ element_bytes form (place.id, next.bytes)))
-end_next form body passed at place at_is next =
+end_next {form} passed {place} at_is next =
     omega (
       arith,
       next.start_is,

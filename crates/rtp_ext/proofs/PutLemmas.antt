@@ -93,8 +93,8 @@ put_element-last id bytes was before after none = put_among-last id was ((id, by
 
 -- ---- a body whose one element of the id has as many bytes
 
-sole-counted : (elements : List Element) (id : ℕ) (bytes : List ℕ) → IsSole elements (id, bytes) → length (filter (goes id) elements) ≡ 1
-sole-counted elements id bytes sole =
+sole-counted : {elements : List Element} (id : ℕ) (bytes : List ℕ) → IsSole elements (id, bytes) → length (filter (goes id) elements) ≡ 1
+sole-counted id bytes sole =
     omega (
       arith,
       ap (λ es. length (filter (goes id) es)) sole.in_order,
@@ -111,9 +111,9 @@ in_order form id body place elements is are =
     (subst (λ b. AreElements form b (is.before ++ (id, is.was) ∷ is.after)) (sym is.bytes_are) (is.set is.was refl))
 
 -- no survey without a place for an id that has a sole element
-pub sole-absent : (form : ExtensionsForm) (body : List ℕ) (id : ℕ) (survey : Survey) (elements : List Element) (bytes : List ℕ) → IsSurvey form body id survey → AreElements form body elements
+pub sole-absent : {form : ExtensionsForm} {body : List ℕ} {id : ℕ} {survey : Survey} {elements : List Element} (bytes : List ℕ) → IsSurvey form body id survey → AreElements form body elements
     → survey.last ≡ None → IsSole elements (id, bytes) → ⊥
-sole-absent form body id survey elements bytes is are none sole =
+sole-absent {form} {body} {id} {elements} bytes is are none sole =
     let has_none : HasNone is.elements id = subst (λ (last : Option Place). IfNone last (HasNone is.elements id)) none is.none_is in
     let same : is.elements ≡ elements = AreElements-same form body is.elements elements is.are_elements are in
     false≢true (sym (any-none id is.elements has_none) ∙ (ap (list_any (has_id id)) (same ∙ sole.in_order) ∙ any-around id sole.before sole.after sole.was))
@@ -138,9 +138,9 @@ module _ (form : ExtensionsForm) (body : List ℕ) (id : ℕ) (survey : Survey) 
       let same : is.elements ≡ elements = AreElements-same form body is.elements elements is.are_elements are in
       let l = last_known in
       let one : sole.was ≡ l.was =
-      HasLast-only elements id sole.was l.was (record { before = sole.before; after = sole.after; in_order = sole.in_order; last = sole.none_after })
-      (HasLast-place form id body place elements l are) in (
-        is.count_is ∙ (ap (λ es. length (filter (goes id) es)) same ∙ sole-counted elements id bytes sole),
+      HasLast-only sole.was (record { before = sole.before; after = sole.after; in_order = sole.in_order; last = sole.none_after })
+      (HasLast-place l are) in (
+        is.count_is ∙ (ap (λ es. length (filter (goes id) es)) same ∙ sole-counted id bytes sole),
         omega (arith, l.end_is, ap length one, sole.as_many),
       )
 
@@ -169,7 +169,7 @@ module _ (form : ExtensionsForm) (body : List ℕ) (id : ℕ) (survey : Survey) 
     pub sole_set : (new : List ℕ) → new ≡ overwritten body place.data_start bytes → AreElements form new (put_element (id, bytes) elements)
     sole_set new new_is =
         let l = last_known in
-        let set : SetsLast form id bytes body new = SetsLast-at form id bytes body new place l as_many new_is in
+        let set : SetsLast form id bytes body new = SetsLast-at form bytes l as_many new_is in
         let listed : elements ≡ set.before ++ (id, set.was) ∷ set.after = AreElements-same form body elements (set.before ++ (id, set.was) ∷ set.after) are set.old_elements in
         let same : is.elements ≡ elements = AreElements-same form body is.elements elements is.are_elements are in
         let front : HasNone set.before id =

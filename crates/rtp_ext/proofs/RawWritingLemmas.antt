@@ -27,17 +27,17 @@ IsRoomAfter form element room left =
     IfSome left (λ rest. IsWritable form element × (rest + length (element_bytes form element) ≡ room))
     × IfNone left (IsWritable form element → length (element_bytes form element) ≤ room → ⊥)
 
-pub IsRoomAfter-taken : (form : ExtensionsForm) (id : ℕ) (bytes : List ℕ) (room header : ℕ) (left : Option ℕ) → IsWritable form (id, bytes)
+pub IsRoomAfter-taken : (form : ExtensionsForm) (id : ℕ) (bytes : List ℕ) (room : ℕ) {header : ℕ} (left : Option ℕ) → IsWritable form (id, bytes)
     → header ≡ length (element_header form id (length bytes)) → SomeIff left (header + length bytes ≤ room) (room - (header + length bytes))
     → IsRoomAfter form (id, bytes) room left
-IsRoomAfter-taken form id bytes room header None writable is none =
+IsRoomAfter-taken form id bytes room None writable is none =
     (tt, λ again fits. none (omega (arith, is, length-header form id bytes)))
-IsRoomAfter-taken form id bytes room header (Some rest) writable is some =
+IsRoomAfter-taken form id bytes room (Some rest) writable is some =
     ((writable, omega (arith, is, length-header form id bytes, some.0, some.1)), tt)
 
-pub AreWritableIn-more : (form : ExtensionsForm) (left more : List Element) (element : Element) (room rest : ℕ) → left ≡ element ∷ more
+pub AreWritableIn-more : (form : ExtensionsForm) {left : List Element} (more : List Element) (element : Element) {room : ℕ} (rest : ℕ) → left ≡ element ∷ more
     → IsWritable form element → rest + length (element_bytes form element) ≡ room → AreWritableIn form more rest ↔ AreWritableIn form left room
-AreWritableIn-more form left more element room rest split writable is =
+AreWritableIn-more form {left} more element rest split writable is =
     let long : length (elements_bytes form left) ≡ length (element_bytes form element) + length (elements_bytes form more) =
     ap (λ es. length (elements_bytes form es)) split ∙ length-append (element_bytes form element) (elements_bytes form more) in (
       λ fit. record {
@@ -50,9 +50,9 @@ AreWritableIn-more form left more element room rest split writable is =
       },
     )
 
-pub AreWritableIn-not : (form : ExtensionsForm) (left more : List Element) (element : Element) (room : ℕ) → left ≡ element ∷ more
+pub AreWritableIn-not : {form : ExtensionsForm} {left : List Element} (more : List Element) (element : Element) {room : ℕ} → left ≡ element ∷ more
     → (IsWritable form element → length (element_bytes form element) ≤ room → ⊥) → AreWritableIn form left room → ⊥
-AreWritableIn-not form left more element room split none fit =
+AreWritableIn-not {form} {left} more element split none fit =
     let long : length (elements_bytes form left) ≡ length (element_bytes form element) + length (elements_bytes form more) =
     ap (λ es. length (elements_bytes form es)) split ∙ length-append (element_bytes form element) (elements_bytes form more) in
     none (subst (AllByRecursion (IsWritable form)) split fit.writable).0 (omega (arith, fit.bytes_fit, long))
@@ -68,10 +68,10 @@ pub record AreUnderWay (form : ExtensionsForm) (old buf : List ℕ) (elements le
   pub writable : AllByRecursion (IsWritable form) left
 
 -- there is room for the next one
-pub AreUnderWay-room : (form : ExtensionsForm) (old buf : List ℕ) (elements left more : List Element) (element : Element) (at : ℕ)
+pub AreUnderWay-room : {form : ExtensionsForm} {old buf : List ℕ} {elements left : List Element} (more : List Element) (element : Element) {at : ℕ}
     → AreUnderWay form old buf elements left at → left ≡ element ∷ more
     → (at + length (element_bytes form element) ≤ length buf) × IsWritable form element
-AreUnderWay-room form old buf elements left more element at before split =
+AreUnderWay-room {form} {left} more element before split =
     let long : length (elements_bytes form left) ≡ length (element_bytes form element) + length (elements_bytes form more) =
     ap (λ es. length (elements_bytes form es)) split ∙ length-append (element_bytes form element) (elements_bytes form more) in (
       omega (arith, before.ends, before.long, before.fit.bytes_fit, long),
@@ -79,10 +79,10 @@ AreUnderWay-room form old buf elements left more element at before split =
     )
 
 -- the next one is written
-pub AreUnderWay-step : (form : ExtensionsForm) (old buf new : List ℕ) (elements left more : List Element) (element : Element) (at end : ℕ)
+pub AreUnderWay-step : {form : ExtensionsForm} {old buf new : List ℕ} {elements left : List Element} (more : List Element) (element : Element) {at end : ℕ}
     → AreUnderWay form old buf elements left at → left ≡ element ∷ more → new ≡ overwritten buf at (element_bytes form element)
     → end ≡ at + length (element_bytes form element) → AreUnderWay form old new elements more end
-AreUnderWay-step form old buf new elements left more element at end before split written end-is =
+AreUnderWay-step {form} {buf} {left} more element {at} {end} before split written end-is =
     let xs = element_bytes form element in
     let ys = elements_bytes form more in
     let bytes : elements_bytes form left ≡ xs ++ ys = ap (elements_bytes form) split in
@@ -99,10 +99,10 @@ AreUnderWay-step form old buf new elements left more element at end before split
     }
 
 -- all are written
-pub AreUnderWay-end : (form : ExtensionsForm) (old buf : List ℕ) (elements left : List Element) (at : ℕ)
+pub AreUnderWay-end : {form : ExtensionsForm} {old buf : List ℕ} {elements left : List Element} {at : ℕ}
     → AreUnderWay form old buf elements left at → left ≡ []
     → (at ≡ length (elements_bytes form elements)) × (buf ≡ elements_bytes form elements ++ drop at old)
-AreUnderWay-end form old buf elements left at before none =
+AreUnderWay-end {form} {old} {buf} {elements} {left} {at} before none =
     let row = elements_bytes form elements in
     let bytes : elements_bytes form left ≡ [] = ap (elements_bytes form) none in
     let end : at ≡ length row = omega (arith, before.ends, ap length bytes) in
@@ -111,15 +111,15 @@ AreUnderWay-end form old buf elements left at before none =
     (end, whole ∙ ap (λ (k : ℕ). row ++ drop k old) (sym end))
 
 -- and are read, with any zeros after them
-pub AreWritableIn-read : (form : ExtensionsForm) (elements : List Element) (room zeros : ℕ) → AreWritableIn form elements room
+pub AreWritableIn-read : {form : ExtensionsForm} {elements : List Element} {room : ℕ} (zeros : ℕ) → AreWritableIn form elements room
     → AreElements form (elements_bytes form elements ++ replicate zeros 0) elements
-AreWritableIn-read form elements room zeros fit = AreElements-in_a_row form elements zeros (all-elements form elements fit.writable)
+AreWritableIn-read {form} {elements} zeros fit = AreElements-in_a_row form elements zeros (all-elements form elements fit.writable)
 
 -- also as the front of the buffer
-pub AreElements-front : (form : ExtensionsForm) (elements : List Element) (buf rest : List ℕ) (len zeros : ℕ) → len ≡ length (elements_bytes form elements)
+pub AreElements-front : {form : ExtensionsForm} {elements : List Element} {buf : List ℕ} (rest : List ℕ) {len : ℕ} (zeros : ℕ) → len ≡ length (elements_bytes form elements)
     → buf ≡ elements_bytes form elements ++ rest → AreElements form (elements_bytes form elements ++ replicate zeros 0) elements
     → AreElements form (take len buf ++ replicate zeros 0) elements
-AreElements-front form elements buf rest len zeros len-is is read =
+AreElements-front {form} {elements} {buf} rest {len} zeros len-is is read =
     let row = elements_bytes form elements in
     let front : take len buf ≡ row = ap (take len) is ∙ take_at row rest len (sym len-is) in
     subst (λ (b : List ℕ). AreElements form (b ++ replicate zeros 0) elements) (sym front) read

@@ -1,51 +1,12 @@
 -- The lowest id of a kind, found on a walk, and the ids under which elements of one kind become elements of another.
-use Rattle.rtp_ext.proofs.Common.{◌≡◌, ◌≢◌, ◌⊎◌, inl, inr, ℕ, zero, suc, ◌<◌, List, [], ◌∷◌, length, get_or, map, Option, Some, None, IfSome, IfNone, All, arith, refl, sym, ap, ◌∙◌, subst, option_map, Contains, cases_lt, get_or_past, length-map, All-head, All-tail, All-contains, same_Some, Extension, AbsoluteSendTime, AbsoluteCaptureTime, AudioLevel, TransmissionTimeOffset, VideoOrientation, TransportSequenceNumber, PlayoutDelay, VideoContentType, VideoTiming, RtpStreamId, RepairedRtpStreamId, RtpMid, FrameMarking, ColorSpace, VideoLayersAllocation, UnknownUri, KnownKind, IsKnown, extension_of_kind, one_kind, Slots, IsId, IsLowest, IsUnmapped, IsRising, extension_at, items_from, known_slots, new_id, IsRenamedId, AreRenamedIds, Renames, id_in_byte}
-use Rattle.rtp_values.specs.declared.known_kind.KnownKind.TheVariants as known
+use Rattle.rtp_ext.proofs.Common.{◌≡◌, ◌≢◌, ◌⊎◌, inl, inr, ℕ, zero, suc, ◌<◌, List, [], ◌∷◌, length, get_or, map, Option, Some, None, IfSome, IfNone, All, arith, refl, sym, ap, ◌∙◌, subst, option_map, Contains, cases_lt, get_or_past, length-map, All-head, All-tail, All-contains, same_Some, Extension, KnownKind, IsKnown, extension_of_kind, one_kind, Slots, IsId, IsLowest, IsUnmapped, IsRising, extension_at, items_from, known_slots, new_id, IsRenamedId, AreRenamedIds, Renames, id_in_byte}
+use Rattle.rtp_values.proofs.KindLemmas.{kind_is_known}
+use Rattle.rtp_values.proofs.KindSetLemmas.{same_kind}
 use Rattle.rtp_ext.proofs.KindsByIdLemmas.{known_slots-keep, known_slots-back}
 use Rattle.rtp_ext.proofs.ListingLemmas.{ListsItems-from_slots, above_passed}
 use Rattle.rtp_ext.proofs.NewIdLemmas.{new_id-byte}
 
 -- ---- the kinds by themselves
-
-back : Extension → Option KnownKind
-back AbsoluteSendTime = Some known.AbsoluteSendTime
-back AbsoluteCaptureTime = Some known.AbsoluteCaptureTime
-back AudioLevel = Some known.AudioLevel
-back TransmissionTimeOffset = Some known.TransmissionTimeOffset
-back VideoOrientation = Some known.VideoOrientation
-back TransportSequenceNumber = Some known.TransportSequenceNumber
-back PlayoutDelay = Some known.PlayoutDelay
-back VideoContentType = Some known.VideoContentType
-back VideoTiming = Some known.VideoTiming
-back RtpStreamId = Some known.RtpStreamId
-back RepairedRtpStreamId = Some known.RepairedRtpStreamId
-back RtpMid = Some known.RtpMid
-back FrameMarking = Some known.FrameMarking
-back ColorSpace = Some known.ColorSpace
-back VideoLayersAllocation = Some known.VideoLayersAllocation
-back (UnknownUri uri) = None
-
--- the extension of a known kind is known, and tells the kind
-known_back : (kind : KnownKind) → IsKnown (extension_of_kind kind) × (back (extension_of_kind kind) ≡ Some kind)
-unfolding back
-known_back known.AbsoluteSendTime = (tt, refl)
-known_back known.AbsoluteCaptureTime = (tt, refl)
-known_back known.AudioLevel = (tt, refl)
-known_back known.TransmissionTimeOffset = (tt, refl)
-known_back known.VideoOrientation = (tt, refl)
-known_back known.TransportSequenceNumber = (tt, refl)
-known_back known.PlayoutDelay = (tt, refl)
-known_back known.VideoContentType = (tt, refl)
-known_back known.VideoTiming = (tt, refl)
-known_back known.RtpStreamId = (tt, refl)
-known_back known.RepairedRtpStreamId = (tt, refl)
-known_back known.RtpMid = (tt, refl)
-known_back known.FrameMarking = (tt, refl)
-known_back known.ColorSpace = (tt, refl)
-known_back known.VideoLayersAllocation = (tt, refl)
-
-pub same_kind : (a b : KnownKind) → extension_of_kind a ≡ extension_of_kind b → a ≡ b
-same_kind a b same = same_Some _ _ (sym (known_back a).1 ∙ ap back same ∙ (known_back b).1)
 
 pub kind_found : (found : Option KnownKind) (kind : KnownKind) → option_map extension_of_kind found ≡ Some (extension_of_kind kind) → found ≡ Some kind
 kind_found None kind is = cc
@@ -116,12 +77,12 @@ IsLowest-known exts slots kind id is lowest =
     let lowest' = subst (λ (s : Slots). IsLowest s (extension_of_kind kind) id) is lowest in
     record {
       mapped = known_slots-back exts id (extension_of_kind kind) lowest'.mapped;
-      lowest = λ k below mapped. lowest'.lowest k below (known_slots-keep exts k (extension_of_kind kind) (known_back kind).0 mapped);
+      lowest = λ k below mapped. lowest'.lowest k below (known_slots-keep exts k (extension_of_kind kind) (kind_is_known kind) mapped);
     }
 
 pub IsUnmapped-known : (exts slots : Slots) (kind : KnownKind) → slots ≡ known_slots exts → IsUnmapped slots (extension_of_kind kind) → IsUnmapped exts (extension_of_kind kind)
 IsUnmapped-known exts slots kind is none = λ id mapped.
-    subst (λ (s : Slots). IsUnmapped s (extension_of_kind kind)) is none id (known_slots-keep exts id (extension_of_kind kind) (known_back kind).0 mapped)
+    subst (λ (s : Slots). IsUnmapped s (extension_of_kind kind)) is none id (known_slots-keep exts id (extension_of_kind kind) (kind_is_known kind) mapped)
 
 -- the same of what was found
 pub IsLowest-of_kind : (exts slots : Slots) (kind : KnownKind) (extension : Extension) (found : Option ℕ) → slots ≡ known_slots exts
@@ -169,7 +130,7 @@ IsRenamedId-at exts known from to lowest old new id is above below is_lowest som
   where
     keep : (kind : KnownKind) → extension_at exts id ≡ Some (extension_of_kind kind) → extension_at known id ≡ Some (extension_of_kind kind)
     keep kind mapped =
-        ap (λ (s : Slots). extension_at s id) is ∙ known_slots-keep exts id (extension_of_kind kind) (known_back kind).0 mapped
+        ap (λ (s : Slots). extension_at s id) is ∙ known_slots-keep exts id (extension_of_kind kind) (kind_is_known kind) mapped
 
     back_there : (kind : KnownKind) → extension_at known id ≡ Some (extension_of_kind kind) → extension_at exts id ≡ Some (extension_of_kind kind)
     back_there kind mapped = known_slots-back exts id (extension_of_kind kind) (sym (ap (λ (s : Slots). extension_at s id) is) ∙ mapped)

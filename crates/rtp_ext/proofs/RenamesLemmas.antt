@@ -10,11 +10,11 @@ pub record IsRenamedAt (map : Slots) (from to : Extension) (lowest : ℕ) (old n
   pub others : extension_at map id ≢ Some from → extension_at map id ≢ Some to → get_or new id 0 ≡ get_or old id 0
 
 -- by the kind that is read at the id
-pub IsRenamedAt-kind : (map : Slots) (from to : KnownKind) (lowest : ℕ) (old new : List ℕ) (id byte : ℕ) (found : Option KnownKind)
+pub IsRenamedAt-kind : (map : Slots) (from to : KnownKind) (lowest : ℕ) (old new : List ℕ) (id : ℕ) {byte : ℕ} (found : Option KnownKind)
     → option_map extension_of_kind found ≡ extension_at map id → get_or new id 0 ≡ byte
     → (found ≡ Some from → byte ≡ lowest) → (found ≡ Some to → byte ≡ 0) → (found ≢ Some from → found ≢ Some to → byte ≡ get_or old id 0)
     → IsRenamedAt map (extension_of_kind from) (extension_of_kind to) lowest old new id
-IsRenamedAt-kind map from to lowest old new id byte found read is renamed gone others = record {
+IsRenamedAt-kind map from to lowest old new id found read is renamed gone others = record {
   renamed = λ mapped. is ∙ renamed (kind_found found from (read ∙ mapped));
   gone = λ mapped. is ∙ gone (kind_found found to (read ∙ mapped));
   others = λ not_from not_to. is ∙ others
@@ -47,7 +47,7 @@ IsRenamedTo-next map from to lowest old new id byte found within read renamed go
   long = length-set new id byte ∙ was.long;
   before = λ k below. elim (cases_eq k id) [
     | inl here ↦ subst (IsRenamedAt map (extension_of_kind from) (extension_of_kind to) lowest old (set new id byte)) (sym here)
-        (IsRenamedAt-kind map from to lowest old (set new id byte) id byte found read (get_or-set_same new id byte 0 (omega (arith, within, was.long))) renamed gone
+        (IsRenamedAt-kind map from to lowest old (set new id byte) id found read (get_or-set_same new id byte 0 (omega (arith, within, was.long))) renamed gone
         (λ not_from not_to. others not_from not_to ∙ was.after id (omega arith)))
     | inr other ↦
         let same = get_or-set_other new id k byte 0 other in
@@ -78,9 +78,9 @@ pub record IsRenamedBut (map : Slots) (from to : Extension) (lowest : ℕ) (old 
   pub each : (id : ℕ) → IsRenamedAt map from to lowest old new id
       ⊎ (((extension : Extension) × Contains left (id, extension)) × (get_or new id 0 ≡ get_or old id 0))
 
-pub IsRenamedBut-start : (map : Slots) (from to : Extension) (lowest : ℕ) (old : List ℕ) (left : List (ℕ × Extension)) → left ≡ items_from 0 map → length old ≡ 256
+pub IsRenamedBut-start : (map : Slots) (from to : Extension) (lowest : ℕ) (old : List ℕ) {left : List (ℕ × Extension)} → left ≡ items_from 0 map → length old ≡ 256
     → IsRenamedBut map from to lowest old old left
-IsRenamedBut-start map from to lowest old left is long =
+IsRenamedBut-start map from to lowest old is long =
     subst (IsRenamedBut map from to lowest old old) (sym is) (record {
       long = long;
       mapped = items_mapped map;
@@ -94,12 +94,12 @@ IsRenamedBut-start map from to lowest old left is long =
       others = λ not_from not_to. refl;
     }
 
-pub IsRenamedBut-next : (map : Slots) (from to : KnownKind) (lowest : ℕ) (old new : List ℕ) (left more : List (ℕ × Extension)) (id index byte : ℕ) (kind : KnownKind)
+pub IsRenamedBut-next : {map : Slots} (from to : KnownKind) {lowest : ℕ} {old new : List ℕ} {left : List (ℕ × Extension)} (more : List (ℕ × Extension)) {id index : ℕ} (byte : ℕ) (kind : KnownKind)
     → left ≡ (id, extension_of_kind kind) ∷ more → id < 256 → index ≡ id
     → (Some kind ≡ Some from → byte ≡ lowest) → (Some kind ≡ Some to → byte ≡ 0) → (Some kind ≢ Some from → Some kind ≢ Some to → byte ≡ get_or new index 0)
     → IsRenamedBut map (extension_of_kind from) (extension_of_kind to) lowest old new left
     → IsRenamedBut map (extension_of_kind from) (extension_of_kind to) lowest old (set new index byte) more
-IsRenamedBut-next map from to lowest old new left more id index byte kind is within there renamed gone others was =
+IsRenamedBut-next {map} from to {lowest} {old} {new} more {id} byte kind is within there renamed gone others was =
     subst (λ (n : ℕ). IsRenamedBut map (extension_of_kind from) (extension_of_kind to) lowest old (set new n byte) more) (sym there) (record {
       long = length-set new id byte ∙ whole.long;
       mapped = All-tail (λ i. extension_at map i.0 ≡ Some i.1) item more whole.mapped;
@@ -132,7 +132,7 @@ IsRenamedBut-next map from to lowest old new left more id index byte kind is wit
 
     this : IsRenamedAt map (extension_of_kind from) (extension_of_kind to) lowest old (set new id byte) id
     this =
-        IsRenamedAt-kind map from to lowest old (set new id byte) id byte (Some kind) (sym mapped_here)
+        IsRenamedAt-kind map from to lowest old (set new id byte) id (Some kind) (sym mapped_here)
         (get_or-set_same new id byte 0 (omega (arith, within, whole.long))) renamed gone
         (λ not_from not_to. others not_from not_to ∙ ap (λ (n : ℕ). get_or new n 0) there ∙ old_here not_from not_to (whole.each id))
       where
@@ -144,9 +144,9 @@ IsRenamedBut-next map from to lowest old new left more id index byte kind is wit
             (λ mapped. not_to (kind_found (Some kind) to (sym mapped_here ∙ mapped)))
         old_here not_from not_to (inr waits) = waits.1
 
-pub Renames-walked : (map : Slots) (from to : Extension) (lowest : ℕ) (old new : List ℕ) (left : List (ℕ × Extension)) → left ≡ []
+pub Renames-walked : {map : Slots} {from to : Extension} {lowest : ℕ} {old new : List ℕ} {left : List (ℕ × Extension)} → left ≡ []
     → IsRenamedBut map from to lowest old new left → Renames map from to lowest old new
-Renames-walked map from to lowest old new left ended was = record {
+Renames-walked {map} {from} {to} {lowest} {old} {new} {left} ended was = record {
   renamed = λ id below. (at id (was.each id)).renamed;
   gone = λ id below. (at id (was.each id)).gone;
   others = λ id below. (at id (was.each id)).others;

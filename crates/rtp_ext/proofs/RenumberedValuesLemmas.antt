@@ -5,21 +5,21 @@ use Rattle.rtp_ext.proofs.ListingLemmas.{ListsItems-from_slots}
 use Rattle.rtp_ext.proofs.WrittenValuesLemmas.{LastItem, find_last, found-mapped, fields-there, fields-absent, All-cons_option}
 
 -- an element carries a kind under its new id only where it did before
-carried_before : (from to : Slots) (ids : List (Option ℕ)) (kind : Extension) (element : Element) (new : ℕ) → CarriesExtensions from to ids
+carried_before : {from to : Slots} {ids : List (Option ℕ)} (kind : Extension) (element : Element) (new : ℕ) → CarriesExtensions from to ids
     → new_id ids element.0 ≡ Some new → Carries to kind (new, element.1) → Carries from kind element
-carried_before from to ids kind element new are is carries = (are.others element.0 new kind is carries.0, carries.1)
+carried_before kind element new are is carries = (are.others element.0 new kind is carries.0, carries.1)
 
-carried_never : (from to : Slots) (ids : List (Option ℕ)) (kind : Extension) (elements : List Element) → CarriesExtensions from to ids → All (λ element. Carries from kind element → ⊥) elements
+carried_never : {from to : Slots} {ids : List (Option ℕ)} (kind : Extension) (elements : List Element) → CarriesExtensions from to ids → All (λ element. Carries from kind element → ⊥) elements
     → All (λ element. Carries to kind element → ⊥) (filter_map (renumbered (new_id ids)) elements)
-carried_never from to ids kind [] are never = All-nil (λ (element : Element). Carries to kind element → ⊥)
-carried_never from to ids kind (element ∷ elements) are never =
+carried_never {to} kind [] are never = All-nil (λ (element : Element). Carries to kind element → ⊥)
+carried_never {from} {to} {ids} kind (element ∷ elements) are never =
     All-cons_option (λ (e : Element). Carries to kind e → ⊥) (renumbered (new_id ids) element) (filter_map (renumbered (new_id ids)) elements) (here (new_id ids element.0) refl)
-    (carried_never from to ids kind elements are (All-tail (λ (e : Element). Carries from kind e → ⊥) element elements never))
+    (carried_never kind elements are (All-tail (λ (e : Element). Carries from kind e → ⊥) element elements never))
   where
     here : (id : Option ℕ) → new_id ids element.0 ≡ id → IfSome (option_map (λ k. (k, element.1)) id) (λ (e : Element). Carries to kind e → ⊥)
     here None is = tt
     here (Some new) is = λ carries.
-        All-head (λ (e : Element). Carries from kind e → ⊥) element elements never (carried_before from to ids kind element new are is carries)
+        All-head (λ (e : Element). Carries from kind e → ⊥) element elements never (carried_before kind element new are is carries)
 
 -- no id has a kind that no item has
 unmapped : (exts : Slots) (kind : Extension) → AllByRecursion (λ (item : Item). item.1 ≢ kind) (items_from 0 exts) → IsUnmapped exts kind
@@ -32,7 +32,7 @@ AreFields-mapped : (from to : Slots) (ids : List (Option ℕ)) (elements : List 
     → LastItem kind (items_from 0 to) → AreFields from elements kind no_values values
     → AreFields to (filter_map (renumbered (new_id ids)) elements) kind no_values (mapped_fields to values)
 AreFields-mapped from to ids elements values kind are found (none never same) =
-    none (carried_never from to ids kind elements are never)
+    none (carried_never kind elements are never)
     (SameFields-trans kind no_values values (mapped_fields to values) same
     (subst (λ (items : List Item). SameFields kind values (fields_of_items items values)) (sym found.is) (fields-there kind found.id found.before found.after values)))
 AreFields-mapped from to ids elements values kind are found (last before after element is mapped reads later) = here (new_id ids element.0) refl
@@ -53,7 +53,7 @@ AreFields-mapped from to ids elements values kind are found (last before after e
         ∙ ap (λ id. filter_map (renumbered (new_id ids)) before ++ cons_option (option_map (λ k. (k, element.1)) id) (filter_map (renumbered (new_id ids)) after)) new_is))
         (kept.2.mapped ∙ ap Some same)
         (Reads-same kind element.1 values (mapped_fields to values) reads there)
-        (carried_never from to ids kind after are later)
+        (carried_never kind after are later)
 
 pub AreValues-renumbered : (from to : Slots) (ids : List (Option ℕ)) (elements : List Element) (values : ExtensionValues) → CarriesExtensions from to ids
     → AreValues from elements no_values values → AreValues to (filter_map (renumbered (new_id ids)) elements) no_values (mapped_fields to values)

@@ -54,12 +54,12 @@ HasOtherIdsTo-start form ids body can = record {
 }
 
 -- the element at the next place may get its new id
-pub can-next : (form : ExtensionsForm) (ids : ℕ → Option ℕ) (old body : List ℕ) (at : ℕ) (lost : Bool) (place : Place) → (was : HasOtherIdsTo form ids old body at lost)
+pub can-next : {form : ExtensionsForm} {ids : ℕ → Option ℕ} {old body : List ℕ} {at : ℕ} {lost : Bool} {place : Place} → (was : HasOtherIdsTo form ids old body at lost)
     → (next : IsNextPlace form body at place)
     → All (λ element. IsElement form element → CanRenumber form ids element) ((place.id, next.bytes) ∷ elements_left form next.after)
-can-next form ids old body at lost place was next =
+can-next {form} {ids} {place} was next =
     subst (All (λ element. IsElement form element → CanRenumber form ids element))
-    (ap (elements_left form) (left_next form body (flat_map (renumbered_bytes form ids) was.pieces) was.left at place was.new_is was.at_is next)
+    (ap (elements_left form) (left_next (flat_map (renumbered_bytes form ids) was.pieces) was.left was.new_is was.at_is next)
     ∙ elements_left-next form next.padding (place.id, next.bytes) next.after next.is_element)
     was.others
 
@@ -67,18 +67,18 @@ below_15 : (form : ExtensionsForm) (element : Element) → IsElement form elemen
 below_15 OneByte element is one = is.0
 below_15 TwoByte element is one = cc
 
-pub fits-next : (form : ExtensionsForm) (ids : ℕ → Option ℕ) (old body : List ℕ) (at : ℕ) (lost : Bool) (place : Place) (id : Option ℕ) → HasOtherIdsTo form ids old body at lost
+pub fits-next : {form : ExtensionsForm} {ids : ℕ → Option ℕ} {old body : List ℕ} {at : ℕ} {lost : Bool} {place : Place} (id : Option ℕ) → HasOtherIdsTo form ids old body at lost
     → IsNextPlace form body at place → id ≡ ids place.id → IfSome id (λ new. form ≡ OneByte → new ≤ 14)
-fits-next form ids old body at lost place None was next id_is = tt
-fits-next form ids old body at lost place (Some new) was next id_is =
+fits-next None was next id_is = tt
+fits-next {form} {ids} {place} (Some new) was next id_is =
     let can = All-head (λ (element : Element). IsElement form element → CanRenumber form ids element) (place.id, next.bytes) (elements_left form next.after)
-    (can-next form ids old body at lost place was next) next.is_element in
+    (can-next was next) next.is_element in
     below_15 form (new, next.bytes) (subst (λ i. IfSome i (λ k. IsElement form (k, next.bytes))) (sym id_is) can)
 
-lost_next : (ids : ℕ → Option ℕ) (pieces : List (Option Element)) (padding : ℕ) (element : Element) (lost : Bool) (id : Option ℕ) → id ≡ ids element.0
+lost_next : (ids : ℕ → Option ℕ) (pieces : List (Option Element)) (padding : ℕ) (element : Element) {lost : Bool} {id : Option ℕ} → id ≡ ids element.0
     → lost ≡ list_any (λ (e : Element). is_none (ids e.0)) (filter_map (λ (piece : Option Element). piece) pieces)
     → (lost || is_none id) ≡ list_any (λ (e : Element). is_none (ids e.0)) (filter_map (λ (piece : Option Element). piece) (pieces_with pieces padding element))
-lost_next ids pieces padding element lost id id_is lost_is =
+lost_next ids pieces padding element {id} id_is lost_is =
     let loses : Element → Bool = λ e. is_none (ids e.0) in
     let had : List Element = filter_map (λ (piece : Option Element). piece) pieces in
     ap (λ b. b || is_none id) lost_is
@@ -86,15 +86,15 @@ lost_next ids pieces padding element lost id id_is lost_is =
     ∙ (ap (λ b. list_any loses had || b) (sym (or-false (is_none (ids element.0))))
     ∙ (sym (list_any-append loses had (element ∷ [])) ∙ ap (list_any loses) (sym (elements_with pieces padding element)))))
 
-pub HasOtherIdsTo-next : (form : ExtensionsForm) (ids : ℕ → Option ℕ) (old body new : List ℕ) (at : ℕ) (lost : Bool) (place : Place) (id : Option ℕ) → at ≤ length body
+pub HasOtherIdsTo-next : {form : ExtensionsForm} {ids : ℕ → Option ℕ} {old body : List ℕ} (new : List ℕ) {at : ℕ} {lost : Bool} {place : Place} {id : Option ℕ} → at ≤ length body
     → HasOtherIdsTo form ids old body at lost → (next : IsNextPlace form body at place) → id ≡ ids place.id
     → ((lies : LiesAt form body place) → new ≡ lies.front ++ (bytes_under form (place.id, lies.bytes) id ++ lies.after))
     → HasOtherIdsTo form ids old new place.end (lost || is_none id)
-HasOtherIdsTo-next form ids old body new at lost place id within was next id_is written =
+HasOtherIdsTo-next {form} {ids} {body} new {at} {place} {id} within was next id_is written =
     let element : Element = (place.id, next.bytes) in
     let passed : List ℕ = flat_map (renumbered_bytes form ids) was.pieces in
     let left_is : was.left ≡ replicate next.padding 0 ++ (element_bytes form element ++ next.after) =
-    left_next form body passed was.left at place was.new_is was.at_is next in
+    left_next passed was.left was.new_is was.at_is next in
     let front : take at body ≡ passed = ap (take at) was.new_is ∙ take_at passed was.left at (sym was.at_is) in
     let bytes : List ℕ = bytes_under form element (ids place.id) in
     let old_bytes : flat_map (piece_bytes form) (pieces_with was.pieces next.padding element)
@@ -111,7 +111,7 @@ HasOtherIdsTo-next form ids old body new at lost place id within was next id_is 
           (left_is ∙ sym (append_assoc (replicate next.padding 0) (element_bytes form element) next.after))
           ∙ (sym (append_assoc (flat_map (piece_bytes form) was.pieces) (replicate next.padding 0 ++ element_bytes form element) next.after)
           ∙ ap (λ b. b ++ next.after) (sym old_bytes)));
-      new_is = renumbered_next form body new at place id within next written ∙ (ap (λ i. (take at body ++ replicate next.padding 0) ++ (bytes_under form element i ++ next.after)) id_is
+      new_is = renumbered_next new id within next written ∙ (ap (λ i. (take at body ++ replicate next.padding 0) ++ (bytes_under form element i ++ next.after)) id_is
           ∙ (ap (λ b. (b ++ replicate next.padding 0) ++ (bytes ++ next.after)) front
           ∙ (append_assoc passed (replicate next.padding 0) (bytes ++ next.after)
           ∙ (ap (λ b. passed ++ b) (sym (append_assoc (replicate next.padding 0) bytes next.after))
@@ -119,7 +119,7 @@ HasOtherIdsTo-next form ids old body new at lost place id within was next id_is 
           ∙ ap (λ b. b ++ next.after) (sym new_bytes))))));
       at_is = omega (
         arith,
-        end_next form body passed at place was.at_is next,
+        end_next passed was.at_is next,
         length-append passed (replicate next.padding 0 ++ element_bytes form element),
         length-append (replicate next.padding 0) (element_bytes form element),
         ap length new_bytes,
@@ -127,16 +127,16 @@ HasOtherIdsTo-next form ids old body new at lost place id within was next id_is 
         length-append (replicate next.padding 0) bytes,
         length-under form element (ids place.id),
       );
-      lost_is = lost_next ids was.pieces next.padding element lost id id_is was.lost_is;
+      lost_is = lost_next ids was.pieces next.padding element id_is was.lost_is;
       others = All-tail (λ (e : Element). IsElement form e → CanRenumber form ids e) element (elements_left form next.after)
-          (can-next form ids old body at lost place was next);
+          (can-next was next);
     }
 
 -- ---- where reading ends
 
-pub HasOtherIdsTo-end : (form : ExtensionsForm) (ids : ℕ → Option ℕ) (old body : List ℕ) (at : ℕ) (lost : Bool) → HasOtherIdsTo form ids old body at lost
+pub HasOtherIdsTo-end : {form : ExtensionsForm} {ids : ℕ → Option ℕ} {old body : List ℕ} {at : ℕ} {lost : Bool} → HasOtherIdsTo form ids old body at lost
     → BeginsWithNoElement form (drop at body) → ChangesIds form ids old body
-HasOtherIdsTo-end form ids old body at lost was none =
+HasOtherIdsTo-end {form} {ids} {at} was none =
     let left_is : was.left ≡ replicate none.padding 0 ++ none.tail =
     sym (ap (drop at) was.new_is ∙ drop_at (flat_map (renumbered_bytes form ids) was.pieces) was.left at (sym was.at_is)) ∙ none.bytes_are in
     let bytes : (f : Option Element → List ℕ) → f None ≡ 0 ∷ [] → flat_map f was.pieces ++ was.left ≡ flat_map f (was.pieces ++ pieces_of_padding none.padding) ++ none.tail =
@@ -154,13 +154,13 @@ HasOtherIdsTo-end form ids old body at lost was none =
     }
 
 -- whether one of the elements that the body had is padding
-pub lost-end : (form : ExtensionsForm) (ids : ℕ → Option ℕ) (old body : List ℕ) (at : ℕ) (lost : Bool) (elements : List Element) → HasOtherIdsTo form ids old body at lost
+pub lost-end : {form : ExtensionsForm} {ids : ℕ → Option ℕ} {old body : List ℕ} {at : ℕ} {lost : Bool} {elements : List Element} → HasOtherIdsTo form ids old body at lost
     → BeginsWithNoElement form (drop at body) → AreElements form old elements → lost ≡ list_any (λ (e : Element). is_none (ids e.0)) elements
-lost-end form ids old body at lost elements was none are =
+lost-end {form} {ids} {old} {at} {elements} was none are =
     let had : List Element = filter_map (λ piece. piece) was.pieces in
     let left : AreElements form was.left [] =
     subst (λ b. AreElements form b []) (ap (drop at) was.new_is ∙ drop_at (flat_map (renumbered_bytes form ids) was.pieces) was.left at (sym was.at_is))
-    (AreElements-none form (drop at body) none) in
+    (AreElements-none none) in
     let all : AreElements form old (had ++ []) =
     subst (λ b. AreElements form b (had ++ [])) (sym was.old_is)
     (AreElements-after form (flat_map (piece_bytes form) was.pieces) was.left had []
@@ -182,28 +182,26 @@ AreWhole-renumbered : (form : ExtensionsForm) (ids : ℕ → Option ℕ) (pieces
     → All (λ element. IsElement form element → CanRenumber form ids element) (filter_map (λ piece. piece) pieces)
     → AreWhole form (flat_map (renumbered_bytes form ids) pieces) (filter_map (renumbered ids) (filter_map (λ piece. piece) pieces))
 AreWhole-renumbered form ids [] are can = AreWhole-nil form
-AreWhole-renumbered form ids (None ∷ pieces) are can =
-    AreWhole-append form (0 ∷ []) (flat_map (renumbered_bytes form ids) pieces) [] (filter_map (renumbered ids) (filter_map (λ piece. piece) pieces))
+AreWhole-renumbered form ids (None ∷ pieces) are can = AreWhole-append
     (AreWhole-zeros form 1) (AreWhole-renumbered form ids pieces are.1 can)
 AreWhole-renumbered form ids (Some element ∷ pieces) are can =
     let rest : List Element = filter_map (λ piece. piece) pieces in
     let here : CanRenumber form ids element = All-head (λ (e : Element). IsElement form e → CanRenumber form ids e) element rest can are.0 in
     subst (AreWhole form (bytes_under form element (ids element.0) ++ flat_map (renumbered_bytes form ids) pieces))
     (sym (filter_map-append (renumbered ids) (element ∷ []) rest))
-    (AreWhole-append form (bytes_under form element (ids element.0)) (flat_map (renumbered_bytes form ids) pieces) (filter_map (renumbered ids) (element ∷ []))
-    (filter_map (renumbered ids) rest) (CanRenumber-piece form ids element (ids element.0) here refl)
+    (AreWhole-append (CanRenumber-piece form ids element (ids element.0) here refl)
     (AreWhole-renumbered form ids pieces are.1 (All-tail (λ (e : Element). IsElement form e → CanRenumber form ids e) element rest can)))
 
 -- the elements that the body had
-AreElements-had : (form : ExtensionsForm) (ids : ℕ → Option ℕ) (old new : List ℕ) (has : ChangesIds form ids old new) → AreElements form old (filter_map (λ piece. piece) has.pieces)
-AreElements-had form ids old new has =
+AreElements-had : {form : ExtensionsForm} {ids : ℕ → Option ℕ} {old new : List ℕ} (has : ChangesIds form ids old new) → AreElements form old (filter_map (λ piece. piece) has.pieces)
+AreElements-had has =
     record { pieces = has.pieces; tail = has.tail; are_pieces = has.are_pieces; is_tail = has.is_tail; body_is = has.old_is; elements_are = refl }
 
-pub AreElements-renumbered : (form : ExtensionsForm) (ids : ℕ → Option ℕ) (old new : List ℕ) (elements : List Element) → ChangesIds form ids old new → AreElements form old elements
+pub AreElements-renumbered : {form : ExtensionsForm} {ids : ℕ → Option ℕ} {old new : List ℕ} {elements : List Element} → ChangesIds form ids old new → AreElements form old elements
     → All (λ element. IsElement form element → CanRenumber form ids element) elements → AreElements form new (filter_map (renumbered ids) elements)
-AreElements-renumbered form ids old new elements has are can =
+AreElements-renumbered {form} {ids} {old} {elements} has are can =
     let had : List Element = filter_map (λ piece. piece) has.pieces in
-    let same : elements ≡ had = AreElements-same form old elements had are (AreElements-had form ids old new has) in
+    let same : elements ≡ had = AreElements-same form old elements had are (AreElements-had has) in
     let whole : AreWhole form (flat_map (renumbered_bytes form ids) has.pieces) (filter_map (renumbered ids) had) =
     AreWhole-renumbered form ids has.pieces has.are_pieces (subst (All (λ element. IsElement form element → CanRenumber form ids element)) same can) in
     let none : AreElements form has.tail [] =
@@ -268,9 +266,9 @@ unchanged_pieces form id (Some element ∷ pieces) none =
     ap (λ i. bytes_under form element i ++ flat_map (renumbered_bytes form (all_but id)) pieces) kept
     ∙ ap (λ b. element_bytes form element ++ b) (unchanged_pieces form id pieces both.1)
 
-pub unchanged-all_but : (form : ExtensionsForm) (id : ℕ) (old new : List ℕ) (lost : Bool) → ChangesIds form (all_but id) old new
+pub unchanged-all_but : {form : ExtensionsForm} (id : ℕ) {old new : List ℕ} (lost : Bool) → ChangesIds form (all_but id) old new
     → ((elements : List Element) → AreElements form old elements → lost ≡ list_any (λ (e : Element). is_none (all_but id e.0)) elements) → OnFalse lost (new ≡ old)
-unchanged-all_but form id old new true has lost_is = tt
-unchanged-all_but form id old new false has lost_is =
-    has.new_is ∙ (ap (λ b. b ++ has.tail) (unchanged_pieces form id has.pieces (sym (lost_is (filter_map (λ piece. piece) has.pieces) (AreElements-had form (all_but id) old new has))))
+unchanged-all_but id true has lost_is = tt
+unchanged-all_but {form} id false has lost_is =
+    has.new_is ∙ (ap (λ b. b ++ has.tail) (unchanged_pieces form id has.pieces (sym (lost_is (filter_map (λ piece. piece) has.pieces) (AreElements-had has))))
     ∙ sym has.old_is)

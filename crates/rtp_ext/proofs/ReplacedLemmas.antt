@@ -3,12 +3,12 @@ use Rattle.rtp_ext.proofs.Common.{◌≡◌, ◌≢◌, ℕ, ◌+◌, ◌-◌, �
 use Rattle.rtp_ext.proofs.MapLemmas.{entry_at-slot, entry_at-other}
 
 -- what stands there
-pub Puts-replaced : (slots shown : Slots) (k id : ℕ) (put new : Option Entry) → slots ≡ shown → k + 1 ≡ id → k < length slots → put ≡ new
+pub Puts-replaced : (slots shown : Slots) (k : ℕ) {id : ℕ} (put new : Option Entry) → slots ≡ shown → k + 1 ≡ id → k < length slots → put ≡ new
     → Puts shown (set slots k put) id new
-Puts-replaced slots shown k id put new same index here is =
+Puts-replaced slots shown k {id} put new same index here is =
     subst (λ (s : Slots). Puts s (set slots k put) id new) same (record {
       this = entry_at-slot (set slots k put) k id index ∙ get_or-set_same slots k put None here ∙ is;
-      others = entry_at-other slots (set slots k put) k id index (λ j apart. get_or-set_other slots k j put None apart);
+      others = entry_at-other slots (set slots k put) k index (λ j apart. get_or-set_other slots k j put None apart);
     })
 
 -- ---- two entries that are exchanged
@@ -21,9 +21,9 @@ pub half_swapped_length : (slots : Slots) (i j : ℕ) → length (half_swapped s
 half_swapped_length slots i j = length-set slots i (get_or slots j None)
 
 -- the table of the known kinds has followed
-pub swapped_known : (slots table after : Slots) (i j from to : ℕ) → table ≡ known_slots slots → i + 1 ≡ from → j + 1 ≡ to
+pub swapped_known : (slots : Slots) {table after : Slots} (i j : ℕ) {from to : ℕ} → table ≡ known_slots slots → i + 1 ≡ from → j + 1 ≡ to
     → i < length slots → j < length slots → after ≡ swap table (from - 1) (to - 1) → after ≡ known_slots (swap slots i j)
-swapped_known slots table after i j from to in_step index next here there swapped =
+swapped_known slots i j {from} {to} in_step index next here there swapped =
     let first : from - 1 ≡ i = omega (arith, index) in
     let second : to - 1 ≡ j = omega (arith, next) in
     swapped ∙ ap (λ (t : Slots). swap t (from - 1) (to - 1)) in_step
@@ -36,9 +36,9 @@ swapped_known slots table after i j from to in_step index next here there swappe
     ∙ ap known_slots (swap_is slots i j None here there)
 
 -- the entries stand in each other's place
-pub Swaps-swapped : (slots shown : Slots) (i j from to : ℕ) → slots ≡ shown → i + 1 ≡ from → j + 1 ≡ to → from ≢ to → i < length slots → j < length slots
+pub Swaps-swapped : (slots shown : Slots) (i j : ℕ) {from to : ℕ} → slots ≡ shown → i + 1 ≡ from → j + 1 ≡ to → from ≢ to → i < length slots → j < length slots
     → Swaps shown (swap slots i j) from to
-Swaps-swapped slots shown i j from to same index next apart here there =
+Swaps-swapped slots shown i j {from} {to} same index next apart here there =
     subst (λ (s : Slots). Swaps s (swap slots i j) from to) same
     (subst (λ (s : Slots). Swaps slots s from to) (swap_is slots i j None here there) (record {
       here = second.others from apart ∙ first.this ∙ sym (entry_at-slot slots j to next);
@@ -47,11 +47,11 @@ Swaps-swapped slots shown i j from to same index next apart here there =
     }))
   where
     first : Puts slots (half_swapped slots i j) from (get_or slots j None)
-    first = Puts-replaced slots slots i from (get_or slots j None) (get_or slots j None) refl index here refl
+    first = Puts-replaced slots slots i (get_or slots j None) (get_or slots j None) refl index here refl
 
     second : Puts (half_swapped slots i j) (set (half_swapped slots i j) j (get_or slots i None)) to (get_or slots i None)
     second =
-        Puts-replaced (half_swapped slots i j) (half_swapped slots i j) j to (get_or slots i None) (get_or slots i None) refl next
+        Puts-replaced (half_swapped slots i j) (half_swapped slots i j) j (get_or slots i None) (get_or slots i None) refl next
         (omega (arith, there, half_swapped_length slots i j)) refl
 
 -- ---- an entry that is locked
@@ -69,16 +69,16 @@ map-set_alike f [] k y same = refl
 map-set_alike f (x ∷ xs) zero y same = ap (λ (z : Option Entry). z ∷ map f xs) same
 map-set_alike f (x ∷ xs) (suc k) y same = ap (λ (zs : Slots). f x ∷ zs) (map-set_alike f xs k y same)
 
-pub locked_in_step : (slots table : Slots) (k : ℕ) (put seen : Option Entry) → table ≡ known_slots slots → k < length slots
+pub locked_in_step : (slots : Slots) {table : Slots} (k : ℕ) {put : Option Entry} (seen : Option Entry) → table ≡ known_slots slots → k < length slots
     → put ≡ option_map (λ entry. locked entry.extension) (get_or slots k seen) → table ≡ known_slots (set slots k put)
 unfolding lock_of
-locked_in_step slots table k put seen in_step here is =
+locked_in_step slots k {put} seen in_step here is =
     let locked_is : put ≡ lock_of (get_or slots k None) = is ∙ ap lock_of (sym (get_or_default slots k None seen here)) in
     in_step ∙ sym (map-set_alike known_entry slots k put (ap known_entry locked_is ∙ known_locked (get_or slots k None)))
 
-pub Puts-locked : (slots shown : Slots) (k id : ℕ) (put seen : Option Entry) → slots ≡ shown → k + 1 ≡ id → k < length slots
+pub Puts-locked : (slots shown : Slots) (k : ℕ) {id : ℕ} {put : Option Entry} (seen : Option Entry) → slots ≡ shown → k + 1 ≡ id → k < length slots
     → put ≡ option_map (λ entry. locked entry.extension) (get_or slots k seen)
     → Puts shown (set slots k put) id (option_map (λ entry. locked entry.extension) (entry_at shown id))
-Puts-locked slots shown k id put seen same index here is =
-    Puts-replaced slots shown k id put _ same index here
+Puts-locked slots shown k {id} {put} seen same index here is =
+    Puts-replaced slots shown k put _ same index here
     (is ∙ ap (option_map (λ entry. locked entry.extension)) (sym (get_or_default slots k None seen here) ∙ sym (entry_at-slot slots k id index) ∙ ap (λ (s : Slots). entry_at s id) same))

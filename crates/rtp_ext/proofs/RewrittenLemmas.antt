@@ -9,9 +9,9 @@ use Rattle.rtp_ext.proofs.AroundLemmas.{IsSplit, IsSplit-surveyed}
 
 -- ---- what comes
 
-pub length-added : (form : ExtensionsForm) (comes : Option (ℕ × Bor (List ℕ))) (id : ℕ) (content : Bor (List ℕ)) (header : ℕ) → comes ≡ Some (id, content)
+pub length-added : (form : ExtensionsForm) {comes : Option (ℕ × Bor (List ℕ))} (id : ℕ) (content : Bor (List ℕ)) {header : ℕ} → comes ≡ Some (id, content)
     → header ≡ length (element_header form id (length content.now)) → header + length content.now ≡ length (elements_bytes form (elements_added comes))
-length-added form comes id content header is header-is =
+length-added form {comes} id content is header-is =
     let one : elements_bytes form (elements_added comes) ≡ element_bytes form (id, content.now) =
     ap (λ (a : Option (ℕ × Bor (List ℕ))). elements_bytes form (elements_added a)) is ∙ append-nil (element_bytes form (id, content.now)) in
     omega (arith, ap length one, length-element form id content.now, header-is)
@@ -20,9 +20,9 @@ header-few : (form : ExtensionsForm) (id : ℕ) (content : List ℕ) → IsWrita
 header-few OneByte id content is = let few = is.1 in omega arith
 header-few TwoByte id content is = let few = is.1 in omega arith
 
-pub few-added : (form : ExtensionsForm) (comes : Option (ℕ × Bor (List ℕ))) (id : ℕ) (content : Bor (List ℕ)) (header : ℕ) → comes ≡ Some (id, content)
+pub few-added : (form : ExtensionsForm) {comes : Option (ℕ × Bor (List ℕ))} (id : ℕ) (content : Bor (List ℕ)) {header : ℕ} → comes ≡ Some (id, content)
     → header ≡ length (element_header form id (length content.now)) → IfSome comes (λ element. IsWritable form (element.0, element.1.now)) → header + length content.now ≤ 257
-few-added form comes id content header is header-is writable =
+few-added form id content is header-is writable =
     omega (arith, header-is, header-few form id content.now (subst (λ (a : Option (ℕ × Bor (List ℕ))). IfSome a (λ element. IsWritable form (element.0, element.1.now))) is writable))
 
 pub added-each : (form : ExtensionsForm) (comes : Option (ℕ × Bor (List ℕ))) → IfSome comes (λ element. IsWritable form (element.0, element.1.now)) → AllByRecursion (IsWritable form) (elements_added comes)
@@ -45,8 +45,8 @@ rewritten-stays P id comes elements all = subst (AllByRecursion P) (others-witho
 
 -- ---- elements whose form stays, or of which there are none
 
-pub others-writable : (form : ExtensionsForm) (id : ℕ) (body : List ℕ) (elements : List Element) → AreElements form body elements → AllByRecursion (IsWritable form) (others id elements)
-others-writable form id body elements are =
+pub others-writable : {form : ExtensionsForm} (id : ℕ) {body : List ℕ} {elements : List Element} → AreElements form body elements → AllByRecursion (IsWritable form) (others id elements)
+others-writable {form} id {body} {elements} are =
     subst (AllByRecursion (IsWritable form)) (sym (others-twice id elements))
     (writable_without form (without id elements) (without-each (IsElement form) id elements (AreElements-each form body elements are)))
 
@@ -65,10 +65,10 @@ stays-writable form new_form elements (inl same) all = subst (λ (f : Extensions
 stays-writable form new_form [] (inr none) all = tt
 stays-writable form new_form (element ∷ elements) (inr none) all = absurd (no_bytes form element elements none)
 
-stays-rows : (form new_form : ExtensionsForm) (xs ys : List Element) (body : List ℕ) (front at count : ℕ) → (new_form ≡ form) ⊎ (length (elements_bytes form (xs ++ ys)) ≡ 0)
+stays-rows : {form : ExtensionsForm} (new_form : ExtensionsForm) {xs ys : List Element} {body : List ℕ} {front at count : ℕ} → (new_form ≡ form) ⊎ (length (elements_bytes form (xs ++ ys)) ≡ 0)
     → StandInRows form xs ys body front at count → StandInRows new_form xs ys body front at count
-stays-rows form new_form xs ys body front at count (inl same) rows = subst (λ (f : ExtensionsForm). StandInRows f xs ys body front at count) (sym same) rows
-stays-rows form new_form xs ys body front at count (inr none) rows =
+stays-rows new_form {xs} {ys} {body} {front} {at} {count} (inl same) rows = subst (λ (f : ExtensionsForm). StandInRows f xs ys body front at count) (sym same) rows
+stays-rows {form} new_form {xs} {ys} (inr none) rows =
     let xs-are = stays-bytes form new_form xs (inr (omega (arith, none, length-both form xs ys))) in
     let ys-are = stays-bytes form new_form ys (inr (omega (arith, none, length-both form xs ys))) in
     record {
@@ -86,7 +86,7 @@ module _ (form new_form : ExtensionsForm) (body body1 : List ℕ) (body_len id :
     (is : IsSurvey form (take body_len body) id survey) (start_is : start ≡ start_around id survey.end survey.last) (end_is : end ≡ end_around id survey.end survey.last)
     (g : HasRows form id body body1 start end body_len front count) where
   split : IsSplit form id (take body_len body) start end
-  split = IsSplit-surveyed form (take body_len body) id survey start end is start_is end_is
+  split = IsSplit-surveyed is start_is end_is
 
   start_within : start ≤ body_len
   start_within = let a = split.order in let b = split.within in omega (arith, length-take-le body_len body within)
@@ -113,7 +113,7 @@ module _ (form new_form : ExtensionsForm) (body body1 : List ℕ) (body_len id :
 
   -- their form stays, or there are none
   pub rows-stay : (new_form ≡ form) ⊎ (survey.others_len ≡ 0) → StandInRows new_form (others id g.before) (others id g.after) body1 front end count
-  rows-stay stays = stays-rows form new_form (others id g.before) (others id g.after) body1 front end count (either stays) g.rows
+  rows-stay stays = stays-rows new_form (either stays) g.rows
     where
       either : (new_form ≡ form) ⊎ (survey.others_len ≡ 0) → (new_form ≡ form) ⊎ (length (elements_bytes form (others id g.before ++ others id g.after)) ≡ 0)
       either (inl same) = inl same
@@ -145,8 +145,8 @@ module _ (form new_form : ExtensionsForm) (body body1 : List ℕ) (body_len id :
     rows_for other same = record {
       before = others id g.before;
       after = others id g.after;
-      are_before = others-writable form id (take start body) g.before g.are_before;
-      are_after = others-writable form id (slice_range body end body_len) g.after g.are_after;
+      are_before = others-writable id g.are_before;
+      are_after = others-writable id g.are_after;
       before_carried = subst (λ (f : ExtensionsForm). AllByRecursion (IsWritable f) (others id g.before)) same carried.0;
       after_carried = subst (λ (f : ExtensionsForm). AllByRecursion (IsWritable f) (others id g.after)) same carried.1;
       rows = g.rows;
@@ -154,7 +154,7 @@ module _ (form new_form : ExtensionsForm) (body body1 : List ℕ) (body_len id :
     }
 
 -- what comes stands between them
-module _ (form : ExtensionsForm) (xs comes ys all : List Element) (body : List ℕ) (front at count : ℕ) (is : all ≡ xs ++ (comes ++ ys)) (rows : StandInRows form xs ys body front at count) where
+module _ {form : ExtensionsForm} {xs : List Element} (comes : List Element) {ys all : List Element} {body : List ℕ} {front at count : ℕ} (is : all ≡ xs ++ (comes ++ ys)) (rows : StandInRows form xs ys body front at count) where
   pub len-between : front + length (elements_bytes form comes) + count ≡ length (elements_bytes form all)
   len-between =
       omega (arith, rows.front_len, rows.count_is, ap (λ es. length (elements_bytes form es)) is, length-both form xs (comes ++ ys), length-both form comes ys)

@@ -78,12 +78,12 @@ written_before TwoByte TwoByte id bytes more end at behind fits = omega (arith, 
 written_before TwoByte OneByte id bytes more end at behind fits = omega (arith, behind)
 written_before OneByte TwoByte id bytes more end at behind fits = omega (arith, fits, length-two more)
 
-carried_in : (form : ExtensionsForm) (id n : ℕ) (bytes : List ℕ) → n ≡ length bytes → IsWritable form (id, bytes) → form ≡ OneByte → (id ≤ 14) × (1 ≤ n) × (n ≤ 16)
-carried_in OneByte id n bytes count is same = (omega arith, omega arith, omega arith)
-carried_in TwoByte id n bytes count is same = cc same
+carried_in : (form : ExtensionsForm) (id : ℕ) {n : ℕ} (bytes : List ℕ) → n ≡ length bytes → IsWritable form (id, bytes) → form ≡ OneByte → (id ≤ 14) × (1 ≤ n) × (n ≤ 16)
+carried_in OneByte id bytes count is same = (omega arith, omega arith, omega arith)
+carried_in TwoByte id bytes count is same = cc same
 
-pub ChangesRowTo-start : (form new_form : ExtensionsForm) (room : List ℕ) (len : ℕ) → IsRowFor form new_form room len → ChangesRowTo form new_form room room len (length room - len) 0
-ChangesRowTo-start form new_form room len is = record {
+pub ChangesRowTo-start : {form new_form : ExtensionsForm} {room : List ℕ} {len : ℕ} → IsRowFor form new_form room len → ChangesRowTo form new_form room room len (length room - len) 0
+ChangesRowTo-start {room} {len} is = record {
   passed = [];
   left = is.elements;
   are_passed = tt;
@@ -129,7 +129,7 @@ module _ (form new_form : ExtensionsForm) (old room : List ℕ) (len at end : �
   in_room = omega (arith, was.at_is, left_len form, next.end_is, data_at)
 
   pub carried : new_form ≡ OneByte → (place.id ≤ 14) × (1 ≤ place.end - place.data_start) × (place.end - place.data_start ≤ 16)
-  carried = carried_in new_form place.id (place.end - place.data_start) next.bytes count (subst (AllByRecursion (IsWritable new_form)) first.left_is was.are_carried).0
+  carried = carried_in new_form place.id next.bytes count (subst (AllByRecursion (IsWritable new_form)) first.left_is was.are_carried).0
 
   split : drop at room ≡ header form ++ (next.bytes ++ next.after)
   split =
@@ -171,12 +171,12 @@ module _ (form new_form : ExtensionsForm) (old room : List ℕ) (len at end : �
       }
 
 -- where reading ends
-pub ChangesRow-end : (form new_form : ExtensionsForm) (old room : List ℕ) (len at end : ℕ) → ChangesRowTo form new_form old room len at end → BeginsWithNoElement form (drop at room)
+pub ChangesRow-end : {form new_form : ExtensionsForm} {old room : List ℕ} {len at end : ℕ} → ChangesRowTo form new_form old room len at end → BeginsWithNoElement form (drop at room)
     → ChangesRow form new_form old room len end
-ChangesRow-end form new_form old room len at end was none =
+ChangesRow-end {form} {room} {at} was none =
     let nothing : was.left ≡ [] =
     AreElements-same form (drop at room) was.left [] (subst (λ b. AreElements form b was.left) (sym was.left_is) (row-read form was.left (each_element form was.left was.are_left)))
-    (AreElements-none form (drop at room) none) in
+    (AreElements-none none) in
     record {
       elements = was.passed;
       are_writable = was.are_passed;

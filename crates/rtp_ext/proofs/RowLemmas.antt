@@ -55,7 +55,7 @@ row_is form id (Some element ∷ pieces) long = by_test (goes id element) long (
           length-append (element_bytes form element) (elements_bytes form (others id (filter_map (λ piece. piece) pieces))),
         )))
 
-module _ (form : ExtensionsForm) (id : ℕ) (bytes : List ℕ) (elements : List Element) (whole : AreWhole form bytes elements) where
+module _ {form : ExtensionsForm} (id : ℕ) {bytes : List ℕ} {elements : List Element} (whole : AreWhole form bytes elements) where
   whole_within : length (elements_bytes form (others id elements)) ≤ length bytes
   unfolding row_of
   whole_within =
@@ -81,9 +81,9 @@ record AreRows (form : ExtensionsForm) (id : ℕ) (bytes : List ℕ) (start end 
   pub order : start ≤ end
   pub within : end ≤ length bytes
 
-rows_of_none : (form : ExtensionsForm) (id : ℕ) (bytes : List ℕ) (elements : List Element) → AreWhole form bytes elements
+rows_of_none : {form : ExtensionsForm} (id : ℕ) {bytes : List ℕ} {elements : List Element} → AreWhole form bytes elements
     → length (elements_bytes form (others id elements)) ≡ length bytes → AreRows form id bytes (length bytes) (length bytes)
-rows_of_none form id bytes elements whole row =
+rows_of_none {form} id {bytes} {elements} whole row =
     let all : take (length bytes) bytes ≡ bytes = take_all (length bytes) bytes (omega arith) in
     let nothing : drop (length bytes) bytes ≡ [] = drop_all (length bytes) bytes (omega arith) in
     record {
@@ -91,30 +91,30 @@ rows_of_none form id bytes elements whole row =
       after = [];
       front_whole = subst (λ b. AreWhole form b elements) (sym all) whole;
       rest_whole = subst (λ b. AreWhole form b []) (sym nothing) (AreWhole-nil form);
-      front_is = all ∙ whole_is form id bytes elements whole (omega arith);
+      front_is = all ∙ whole_is id whole (omega arith);
       rest_is = nothing;
       order = omega arith;
       within = omega arith;
     }
 
-rows_of_last : (form : ExtensionsForm) (id : ℕ) (bytes : List ℕ) (elements : List Element) (place : Place) → AreWhole form bytes elements → place.id ≡ id
+rows_of_last : {form : ExtensionsForm} {id : ℕ} {bytes : List ℕ} {elements : List Element} {place : Place} → AreWhole form bytes elements → place.id ≡ id
     → LiesLast form (AreWhole form) id bytes place → length (elements_bytes form (others id elements)) + (place.end - place.start) ≡ length bytes
     → AreRows form id bytes place.start place.end
-rows_of_last form id bytes elements place whole id_is is row =
+rows_of_last {form} {id} {bytes} {elements} {place} whole id_is is row =
     let element : Element = (place.id, is.lies.bytes) in
     let here : List ℕ = element_bytes form (place.id, is.lies.bytes) in
     let split : bytes ≡ (is.lies.front ++ here) ++ is.lies.after = is.lies.body_is ∙ sym (append_assoc is.lies.front here is.lies.after) in
     let front : take place.start bytes ≡ is.lies.front = ap (take place.start) is.lies.body_is ∙ take_at is.lies.front (here ++ is.lies.after) place.start (sym is.lies.start_is) in
-    let here_len = length-lies form bytes place is.lies in
+    let here_len = length-lies is.lies in
     let end : length (is.lies.front ++ here) ≡ place.end = omega (arith, is.lies.start_is, length-append is.lies.front here) in
     let rest : drop place.end bytes ≡ is.lies.after = ap (drop place.end) split ∙ drop_at (is.lies.front ++ here) is.lies.after place.end end in
     let parts : AreWhole form bytes ((is.before ++ (place.id, is.lies.bytes) ∷ []) ++ is.after) =
     subst (λ b. AreWhole form b ((is.before ++ (place.id, is.lies.bytes) ∷ []) ++ is.after)) (sym split)
-    (AreWhole-append form (is.lies.front ++ here) is.lies.after (is.before ++ (place.id, is.lies.bytes) ∷ []) is.after
-    (AreWhole-append form is.lies.front here is.before ((place.id, is.lies.bytes) ∷ []) is.whole (AreWhole-element form (place.id, is.lies.bytes) is.lies.is_element)) is.left) in
+    (AreWhole-append
+    (AreWhole-append is.whole (AreWhole-element form (place.id, is.lies.bytes) is.lies.is_element)) is.left) in
     let same : elements ≡ (is.before ++ (place.id, is.lies.bytes) ∷ []) ++ is.after =
     AreElements-same form bytes elements ((is.before ++ (place.id, is.lies.bytes) ∷ []) ++ is.after)
-    (AreElements-whole form bytes elements whole) (AreElements-whole form bytes ((is.before ++ (place.id, is.lies.bytes) ∷ []) ++ is.after) parts) in
+    (AreElements-whole whole) (AreElements-whole parts) in
     let kept : others id elements ≡ others id is.before ++ others id is.after =
     ap (others id) same ∙ (filter-append (λ (e : Element). not (goes id e)) (is.before ++ (place.id, is.lies.bytes) ∷ []) is.after
     ∙ ap (λ es. es ++ others id is.after) (others-gone id is.before (place.id, is.lies.bytes) (goes-this id (place.id, is.lies.bytes) id_is))) in
@@ -122,51 +122,51 @@ rows_of_last form id bytes elements place whole id_is is row =
     ap (λ es. length (elements_bytes form es)) kept ∙ (ap length (elements_bytes-append form (others id is.before) (others id is.after))
     ∙ length-append (elements_bytes form (others id is.before)) (elements_bytes form (others id is.after))) in
     let total = length-append (is.lies.front ++ here) is.lies.after in
-    let few_before = whole_within form id is.lies.front is.before is.whole in
-    let few_after = whole_within form id is.lies.after is.after is.left in
+    let few_before = whole_within id is.whole in
+    let few_after = whole_within id is.left in
     let start_is = is.lies.start_is in
     record {
       before = is.before;
       after = is.after;
       front_whole = subst (λ b. AreWhole form b is.before) (sym front) is.whole;
       rest_whole = subst (λ b. AreWhole form b is.after) (sym rest) is.left;
-      front_is = front ∙ whole_is form id is.lies.front is.before is.whole (omega (arith, ap length split));
-      rest_is = rest ∙ whole_is form id is.lies.after is.after is.left (omega (arith, ap length split));
+      front_is = front ∙ whole_is id is.whole (omega (arith, ap length split));
+      rest_is = rest ∙ whole_is id is.left (omega (arith, ap length split));
       order = omega arith;
       within = omega (arith, ap length split);
     }
 
-rows_read : (form : ExtensionsForm) (id : ℕ) (bytes : List ℕ) (elements : List Element) (last : Option Place) (start end : ℕ) → AreWhole form bytes elements
+rows_read : {form : ExtensionsForm} (id : ℕ) {bytes : List ℕ} {elements : List Element} (last : Option Place) {start end : ℕ} → AreWhole form bytes elements
     → IsLastOrNone form id bytes elements last → start ≡ start_around id (length bytes) last → end ≡ end_around id (length bytes) last
     → length (elements_bytes form (others id elements)) + (end - start) ≡ length bytes → AreRows form id bytes start end
-rows_read form id bytes elements None start end whole is start_is end_is row =
+rows_read {form} id {bytes} None {end} whole is start_is end_is row =
     subst (λ (s : ℕ). AreRows form id bytes s end) (sym start_is) (subst (λ (e : ℕ). AreRows form id bytes (length bytes) e) (sym end_is)
-    (rows_of_none form id bytes elements whole (omega arith)))
-rows_read form id bytes elements (Some place) start end whole is start_is end_is row = by_test (id == 0) start_is end_is
+    (rows_of_none id whole (omega arith)))
+rows_read {form} id {bytes} (Some place) {start} {end} whole is start_is end_is row = by_test (id == 0) start_is end_is
   where
     by_test : (b : Bool) → start ≡ cond b (length bytes) place.start → end ≡ cond b (length bytes) place.end → AreRows form id bytes start end
     by_test true start_is end_is =
         subst (λ (s : ℕ). AreRows form id bytes s end) (sym start_is) (subst (λ (e : ℕ). AreRows form id bytes (length bytes) e) (sym end_is)
-        (rows_of_none form id bytes elements whole (omega arith)))
+        (rows_of_none id whole (omega arith)))
     by_test false start_is end_is =
         subst (λ (s : ℕ). AreRows form id bytes s end) (sym start_is) (subst (λ (e : ℕ). AreRows form id bytes place.start e) (sym end_is)
-        (rows_of_last form id bytes elements place whole is.0 is.1 (omega arith)))
+        (rows_of_last whole is.0 is.1 (omega arith)))
 
 -- ---- a body at the front of a slice
 
-pub HasRows-already : (form : ExtensionsForm) (id : ℕ) (body : List ℕ) (body_len : ℕ) (survey : Survey) (start end : ℕ) → body_len ≤ length body
+pub HasRows-already : {form : ExtensionsForm} {id : ℕ} (body : List ℕ) (body_len : ℕ) {survey : Survey} {start end : ℕ} → body_len ≤ length body
     → IsSurvey form (take body_len body) id survey → start ≡ start_around id survey.end survey.last → end ≡ end_around id survey.end survey.last
     → survey.others_len + (end - start) ≡ survey.end
     → HasRows form id body body start end body_len start (survey.end - end)
-HasRows-already form id body body_len survey start end within is start_is end_is row =
+HasRows-already {form} {id} body body_len {survey} {start} {end} within is start_is end_is row =
     let read : List ℕ = is.read.passed in
     let long : survey.end ≡ length is.read.passed = is.read.at_is in
-    let rows = rows_read form id is.read.passed is.elements survey.last start end (read_whole form (take body_len body) id survey is)
+    let rows = rows_read id survey.last (read_whole is)
     (subst (λ es. IsLastOrNone form id is.read.passed es survey.last) is.all_read is.read.last_is)
     (subst (λ (n : ℕ). start ≡ start_around id n survey.last) long start_is) (subst (λ (n : ℕ). end ≡ end_around id n survey.last) long end_is) (omega (arith, is.others_are)) in
     let order = rows.order in
     let end_within = rows.within in
-    let read_few = read_within form (take body_len body) id survey is in
+    let read_few = read_within is in
     let few : survey.end ≤ body_len = omega (arith, length-take-le body_len body within) in
     let front : take start body ≡ take start is.read.passed =
     sym (take-take start body_len body (omega arith)) ∙ (ap (take start) is.read.body_is ∙ take-append-le start is.read.passed is.read.left (omega arith)) in
@@ -174,7 +174,7 @@ HasRows-already form id body body_len survey start end within is start_is end_is
     let rest : slice_range body end body_len ≡ drop end is.read.passed ++ is.read.left =
     sym (ap (λ (n : ℕ). drop end (take n body)) k ∙ drop-take end (body_len - end) body)
     ∙ (ap (drop end) is.read.body_is ∙ drop-append-le end is.read.passed is.read.left end_within) in
-    let all : take survey.end body ≡ is.read.passed = sym (take-take survey.end body_len body few) ∙ read_front form (take body_len body) id survey is in
+    let all : take survey.end body ≡ is.read.passed = sym (take-take survey.end body_len body few) ∙ read_front is in
     let m : survey.end ≡ end + (survey.end - end) = omega arith in
     let part : slice_range body end (end + (survey.end - end)) ≡ drop end is.read.passed =
     ap (λ (n : ℕ). take n (drop end body)) (omega arith)
@@ -182,7 +182,7 @@ HasRows-already form id body body_len survey start end within is start_is end_is
     record {
       before = rows.before;
       after = rows.after;
-      are_before = subst (λ b. AreElements form b rows.before) (sym front) (AreElements-whole form (take start is.read.passed) rows.before rows.front_whole);
+      are_before = subst (λ b. AreElements form b rows.before) (sym front) (AreElements-whole rows.front_whole);
       are_after = subst (λ b. AreElements form b rows.after) (sym rest)
           (subst (AreElements form (drop end is.read.passed ++ is.read.left)) (append-nil rows.after)
           (AreElements-after form (drop end is.read.passed) is.read.left rows.after [] rows.rest_whole is.none_left));

@@ -144,7 +144,7 @@ module _ (form new_form : ExtensionsForm) (id : ℕ) (body : List ℕ) (at len :
   all_passed : elements ≡ was.passed
   all_passed =
       AreElements-only form body elements are ∙ was.elements_are
-      ∙ ap (λ (es : List Element). was.passed ++ es) (sym (AreElements-only form (drop at body) [] (AreElements-none form (drop at body) none)))
+      ∙ ap (λ (es : List Element). was.passed ++ es) (sym (AreElements-only form (drop at body) [] (AreElements-none none)))
       ∙ append-nil was.passed
 
   pub row-length : len ≡ length (elements_bytes new_form (others id elements))

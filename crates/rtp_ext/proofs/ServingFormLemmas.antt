@@ -50,23 +50,22 @@ abbrev pub widest : Option ExtensionsForm → ExtensionsForm
 widest allowed = unwrap_or allowed TwoByte
 
 -- what the widest form can't carry isn't carried by the form that is given
-IsWritable-widest : (allowed : Option ExtensionsForm) (form : ExtensionsForm) (elements : List Element) (element : Element) → form ≡ widest allowed
+IsWritable-widest : (allowed : Option ExtensionsForm) {form : ExtensionsForm} (elements : List Element) (element : Element) → form ≡ widest allowed
     → (IsWritable form element → ⊥) → (form ≡ TwoByte → IsUnwritable element) → IsWritable (form_given allowed elements) element → ⊥
-IsWritable-widest None form elements element is bad neither carried = IsWritable-not (form_for elements) element carried (neither is)
-IsWritable-widest (Some only) form elements element is bad neither carried = bad (subst (λ (f : ExtensionsForm). IsWritable f element) (sym is) carried)
+IsWritable-widest None elements element is bad neither carried = IsWritable-not (form_for elements) element carried (neither is)
+IsWritable-widest (Some only) elements element is bad neither carried = bad (subst (λ (f : ExtensionsForm). IsWritable f element) (sym is) carried)
 
 -- one of the elements, where the widest form can't carry it
-pub AreNotWritableIn-one : (allowed : Option ExtensionsForm) (form : ExtensionsForm) (elements : List Element) (i : ℕ) (element : Element) (room : ℕ)
+pub AreNotWritableIn-one : (allowed : Option ExtensionsForm) {form : ExtensionsForm} (elements : List Element) (i : ℕ) (element : Element) (room : ℕ)
     → slice_get elements i ≡ Some element → form ≡ widest allowed → (IsWritable form element → ⊥) → (form ≡ TwoByte → IsUnwritable element)
     → AreNotWritableIn (form_given allowed elements) elements room
-AreNotWritableIn-one allowed form elements i element room here is bad neither =
-    unwritable (
-      i,
-      element,
-      slice_get_within elements i element here,
-      get_or_from_slice_get elements i element element here,
-      IsWritable-widest allowed form elements element is bad neither,
-    )
+AreNotWritableIn-one allowed elements i element room here is bad neither = unwritable (
+  i,
+  element,
+  slice_get_within elements i element here,
+  get_or_from_slice_get elements i element element here,
+  IsWritable-widest allowed elements element is bad neither,
+)
 
 AllByRecursion-given : (allowed : Option ExtensionsForm) (elements : List Element) → AllByRecursion (IsWritable (widest allowed)) elements
     → AllByRecursion (IsWritable (form_given allowed elements)) elements
@@ -130,10 +129,10 @@ pub record AreCounted (allowed : Option ExtensionsForm) (elements left : List El
   pub writable : AllByRecursion (IsWritable (widest allowed)) left → AllByRecursion (IsWritable (widest allowed)) elements
   pub within : rest ≤ room
 
-pub AreCounted-step : (allowed : Option ExtensionsForm) (elements left more : List Element) (element : Element) (form next : ExtensionsForm) (room rest rest' : ℕ) → left ≡ element ∷ more
+pub AreCounted-step : {allowed : Option ExtensionsForm} {elements left : List Element} (more : List Element) (element : Element) {form next : ExtensionsForm} {room rest rest' : ℕ} → left ≡ element ∷ more
     → IsWritable (widest allowed) element → next ≡ (if serves_one_byte element then form else TwoByte) → 1 + length element.1 ≤ rest → rest' ≡ rest - (1 + length element.1)
     → AreCounted allowed elements left form room rest → AreCounted allowed elements more next room rest'
-AreCounted-step allowed elements left more element form next room rest rest' split writable next-is fits rest-is before =
+AreCounted-step {allowed} {left} more element {form} split writable next-is fits rest-is before =
     let long : length (elements_bytes OneByte left) ≡ length (element_bytes OneByte element) + length (elements_bytes OneByte more) =
     ap (λ es. length (elements_bytes OneByte es)) split ∙ length-append (element_bytes OneByte element) (elements_bytes OneByte more) in
     record {
@@ -144,9 +143,9 @@ AreCounted-step allowed elements left more element form next room rest rest' spl
     }
 
 -- no room for the next one
-pub AreCounted-short : (allowed : Option ExtensionsForm) (elements left more : List Element) (element : Element) (form : ExtensionsForm) (room rest : ℕ) → left ≡ element ∷ more
+pub AreCounted-short : {allowed : Option ExtensionsForm} {elements left : List Element} (more : List Element) (element : Element) {form : ExtensionsForm} {room rest : ℕ} → left ≡ element ∷ more
     → (1 + length element.1 ≤ rest → ⊥) → AreCounted allowed elements left form room rest → AreNotWritableIn (form_given allowed elements) elements room
-AreCounted-short allowed elements left more element form room rest split short before =
+AreCounted-short {allowed} {elements} {left} more element split short before =
     let long : length (elements_bytes OneByte left) ≡ length (element_bytes OneByte element) + length (elements_bytes OneByte more) =
     ap (λ es. length (elements_bytes OneByte es)) split ∙ length-append (element_bytes OneByte element) (elements_bytes OneByte more) in
     short_room (omega (arith, before.bytes, before.within, long, length-one-le (form_given allowed elements) elements, short))
@@ -161,10 +160,10 @@ counted allowed elements left form room rest none are =
     )
 
 -- they fit where there is room for longer headers too
-pub AreCounted-fit : (allowed : Option ExtensionsForm) (elements left : List Element) (form : ExtensionsForm) (room rest more : ℕ) → left ≡ []
+pub AreCounted-fit : {allowed : Option ExtensionsForm} {elements left : List Element} {form : ExtensionsForm} {room rest : ℕ} (more : ℕ) → left ≡ []
     → AreCounted allowed elements left form room rest → length (elements_bytes form elements) ≡ length (elements_bytes OneByte elements) + more → more ≤ rest
     → (form ≡ form_given allowed elements) × AreWritableIn form elements room
-AreCounted-fit allowed elements left form room rest more none are longer fits =
+AreCounted-fit {allowed} {elements} {left} {form} {room} {rest} more none are longer fits =
     let all = counted allowed elements left form room rest none are in
     let bytes = are.bytes ∙ ap (λ (es : List Element). room + length (elements_bytes OneByte es)) none in (
       all.0,
@@ -175,10 +174,10 @@ AreCounted-fit allowed elements left form room rest more none are longer fits =
     )
 
 -- and not where there is none
-pub AreCounted-longer : (allowed : Option ExtensionsForm) (elements left : List Element) (form : ExtensionsForm) (room rest more : ℕ) → left ≡ []
+pub AreCounted-longer : {allowed : Option ExtensionsForm} {elements left : List Element} {form : ExtensionsForm} {room rest : ℕ} (more : ℕ) → left ≡ []
     → AreCounted allowed elements left form room rest → length (elements_bytes form elements) ≡ length (elements_bytes OneByte elements) + more → (more ≤ rest → ⊥)
     → AreNotWritableIn (form_given allowed elements) elements room
-AreCounted-longer allowed elements left form room rest more none are longer short =
+AreCounted-longer {allowed} {elements} {left} {form} {room} {rest} more none are longer short =
     let all = counted allowed elements left form room rest none are in
     let bytes = are.bytes ∙ ap (λ (es : List Element). room + length (elements_bytes OneByte es)) none in
     short_room (omega (arith, bytes, short, ap (λ (f : ExtensionsForm). length (elements_bytes f elements)) all.0))

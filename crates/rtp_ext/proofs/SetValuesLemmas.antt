@@ -32,11 +32,11 @@ last_still P (z ∷ before) after (w ∷ others) rest x y e same not_x not_y is 
     (w ∷ found.0, found.1, ap (λ v. v ∷ (before ++ y ∷ after)) first ∙ ap (λ zs. w ∷ zs) found.2, found.3)
 
 -- the fields of a kind that neither of the two elements carries
-AreFields-still : (exts : Slots) (before after : List Element) (x y : Element) (kind : Extension) (old new : ExtensionValues)
+AreFields-still : {exts : Slots} (before after : List Element) (x y : Element) {kind : Extension} {old new : ExtensionValues}
     → (Carries exts kind x → ⊥) → (Carries exts kind y → ⊥) → AreFields exts (before ++ x ∷ after) kind old new
     → AreFields exts (before ++ y ∷ after) kind old new
-AreFields-still exts before after x y kind old new not_x not_y (none never same) = none (none_still (Carries exts kind) before after x y not_y never) same
-AreFields-still exts before after x y kind old new not_x not_y (last others rest e is mapped reads later) =
+AreFields-still {exts} before after x y {kind} not_x not_y (none never same) = none (none_still (Carries exts kind) before after x y not_y never) same
+AreFields-still {exts} before after x y {kind} {new} not_x not_y (last others rest e is mapped reads later) =
     let found = last_still (Carries exts kind) before after others rest x y e is not_x not_y (mapped, (new, reads)) later in
     last found.0 found.1 e found.2 mapped reads found.3
 
@@ -53,17 +53,17 @@ other_fields exts id kind before after was bytes old new mapped old_are new_are 
     each any = elim (same_or_not any kind) [
       | inl same ↦ subst (λ k. SameFields any new (with_fields k old new)) same (SameFields-taken any old new)
       | inr other ↦ SameFields-trans any new old (with_fields kind old new)
-          (SameFields-sym any old new (AreFields-one exts (before ++ (id, bytes) ∷ after) any no_values old new
-          (AreFields-still exts before after (id, was) (id, bytes) any no_values old (not_carried any was other) (not_carried any bytes other) (old_are any))
+          (SameFields-sym any old new (AreFields-one
+          (AreFields-still before after (id, was) (id, bytes) (not_carried any was other) (not_carried any bytes other) (old_are any))
           (new_are any)))
           (SameFields-others kind any old new other)
     ]
 
 -- those of the kind are what the data say
-pub said_fields : (exts : Slots) (id : ℕ) (kind : Extension) (before after : List Element) (bytes : List ℕ) (new : ExtensionValues)
+pub said_fields : {exts : Slots} {id : ℕ} {kind : Extension} (before after : List Element) (bytes : List ℕ) (new : ExtensionValues)
     → IsOnlyId exts kind id → HasNone after id → IsWellFormed kind bytes
     → AreValues exts (before ++ (id, bytes) ∷ after) no_values new → Reads kind bytes new
-said_fields exts id kind before after bytes new only others says are =
+said_fields {exts} {id} {kind} before after bytes new only others says are =
     let never : All (λ e. Carries exts kind e → ⊥) after = λ k d here carries. others k d here (only.only (get_or after k d).0 carries.0) in
     Reads-same kind bytes says.0 new says.1
-    (AreFields-one exts (before ++ (id, bytes) ∷ after) kind no_values says.0 new (last before after (id, bytes) refl only.mapped says.1 never) (are kind))
+    (AreFields-one (last before after (id, bytes) refl only.mapped says.1 never) (are kind))

@@ -29,9 +29,9 @@ short-items values (item ∷ items) few short =
     )
 
 -- where no mapped id needs the two-byte form for itself or its kind
-pub short_block : (exts : Slots) (values : ExtensionValues) (long : Bool) → long ≡ list_any is_long_item (items_from 0 exts) → long ≡ false
+pub short_block : (exts : Slots) (values : ExtensionValues) {long : Bool} → long ≡ list_any is_long_item (items_from 0 exts) → long ≡ false
     → HasFewData values → TakesAtMost17Each exts values
-short_block exts values long is short few =
+short_block exts values is short few =
     omega (arith, short-items values (items_from 0 exts) few (sym is ∙ short), ap length (items_bytes-written OneByte exts values))
 
 -- what the known extensions of a map write is what the map writes
@@ -113,22 +113,22 @@ pub short_most : (kind : KnownKind) → (kind_eq.ghosts).eq kind known.VideoLaye
 short_most kind other = omega (arith, at_most 16 (longest (extension_of_kind kind)) (sym (long_kind kind) ∙ other))
 
 -- one more element is left behind
-pub most-next : (values : ExtensionValues) (all left more : List Item) (id most own : ℕ) (kind : KnownKind) → HasFewData values
+pub most-next : (values : ExtensionValues) (all : List Item) {left : List Item} (more : List Item) (id most own : ℕ) (kind : KnownKind) → HasFewData values
     → left ≡ (id, extension_of_kind kind) ∷ more → most_of (extension_of_kind kind) ≤ own
     → length (items_bytes TwoByte values all) ≤ most + length (items_bytes TwoByte values left)
     → length (items_bytes TwoByte values all) ≤ most + own + length (items_bytes TwoByte values more)
-most-next values all left more id most own kind few next fits before =
+most-next values all more id most own kind few next fits before =
     let parted = ap (λ (items : List Item). length (items_bytes TwoByte values items)) next in
     omega (arith, before, parted, full-items values (id, extension_of_kind kind) more few, fits)
 
-pub most-end : (values : ExtensionValues) (all left : List Item) (most : ℕ) → left ≡ []
+pub most-end : (values : ExtensionValues) (all : List Item) {left : List Item} (most : ℕ) → left ≡ []
     → length (items_bytes TwoByte values all) ≤ most + length (items_bytes TwoByte values left) → length (items_bytes TwoByte values all) ≤ most
-most-end values all left most none before =
+most-end values all most none before =
     let gone = ap (λ (items : List Item). length (items_bytes TwoByte values items)) none in
     omega (arith, before, gone, ap length (items_bytes-nil TwoByte values))
 
 -- all of them are what is written
-pub written_at_most : (exts : Slots) (values : ExtensionValues) (items : List Item) (most : ℕ) → items ≡ items_from 0 (known_slots exts)
+pub written_at_most : (exts : Slots) (values : ExtensionValues) {items : List Item} (most : ℕ) → items ≡ items_from 0 (known_slots exts)
     → length (items_bytes TwoByte values items) ≤ most → length (elements_bytes TwoByte (written_elements exts values)) ≤ most
-written_at_most exts values items most all fits =
+written_at_most exts values most all fits =
     omega (arith, fits, ap (λ (list : List Item). length (items_bytes TwoByte values list)) all, ap length (known_bytes TwoByte exts (known_slots exts) values refl))

@@ -1,6 +1,6 @@
 -- Each body of a block says some values under each map.
 use Rattle.rtp_ext.proofs.Common.{◌≡◌, ℕ, zero, suc, inl, inr, List, ◌∷◌, ◌++◌, Option, Some, None, append_assoc, append-nil, refl, sym, ◌∙◌, subst, arith, [], AllByRecursion, flat_map, filter_map, Extension, ExtensionValues, no_values, with_fields, IsWellFormed, Reads-same, SameFields-taken, SameFields-others, one_kind, ExtensionsForm, OneByte, TwoByte, Element, element_bytes, piece_bytes, AreElements, elements_left, Slots, extension_at, Carries, AreValues, SaysValues}
-use Rattle.rtp_values.proofs.WellFormedOrNot.{well_formed_or_not}
+use Rattle.rtp_values.proofs.KindLaws.{well_formed_or_not}
 use Rattle.rtp_ext.proofs.ElementLemmasOfBodies.{AreBytes, AreElements-found}
 use Rattle.rtp_ext.proofs.ValuesLaws.{AreValues-none, AreValues-passed, AreValues-read}
 
@@ -29,9 +29,9 @@ data_of_pieces form (Some element ∷ pieces) all =
       data_of_pieces form pieces (AreBytes-back (element_bytes form element) others all),
     )
 
-data_of_body : (form : ExtensionsForm) (body : List ℕ) (elements : List Element) → AreBytes body → AreElements form body elements
+data_of_body : {form : ExtensionsForm} {body : List ℕ} {elements : List Element} → AreBytes body → AreElements form body elements
     → AllByRecursion (λ element. AreBytes element.1) elements
-data_of_body form body elements all are =
+data_of_body {form} all are =
     subst (AllByRecursion (λ element. AreBytes element.1)) (sym are.elements_are)
     (data_of_pieces form are.pieces (AreBytes-front (flat_map (piece_bytes form) are.pieces) are.tail (subst AreBytes are.body_is all)))
 
@@ -72,5 +72,5 @@ reads_on exts done (element ∷ left) old between all values =
 pub values_found : (exts : Slots) (form : ExtensionsForm) (body : List ℕ) → AreBytes body → (values : ExtensionValues) × SaysValues form exts body values
 values_found exts form body all =
     let are = AreElements-found form body all in
-    let read = reads_on exts [] (elements_left form body) no_values no_values (data_of_body form body (elements_left form body) all are) (AreValues-none exts no_values) in
+    let read = reads_on exts [] (elements_left form body) no_values no_values (data_of_body all are) (AreValues-none exts no_values) in
     (read.0, record { elements = elements_left form body; are_elements = are; are_values = read.1 })

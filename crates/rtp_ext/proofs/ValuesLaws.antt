@@ -63,21 +63,21 @@ carried exts elements before after element kind v is mapped reads not_carried =
     not_among (Carries exts kind) before after element
     (All-same (λ e. Carries exts kind e → ⊥) (before ++ element ∷ after) elements (sym is) not_carried) (mapped, (v, reads))
 
-pub AreFields-one : (exts : Slots) (elements : List Element) (kind : Extension) (old v w : ExtensionValues)
+pub AreFields-one : {exts : Slots} {elements : List Element} {kind : Extension} {old v w : ExtensionValues}
     → AreFields exts elements kind old v → AreFields exts elements kind old w → SameFields kind v w
-AreFields-one exts elements kind old v w (last before after x is mapped reads later) (last others rest y also y_mapped y_reads y_later) =
+AreFields-one {exts} {kind} {v} {w} (last before after x is mapped reads later) (last others rest y also y_mapped y_reads y_later) =
     let same = last_one (Carries exts kind) before after others rest x y (sym is ∙ also) (mapped, (v, reads)) (y_mapped, (w, y_reads))
     later y_later in
     Reads-one kind x.1 v w reads (subst (λ e. Reads kind e.1 w) (sym same) y_reads)
-AreFields-one exts elements kind old v w (last before after x is mapped reads later) (none not_carried same) =
+AreFields-one {exts} {elements} {kind} {v} (last before after x is mapped reads later) (none not_carried same) =
     absurd (carried exts elements before after x kind v is mapped reads not_carried)
-AreFields-one exts elements kind old v w (none not_carried same) (last before after x is mapped reads later) =
+AreFields-one {exts} {elements} {kind} {w} (none not_carried same) (last before after x is mapped reads later) =
     absurd (carried exts elements before after x kind w is mapped reads not_carried)
-AreFields-one exts elements kind old v w (none not_carried same) (none also w_same) = SameFields-joined kind old v w same w_same
+AreFields-one {kind} {old} {v} {w} (none not_carried same) (none also w_same) = SameFields-joined kind old v w same w_same
 
 -- the values of a block are the only ones
 pub one_values : (exts : Slots) (elements : List Element) (old v w : ExtensionValues) → AreValues exts elements old v → AreValues exts elements old w → v ≡ w
-one_values exts elements old v w v_values w_values = same_values v w (λ kind. AreFields-one exts elements kind old v w (v_values kind) (w_values kind))
+one_values exts elements old v w v_values w_values = same_values v w (λ kind. AreFields-one (v_values kind) (w_values kind))
 
 -- ---- What shows values
 

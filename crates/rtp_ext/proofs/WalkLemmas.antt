@@ -20,21 +20,21 @@ walk-all slots end none = items_from-front end 0 slots (λ i above. none (suc i)
 pub IsLastId-none : (slots : Slots) → IsEmpty slots → IsLastId slots 0
 IsLastId-none slots empty = record { none_above = λ id above. empty id; mapped = λ some. absurd (omega (arith, some)) }
 
-pub IsEmpty-last : (slots : Slots) (last : ℕ) → IsLastId slots last → last ≡ 0 → IsEmpty slots
-IsEmpty-last slots last is none zero = refl
-IsEmpty-last slots last is none (suc k) = is.none_above (suc k) (omega (arith, none))
+pub IsEmpty-last : {slots : Slots} {last : ℕ} → IsLastId slots last → last ≡ 0 → IsEmpty slots
+IsEmpty-last is none zero = refl
+IsEmpty-last is none (suc k) = is.none_above (suc k) (omega (arith, none))
 
-pub last-IsEmpty : (slots : Slots) (last : ℕ) → IsLastId slots last → IsEmpty slots → last ≡ 0
-last-IsEmpty slots zero is empty = refl
-last-IsEmpty slots (suc k) is empty =
+pub last-IsEmpty : {slots : Slots} (last : ℕ) → IsLastId slots last → IsEmpty slots → last ≡ 0
+last-IsEmpty zero is empty = refl
+last-IsEmpty (suc k) is empty =
     let mapped = is.mapped (omega arith) in
     let wrong : Some mapped.0 ≡ None = sym mapped.1 ∙ empty (suc k) in
     cc
 
 -- the id gets an entry
-pub IsLastId-put : (old new : Slots) (last after id : ℕ) (entry : Entry) → IsLastId old last → Puts old new id (Some entry)
+pub IsLastId-put : {old new : Slots} {last : ℕ} (after : ℕ) {id : ℕ} (entry : Entry) → IsLastId old last → Puts old new id (Some entry)
     → last ≤ after → id ≤ after → (after ≡ last) ⊎ (after ≡ id) → IsLastId new after
-IsLastId-put old new last after id entry is puts low here one = record {
+IsLastId-put {old} {new} after {id} entry is puts low here one = record {
   none_above = λ k above. puts.others k (λ same. omega (arith, above, same, here)) ∙ is.none_above k (omega (arith, above, low));
   mapped = λ some. elim (cases_eq after id) [
     | inl this ↦ (entry, ap (entry_at new) this ∙ puts.this)
@@ -48,15 +48,15 @@ IsLastId-put old new last after id entry is puts low here one = record {
 }
 
 -- two entries are put in each other's place
-pub HasNoIdAbove-swapped : (old new : Slots) (last highest from to : ℕ) → HasNoIdAbove last old → Swaps old new from to
+pub HasNoIdAbove-swapped : {old new : Slots} (last highest : ℕ) {from to : ℕ} → HasNoIdAbove last old → Swaps old new from to
     → last ≤ highest → from ≤ highest → to ≤ highest → HasNoIdAbove highest new
-HasNoIdAbove-swapped old new last highest from to none swaps low first second id above =
+HasNoIdAbove-swapped last highest none swaps low first second id above =
     swaps.others id (λ same. omega (arith, above, same, first)) (λ same. omega (arith, above, same, second)) ∙ none id (omega (arith, above, low))
 
 -- an entry is locked
-pub IsLastId-locked : (old new : Slots) (last id : ℕ) → IsLastId old last
+pub IsLastId-locked : {old new : Slots} {last id : ℕ} → IsLastId old last
     → Puts old new id (option_map (λ entry. locked entry.extension) (entry_at old id)) → IsLastId new last
-IsLastId-locked old new last id is puts = record {
+IsLastId-locked {old} {new} {last} {id} is puts = record {
   none_above = λ k above. elim (cases_eq k id) [
     | inl this ↦
         ap (entry_at new) this ∙ puts.this
@@ -76,9 +76,9 @@ IsLastId-locked old new last id is puts = record {
 }
 
 -- the slot of an id that has an entry, as it is read
-pub IsMapped-slot : (slots : Slots) (id index : ℕ) (slot : Option Entry) → index + 1 ≡ id → index < length slots → slot ≡ get_or slots index slot
+pub IsMapped-slot : (slots : Slots) (id index : ℕ) {slot : Option Entry} → index + 1 ≡ id → index < length slots → slot ≡ get_or slots index slot
     → is_some slot ≡ true → IsMapped slots id
-IsMapped-slot slots id index slot next within read some =
+IsMapped-slot slots id index {slot} next within read some =
     let entry = found slot some in
     (entry.0, entry_at-slot slots index id next ∙ get_or_default slots index None slot within ∙ sym read ∙ entry.1)
   where
@@ -113,9 +113,9 @@ some_above passed (Some first ∷ left) (suc k) entry is high =
     ap (λ (b : Bool). nat_lt 14 (passed + 1) || b) (some_above (passed + 1) left k entry is (omega (arith, high))) ∙ or_true (nat_lt 14 (passed + 1))
 
 -- by the last one
-pub has_above-last : (slots : Slots) (last : ℕ) → IsLastId slots last → has_above 0 slots ≡ nat_lt 14 last
-has_above-last slots zero is = none_above 0 slots (λ k above. is.none_above (suc k) (omega arith))
-has_above-last slots (suc k) is = elim (cases_lt 14 (suc k)) [
+pub has_above-last : {slots : Slots} (last : ℕ) → IsLastId slots last → has_above 0 slots ≡ nat_lt 14 last
+has_above-last {slots} zero is = none_above 0 slots (λ k above. is.none_above (suc k) (omega arith))
+has_above-last {slots} (suc k) is = elim (cases_lt 14 (suc k)) [
   | inl high ↦
       let mapped = is.mapped (omega arith) in
       some_above 0 slots k mapped.0 mapped.1 (omega (arith, high)) ∙ sym (lt-ltb 14 (suc k) high)

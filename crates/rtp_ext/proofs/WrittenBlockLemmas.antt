@@ -104,12 +104,12 @@ HasNone-from_none form values buf at id kind none = record {
 }
 
 -- its data are put, and then its header in front of them
-pub element_or_nothing-put : (form : ExtensionsForm) (id len at start : ℕ) (old data_put new : List ℕ) (bytes : Option (List ℕ))
+pub element_or_nothing-put : (form : ExtensionsForm) (id len at start : ℕ) (old : List ℕ) {data_put new : List ℕ} (bytes : Option (List ℕ))
     → Some len ≡ option_map length bytes → start ≡ at + length (element_header form id len) → at + length (element_or_nothing form id bytes) ≤ length old
     → data_put ≡ overwritten old start (unwrap_or bytes []) → new ≡ overwritten data_put at (element_header form id len)
     → (new ≡ overwritten old at (element_or_nothing form id bytes)) × (start + len ≡ at + length (element_or_nothing form id bytes))
-element_or_nothing-put form id len at start old data_put new None long start-is fits data-is new-is = cc
-element_or_nothing-put form id len at start old data_put new (Some bytes) long start-is fits data-is new-is =
+element_or_nothing-put form id len at start old None long start-is fits data-is new-is = cc
+element_or_nothing-put form id len at start old (Some bytes) long start-is fits data-is new-is =
     let len-is : len ≡ length bytes = cc in
     let header : element_header form id len ≡ element_header form id (length bytes) = ap (element_header form id) len-is in
     let both = length-header form id bytes in
@@ -152,22 +152,22 @@ IsUnderWay-start form values old items fit =
     record { makes = refl; ends = omega arith; long = refl; fit = fit; carried = λ all. all }
 
 -- there is room for the next one, and the form can carry it
-pub IsUnderWay-next : (form : ExtensionsForm) (values : ExtensionValues) (old buf : List ℕ) (items left more : List Item) (item : Item) (at : ℕ)
+pub IsUnderWay-next : {form : ExtensionsForm} {values : ExtensionValues} {old buf : List ℕ} {items left : List Item} (more : List Item) (item : Item) {at : ℕ}
     → IsUnderWay form values old buf items left at → left ≡ item ∷ more → length (items_bytes form values items) ≤ length old
     → (at + length (element_or_nothing form item.0 (spelled_data item.1 values)) ≤ length buf) × IsFit form values item
-IsUnderWay-next form values old buf items left more item at before split room =
+IsUnderWay-next {form} {values} more item before split room =
     let bytes = ap length (ap (items_bytes form values) split ∙ items_bytes-cons form values item more) in (
       omega (arith, before.ends, before.long, bytes, length-append (element_or_nothing form item.0 (spelled_data item.1 values)) (items_bytes form values more)),
       (subst (AllByRecursion (IsFit form values)) split before.fit).0,
     )
 
 -- the next one is written
-pub IsUnderWay-step : (form : ExtensionsForm) (values : ExtensionValues) (old buf new : List ℕ) (items left more : List Item) (item : Item) (at end : ℕ)
+pub IsUnderWay-step : {form : ExtensionsForm} {values : ExtensionValues} {old buf new : List ℕ} {items left : List Item} (more : List Item) (item : Item) {at end : ℕ}
     → IsUnderWay form values old buf items left at → left ≡ item ∷ more → length (items_bytes form values items) ≤ length old
     → new ≡ overwritten buf at (element_or_nothing form item.0 (spelled_data item.1 values))
     → end ≡ at + length (element_or_nothing form item.0 (spelled_data item.1 values)) → IsCarried form values item
     → IsUnderWay form values old new items more end
-IsUnderWay-step form values old buf new items left more item at end before split room written end-is carried =
+IsUnderWay-step {form} {values} {buf} {left} more item {at} {end} before split room written end-is carried =
     let xs = element_or_nothing form item.0 (spelled_data item.1 values) in
     let ys = items_bytes form values more in
     let bytes : items_bytes form values left ≡ xs ++ ys = ap (items_bytes form values) split ∙ items_bytes-cons form values item more in
@@ -184,23 +184,23 @@ IsUnderWay-step form values old buf new items left more item at end before split
     }
 
 -- without room for a header nothing is written of what is left
-pub IsUnderWay-without_room : (form : ExtensionsForm) (values : ExtensionValues) (old buf : List ℕ) (items left : List Item) (at header : ℕ)
+pub IsUnderWay-without_room : {form : ExtensionsForm} {values : ExtensionValues} {old buf : List ℕ} {items : List Item} (left : List Item) {at : ℕ} (header : ℕ)
     → ((i l : ℕ) → header ≡ length (element_header form i l)) → length buf < at + header → length (items_bytes form values items) ≤ length old
     → IsUnderWay form values old buf items left at → IsUnderWay form values old buf items [] at
-IsUnderWay-without_room form values old buf items [] at header is short room before = before
-IsUnderWay-without_room form values old buf items (item ∷ left) at header is short room before =
-    let next = (IsUnderWay-next form values old buf items (item ∷ left) left item at before refl room).0 in
+IsUnderWay-without_room [] header is short room before = before
+IsUnderWay-without_room {form} {values} {buf} (item ∷ left) {at} header is short room before =
+    let next = (IsUnderWay-next left item before refl room).0 in
     let none = none-without_room form item.0 (spelled_data item.1 values) header (length buf - at) is (omega (arith, next)) (omega (arith, next, short)) in
     let has = HasNone-from_none form values buf at item.0 item.1 none in
-    IsUnderWay-without_room form values old buf items left at header is short room
-    (IsUnderWay-step form values old buf buf items (item ∷ left) left item at at before refl room has.written has.end has.carried)
+    IsUnderWay-without_room left header is short room
+    (IsUnderWay-step left item before refl room has.written has.end has.carried)
 
 -- all were written
-IsUnderWay-end : (form : ExtensionsForm) (values : ExtensionValues) (old buf : List ℕ) (items left : List Item) (at : ℕ)
+IsUnderWay-end : {form : ExtensionsForm} {values : ExtensionValues} {old buf : List ℕ} {items left : List Item} {at : ℕ}
     → IsUnderWay form values old buf items left at → left ≡ []
     → (at ≡ length (items_bytes form values items)) × (buf ≡ items_bytes form values items ++ drop (length (items_bytes form values items)) old)
     × AllByRecursion (IsCarried form values) items
-IsUnderWay-end form values old buf items left at before none =
+IsUnderWay-end {form} {values} {old} {buf} {items} {left} {at} before none =
     let bytes : items_bytes form values left ≡ [] = ap (items_bytes form values) none ∙ items_bytes-nil form values in (
       omega (arith, before.ends, ap length bytes),
       sym (overwritten-nil buf at) ∙ (ap (overwritten buf at) (sym bytes)
@@ -209,12 +209,12 @@ IsUnderWay-end form values old buf items left at before none =
     )
 
 -- the same, where the walk ends for want of room too
-pub IsUnderWay-stopped : (form : ExtensionsForm) (values : ExtensionValues) (old buf : List ℕ) (items left : List Item) (at header : ℕ)
+pub IsUnderWay-stopped : {form : ExtensionsForm} {values : ExtensionValues} {old buf : List ℕ} {items left : List Item} {at : ℕ} (header : ℕ)
     → ((i l : ℕ) → header ≡ length (element_header form i l)) → length (items_bytes form values items) ≤ length old
     → IsUnderWay form values old buf items left at → (at + header ≤ length buf → left ≡ [])
     → (at ≡ length (items_bytes form values items)) × (buf ≡ items_bytes form values items ++ drop (length (items_bytes form values items)) old)
     × AllByRecursion (IsCarried form values) items
-IsUnderWay-stopped form values old buf items left at header is room before none = elim (cases_lt (length buf) (at + header)) [
-  | inl short ↦ IsUnderWay-end form values old buf items [] at (IsUnderWay-without_room form values old buf items left at header is short room before) refl
-  | inr fits ↦ IsUnderWay-end form values old buf items left at before (none fits)
+IsUnderWay-stopped {buf} {left} {at} header is room before none = elim (cases_lt (length buf) (at + header)) [
+  | inl short ↦ IsUnderWay-end (IsUnderWay-without_room left header is short room before) refl
+  | inr fits ↦ IsUnderWay-end before (none fits)
 ]

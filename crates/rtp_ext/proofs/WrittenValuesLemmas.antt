@@ -1,22 +1,23 @@
 -- What the elements that a map writes are read as.
 use Rattle.std.proofs.Common.{◌≡◌, ◌≢◌, ℕ, ◌⊎◌, inl, inr, List, [], ◌∷◌, ◌++◌, Option, Some, None, All, refl, sym, ap, ◌∙◌, subst}
-use Rattle.std.specs.Prelude.{IfSome}
+use Rattle.std.specs.Prelude.{IfSome, ◌%◌, unsigned_abs, neg_ℤ, pos}
 use Rattle.std.specs.List.{AllByRecursion, cons_option}
 use Rattle.std.specs.Option.{option_map}
 use Rattle.std.proofs.lemmas.List.Elements.{All-cons, All-nil, recursion_from_All, filter_map-append}
 use Rattle.rtp_ext.specs.declared.form.ExtensionsForm.{ExtensionsForm}
 use Rattle.rtp_values.specs.declared.kind.Extension.{Extension}
-use Rattle.rtp_values.specs.declared.kind.Extension.TheVariants.{AbsoluteSendTime, AbsoluteCaptureTime, AudioLevel, TransmissionTimeOffset, VideoOrientation, TransportSequenceNumber, PlayoutDelay, VideoContentType, VideoTiming, RtpStreamId, RepairedRtpStreamId, RtpMid, FrameMarking, ColorSpace, VideoLayersAllocation, UnknownUri}
+use Rattle.rtp_values.specs.declared.kind.Extension.TheVariants.{AbsoluteSendTime, AudioLevel, PlayoutDelay, ColorSpace, VideoLayersAllocation, UnknownUri}
 use Rattle.rtp_values.specs.declared.value.values.ExtensionValues.{ExtensionValues}
 use Rattle.rtp_ext.specs.Elements.{Element, IsElement}
 use Rattle.rtp_ext.specs.ElementWriting.{IsCarried}
 use Rattle.rtp_ext.specs.ExtensionMap.{Slots, extension_at, items_from}
-use Rattle.rtp_values.specs.Spelling.{spelled_data, carried_values, element_allocation, of_both}
-use Rattle.rtp_values.specs.Values.{no_values, with_fields, Reads, SameFields}
+use Rattle.rtp_vla.specs.AllocationWritten.{trimmed}
+use Rattle.rtp_values.specs.Spelling.{spelled_data, carried_values, carried_send_time, delay_of, element_allocation, of_both}
+use Rattle.rtp_values.specs.Values.{no_values, with_fields, hundredths, Reads, SameFields}
 use Rattle.rtp_ext.specs.BlockValues.{Carries, AreFields, last, none, AreValues}
 use Rattle.rtp_ext.specs.WrittenBlock.{written_elements, fields_of_items, image_values}
 use Rattle.rtp_ext.proofs.ListingLemmas.{ListsItems-from_slots}
-use Rattle.rtp_values.proofs.FieldLemmas.{AreSame, Reads-same, SameFields-from_each, SameFields-refl, SameFields-trans, SameFields-taken, SameFields-others}
+use Rattle.rtp_values.proofs.FieldLemmas.{Reads-same, SameFields-refl, SameFields-trans, SameFields-taken, SameFields-others}
 use Rattle.rtp_values.proofs.KindLemmas.{same_or_not}
 use Rattle.rtp_ext.proofs.FormLemmas.{Item, element_of, elements_of}
 
@@ -56,27 +57,23 @@ both-none f g None y is = refl
 both-none f g (Some x) None is = refl
 both-none f g (Some x) (Some y) is = cc
 
-carried-each : (values : ExtensionValues) (kind : Extension) → spelled_data kind values ≡ None → AreSame kind no_values (carried_values values)
-unfolding carried_values
-carried-each values AbsoluteSendTime is = map-none _ _ values.abs_send_time is
-carried-each values AbsoluteCaptureTime is = is-none _ values.abs_capture_time is
-carried-each values AudioLevel is = (both-none _ _ values.audio_level values.voice_activity is, both-none _ _ values.audio_level values.voice_activity is)
-carried-each values TransmissionTimeOffset is = is-none _ values.tx_time_offs is
-carried-each values VideoOrientation is = is-none _ values.video_orientation is
-carried-each values TransportSequenceNumber is = is-none _ values.transport_cc is
-carried-each values PlayoutDelay is = (both-none _ _ values.play_delay_min values.play_delay_max is, both-none _ _ values.play_delay_min values.play_delay_max is)
-carried-each values VideoContentType is = is-none _ values.video_content_type is
-carried-each values VideoTiming is = is-none _ values.video_timing is
-carried-each values RtpStreamId is = is-none _ values.rid is
-carried-each values RepairedRtpStreamId is = is-none _ values.rid_repair is
-carried-each values RtpMid is = is-none _ values.mid is
-carried-each values FrameMarking is = is-none _ values.frame_mark is
-carried-each values VideoLayersAllocation is = map-none _ _ (element_allocation values.video_layers_allocation) is
-carried-each values ColorSpace is = tt
-carried-each values (UnknownUri uri) is = tt
-
 pub carried-none : (values : ExtensionValues) (kind : Extension) → spelled_data kind values ≡ None → SameFields kind no_values (carried_values values)
-carried-none values kind is = SameFields-from_each kind no_values (carried_values values) (carried-each values kind is)
+unfolding carried_values
+carried-none values AbsoluteSendTime is = rw (map-none _ carried_send_time values.abs_send_time is) refl
+carried-none values AudioLevel is =
+    rw (
+      both-none _ (λ level voice. neg_ℤ (pos (unsigned_abs level % 128))) values.audio_level values.voice_activity is,
+      both-none _ (λ level voice. voice) values.audio_level values.voice_activity is,
+    ) refl
+carried-none values PlayoutDelay is =
+    rw (
+      both-none _ (λ min max. hundredths (delay_of min)) values.play_delay_min values.play_delay_max is,
+      both-none _ (λ min max. hundredths (delay_of max)) values.play_delay_min values.play_delay_max is,
+    ) refl
+carried-none values VideoLayersAllocation is = rw (map-none _ trimmed (element_allocation values.video_layers_allocation) is) refl
+carried-none values ColorSpace is = refl
+carried-none values (UnknownUri uri) is = refl
+carried-none values _ is = rw (is-none _ _ is) refl
 
 -- ---- the last id of a kind
 

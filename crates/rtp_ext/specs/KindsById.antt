@@ -57,20 +57,7 @@ has_empty items values = list_any (λ item. has_no_data (spelled_data item.1 val
 -- For the prover: the known extensions of a table are all that it has.
 known_kind : (it : KnownKind) → known_alone (extension_of_kind it) ≡ Some (unlocked (extension_of_kind it))
 known_kind kind.AbsoluteSendTime = refl
-known_kind kind.AbsoluteCaptureTime = refl
-known_kind kind.AudioLevel = refl
-known_kind kind.TransmissionTimeOffset = refl
-known_kind kind.VideoOrientation = refl
-known_kind kind.TransportSequenceNumber = refl
-known_kind kind.PlayoutDelay = refl
-known_kind kind.VideoContentType = refl
-known_kind kind.VideoTiming = refl
-known_kind kind.RtpStreamId = refl
-known_kind kind.RepairedRtpStreamId = refl
-known_kind kind.RtpMid = refl
-known_kind kind.FrameMarking = refl
-known_kind kind.ColorSpace = refl
-known_kind kind.VideoLayersAllocation = refl
+known_kind _ = refl
 
 known_each : (kinds : List (Option KnownKind)) → map entry_of_kind kinds ≡ map known_entry (map entry_of_kind kinds)
 known_each [] = refl

@@ -29,3 +29,4 @@ mod PreparingLemmas
 mod FormsLemmas
 mod FrontLemmas
 mod ByWalkLemmas
+mod CopyLemmas

@@ -7,6 +7,7 @@ ghost use Rattle.rtp_wire.specs.PartsAt.{HasLayout};
 ghost use Rattle.rtp_wire.specs.PartsOf.{parts_of};
 ghost use Rattle.rtp_route.specs.Walk.{no_slots, IsFrontWith, IsStart, IsWalked};
 
+use super::copying::put_header;
 use super::in_place::{is_one_byte_only, set_fields};
 use super::slots::{MAX_ELEMENTS, NO_SLOTS, Slot};
 use super::table::{GroupTable, form_after};
@@ -39,7 +40,7 @@ fn put_front(
     ensures { IsFrontWith front.now was form body_len (drop (length front.now) buf.old) buf.new }
 {
     let block_at = front.len() - 4;
-    put(buf, 0, front);
+    put_header(buf, front);
     if form != was {
         put(buf, block_at, &form.serialize());
     }

@@ -19,6 +19,7 @@ ghost use Rattle.rtp_route.specs.NotRouted.{HasLongId};
 ghost use Rattle.rtp_route.specs.Retransmitted.{without_padding, with_number};
 ghost use Rattle.rtp_route.specs.Routing.{CarriesIds};
 
+use super::copying::put_header;
 use rtp_base::put;
 use rtp_ext::{ExtensionsForm, NewIds};
 use rtp_wire::{Fields, NotPut, RtpPacket, RtpPacketBuf, RtpPacketMut};
@@ -50,7 +51,7 @@ pub(super) fn copy_header(packet: &RtpPacket<'_>, fields: &Fields, buf: &mut [u8
     ensures held { HasLayout buf.new (length buf.new)
         (form_of_block (parts_of packet.now).block) }
 {
-    put(buf, 0, packet.header_bytes());
+    put_header(buf, packet.header_bytes());
     set_fields(buf, packet.form(), fields);
 }
 

@@ -20,6 +20,7 @@
 
 mod by_calls;
 mod by_walk;
+mod copying;
 mod in_place;
 mod known_group;
 mod making;
@@ -36,6 +37,7 @@ mod template;
 mod walk;
 
 pub use by_calls::{Group, GroupOf, route_header, routes_as_the_calls_do};
+pub use copying::put_header;
 pub use in_place::clear_padding;
 pub use known_group::KnownGroup;
 pub use making::{make_from_table, make_template};

@@ -267,7 +267,7 @@ pub(super) fn write_body<G: GroupTable>(
 {
     let kept = write_kept(buf, at, was, form, body, group, slots)?;
     let len = write_lacking(buf, kept, form, group, slots)?;
-    let end = len.next_multiple_of(4);
+    let end = (len + 3) / 4 * 4;
     if end > buf.len() {
         return None;
     }

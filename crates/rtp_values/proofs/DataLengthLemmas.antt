@@ -7,7 +7,7 @@ use Rattle.rtp_base.specs.Id.{before_padding}
 use Rattle.rtp_vla.specs.Allocation.{Allocation}
 use Rattle.rtp_vla.specs.AllocationWritten.{can_be_written, written_of}
 use Rattle.rtp_values.specs.declared.kind.Extension.{Extension}
-use Rattle.rtp_values.specs.declared.kind.Extension.TheVariants.{AbsoluteSendTime, AbsoluteCaptureTime, AudioLevel, TransmissionTimeOffset, VideoOrientation, TransportSequenceNumber, PlayoutDelay, VideoContentType, VideoTiming, RtpStreamId, RepairedRtpStreamId, RtpMid, FrameMarking, ColorSpace, VideoLayersAllocation, UnknownUri}
+use Rattle.rtp_values.specs.declared.kind.Extension.TheVariants.{AbsoluteCaptureTime, AudioLevel, PlayoutDelay, RtpStreamId, RepairedRtpStreamId, RtpMid, ColorSpace, VideoLayersAllocation, UnknownUri}
 use Rattle.rtp_values.specs.declared.value.values.ExtensionValues.{ExtensionValues}
 use Rattle.rtp_values.specs.Spelling.{bytes_of_number, offset_bytes, of_both, element_allocation, spelled_data, longest}
 use Rattle.rtp_values.proofs.ValueLemmas.{length-offset_bytes}
@@ -45,20 +45,14 @@ few_of_allocation (Some a) =
 -- where the texts have at most 16 bytes, only a layer allocation has data of more
 pub few_data : (kind : Extension) (values : ExtensionValues) → IsShortText values.mid → IsShortText values.rid → IsShortText values.rid_repair
     → IfSome (spelled_data kind values) (λ bytes. length bytes ≤ longest kind)
-few_data AbsoluteSendTime values mid rid repair = few_of _ 16 values.abs_send_time (λ x. omega arith)
 few_data AbsoluteCaptureTime values mid rid repair =
     few_of _ 16 values.abs_capture_time (λ x. omega (arith, length-append (bytes_of_number 8 x.capture_time) (offset_bytes x.clock_offset), length-offset_bytes x.clock_offset))
 few_data AudioLevel values mid rid repair = few_of_both _ 16 values.audio_level values.voice_activity (λ x y. omega arith)
-few_data TransmissionTimeOffset values mid rid repair = few_of _ 16 values.tx_time_offs (λ x. omega arith)
-few_data VideoOrientation values mid rid repair = few_of _ 16 values.video_orientation (λ x. omega arith)
-few_data TransportSequenceNumber values mid rid repair = few_of _ 16 values.transport_cc (λ x. omega arith)
 few_data PlayoutDelay values mid rid repair = few_of_both _ 16 values.play_delay_min values.play_delay_max (λ x y. omega arith)
-few_data VideoContentType values mid rid repair = few_of _ 16 values.video_content_type (λ x. omega arith)
-few_data VideoTiming values mid rid repair = few_of _ 16 values.video_timing (λ x. omega arith)
 few_data RtpStreamId values mid rid repair = few_of_text values.rid rid
 few_data RepairedRtpStreamId values mid rid repair = few_of_text values.rid_repair repair
 few_data RtpMid values mid rid repair = few_of_text values.mid mid
-few_data FrameMarking values mid rid repair = few_of _ 16 values.frame_mark (λ x. omega arith)
 few_data ColorSpace values mid rid repair = tt
 few_data VideoLayersAllocation values mid rid repair = few_of_allocation values.video_layers_allocation
 few_data (UnknownUri uri) values mid rid repair = tt
+few_data _ values mid rid repair = few_of _ 16 _ (λ x. omega arith)

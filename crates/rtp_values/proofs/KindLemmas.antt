@@ -1,14 +1,15 @@
 -- What holds of each known kind, and two kinds are one or not.
 use Rattle.std.proofs.Common.{◌≡◌, ◌≢◌, ◌⊎◌, inl, inr, ℕ, List, length, Bool, true, false, Option, Some, None, rules, refl, sym, ap, ◌∙◌}
+use Rattle.std.specs.Prelude.{slice_index_or}
 use Rattle.std.specs.Bool.{Decides}
 use Rattle.std.proofs.lemmas.Bool.Decides.{not_from_Decides}
 use Rattle.rtp_values.specs.contracts.kind.ExtensionPartialEq.TheImpl as extension_eq
 use Rattle.rtp_values.specs.declared.kind.Extension.{Extension}
-use Rattle.rtp_values.specs.declared.kind.Extension.TheVariants.{AbsoluteSendTime, AbsoluteCaptureTime, AudioLevel, TransmissionTimeOffset, VideoOrientation, TransportSequenceNumber, PlayoutDelay, VideoContentType, VideoTiming, RtpStreamId, RepairedRtpStreamId, RtpMid, FrameMarking, ColorSpace, VideoLayersAllocation, UnknownUri}
+use Rattle.rtp_values.specs.declared.kind.Extension.TheVariants.{UnknownUri}
 use Rattle.rtp_values.specs.declared.known_kind.KnownKind.{KnownKind}
 use Rattle.rtp_values.specs.declared.known_kind.KnownKind.TheVariants as known
 use Rattle.rtp_values.specs.Kind.{kind_of, IsKnown}
-use Rattle.rtp_values.specs.KnownKind.{extension_of_kind}
+use Rattle.rtp_values.specs.KnownKind.{extension_of_kind, every_kind, place}
 
 -- an unknown one is its URI
 pub unknown_is : (kind : Extension) → (IsKnown kind → ⊥) → UnknownUri (kind_of kind).uri ≡ kind
@@ -31,39 +32,17 @@ one_kind same = cc
 
 -- what holds of each known kind holds of the extensions that they are
 pub each_known : (P : Extension → Type 0) → ((kind : KnownKind) → P (extension_of_kind kind)) → (kind : Extension) → IsKnown kind → P kind
-each_known P all AbsoluteSendTime is_known = all known.AbsoluteSendTime
-each_known P all AbsoluteCaptureTime is_known = all known.AbsoluteCaptureTime
-each_known P all AudioLevel is_known = all known.AudioLevel
-each_known P all TransmissionTimeOffset is_known = all known.TransmissionTimeOffset
-each_known P all VideoOrientation is_known = all known.VideoOrientation
-each_known P all TransportSequenceNumber is_known = all known.TransportSequenceNumber
-each_known P all PlayoutDelay is_known = all known.PlayoutDelay
-each_known P all VideoContentType is_known = all known.VideoContentType
-each_known P all VideoTiming is_known = all known.VideoTiming
-each_known P all RtpStreamId is_known = all known.RtpStreamId
-each_known P all RepairedRtpStreamId is_known = all known.RepairedRtpStreamId
-each_known P all RtpMid is_known = all known.RtpMid
-each_known P all FrameMarking is_known = all known.FrameMarking
-each_known P all ColorSpace is_known = all known.ColorSpace
-each_known P all VideoLayersAllocation is_known = all known.VideoLayersAllocation
 each_known P all (UnknownUri uri) is_known = absurd is_known
+each_known P all kind is_known = all (slice_index_or every_kind (place kind) known.ColorSpace)
+
+-- the extension of a known kind is known
+pub kind_is_known : (kind : KnownKind) → IsKnown (extension_of_kind kind)
+kind_is_known known.AbsoluteSendTime = tt
+kind_is_known _ = tt
 
 delay_or_not : (kind : KnownKind) → (kind ≡ known.PlayoutDelay) ⊎ (kind ≢ known.PlayoutDelay)
 delay_or_not known.PlayoutDelay = inl refl
-delay_or_not known.AbsoluteSendTime = inr (λ same. cc)
-delay_or_not known.AbsoluteCaptureTime = inr (λ same. cc)
-delay_or_not known.AudioLevel = inr (λ same. cc)
-delay_or_not known.TransmissionTimeOffset = inr (λ same. cc)
-delay_or_not known.VideoOrientation = inr (λ same. cc)
-delay_or_not known.TransportSequenceNumber = inr (λ same. cc)
-delay_or_not known.VideoContentType = inr (λ same. cc)
-delay_or_not known.VideoTiming = inr (λ same. cc)
-delay_or_not known.RtpStreamId = inr (λ same. cc)
-delay_or_not known.RepairedRtpStreamId = inr (λ same. cc)
-delay_or_not known.RtpMid = inr (λ same. cc)
-delay_or_not known.FrameMarking = inr (λ same. cc)
-delay_or_not known.ColorSpace = inr (λ same. cc)
-delay_or_not known.VideoLayersAllocation = inr (λ same. cc)
+delay_or_not _ = inr (λ same. cc)
 
 -- a text that is the URI of no kind: not of the one that its length leaves, if it leaves one, and not of the playout delay
 pub no_kind_has : (uri : List ℕ) (found : Option KnownKind)

@@ -1,6 +1,6 @@
 pub mod KindLemmas
 pub mod FieldLemmas
-pub mod WellFormedOrNot
+pub mod KindLaws
 pub mod ValueLemmas
 pub mod EmptyDataLemmas
 pub mod DataLengthLemmas

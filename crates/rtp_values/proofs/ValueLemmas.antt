@@ -13,7 +13,7 @@ use Rattle.rtp_vla.specs.Allocation.{Allocation}
 use Rattle.rtp_vla.specs.AllocationWritten.{Writable, can_be_written, written_of}
 use Rattle.rtp_vla.proofs.AllocationWriting.{Writable-from, can_be_written-from, written_means}
 use Rattle.rtp_values.specs.declared.kind.Extension.{Extension}
-use Rattle.rtp_values.specs.declared.kind.Extension.TheVariants.{AbsoluteSendTime, AbsoluteCaptureTime, AudioLevel, TransmissionTimeOffset, VideoOrientation, TransportSequenceNumber, PlayoutDelay, VideoContentType, VideoTiming, RtpStreamId, RepairedRtpStreamId, RtpMid, FrameMarking, VideoLayersAllocation}
+use Rattle.rtp_values.specs.declared.kind.Extension.TheVariants.{AbsoluteSendTime, AbsoluteCaptureTime, AudioLevel, TransmissionTimeOffset, VideoOrientation, TransportSequenceNumber, PlayoutDelay, VideoTiming, RtpStreamId, RepairedRtpStreamId, RtpMid, FrameMarking, VideoLayersAllocation}
 use Rattle.rtp_values.specs.declared.value.values.ExtensionValues.{ExtensionValues}
 use Rattle.rtp_values.specs.declared.value.abs_capture_time.AbsCaptureTime as capture
 use Rattle.rtp_values.specs.declared.value.video_timing.VideoTiming as timing
@@ -140,13 +140,6 @@ module _ (values : ExtensionValues) where
     read_back = (omega arith, rw is (ap Some (sym back)));
     few = omega arith;
   }
-
-  pub spelled-content : {content : ℕ} → values.video_content_type ≡ Some content → spelled_data VideoContentType values ≡ Some (content ∷ [])
-  spelled-content is = rw is refl
-
-  pub AreData-content : {content : ℕ} → values.video_content_type ≡ Some content → AreData VideoContentType values (content ∷ [])
-  unfolding carried_values
-  AreData-content is = record { spelled = spelled-content is; read_back = (omega arith, rw is refl); few = omega arith }
 
   pub spelled-orientation : {turn : orientation.VideoOrientation} {byte : ℕ} → values.video_orientation ≡ Some turn → byte ≡ orientation_bits turn
       → spelled_data VideoOrientation values ≡ Some (byte ∷ [])

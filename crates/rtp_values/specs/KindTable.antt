@@ -1,5 +1,5 @@
 -- The table of the kinds as the code reads it.
-use Rattle.rtp_values.specs.declared.table.Kind as table
+use Rattle.rtp_values.specs.declared.known_kind.Kind as table
 use Rattle.rtp_values.specs.Kind.{Kind}
 
 -- what a row says of its kind

@@ -4,12 +4,11 @@ ghost use Rattle.std.specs.Prelude.{◌≡◌, IfOk};
 ghost use Rattle.rtp_values.specs.Kind.{kind_of, IsKnown, IsNamedBy};
 
 use super::Uri;
-use super::table::{kind_of, known_by_uri};
+use super::known_kind::{kind_of, known_by_uri};
 use std::alloc::{AllocError, Global};
 use std::fmt;
 
-/// A header extension: one of the fifteen that this library knows, or another by its URI
-/// (RFC 8285, 5).
+/// A header extension: one that this library knows, or another by its URI (RFC 8285, 5).
 ///
 /// The color space and unknown extensions have no field in
 /// [`ExtensionValues`](crate::ExtensionValues): their elements are passed over when a block is read,

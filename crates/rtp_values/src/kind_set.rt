@@ -5,10 +5,8 @@ ghost use Rattle.rtp_values.specs.declared.known_kind.KnownKind.{KnownKind};
 ghost use Rattle.rtp_values.specs.KindSet.{has};
 
 use super::KnownKind;
+use super::known_kind::KINDS;
 use std::marker::Model;
-
-// How many known kinds there are.
-const KINDS: usize = 15;
 
 /// A set of the known header extensions (RFC 8285, 5), as the kinds of which a header has a value.
 #[derive(Clone, Copy, Debug, PartialEq, Eq)]

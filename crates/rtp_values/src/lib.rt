@@ -6,7 +6,6 @@ mod kind;
 mod kind_set;
 mod known_kind;
 pub mod standard;
-mod table;
 mod uri;
 mod value;
 

@@ -8,8 +8,8 @@ mod payload;
 mod run;
 
 pub use header::{
-    GetFields, NotAHeader, RtpHeader, try_write_values, values_left_out, values_wire_len,
-    write_with,
+    FixedFields, GetFields, NotAHeader, RtpHeader, fixed_bytes, try_write_values, values_left_out,
+    values_wire_len, write_with,
 };
 pub use packet::{
     BlockNotPut, Csrcs, Fields, NotAPacket, NotInBuffer, NotPut, NotRetransmitted, OriginalFields,

@@ -1,14 +1,21 @@
-// Pionsfu is the SFU of examples/sfu written with github.com/pion/rtp: the same sockets, and the same is sent.
+// Pionsfu is the SFU of examples/sfu written with pion's packages: with the same arguments, input and output it sends
+// and counts the same, but that it doesn't tell a sender that starts again under its SSRC.
 package main
 
 import (
-	"encoding/binary"
 	"fmt"
+	"math"
 	"os"
 	"time"
 
 	"github.com/pion/rtp"
+	"github.com/pion/transport/v2/replaydetector"
 	"rtp-wire.example/rtpwire/examples/sfu/udp"
+)
+
+const (
+	streams = 16   // so many SSRCs of the sender, at most
+	window  = 1024 // numbers of a stream in which a replay is told
 )
 
 // The ids of the receivers.
@@ -18,54 +25,32 @@ const (
 
 const audioLevelURI = "urn:ietf:params:rtp-hdrext:ssrc-audio-level"
 
-// A stream is a source of the sender: its place, its extended sequence numbers, and those that were taken of the last
-// 128: bit n % 128 of the window is the number n.
+// A stream is what is known of an SSRC of the sender.
 type stream struct {
-	index   int
-	started bool
-	highest uint64
-	window  [2]uint64
+	index    int
+	detector replaydetector.ReplayDetector
+	highest  uint16 // of the numbers that were taken
 }
 
-// take is whether the packet is new.
-func (s *stream) take(low uint16) bool {
-	if !s.started {
-		s.started, s.highest = true, 65536+uint64(low)
-		s.window[s.highest/64%2] = 1 << (s.highest % 64)
-		return true
-	}
-	number := s.highest + uint64(int64(int16(low-uint16(s.highest))))
-	switch {
-	case number > s.highest+128:
-		s.window = [2]uint64{}
-	case number > s.highest:
-		for n := s.highest + 1; n <= number; n++ {
-			s.window[n/64%2] &^= 1 << (n % 64)
-		}
-	case s.highest-number >= 128 || s.window[number/64%2]>>(number%64)&1 != 0:
-		return false
-	}
-	if number > s.highest {
-		s.highest = number
-	}
-	s.window[number/64%2] |= 1 << (number % 64)
-	return true
-}
-
+// An sfu is the core of the SFU, without sockets and clock.
 type sfu struct {
 	receivers    int
 	audioLevelID uint8 // the sender's
 	streams      map[uint32]*stream
-	packet       rtp.Packet
-	copied       [16]byte
-	extensions   []rtp.Extension
-	header       [udp.Room]byte
-	data         []byte // a mid, a transport number and a send time for each receiver
-	transport    uint16 // of the next packet to the first receiver
-
-	taken, refused, unreadable, sent, unsent uint64
+	header       rtp.Header
+	extensions   []rtp.Extension // of a receiver's header
+	own          [8]byte         // its mid, transport number and send time
+	packet       [udp.Room + 65536]byte
+	transport    uint16 // the next packet's transport number to the first receiver
+	counts       udp.Counts
 }
 
+// newSFU is an SFU with so many receivers, which have agreed to the same ids.
+func newSFU(receivers int) *sfu {
+	return &sfu{receivers: receivers, streams: make(map[uint32]*stream)}
+}
+
+// Map maps an id of the sender.
 func (s *sfu) Map(id uint8, uri string) error {
 	if uri == audioLevelURI {
 		s.audioLevelID = id
@@ -73,92 +58,107 @@ func (s *sfu) Map(id uint8, uri string) error {
 	return nil
 }
 
+// Take takes the datagram in buf[udp.Room:].
 func (s *sfu) Take(buf []byte, now time.Duration, send udp.Send) {
 	datagram := buf[udp.Room:]
-	if len(datagram) >= 2 && datagram[1] >= 192 && datagram[1] <= 223 {
+	if len(datagram) >= 2 && datagram[1] >= 192 && datagram[1] <= 223 { // RFC 5761, 4
+		s.counts.RTCP++
 		return
 	}
-	at, err := s.packet.Header.Unmarshal(datagram)
-	if err != nil || s.packet.Version != 2 {
-		s.unreadable++
+	headerLen, err := s.header.Unmarshal(datagram)
+	if err != nil || s.header.Version != 2 {
+		s.counts.Unreadable++
 		return
 	}
-	from := s.streams[s.packet.SSRC]
+	from := s.stream()
 	if from == nil {
-		from = &stream{index: len(s.streams)}
-		s.streams[s.packet.SSRC] = from
-	}
-	if !from.take(s.packet.SequenceNumber) {
-		s.refused++
+		s.counts.Strangers++
 		return
 	}
-	s.taken++
-	payloadAt := udp.Room + at
-	level := s.level()
-	sendTime := rtp.NewAbsSendTimeExtension(time.Unix(0, 0).Add(now)).Timestamp
+	number := s.header.SequenceNumber
+	accept, ok := from.detector.Check(uint64(number))
+	behind := int16(from.highest - number)
+	switch {
+	case ok:
+		accept()
+		if behind < 0 {
+			from.highest = number
+		}
+		s.counts.Taken++
+		s.forward(datagram[headerLen:], from, now, send)
+	case behind < window:
+		s.counts.Replays++
+	default:
+		s.counts.Late++
+	}
+}
+
+// stream is that of the packet, nil where it is of one more than there is room for.
+func (s *sfu) stream() *stream {
+	from := s.streams[s.header.SSRC]
+	if from == nil && len(s.streams) < streams {
+		detector := replaydetector.WithWrap(window, math.MaxUint16)
+		from = &stream{index: len(s.streams), detector: detector, highest: s.header.SequenceNumber}
+		s.streams[s.header.SSRC] = from
+	}
+	return from
+}
+
+// forward sends the packet to all receivers, where its header isn't longer than udp.Room.
+func (s *sfu) forward(payload []byte, from *stream, now time.Duration, send udp.Send) {
+	sent := rtp.NewAbsSendTimeExtension(time.Unix(0, 0).Add(now)).Timestamp
 	for i := 0; i < s.receivers; i++ {
-		length, err := s.describe(buf[:payloadAt], from, i, sendTime, level)
-		if err == nil {
-			err = send(i, buf[payloadAt-length:])
+		if n, err := s.write(from, i, sent); err == nil {
+			n += copy(s.packet[n:], payload)
+			if send(i, s.packet[:n]) == nil {
+				s.counts.Sent++
+				continue
+			}
 		}
-		if err != nil {
-			s.unsent++
-			continue
-		}
-		s.sent++
+		s.counts.Unsent++
 	}
 	s.transport++
 }
 
-// level is the audio level of the packet, copied, since the headers are written over it.
-func (s *sfu) level() []byte {
-	if data := s.packet.GetExtension(s.audioLevelID); data != nil {
-		return append(s.copied[:0], data...)
-	}
-	return nil
-}
-
-// describe writes the receiver's header so that it ends where the buffer does, and returns its length.
-func (s *sfu) describe(buf []byte, from *stream, i int, sendTime uint64, level []byte) (int, error) {
-	header := s.packet.Header
-	header.Extension, header.ExtensionProfile, header.Extensions = true, 0xBEDE, s.extensions[:0]
+// write writes the header of a receiver, with its SSRC of the stream, the number, its mid of the stream, the transport
+// number and the time at which it is sent, and returns how many bytes it has.
+func (s *sfu) write(from *stream, i int, sent uint64) (int, error) {
+	header := s.header
 	header.SSRC = uint32(1000*(i+1) + from.index)
 	header.SequenceNumber += uint16(1000 * i)
-	data := s.data[8*i : 8*i+8]
-	copy(data, []byte{byte('0' + i/10%10), byte('0' + i%10), "0123456789ABCDEF"[from.index%16]})
-	binary.BigEndian.PutUint16(data[3:], s.transport+uint16(i))
-	data[5], data[6], data[7] = byte(sendTime>>16), byte(sendTime>>8), byte(sendTime)
-	var err error
-	set := func(id uint8, data []byte) {
-		if err == nil {
-			err = header.SetExtension(id, data)
+	if header.Extension && header.ExtensionProfile != 0xBEDE && header.ExtensionProfile != 0x1000 { // it stays as it is
+		return header.MarshalTo(s.packet[:udp.Room])
+	}
+	number := s.transport + uint16(i)
+	s.own = [...]byte{
+		byte('0' + i/10%10), byte('0' + i%10), "0123456789ABCDEF"[from.index],
+		byte(number >> 8), byte(number), byte(sent >> 16), byte(sent >> 8), byte(sent),
+	}
+	header.Extensions = s.extensions[:0]
+	if level := s.header.GetExtension(s.audioLevelID); level != nil {
+		if err := header.SetExtension(audioLevelID, level); err != nil {
+			return 0, err
 		}
 	}
-	if level != nil {
-		set(audioLevelID, level)
-	}
-	set(midID, data[:3])
-	set(transportNumberID, data[3:5])
-	set(sendTimeID, data[5:8])
-	s.extensions = header.Extensions
-	if err != nil {
+	if err := header.SetExtension(midID, s.own[:3]); err != nil {
 		return 0, err
 	}
-	n, err := header.MarshalTo(s.header[:])
-	if err == nil {
-		copy(buf[len(buf)-n:], s.header[:n])
+	if err := header.SetExtension(transportNumberID, s.own[3:5]); err != nil {
+		return 0, err
 	}
-	return n, err
+	if err := header.SetExtension(sendTimeID, s.own[5:]); err != nil {
+		return 0, err
+	}
+	s.extensions = header.Extensions
+	return header.MarshalTo(s.packet[:udp.Room])
 }
 
 func main() {
-	receivers := len(os.Args) - 1
-	s := &sfu{receivers: receivers, streams: make(map[uint32]*stream), data: make([]byte, 8*receivers)}
+	s := newSFU(len(os.Args) - 1)
 	back, err := udp.Serve(os.Stdin, os.Stdout, os.Args[1:], s)
 	if err != nil {
 		fmt.Fprintln(os.Stderr, err)
 		os.Exit(1)
 	}
-	fmt.Printf("taken %d refused %d unreadable %d sent %d unsent %d back %d\n", s.taken, s.refused, s.unreadable, s.sent,
-		s.unsent, back)
+	fmt.Println(s.counts, "back", back)
 }

@@ -4,12 +4,10 @@
 //
 // usage: sfu PORT..
 //
-// From standard input come lines `map ID URI`, the sender's ids of extensions, and an empty line: then `port N` is
-// printed. Where standard input ends, what has come by then is still sent, and what became of the datagrams is printed.
+// udp.Serve says what is read and printed; at the end comes a line that says what became of the datagrams.
 package main
 
 import (
-	"errors"
 	"fmt"
 	"os"
 	"time"
@@ -31,42 +29,31 @@ const (
 // A stream is what is known of an SSRC of the sender.
 type stream struct {
 	index    int
-	receiver *rtpwire.Receiver
-}
-
-// counts says what became of the datagrams: each one is counted in one of the first six.
-type counts struct {
-	taken      uint64
-	replays    uint64 // taken before
-	late       uint64 // too old to tell
-	rtcp       uint64 // for who answers it: here nobody
-	unreadable uint64
-	strangers  uint64 // of one more SSRC than there is room for
-	sent       uint64 // packets to receivers
-	unsent     uint64 // to a receiver whose header had no room, or that the system didn't send
+	receiver rtpwire.RestartingReceiver // as no packet is authenticated
 }
 
 // An sfu is the core of the SFU, without sockets and clock.
 type sfu struct {
-	sender  rtpwire.Map
-	group   rtpwire.Group
-	batch   rtpwire.RouteBatch
-	data    []byte // own bytes for each receiver
-	headers []byte
-	streams map[uint32]*stream
-	packet  rtpwire.Packet
-	// transport is the next packet's transport number to the first receiver.
-	transport uint16
-	counts    counts
+	receivers int
+	streams   map[uint32]*stream
+	packet    rtpwire.PacketFields
+	group     rtpwire.Group // of all receivers
+	batch     rtpwire.RouteBatch
+	data      []byte // own bytes for each receiver
+	headers   []byte
+	transport uint16 // the next packet's transport number to the first receiver
+	counts    udp.Counts
 }
 
 // newSFU is an SFU with so many receivers, which have agreed to the same ids.
 func newSFU(receivers int) *sfu {
 	s := &sfu{
-		data:    make([]byte, own*receivers),
-		headers: make([]byte, udp.Room*receivers),
-		streams: make(map[uint32]*stream),
+		receivers: receivers,
+		streams:   make(map[uint32]*stream),
+		data:      make([]byte, own*receivers),
+		headers:   make([]byte, udp.Room*receivers),
 	}
+	s.group.IDs = new(rtpwire.NewIDs)
 	s.group.Elements = []rtpwire.Place{
 		{ID: midID, At: 0, Len: 3}, {ID: transportNumberID, At: 3, Len: 2}, {ID: sendTimeID, At: 5, Len: 3},
 	}
@@ -78,19 +65,9 @@ func newSFU(receivers int) *sfu {
 
 // Map maps an id of the sender.
 func (s *sfu) Map(id uint8, uri string) error {
-	if _, err := s.sender.SetURI(id, uri); err != nil {
-		return err
+	if rtpwire.KindOfURI(uri) == rtpwire.KindAudioLevel {
+		s.group.IDs.Set(id, audioLevelID)
 	}
-	var receivers rtpwire.Map
-	for id, kind := range map[uint8]rtpwire.Kind{
-		midID: rtpwire.KindMID, transportNumberID: rtpwire.KindTransportNumber,
-		sendTimeID: rtpwire.KindAbsSendTime, audioLevelID: rtpwire.KindAudioLevel,
-	} {
-		if err := receivers.Set(id, kind); err != nil {
-			return err
-		}
-	}
-	s.group.IDs = rtpwire.NewIDsBetween(&s.sender, &receivers)
 	return nil
 }
 
@@ -98,76 +75,61 @@ func (s *sfu) Map(id uint8, uri string) error {
 func (s *sfu) Take(buf []byte, now time.Duration, send udp.Send) {
 	datagram := buf[udp.Room:]
 	if rtpwire.IsRTCP(datagram) {
-		s.counts.rtcp++
+		s.counts.RTCP++
 		return
 	}
-	from, err := s.received(datagram)
-	switch {
-	case err == nil:
-		s.counts.taken++
+	if err := s.packet.Parse(datagram); err != nil {
+		s.counts.Unreadable++
+		return
+	}
+	from := s.stream()
+	if from == nil {
+		s.counts.Strangers++
+		return
+	}
+	switch _, verdict := from.receiver.Receive(s.packet.SequenceNumber); {
+	case verdict != rtpwire.Refused:
+		s.counts.Taken++
 		s.forward(buf, from, now, send)
-	case !errors.Is(err, rtpwire.ErrRefused):
-		s.counts.unreadable++
-	case from == nil:
-		s.counts.strangers++
-	case from.receiver.StandingOf(from.receiver.NumberOf(s.packet.SequenceNumber())) == rtpwire.StandingTaken:
-		s.counts.replays++
+	case from.receiver.StandingOf(from.receiver.NumberOf(s.packet.SequenceNumber)) == rtpwire.StandingTaken:
+		s.counts.Replays++
 	default:
-		s.counts.late++
+		s.counts.Late++
 	}
 }
 
-// received is the stream that takes the packet. A source that is new is known once a packet of it is taken.
-func (s *sfu) received(datagram []byte) (*stream, error) {
-	ssrc, _ := rtpwire.PeekSSRC(datagram)
-	from, isKnown := s.streams[ssrc]
-	if !isKnown {
-		receiver, err := rtpwire.NewReceiver(1) // 1, as no packet is authenticated
-		if err != nil {
-			return nil, err
-		}
-		from = &stream{len(s.streams), receiver}
+// stream is that of the packet, nil where it is of one more than there is room for.
+func (s *sfu) stream() *stream {
+	from := s.streams[s.packet.SSRC]
+	if from == nil && len(s.streams) < streams {
+		from = &stream{index: len(s.streams)}
+		s.streams[s.packet.SSRC] = from
 	}
-	_, err := from.receiver.ReceivePacket(datagram, nil, &s.packet)
-	if err != nil || isKnown {
-		return from, err
-	}
-	if len(s.streams) == streams {
-		return nil, rtpwire.ErrRefused
-	}
-	s.streams[ssrc] = from
-	return from, nil
+	return from
 }
 
-// forward sends the packet to all receivers: the header of each is copied before the payload in its turn, where there is
-// room for one that isn't longer than udp.Room.
+// forward sends the packet to all receivers: the header of each is copied before the payload in its turn, if there is
+// room for it in udp.Room bytes.
 func (s *sfu) forward(buf []byte, from *stream, now time.Duration, send udp.Send) {
 	s.describe(from, now)
-	group := &s.group
-	err := s.batch.Route(buf[udp.Room:], group, s.data, s.headers)
-	if errors.Is(err, rtpwire.ErrOtherForm) { // a block without elements stays as it is
-		err = s.batch.Route(buf[udp.Room:], &rtpwire.Group{IDs: group.IDs}, s.data, s.headers)
+	datagram, group := buf[udp.Room:], &s.group
+	if form, _ := s.packet.Block(datagram); form == rtpwire.OtherForm { // it stays as it is
+		group = new(rtpwire.Group)
 	}
-	receivers := len(s.data) / own
-	if err != nil {
-		s.counts.unsent += uint64(receivers)
+	if err := s.batch.Route(datagram, group, s.data, s.headers); err != nil {
+		s.counts.Unsent += uint64(s.receivers)
 		return
 	}
 	payloadAt := udp.Room + s.packet.HeaderLen()
-	for i := 0; i < receivers; i++ {
-		header, err := s.batch.At(i)
-		if len(header) > udp.Room {
-			err = rtpwire.ErrShortBuffer
-		}
-		if err == nil {
+	for i := 0; i < s.receivers; i++ {
+		if header, err := s.batch.At(i); err == nil && len(header) <= udp.Room {
 			at := payloadAt - copy(buf[payloadAt-len(header):], header)
-			err = send(i, buf[at:])
+			if send(i, buf[at:]) == nil {
+				s.counts.Sent++
+				continue
+			}
 		}
-		if err != nil {
-			s.counts.unsent++
-			continue
-		}
-		s.counts.sent++
+		s.counts.Unsent++
 	}
 }
 
@@ -175,10 +137,10 @@ func (s *sfu) forward(buf []byte, from *stream, now time.Duration, send udp.Send
 // transport number and the time at which it is sent.
 func (s *sfu) describe(from *stream, now time.Duration) {
 	sent := rtpwire.SendTimeOf(time.Unix(0, 0).Add(now))
-	for i := 0; i < len(s.data)/own; i++ {
+	for i := 0; i < s.receivers; i++ {
 		fields := s.batch.Fields(i)
 		fields.SetSSRC(uint32(1000*(i+1) + from.index))
-		fields.SetSequenceNumber(s.packet.SequenceNumber() + uint16(1000*i))
+		fields.SetSequenceNumber(s.packet.SequenceNumber + uint16(1000*i))
 		number := s.transport + uint16(i)
 		copy(s.data[own*i:own*i+own], []byte{
 			byte('0' + i/10%10), byte('0' + i%10), "0123456789ABCDEF"[from.index],
@@ -195,7 +157,5 @@ func main() {
 		fmt.Fprintln(os.Stderr, err)
 		os.Exit(1)
 	}
-	c := &s.counts
-	fmt.Printf("taken %d replays %d late %d rtcp %d unreadable %d strangers %d sent %d unsent %d back %d\n", c.taken,
-		c.replays, c.late, c.rtcp, c.unreadable, c.strangers, c.sent, c.unsent, back)
+	fmt.Println(s.counts, "back", back)
 }

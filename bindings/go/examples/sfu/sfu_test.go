@@ -69,21 +69,67 @@ func TestPacketsOfEachReceiver(t *testing.T) {
 		{"906F 0008 00000068 0000002C ABAC007D" + strings.Repeat("00000000", 125) + "74", 0, nil},
 		{"80C9 0001 00000009", 0, nil},
 		{"80E0 FFFF 000000", 0, nil},
-		{"8060 FF88 00000064 0000002C", 0, nil}, // 128 before 8
+		{"8060 FC08 00000064 0000002C", 0, nil}, // 1,024 before 8
+		// The sender starts again: the second packet far from 8 is taken, and the sixth that is.
+		{"8060 7000 00000069 0000002C", 0, nil},
+		{"8060 7001 0000006A 0000002C", 0, []string{
+			"90607001" + "0000006A" + "000003E8" + "BEDE0003" + "22303030" + "510005" + "72000000" + "00",
+			"906073E9" + "0000006A" + "000007D0" + "BEDE0003" + "22303130" + "510006" + "72000000" + "00",
+		}},
 	}
 	for _, row := range rows {
 		if got := sent(t, s, row.datagram, row.now); !reflect.DeepEqual(got, row.wanted) {
 			t.Errorf("%s: %v, wanted %v", row.datagram, got, row.wanted)
 		}
 	}
-	if wanted := (counts{taken: 5, replays: 1, late: 1, rtcp: 1, unreadable: 1, sent: 8, unsent: 2}); s.counts != wanted {
+	wanted := udp.Counts{Taken: 6, Replays: 1, Late: 2, RTCP: 1, Unreadable: 1, Sent: 10, Unsent: 2}
+	if s.counts != wanted {
 		t.Errorf("%+v, wanted %+v", s.counts, wanted)
 	}
 	for ssrc := 1; ssrc <= 20; ssrc++ {
 		sent(t, s, fmt.Sprintf("8060 0001 00000000 000000%02X", ssrc), 0)
 	}
-	if wanted := uint64(6); s.counts.strangers != wanted {
-		t.Errorf("%d strangers, wanted %d", s.counts.strangers, wanted)
+	if wanted := uint64(6); s.counts.Strangers != wanted {
+		t.Errorf("%d strangers, wanted %d", s.counts.Strangers, wanted)
+	}
+}
+
+// No datagram takes memory once its source is known, whatever becomes of it, nor does a stranger's.
+func TestNoDatagramTakesMemory(t *testing.T) {
+	s := newSFU(3)
+	if err := s.Map(1, levelURI); err != nil {
+		t.Fatal(err)
+	}
+	datagrams := [][]byte{ // with elements, without a block, with one of another form; RTCP; a cut one; a stranger
+		{0x90, 111, 0, 0, 0, 0, 0, 0, 0, 0, 0, 0, 0xBE, 0xDE, 0, 1, 0x10, 0x8A, 0, 0, 'm'},
+		{0x80, 111, 0, 0, 0, 0, 0, 0, 0, 0, 0, 1, 'm'},
+		{0x90, 111, 0, 0, 0, 0, 0, 0, 0, 0, 0, 2, 0xAB, 0xAC, 0, 1, 1, 2, 3, 4, 'm'},
+		{0x80, 201, 0, 1, 0, 0, 0, 9},
+		{0x80, 111, 0, 0, 0, 0, 0},
+		{0x80, 111, 0, 0, 0, 0, 0, 0, 0, 0, 0, streams},
+	}
+	for ssrc := byte(0); ssrc < streams; ssrc++ {
+		sent(t, s, fmt.Sprintf("806F 0000 00000000 000000%02X", ssrc), 0)
+	}
+	s.counts = udp.Counts{}
+	buf := make([]byte, udp.Room+1500)
+	number := byte(0)
+	taken := testing.AllocsPerRun(100, func() {
+		number++
+		for _, datagram := range datagrams {
+			for times := 0; times < 2; times++ {
+				n := copy(buf[udp.Room:], datagram)
+				buf[udp.Room+3] = number
+				s.Take(buf[:udp.Room+n], time.Second, func(int, []byte) error { return nil })
+			}
+		}
+	})
+	if taken != 0 {
+		t.Errorf("%v allocations", taken)
+	}
+	wanted := udp.Counts{Taken: 303, Replays: 303, RTCP: 202, Unreadable: 202, Strangers: 202, Sent: 909} // of 101 runs
+	if s.counts != wanted {
+		t.Errorf("%v, wanted %v", s.counts, wanted)
 	}
 }
 
@@ -204,7 +250,7 @@ func TestOverUDP(t *testing.T) {
 	if err := <-ended; err != nil {
 		t.Error(err)
 	}
-	if wanted := (counts{taken: packets, replays: packets / 10, sent: receivers * packets}); s.counts != wanted {
+	if wanted := (udp.Counts{Taken: packets, Replays: packets / 10, Sent: receivers * packets}); s.counts != wanted {
 		t.Errorf("%+v, wanted %+v", s.counts, wanted)
 	}
 }

@@ -6,7 +6,7 @@ each id means; `Receiver` judges the packets of a stream. The work is done by th
 is proved.
 """
 
-from . import _library
+from . import _loaded
 from ._color_space import ChromaSiting, Chromaticity, ColorRange, ColorSpace, HdrMetadata
 from ._column import Column, TextColumn
 from ._columns import Columns, Verdict, Verdicts
@@ -169,5 +169,5 @@ __all__ = [
     "write_original",
 ]
 
-__version__: str = _library.package_version().decode()
+__version__: str = _loaded.package_version().decode()
 """The version of the package and of its library, as pip has it."""

@@ -3,9 +3,26 @@
 from __future__ import annotations
 
 from array import array
+from ctypes import POINTER, Structure, c_size_t, c_void_p
 from typing import Generic, Iterator, List, Optional, TypeVar, Union, overload
 
+from ._library import BYTES, SIZE, RawMap, RawReceiver
+from ._loaded import declare
+
 Value = TypeVar("Value")
+
+
+class RawColumn(Structure):
+    """A column of src/columns.c."""
+
+    _fields_ = [("offset", c_size_t), ("size", c_size_t), ("to", c_void_p), ("stride", c_size_t)]
+
+
+_COLUMNS = POINTER(RawColumn)
+_DATAGRAMS = (BYTES, SIZE, POINTER(RawMap), BYTES, BYTES, SIZE)
+columns_parse = declare(None, "columns_parse", *_DATAGRAMS, _COLUMNS, SIZE, _COLUMNS, SIZE, _COLUMNS)
+_RECEIVERS = (POINTER(RawReceiver), SIZE, BYTES)
+columns_receive = declare(None, "columns_receive", *_RECEIVERS, _COLUMNS, _COLUMNS, SIZE, _COLUMNS, _COLUMNS)
 
 
 class _Optionals(Generic[Value]):

@@ -7,9 +7,8 @@ from enum import IntEnum
 from itertools import compress
 from typing import TYPE_CHECKING, Dict, Iterable, Iterator, MutableMapping, NamedTuple, Optional, Union
 
-from . import _library
 from ._buffers import address_of, place_of
-from ._column import Column, TextColumn
+from ._column import Column, RawColumn, TextColumn
 from ._errors import BadField, Status
 from ._judges import Judges
 from ._many import FIELDS, NUMBERS, TEXTS, has_at, no_column, places_of, read
@@ -27,9 +26,9 @@ def _zeros(code: str, count: int) -> array[int]:
     return column
 
 
-def _raw_column(column: Union[array[int], memoryview], offset: int = 0) -> _library.RawColumn:
+def _raw_column(column: Union[array[int], memoryview], offset: int = 0) -> RawColumn:
     view = memoryview(column)
-    return _library.RawColumn(offset, view.itemsize, address_of(view), view.itemsize)
+    return RawColumn(offset, view.itemsize, address_of(view), view.itemsize)
 
 
 class Verdict(IntEnum):
@@ -144,7 +143,7 @@ class Columns:
         read(columns._data, columns._at, columns._lengths, map, fields, of_values, _raw_column(columns.is_rtp))
         return columns
 
-    def _add(self, name: str) -> Iterator[_library.RawColumn]:
+    def _add(self, name: str) -> Iterator[RawColumn]:
         """Adds an empty column of this kind of value, and says what goes there."""
         there = _zeros("B", len(self))
         if name in NUMBERS:
@@ -154,7 +153,7 @@ class Columns:
         elif name in TEXTS:
             offset, size, has = TEXTS[name]
             text = self.texts[name] = TextColumn(bytearray(size * len(self)), size, there)
-            yield _library.RawColumn(offset, size, address_of(memoryview(text.data)), size)
+            yield RawColumn(offset, size, address_of(memoryview(text.data)), size)
         else:
             raise no_column(name)
         yield _raw_column(there, has_at(has))

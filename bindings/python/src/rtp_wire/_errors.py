@@ -6,7 +6,7 @@ from enum import IntEnum
 from operator import index
 from typing import TYPE_CHECKING, FrozenSet, Iterable, List, Optional, Sequence
 
-from ._declared import RANGES, TEXTS
+from ._library import RANGES, TEXTS
 
 if TYPE_CHECKING:
     from ._kind import Kind

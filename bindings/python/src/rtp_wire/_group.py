@@ -2,6 +2,7 @@
 
 from __future__ import annotations
 
+from ctypes import Array
 from typing import Iterable, Optional, Tuple
 
 from . import _library
@@ -70,7 +71,7 @@ class Group:
         return Group, self._parts()
 
 
-def places_of(elements: Iterable[Tuple[int, int]]) -> _library.Places:
+def places_of(elements: Iterable[Tuple[int, int]]) -> Array[_library.RawElement]:
     """Where the data of elements lie, of which each has so many bytes, one after another."""
     places, ids, at = [], set(), 0
     for id, length in elements:

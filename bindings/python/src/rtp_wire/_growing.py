@@ -8,6 +8,7 @@ from typing import TYPE_CHECKING, Optional
 from . import _library
 from ._buffers import address_of, copy_of, writable_view_of
 from ._errors import BadField, Status, check, element_id, unsigned, within
+from ._loaded import Function
 from ._packet import Form
 
 if TYPE_CHECKING:
@@ -55,7 +56,7 @@ def add_element(
 
 
 def _put(
-    call: _library.Function, buffer: WritableBuffer, length: int, id: int, data: Buffer, allowed: Optional[Form]
+    call: Function, buffer: WritableBuffer, length: int, id: int, data: Buffer, allowed: Optional[Form]
 ) -> int:
     """Puts an element by this function of the library."""
     view = writable_view_of(buffer)

@@ -2,7 +2,7 @@
 
 from __future__ import annotations
 
-from ctypes import c_size_t, c_uint32
+from ctypes import Array, c_size_t, c_uint32
 from dataclasses import dataclass, field, fields
 from typing import TYPE_CHECKING, Any, Dict, FrozenSet, Iterable, Optional, Tuple, cast
 
@@ -11,6 +11,7 @@ from ._buffers import address_of, place_of, view_of, writable_view_of
 from ._errors import BadField, LeftOut, Status, check, checked, unsigned, within
 from ._kind import Kind
 from ._layers import Layers, layers_of, raw_layers_of
+from ._loaded import Function
 from ._map import Map, raw_map
 from ._values import Values, put_values, values_of
 
@@ -130,7 +131,7 @@ class Header:
             put_values(raw.values, self.values)
         return raw
 
-    def _calls(self, map: Map) -> Tuple[_library.Function, _library.Function, Tuple[object, ...]]:
+    def _calls(self, map: Map) -> Tuple[Function, Function, Tuple[object, ...]]:
         """The calls that tell the length and write, and what both are given."""
         given = (raw_map(map), self._raw())
         if self.values.layers is None:
@@ -235,7 +236,7 @@ LONG = "the elements have more bytes than a block can"
 _BOUNDS = {0: (255, 0, 255), 1: (14, 1, 16), 2: (255, 0, 255)}
 
 
-def _gather(elements: Iterable[Tuple[int, Buffer]], form: int) -> Tuple[bytes, _library.Places]:
+def _gather(elements: Iterable[Tuple[int, Buffer]], form: int) -> Tuple[bytes, Array[_library.RawElement]]:
     """The data of all elements, one after the other, and where those of each lie; 0 stands for each form. BadField
     where the form can't carry one."""
     data, places = bytearray(), []
@@ -247,7 +248,7 @@ def _gather(elements: Iterable[Tuple[int, Buffer]], form: int) -> Tuple[bytes, _
     return bytes(data), (_library.RawElement * len(places))(*places)
 
 
-def _room(data: bytes, places: _library.Places) -> int:
+def _room(data: bytes, places: Array[_library.RawElement]) -> int:
     """As many bytes as the elements take in the two-byte form, and as a word is filled up with."""
     return len(data) + 2 * len(places) + WORD - 1
 

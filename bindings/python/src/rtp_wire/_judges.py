@@ -6,6 +6,7 @@ from ctypes import byref, memmove, sizeof
 from typing import Dict, Iterable, MutableMapping, Optional
 
 from . import _library
+from ._column import RawColumn, columns_receive
 from ._receiver import Receiver
 
 _NO_INDEX = (1 << 64) - 1
@@ -37,17 +38,15 @@ class Judges:
     def judge(
         self,
         indices: Optional[int],
-        sequence_numbers: _library.RawColumn,
-        is_rtp: _library.RawColumn,
+        sequence_numbers: RawColumn,
+        is_rtp: RawColumn,
         count: int,
-        numbers: _library.RawColumn,
-        verdicts: _library.RawColumn,
+        numbers: RawColumn,
+        verdicts: RawColumn,
     ) -> None:
         """Has the packets judged, one after the other, by the receivers whose indices lie there."""
         states = (_library.RawReceiver * len(self.apart))(*(it._raw for it in self.apart))
-        _library.columns_receive(
-            states, len(states), indices, sequence_numbers, is_rtp, count, numbers, verdicts
-        )
+        columns_receive(states, len(states), indices, sequence_numbers, is_rtp, count, numbers, verdicts)
         for judge, state in zip(self.apart, states):
             memmove(byref(judge._raw), byref(state), sizeof(state))
         self.receivers.update(self.judges)

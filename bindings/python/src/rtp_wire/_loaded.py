@@ -1,7 +1,7 @@
 """The shared library, and the functions of it that were declared."""
 
 import sys
-from ctypes import PyDLL
+from ctypes import PyDLL, c_char_p
 from pathlib import Path
 from typing import Any, Callable, Dict
 
@@ -17,3 +17,6 @@ def declare(result: Any, name: str, *arguments: Any) -> Function:
     function = FUNCTIONS[name] = _LIBRARY[name]
     function.restype, function.argtypes = result, arguments
     return function
+
+
+package_version = declare(c_char_p, "package_version")

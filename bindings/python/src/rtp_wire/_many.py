@@ -8,6 +8,7 @@ from typing import TYPE_CHECKING, Dict, Iterable, List, Optional, Tuple, Union
 
 from . import _library
 from ._buffers import place_of
+from ._column import RawColumn, columns_parse
 from ._errors import BadField, Status
 from ._map import Map, raw_map
 
@@ -116,21 +117,21 @@ def read(
     at: array[int],
     lengths: array[int],
     map: Optional[Map],
-    fields: List[_library.RawColumn],
-    values: List[_library.RawColumn],
-    is_rtp: _library.RawColumn,
+    fields: List[RawColumn],
+    values: List[RawColumn],
+    is_rtp: RawColumn,
 ) -> None:
     """Reads the datagrams at these places into these columns of fields and values."""
-    _library.columns_parse(
+    columns_parse(
         place_of(data)[1],
         len(data),
         raw_map(Map() if map is None else map),
         at.buffer_info()[0],
         lengths.buffer_info()[0],
         len(at),
-        (_library.RawColumn * len(fields))(*fields),
+        (RawColumn * len(fields))(*fields),
         len(fields),
-        (_library.RawColumn * len(values))(*values),
+        (RawColumn * len(values))(*values),
         len(values),
         is_rtp,
     )

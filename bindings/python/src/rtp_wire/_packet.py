@@ -11,6 +11,7 @@ from . import _library
 from ._buffers import address_of, copy_of, place_of, view_of, writable_view_of
 from ._errors import LONG_PADDING, Status, check, checked, error_of, unsigned, within
 from ._header import read_layers
+from ._loaded import Function
 from ._map import Map, NewIds, raw_map, raw_new_ids
 from ._standard import token_of
 from ._values import Values, values_of
@@ -250,7 +251,7 @@ class Packet:
         put_fields(fields, payload_type, sequence_number, timestamp, ssrc, marker)
         self._set(_library.set_fields, fields)
 
-    def _set(self, change: _library.Function, *arguments: object, reason: Optional[str] = None) -> None:
+    def _set(self, change: Function, *arguments: object, reason: Optional[str] = None) -> None:
         """Changes the packet, and reads it again. The reason is that of a BadField."""
         data = writable_view_of(memoryview(self._data))
         at = address_of(data)

@@ -17,6 +17,7 @@ from typing import TYPE_CHECKING, Optional, TypeVar
 from . import _library
 from ._buffers import address_of, place_of
 from ._errors import BadField, Status, check, ranged, unsigned
+from ._loaded import Function
 
 if TYPE_CHECKING:
     from ._buffers import Buffer
@@ -26,7 +27,7 @@ MOST_DATA = 28
 Raw = TypeVar("Raw")
 
 
-def read_data(function: _library.Function, raw: Raw, data: Buffer, what: str) -> Raw:
+def read_data(function: Function, raw: Raw, data: Buffer, what: str) -> Raw:
     """What the data say, in the struct that is given. BadField, with what they should be, where they aren't
     well-formed."""
     view, at = place_of(data)
@@ -35,7 +36,7 @@ def read_data(function: _library.Function, raw: Raw, data: Buffer, what: str) ->
     return raw
 
 
-def written(function: _library.Function, *value: object, most: int = MOST_DATA) -> bytes:
+def written(function: Function, *value: object, most: int = MOST_DATA) -> bytes:
     """The data that the function writes of a value."""
     data, length = bytearray(most), c_size_t()
     view = memoryview(data)

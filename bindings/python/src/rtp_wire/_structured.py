@@ -5,8 +5,8 @@ from __future__ import annotations
 from importlib import import_module
 from typing import TYPE_CHECKING, Any, Dict, Iterable, List, MutableMapping, Optional, Tuple
 
-from . import _library
 from ._buffers import place_of
+from ._column import RawColumn
 from ._judges import Judges
 from ._many import FIELDS, NUMBERS, TEXTS, has_at, no_column, places_of, read
 from ._map import Map
@@ -79,13 +79,13 @@ class _Rows:
         self.rows = numpy.zeros(count, numpy.dtype(formats, align=True))
         self.masks = numpy.zeros(count, numpy.ma.make_mask_descr(self.rows.dtype))
 
-    def column(self, name: str, offset: int = 0, masks: bool = False) -> _library.RawColumn:
+    def column(self, name: str, offset: int = 0, masks: bool = False) -> RawColumn:
         """The column of a field, or of its masks, for what stands in a struct there."""
         of = self.masks if masks else self.rows
         kind, begin = of.dtype.fields[name][:2]
-        return _library.RawColumn(offset, kind.itemsize, of.ctypes.data + begin, of.dtype.itemsize)
+        return RawColumn(offset, kind.itemsize, of.ctypes.data + begin, of.dtype.itemsize)
 
-    def value(self, name: str) -> List[_library.RawColumn]:
+    def value(self, name: str) -> List[RawColumn]:
         """The columns of a value, and of whether it is there."""
         offset, has = NUMBERS[name][1:] if name in NUMBERS else TEXTS[name][::2]
         return [self.column(name, offset), self.column(name, has_at(has), masks=True)]

@@ -2,6 +2,7 @@
 
 from __future__ import annotations
 
+from ctypes import Array
 from typing import TYPE_CHECKING, Iterable, Iterator, List, NamedTuple, Optional, Tuple, Union
 
 from . import _library
@@ -199,7 +200,7 @@ class HeaderTemplate:
             receiver.is_retransmission = 1
         return view
 
-    def _call(self, data: bytes, receivers: _library.Receivers, room: memoryview) -> None:
+    def _call(self, data: bytes, receivers: Array[_library.RawRoutedHeader], room: memoryview) -> None:
         status = _library.write_headers(
             self._raw,
             self._header,
@@ -249,7 +250,7 @@ def _room_for(packet: Union[bytes, memoryview], count: int) -> memoryview:
     return memoryview(bytearray(2 * len(packet) + 264 * count))
 
 
-def _gather(elements: Iterable[Tuple[int, Buffer]]) -> Tuple[bytes, _library.Places]:
+def _gather(elements: Iterable[Tuple[int, Buffer]]) -> Tuple[bytes, Array[_library.RawElement]]:
     """The data of the elements, one after the other, and where those of each lie."""
     data = bytearray()
 

@@ -3,6 +3,8 @@
 //! The structs of `rtp_wire.h`.
 #![allow(dead_code, unused_imports)]
 
+use core::mem::offset_of;
+
 pub use crate::reception::ReceptionReport;
 pub use crate::standard::Chromaticity;
 pub use crate::standard::HdrMetadata;
@@ -389,204 +391,65 @@ pub struct RoutedSlot {
     pub(crate) len: u32,
 }
 
-#[cfg(test)]
-mod tests {
-    use super::*;
-    use core::mem::{align_of, offset_of, size_of};
-
-    /// The struct's size, and where each field lies.
-    macro_rules! lies {
-        ($it:ty, $size:expr, aligned $align:expr, $($field:ident $at:expr),* $(,)?) => {
-            assert_eq!(size_of::<$it>(), $size);
-            assert_eq!(align_of::<$it>(), $align);
-            $(assert_eq!(offset_of!($it, $field), $at, stringify!($field));)*
-        };
-    }
-
-    #[test]
-    fn packet() {
-        lies!(PacketParts, 64, aligned 8, payload_at 0, payload_len 8, unpadded_len 16, body_at 24, body_len 32,
-            timestamp 40, ssrc 44, sequence_number 48, payload_type 50, csrc_count 51, marker 52, has_padding 53,
-            padding_fits 54, block_form 55, block_profile 56);
-    }
-
-    #[test]
-    fn fields() {
-        lies!(FieldsView, 20, aligned 4, timestamp 0, ssrc 4, sequence_number 8, payload_type 10, marker 11,
-            has_timestamp 12, has_ssrc 13, has_sequence_number 14, has_payload_type 15, has_marker 16);
-    }
-
-    #[test]
-    fn element() {
-        lies!(Place, 32, aligned 8, data_at 0, data_len 8, end 16, id 24);
-    }
-
-    #[test]
-    fn map() {
-        lies!(StoredMap, 256, aligned 1, kind 0);
-    }
-
-    #[test]
-    fn time() {
-        lies!(Time, 16, aligned 8, ticks 0, hertz 8);
-    }
-
-    #[test]
-    fn values() {
-        lies!(ValuesView, 136, aligned 8, send_time 0, capture_time 8, capture_offset 16, playout_delay_min 24,
-            playout_delay_max 40, transmission_offset 56, frame_marking 60, transport_number 64, video_orientation
-            66, encode_start 68, encode_finish 70, packetize_complete 72, last_left_pacer 74, timing_flags 76,
-            video_content_type 77, audio_level 78, voice_activity 79, mid 80, rid 97, repaired_rid 106,
-            has_send_time 115, has_capture_time 116, has_capture_offset 117, has_transmission_offset 118,
-            has_frame_marking 119, has_transport_number 120, has_video_orientation 121, has_video_content_type 122,
-            has_audio_level 123, has_voice_activity 124, has_playout_delay_min 125, has_playout_delay_max 126,
-            has_video_timing 127, has_mid 128, has_rid 129, has_repaired_rid 130, has_layers 131);
-    }
-
-    #[test]
-    fn header() {
-        lies!(HeaderView, 224, aligned 8, header_len 0, timestamp 8, ssrc 12, csrc 16, sequence_number 76,
-            payload_type 78, csrc_count 79, marker 80, has_padding 81, has_extension 82, values 88);
-    }
-
-    #[test]
-    fn whole_packet() {
-        lies!(WholePacket, 256, aligned 8, header 0, unpadded_len 224, body_at 232, body_len 240, block_profile 248,
-            block_form 250, padding_fits 251);
-    }
-
-    #[test]
-    fn layer() {
-        lies!(Layer, 40, aligned 8, kbps 0, width 32, height 34, framerate 36, has_resolution 37, rates 38);
-    }
-
-    #[test]
-    fn stream() {
-        lies!(Stream, 168, aligned 8, layers 0, count 160);
-    }
-
-    #[test]
-    fn layers() {
-        lies!(Layers, 680, aligned 8, streams 0, count 672, current 673);
-    }
-
-    #[test]
-    fn frame_marking() {
-        lies!(FrameMarkingView, 10, aligned 1, start 0, end 1, independent 2, discardable 3, has_layers 4,
-            base_layer_sync 5, temporal_id 6, layer_id 7, has_tl0_pic_idx 8, tl0_pic_idx 9);
-    }
-
-    #[test]
-    fn orientation() {
-        lies!(OrientationView, 4, aligned 2, turn 0, camera 2, flip 3);
-    }
-
-    #[test]
-    fn timing() {
-        lies!(TimingView, 14, aligned 2, encode_start 0, encode_finish 2, packetize_complete 4, last_left_pacer 6,
-            network 8, network2 10, flags 12, has_flags 13);
-    }
-
-    #[test]
-    fn transport_number() {
-        lies!(TransportNumberView, 6, aligned 2, number 0, packets 2, has_request 4, timestamps 5);
-    }
-
-    #[test]
-    fn chromaticity() {
-        lies!(Chromaticity, 4, aligned 2, x 0, y 2);
-    }
-
-    #[test]
-    fn hdr_metadata() {
-        lies!(HdrMetadata, 24, aligned 2, luminance_max 0, luminance_min 2, red 4, green 8, blue 12, white 16,
-            max_content_light_level 20, max_frame_average_light_level 22);
-    }
-
-    #[test]
-    fn color_space() {
-        lies!(ColorSpaceView, 32, aligned 2, hdr 0, primaries 24, transfer 25, matrix 26, range 27, horizontal 28,
-            vertical 29, has_hdr 30);
-    }
-
-    #[test]
-    fn dependency_descriptor() {
-        lies!(DependencyDescriptorView, 6, aligned 2, frame_number 0, start_of_frame 2, end_of_frame 3, template_id
-            4);
-    }
-
-    #[test]
-    fn new_ids() {
-        lies!(StoredNewIds, 256, aligned 1, id 0);
-    }
-
-    #[test]
-    fn receiver() {
-        lies!(ReceiverState, 32, aligned 8, highest 0, recorded_low 8, recorded_high 16, started 24);
-    }
-
-    #[test]
-    fn wide_receiver() {
-        lies!(WideState, 16, aligned 8, highest 0, started 8);
-    }
-
-    #[test]
-    fn restarting_receiver() {
-        lies!(NarrowRestartingState, 32, aligned 8, highest 0, words 8, max_dropout 24, next 26, min_sequential 28,
-            in_row 29, started 30);
-    }
-
-    #[test]
-    fn reception() {
-        lies!(ReceptionState, 56, aligned 8, first 0, highest 8, received 16, received_before 24, expected_before
-            32, scaled_jitter 40, transit 48);
-    }
-
-    #[test]
-    fn report() {
-        lies!(ReceptionReport, 16, aligned 4, fraction_lost 0, cumulative_lost 4, extended_highest 8, jitter 12);
-    }
-
-    #[test]
-    fn wide_restarting_receiver() {
-        lies!(RestartingState, 24, aligned 8, highest 0, max_dropout 8, max_misorder 10, next 12, min_sequential 14,
-            in_row 15, started 16);
-    }
-
-    #[test]
-    fn whole_datagram() {
-        lies!(WholeSlot, 280, aligned 8, at 0, len 8, packet 16, status 272);
-    }
-
-    #[test]
-    fn datagram() {
-        lies!(PacketSlot, 88, aligned 8, at 0, len 8, packet 16, status 80, is_rtcp 84);
-    }
-
-    #[test]
-    fn datagram_header() {
-        lies!(HeaderSlot, 248, aligned 8, at 0, len 8, header 16, status 240, is_rtcp 244);
-    }
-
-    #[test]
-    fn arrival() {
-        lies!(ArrivalSlot, 24, aligned 8, receiver 0, number 8, sequence_number 16, status 20);
-    }
-
-    #[test]
-    fn template() {
-        lies!(TemplateParts, 88, aligned 4, header_len 0, data_at 4, data_total 68, count 70, data_len 71);
-    }
-
-    #[test]
-    fn group() {
-        lies!(StoredGroup, 550, aligned 2, new_ids 0, numbers 256, element_ids 512, data_lens 528, data_total 544,
-            count 546, allowed 547, one_byte 548);
-    }
-
-    #[test]
-    fn routed_header() {
-        lies!(RoutedSlot, 48, aligned 8, data_at 0, at 8, fields 16, original_number 36, is_retransmission 38,
-            clears_padding 39, status 40, len 44);
-    }
+// A program isn't built where a struct has another size than in C, or a field lies elsewhere.
+macro_rules! lies {
+    ($it:ty, $size:expr, aligned $align:expr, $($field:ident $at:expr),*) => {
+        const _: () = assert!(size_of::<$it>() == $size && align_of::<$it>() == $align);
+        $(const _: () = assert!(offset_of!($it, $field) == $at, stringify!($field));)*
+    };
 }
+
+lies!(PacketParts, 64, aligned 8, payload_at 0, payload_len 8, unpadded_len 16, body_at 24, body_len 32,
+    timestamp 40, ssrc 44, sequence_number 48, payload_type 50, csrc_count 51, marker 52, has_padding 53,
+    padding_fits 54, block_form 55, block_profile 56);
+lies!(FieldsView, 20, aligned 4, timestamp 0, ssrc 4, sequence_number 8, payload_type 10, marker 11,
+    has_timestamp 12, has_ssrc 13, has_sequence_number 14, has_payload_type 15, has_marker 16);
+lies!(Place, 32, aligned 8, data_at 0, data_len 8, end 16, id 24);
+lies!(StoredMap, 256, aligned 1, kind 0);
+lies!(Time, 16, aligned 8, ticks 0, hertz 8);
+lies!(ValuesView, 136, aligned 8, send_time 0, capture_time 8, capture_offset 16, playout_delay_min 24,
+    playout_delay_max 40, transmission_offset 56, frame_marking 60, transport_number 64, video_orientation 66,
+    encode_start 68, encode_finish 70, packetize_complete 72, last_left_pacer 74, timing_flags 76,
+    video_content_type 77, audio_level 78, voice_activity 79, mid 80, rid 97, repaired_rid 106, has_send_time 115,
+    has_capture_time 116, has_capture_offset 117, has_transmission_offset 118, has_frame_marking 119,
+    has_transport_number 120, has_video_orientation 121, has_video_content_type 122, has_audio_level 123,
+    has_voice_activity 124, has_playout_delay_min 125, has_playout_delay_max 126, has_video_timing 127, has_mid 128,
+    has_rid 129, has_repaired_rid 130, has_layers 131);
+lies!(HeaderView, 224, aligned 8, header_len 0, timestamp 8, ssrc 12, csrc 16, sequence_number 76, payload_type 78,
+    csrc_count 79, marker 80, has_padding 81, has_extension 82, values 88);
+lies!(WholePacket, 256, aligned 8, header 0, unpadded_len 224, body_at 232, body_len 240, block_profile 248,
+    block_form 250, padding_fits 251);
+lies!(Layer, 40, aligned 8, kbps 0, width 32, height 34, framerate 36, has_resolution 37, rates 38);
+lies!(Stream, 168, aligned 8, layers 0, count 160);
+lies!(Layers, 680, aligned 8, streams 0, count 672, current 673);
+lies!(FrameMarkingView, 10, aligned 1, start 0, end 1, independent 2, discardable 3, has_layers 4,
+    base_layer_sync 5, temporal_id 6, layer_id 7, has_tl0_pic_idx 8, tl0_pic_idx 9);
+lies!(OrientationView, 4, aligned 2, turn 0, camera 2, flip 3);
+lies!(TimingView, 14, aligned 2, encode_start 0, encode_finish 2, packetize_complete 4, last_left_pacer 6,
+    network 8, network2 10, flags 12, has_flags 13);
+lies!(TransportNumberView, 6, aligned 2, number 0, packets 2, has_request 4, timestamps 5);
+lies!(Chromaticity, 4, aligned 2, x 0, y 2);
+lies!(HdrMetadata, 24, aligned 2, luminance_max 0, luminance_min 2, red 4, green 8, blue 12, white 16,
+    max_content_light_level 20, max_frame_average_light_level 22);
+lies!(ColorSpaceView, 32, aligned 2, hdr 0, primaries 24, transfer 25, matrix 26, range 27, horizontal 28,
+    vertical 29, has_hdr 30);
+lies!(DependencyDescriptorView, 6, aligned 2, frame_number 0, start_of_frame 2, end_of_frame 3, template_id 4);
+lies!(StoredNewIds, 256, aligned 1, id 0);
+lies!(ReceiverState, 32, aligned 8, highest 0, recorded_low 8, recorded_high 16, started 24);
+lies!(WideState, 16, aligned 8, highest 0, started 8);
+lies!(NarrowRestartingState, 32, aligned 8, highest 0, words 8, max_dropout 24, next 26, min_sequential 28,
+    in_row 29, started 30);
+lies!(ReceptionState, 56, aligned 8, first 0, highest 8, received 16, received_before 24, expected_before 32,
+    scaled_jitter 40, transit 48);
+lies!(ReceptionReport, 16, aligned 4, fraction_lost 0, cumulative_lost 4, extended_highest 8, jitter 12);
+lies!(RestartingState, 24, aligned 8, highest 0, max_dropout 8, max_misorder 10, next 12, min_sequential 14,
+    in_row 15, started 16);
+lies!(WholeSlot, 280, aligned 8, at 0, len 8, packet 16, status 272);
+lies!(PacketSlot, 88, aligned 8, at 0, len 8, packet 16, status 80, is_rtcp 84);
+lies!(HeaderSlot, 248, aligned 8, at 0, len 8, header 16, status 240, is_rtcp 244);
+lies!(ArrivalSlot, 24, aligned 8, receiver 0, number 8, sequence_number 16, status 20);
+lies!(TemplateParts, 88, aligned 4, header_len 0, data_at 4, data_total 68, count 70, data_len 71);
+lies!(StoredGroup, 550, aligned 2, new_ids 0, numbers 256, element_ids 512, data_lens 528, data_total 544,
+    count 546, allowed 547, one_byte 548);
+lies!(RoutedSlot, 48, aligned 8, data_at 0, at 8, fields 16, original_number 36, is_retransmission 38,
+    clears_padding 39, status 40, len 44);

@@ -1,17 +1,16 @@
 //! Color space, in four bytes, or in 28 with HDR metadata.
 
-ghost use Rattle.std.specs.Prelude.{◌≡◌, ◌≢◌, ◌↔◌, ◌⊎◌, ◌≤◌, ◌<◌, ◌/◌, ◌%◌, length, take, slice_index, IfSome, IfNone};
+ghost use Rattle.std.specs.Prelude.{◌≡◌, ◌≢◌, ◌⊎◌, ◌<◌, ◌/◌, ◌%◌, length, slice_index, IfSome, IfNone};
 ghost use Rattle.rtp_values.specs.StandardColor.{range_number, siting_number, color_in};
 ghost use Rattle.rtp_values.specs.declared.standard.color_space.ColorRange.{ColorRange as Range};
 ghost use Rattle.rtp_values.specs.declared.standard.color_space.ChromaSiting.{ChromaSiting as Siting};
 ghost use Rattle.rtp_values.specs.declared.standard.color_space.ColorSpace.{ColorSpace as Space};
-ghost use Rattle.rtp_c.specs.Status.{ok, bad_field, short_buffer};
-ghost use Rattle.rtp_c.specs.StandardData.{AreWritten, AreTooLong, AreNone};
+ghost use Rattle.rtp_c.specs.StandardData.{TellsValue, WritesData};
 ghost use Rattle.rtp_c.specs.StandardColor.{IsViewOfSpace, IsGivenSpace, AreSpaceData};
 
-use super::putting::put_data;
+use super::putting::{put_data, tell};
 use crate::given::given;
-use crate::status::{BAD_FIELD, OK};
+use crate::status::BAD_FIELD;
 use crate::values::told;
 use rtp_values::standard::{ChromaSiting, ColorRange, ColorSpace, HdrMetadata};
 
@@ -97,31 +96,16 @@ fn given_space(view: &SpaceView) -> Option<ColorSpace>
     })
 }
 
-// Puts the data of the color space that is given to the front of the bytes, and returns how many
-// they are; `None` where there are none.
-fn put_space(view: &SpaceView, bytes: &mut [u8; 28]) -> Option<usize>
-    ensures found { IfSome result (λ len. AreSpaceData view.now (take len bytes.new)) }
-    ensures within { IfSome result (λ len. len ≤ 28) }
-    ensures none { IfNone result (AreNone (AreSpaceData view.now)) }
-{
-    Some(given_space(view)?.write_to(bytes))
-}
-
 /// Reads a color space (WebRTC's `color-space`). `OK`, or `BAD_FIELD` where there are neither four
 /// bytes nor 28, or a siting of the fourth byte is 3, and then nothing is written.
 #[unsafe(no_mangle)]
 pub extern "C" fn rtpw_read_color_space(bytes: &[u8], space: &mut SpaceView) -> i32
-    ensures read { result ≡ ok → IsViewOfSpace (color_in bytes.now) space.new }
-    ensures ok { (result ≡ ok) ↔ ((length bytes.now ≡ 4) ⊎ (length bytes.now ≡ 28))
-        × (slice_index bytes.now 3 / 4 % 4 < 3) × (slice_index bytes.now 3 % 4 < 3) }
-    ensures statuses { (result ≡ ok) ⊎ (result ≡ bad_field) }
-    ensures unchanged { result ≢ ok → space.new ≡ space.old }
+    ensures { TellsValue (IsViewOfSpace (color_in bytes.now))
+        (((length bytes.now ≡ 4) ⊎ (length bytes.now ≡ 28))
+        × (slice_index bytes.now 3 / 4 % 4 < 3) × (slice_index bytes.now 3 % 4 < 3))
+        space.old space.new result }
 {
-    let Some(read) = ColorSpace::parse(bytes) else {
-        return BAD_FIELD;
-    };
-    *space = view_of(&read);
-    OK
+    tell(ColorSpace::parse(bytes).map(|read| view_of(&read)), space)
 }
 
 /// Writes a color space to the front of the buffer (WebRTC's `color-space`). `OK`, and how many
@@ -130,17 +114,12 @@ pub extern "C" fn rtpw_read_color_space(bytes: &[u8], space: &mut SpaceView) -> 
 /// written.
 #[unsafe(no_mangle)]
 pub extern "C" fn rtpw_write_color_space(space: &SpaceView, buf: &mut [u8], len: &mut usize) -> i32
-    ensures written { result ≡ ok →
-        AreWritten (AreSpaceData space.now) buf.old buf.new len.new }
-    ensures short { result ≡ short_buffer →
-        AreTooLong (AreSpaceData space.now) (length buf.old) }
-    ensures bad_field { (result ≡ bad_field) ↔ AreNone (AreSpaceData space.now) }
-    ensures statuses { (result ≡ ok) ⊎ ((result ≡ short_buffer) ⊎ (result ≡ bad_field)) }
-    ensures unchanged { result ≢ ok → (buf.new ≡ buf.old) × (len.new ≡ len.old) }
+    ensures { WritesData (AreSpaceData space.now) buf.old buf.new len.old len.new result }
 {
-    let mut bytes = [0; 28];
-    let Some(data_len) = put_space(space, &mut bytes) else {
+    let Some(given) = given_space(space) else {
         return BAD_FIELD;
     };
+    let mut bytes = [0; 28];
+    let data_len = given.write_to(&mut bytes);
     put_data(&bytes[..data_len], buf, len)
 }

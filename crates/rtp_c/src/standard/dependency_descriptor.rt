@@ -1,10 +1,9 @@
 //! The first three bytes of a dependency descriptor (AV1's RTP payload format, A.8).
 
-ghost use Rattle.std.specs.Prelude.{◌≡◌, ◌≢◌, ◌↔◌, ◌⊎◌, ◌≤◌, ◌<◌, length, slice_index, IsTrue};
+ghost use Rattle.std.specs.Prelude.{◌≡◌, ◌↔◌, ◌≤◌, ◌<◌, length, slice_index, IsTrue};
 ghost use Rattle.rtp_values.specs.StandardBits.{has_bit};
 ghost use Rattle.rtp_values.specs.StandardDescriptor.{descriptor_in};
-ghost use Rattle.rtp_c.specs.Status.{ok, bad_field, short_buffer};
-ghost use Rattle.rtp_c.specs.StandardData.{AreWritten, AreTooLong, AreNone};
+ghost use Rattle.rtp_c.specs.StandardData.{TellsValue, WritesData};
 ghost use Rattle.rtp_c.specs.StandardDescriptor.{IsViewOfDescriptor, given_descriptor, AreDescriptorData};
 
 use super::putting::put_data;
@@ -46,10 +45,8 @@ pub extern "C" fn rtpw_read_dependency_descriptor(
     bytes: &[u8],
     descriptor: &mut DescriptorView,
 ) -> i32
-    ensures read { result ≡ ok → IsViewOfDescriptor (descriptor_in bytes.now) descriptor.new }
-    ensures ok { (result ≡ ok) ↔ (3 ≤ length bytes.now) }
-    ensures statuses { (result ≡ ok) ⊎ (result ≡ bad_field) }
-    ensures unchanged { result ≢ ok → descriptor.new ≡ descriptor.old }
+    ensures { TellsValue (IsViewOfDescriptor (descriptor_in bytes.now))
+        (3 ≤ length bytes.now) descriptor.old descriptor.new result }
 {
     let Some(read) = DependencyDescriptor::parse(bytes) else {
         return BAD_FIELD;
@@ -73,13 +70,7 @@ pub extern "C" fn rtpw_write_dependency_descriptor(
     buf: &mut [u8],
     len: &mut usize,
 ) -> i32
-    ensures written { result ≡ ok →
-        AreWritten (AreDescriptorData descriptor.now) buf.old buf.new len.new }
-    ensures short { result ≡ short_buffer →
-        AreTooLong (AreDescriptorData descriptor.now) (length buf.old) }
-    ensures bad_field { (result ≡ bad_field) ↔ AreNone (AreDescriptorData descriptor.now) }
-    ensures statuses { (result ≡ ok) ⊎ ((result ≡ short_buffer) ⊎ (result ≡ bad_field)) }
-    ensures unchanged { result ≢ ok → (buf.new ≡ buf.old) × (len.new ≡ len.old) }
+    ensures { WritesData (AreDescriptorData descriptor.now) buf.old buf.new len.old len.new result }
 {
     let Some(data) = descriptor_of(descriptor).to_bytes() else {
         return BAD_FIELD;

@@ -1,15 +1,14 @@
 //! Frame marking (RFC 9626, 3).
 
-ghost use Rattle.std.specs.Prelude.{◌≡◌, ◌≢◌, ◌↔◌, ◌⊎◌, ◌≤◌, length, take, IfSome, IfNone};
+ghost use Rattle.std.specs.Prelude.{◌≡◌, ◌≤◌, length};
 ghost use Rattle.rtp_values.specs.StandardMarking.{marking_in};
-ghost use Rattle.rtp_c.specs.Status.{ok, bad_field, short_buffer};
 ghost use Rattle.rtp_c.specs.Given.{is_nonzero, given};
-ghost use Rattle.rtp_c.specs.StandardData.{AreWritten, AreTooLong, AreNone};
+ghost use Rattle.rtp_c.specs.StandardData.{TellsValue, WritesData};
 ghost use Rattle.rtp_c.specs.StandardMarking.{IsViewOfMarking, given_marking, AreMarkingData};
 
-use super::putting::put_data;
+use super::putting::{put_data, tell};
 use crate::given::given;
-use crate::status::{BAD_FIELD, OK};
+use crate::status::BAD_FIELD;
 use crate::values::{flag_number, told};
 use rtp_values::standard::{FrameLayers, FrameMarking};
 
@@ -98,30 +97,17 @@ fn marking_of(view: &MarkingView) -> FrameMarking
     }
 }
 
-// Puts the data of the marking that is given to the front of the bytes, and returns how many they
-// are; `None` where there are none.
-fn put_marking(view: &MarkingView, bytes: &mut [u8; 3]) -> Option<usize>
-    ensures found { IfSome result (λ len. AreMarkingData view.now (take len bytes.new)) }
-    ensures within { IfSome result (λ len. len ≤ 3) }
-    ensures none { IfNone result (AreNone (AreMarkingData view.now)) }
-{
-    marking_of(view).write_to(bytes)
-}
-
 /// Reads a frame marking (RFC 9626, 3). `OK`, or `BAD_FIELD` where there aren't one to three bytes,
 /// and then nothing is written.
 #[unsafe(no_mangle)]
 pub extern "C" fn rtpw_read_frame_marking(bytes: &[u8], marking: &mut MarkingView) -> i32
-    ensures read { result ≡ ok → IsViewOfMarking (marking_in bytes.now) marking.new }
-    ensures ok { (result ≡ ok) ↔ (1 ≤ length bytes.now) × (length bytes.now ≤ 3) }
-    ensures statuses { (result ≡ ok) ⊎ (result ≡ bad_field) }
-    ensures unchanged { result ≢ ok → marking.new ≡ marking.old }
+    ensures { TellsValue (IsViewOfMarking (marking_in bytes.now))
+        ((1 ≤ length bytes.now) × (length bytes.now ≤ 3)) marking.old marking.new result }
 {
-    let Some(read) = FrameMarking::parse(bytes) else {
-        return BAD_FIELD;
-    };
-    *marking = view_of(&read);
-    OK
+    tell(
+        FrameMarking::parse(bytes).map(|read| view_of(&read)),
+        marking,
+    )
 }
 
 /// Writes a frame marking to the front of the buffer (RFC 9626, 3). `OK`, and how many bytes it has
@@ -133,16 +119,10 @@ pub extern "C" fn rtpw_write_frame_marking(
     buf: &mut [u8],
     len: &mut usize,
 ) -> i32
-    ensures written { result ≡ ok →
-        AreWritten (AreMarkingData marking.now) buf.old buf.new len.new }
-    ensures short { result ≡ short_buffer →
-        AreTooLong (AreMarkingData marking.now) (length buf.old) }
-    ensures bad_field { (result ≡ bad_field) ↔ AreNone (AreMarkingData marking.now) }
-    ensures statuses { (result ≡ ok) ⊎ ((result ≡ short_buffer) ⊎ (result ≡ bad_field)) }
-    ensures unchanged { result ≢ ok → (buf.new ≡ buf.old) × (len.new ≡ len.old) }
+    ensures { WritesData (AreMarkingData marking.now) buf.old buf.new len.old len.new result }
 {
     let mut bytes = [0; 3];
-    let Some(data_len) = put_marking(marking, &mut bytes) else {
+    let Some(data_len) = marking_of(marking).write_to(&mut bytes) else {
         return BAD_FIELD;
     };
     put_data(&bytes[..data_len], buf, len)

@@ -1,9 +1,8 @@
 //! Mixer-to-client audio levels (RFC 6465, 4): a byte for each CSRC.
 
-ghost use Rattle.std.specs.Prelude.{◌≡◌, ◌≢◌, ◌↔◌, ◌⊎◌, ◌<◌, length, slice_index, All, IsTrue};
+ghost use Rattle.std.specs.Prelude.{◌≡◌, ◌↔◌, ◌<◌, length, slice_index, All, IsTrue};
 ghost use Rattle.rtp_values.specs.StandardLevels.{IsLevel, level_in};
-ghost use Rattle.rtp_c.specs.Status.{ok, bad_field, short_buffer};
-ghost use Rattle.rtp_c.specs.StandardData.{AreWritten, AreTooLong, AreNone};
+ghost use Rattle.rtp_c.specs.StandardData.{TellsValue, WritesData};
 ghost use Rattle.rtp_c.specs.StandardLevels.{AreLevelsData};
 
 use super::putting::tell;
@@ -20,10 +19,8 @@ pub extern "C" fn rtpw_read_mixer_level(
     index: usize,
     level: &mut i8,
 ) -> i32
-    ensures read { result ≡ ok → level.new ≡ level_in (slice_index bytes.now index) }
-    ensures ok { (result ≡ ok) ↔ (index < csrc_count) × (index < length bytes.now) }
-    ensures statuses { (result ≡ ok) ⊎ (result ≡ bad_field) }
-    ensures unchanged { result ≢ ok → level.new ≡ level.old }
+    ensures { TellsValue (λ value. value ≡ level_in (slice_index bytes.now index))
+        ((index < csrc_count) × (index < length bytes.now)) level.old level.new result }
 {
     tell(mixer_audio_level(bytes, csrc_count, index), level)
 }
@@ -44,13 +41,7 @@ fn are_levels(levels: &[i8]) -> bool
 /// short. Where it isn't `OK` nothing is written.
 #[unsafe(no_mangle)]
 pub extern "C" fn rtpw_write_mixer_levels(levels: &[i8], buf: &mut [u8], len: &mut usize) -> i32
-    ensures written { result ≡ ok →
-        AreWritten (AreLevelsData levels.now) buf.old buf.new len.new }
-    ensures short { result ≡ short_buffer →
-        AreTooLong (AreLevelsData levels.now) (length buf.old) }
-    ensures bad_field { (result ≡ bad_field) ↔ AreNone (AreLevelsData levels.now) }
-    ensures statuses { (result ≡ ok) ⊎ ((result ≡ short_buffer) ⊎ (result ≡ bad_field)) }
-    ensures unchanged { result ≢ ok → (buf.new ≡ buf.old) × (len.new ≡ len.old) }
+    ensures { WritesData (AreLevelsData levels.now) buf.old buf.new len.old len.new result }
 {
     if levels.len() > MOST_SOURCES {
         return BAD_FIELD;

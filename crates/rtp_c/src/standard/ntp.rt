@@ -1,11 +1,10 @@
 //! NTP timestamps in header extensions (RFC 6051, 3.3): of 64 bits, and of the low 56.
 
-ghost use Rattle.std.specs.Prelude.{◌≡◌, ◌≢◌, ◌↔◌, ◌⊎◌, ◌<◌, ◌^◌, length};
+ghost use Rattle.std.specs.Prelude.{◌≡◌, ◌^◌, length};
 ghost use Rattle.rtp_values.specs.Values.{big_endian};
 ghost use Rattle.rtp_values.specs.Spelling.{bytes_of_number};
 ghost use Rattle.rtp_values.specs.StandardTimes.{IsNearestTime};
-ghost use Rattle.rtp_c.specs.Status.{ok, bad_field, short_buffer};
-ghost use Rattle.rtp_c.specs.StandardData.{StandAtFront};
+ghost use Rattle.rtp_c.specs.StandardData.{TellsValue, PutsBytes};
 
 use super::putting::{put_data, tell};
 use rtp_values::standard::{extend_ntp_56, ntp_56_bytes, ntp_64_bytes, parse_ntp_56, parse_ntp_64};
@@ -14,10 +13,8 @@ use rtp_values::standard::{extend_ntp_56, ntp_56_bytes, ntp_64_bytes, parse_ntp_
 /// bytes, and then nothing is written.
 #[unsafe(no_mangle)]
 pub extern "C" fn rtpw_read_ntp_64(bytes: &[u8], time: &mut u64) -> i32
-    ensures read { result ≡ ok → time.new ≡ big_endian bytes.now }
-    ensures ok { (result ≡ ok) ↔ (length bytes.now ≡ 8) }
-    ensures statuses { (result ≡ ok) ⊎ (result ≡ bad_field) }
-    ensures unchanged { result ≢ ok → time.new ≡ time.old }
+    ensures { TellsValue (λ value. value ≡ big_endian bytes.now)
+        (length bytes.now ≡ 8) time.old time.new result }
 {
     tell(parse_ntp_64(bytes), time)
 }
@@ -26,11 +23,7 @@ pub extern "C" fn rtpw_read_ntp_64(bytes: &[u8], time: &mut u64) -> i32
 /// 6051, 3.3). `OK`, or `SHORT_BUFFER` where there are fewer, and then nothing is written.
 #[unsafe(no_mangle)]
 pub extern "C" fn rtpw_write_ntp_64(time: u64, buf: &mut [u8], len: &mut usize) -> i32
-    ensures written { result ≡ ok →
-        StandAtFront (bytes_of_number 8 time) buf.old buf.new len.new }
-    ensures short { (result ≡ short_buffer) ↔ (length buf.old < 8) }
-    ensures statuses { (result ≡ ok) ⊎ (result ≡ short_buffer) }
-    ensures unchanged { result ≢ ok → (buf.new ≡ buf.old) × (len.new ≡ len.old) }
+    ensures { PutsBytes (bytes_of_number 8 time) buf.old buf.new len.old len.new result }
 {
     put_data(&ntp_64_bytes(time), buf, len)
 }
@@ -40,10 +33,8 @@ pub extern "C" fn rtpw_write_ntp_64(time: u64, buf: &mut [u8], len: &mut usize) 
 /// bytes, and then nothing is written.
 #[unsafe(no_mangle)]
 pub extern "C" fn rtpw_read_ntp_56(bytes: &[u8], time: &mut u64) -> i32
-    ensures read { result ≡ ok → time.new ≡ big_endian bytes.now }
-    ensures ok { (result ≡ ok) ↔ (length bytes.now ≡ 7) }
-    ensures statuses { (result ≡ ok) ⊎ (result ≡ bad_field) }
-    ensures unchanged { result ≢ ok → time.new ≡ time.old }
+    ensures { TellsValue (λ value. value ≡ big_endian bytes.now)
+        (length bytes.now ≡ 7) time.old time.new result }
 {
     tell(parse_ntp_56(bytes), time)
 }
@@ -53,11 +44,7 @@ pub extern "C" fn rtpw_read_ntp_56(bytes: &[u8], time: &mut u64) -> i32
 /// written.
 #[unsafe(no_mangle)]
 pub extern "C" fn rtpw_write_ntp_56(time: u64, buf: &mut [u8], len: &mut usize) -> i32
-    ensures written { result ≡ ok →
-        StandAtFront (bytes_of_number 7 time) buf.old buf.new len.new }
-    ensures short { (result ≡ short_buffer) ↔ (length buf.old < 7) }
-    ensures statuses { (result ≡ ok) ⊎ (result ≡ short_buffer) }
-    ensures unchanged { result ≢ ok → (buf.new ≡ buf.old) × (len.new ≡ len.old) }
+    ensures { PutsBytes (bytes_of_number 7 time) buf.old buf.new len.old len.new result }
 {
     put_data(&ntp_56_bytes(time), buf, len)
 }

@@ -1,11 +1,10 @@
 //! Coordination of video orientation (3GPP TS 26.114, 7.4.5).
 
-ghost use Rattle.std.specs.Prelude.{◌≡◌, ◌≢◌, ◌↔◌, ◌⊎◌, length, slice_index, IfSome, IfNone};
+ghost use Rattle.std.specs.Prelude.{◌≡◌, ◌≢◌, length, slice_index, IfSome, IfNone};
 ghost use Rattle.rtp_values.specs.StandardOrientation.{camera_bit, orientation_in};
 ghost use Rattle.rtp_values.specs.declared.standard.orientation.Camera.{Camera as Facing};
 ghost use Rattle.rtp_values.specs.declared.standard.orientation.Orientation.{Orientation as Taken};
-ghost use Rattle.rtp_c.specs.Status.{ok, bad_field, short_buffer};
-ghost use Rattle.rtp_c.specs.StandardData.{AreWritten, AreTooLong, AreNone};
+ghost use Rattle.rtp_c.specs.StandardData.{TellsValue, WritesData};
 ghost use Rattle.rtp_c.specs.StandardOrientation.{IsViewOfOrientation, IsGivenOrientation, AreOrientationData};
 
 use super::putting::put_data;
@@ -55,11 +54,8 @@ fn given_orientation(view: &OrientationView) -> Option<Orientation>
 /// where there isn't one byte, and then nothing is written.
 #[unsafe(no_mangle)]
 pub extern "C" fn rtpw_read_orientation(bytes: &[u8], orientation: &mut OrientationView) -> i32
-    ensures read { result ≡ ok →
-        IsViewOfOrientation (orientation_in (slice_index bytes.now 0)) orientation.new }
-    ensures ok { (result ≡ ok) ↔ (length bytes.now ≡ 1) }
-    ensures statuses { (result ≡ ok) ⊎ (result ≡ bad_field) }
-    ensures unchanged { result ≢ ok → orientation.new ≡ orientation.old }
+    ensures { TellsValue (IsViewOfOrientation (orientation_in (slice_index bytes.now 0)))
+        (length bytes.now ≡ 1) orientation.old orientation.new result }
 {
     let Some(read) = Orientation::parse(bytes) else {
         return BAD_FIELD;
@@ -81,13 +77,7 @@ pub extern "C" fn rtpw_write_orientation(
     buf: &mut [u8],
     len: &mut usize,
 ) -> i32
-    ensures written { result ≡ ok →
-        AreWritten (AreOrientationData orientation.now) buf.old buf.new len.new }
-    ensures short { result ≡ short_buffer →
-        AreTooLong (AreOrientationData orientation.now) (length buf.old) }
-    ensures bad_field { (result ≡ bad_field) ↔ AreNone (AreOrientationData orientation.now) }
-    ensures statuses { (result ≡ ok) ⊎ ((result ≡ short_buffer) ⊎ (result ≡ bad_field)) }
-    ensures unchanged { result ≢ ok → (buf.new ≡ buf.old) × (len.new ≡ len.old) }
+    ensures { WritesData (AreOrientationData orientation.now) buf.old buf.new len.old len.new result }
 {
     let Some(given) = given_orientation(orientation) else {
         return BAD_FIELD;

@@ -1,8 +1,8 @@
 //! Data that are put into the caller's buffer, and values that are read from data.
 
-ghost use Rattle.std.specs.Prelude.{◌≡◌, ◌≢◌, ◌↔◌, ◌<◌, ◌⊎◌, length, IfSome, IfNone};
-ghost use Rattle.rtp_c.specs.Status.{ok, short_buffer, bad_field};
-ghost use Rattle.rtp_c.specs.StandardData.{StandAtFront};
+ghost use Rattle.std.specs.Prelude.{◌≡◌, ◌<◌, IfSome, IfNone};
+ghost use Rattle.rtp_c.specs.Status.{ok, bad_field};
+ghost use Rattle.rtp_c.specs.StandardData.{PutsBytes};
 
 use crate::status::{BAD_FIELD, OK, SHORT_BUFFER};
 use rtp_base::put;
@@ -11,10 +11,7 @@ use rtp_base::put;
 // `SHORT_BUFFER` where there isn't room for them, and then nothing is put.
 #[inline(always)]
 pub(crate) fn put_data(bytes: &[u8], buf: &mut [u8], len: &mut usize) -> i32
-    ensures written { result ≡ ok → StandAtFront bytes.now buf.old buf.new len.new }
-    ensures short { (result ≡ short_buffer) ↔ (length buf.old < length bytes.now) }
-    ensures statuses { (result ≡ ok) ⊎ (result ≡ short_buffer) }
-    ensures unchanged { result ≢ ok → (buf.new ≡ buf.old) × (len.new ≡ len.old) }
+    ensures { PutsBytes bytes.now buf.old buf.new len.old len.new result }
 {
     if buf.len() < bytes.len() {
         return SHORT_BUFFER;

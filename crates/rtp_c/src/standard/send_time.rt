@@ -1,10 +1,9 @@
 //! The absolute send time, as it lies: 24 bits, in units of 2^-18 seconds.
 
-ghost use Rattle.std.specs.Prelude.{◌≡◌, ◌≢◌, ◌↔◌, ◌⊎◌, ◌*◌, ◌^◌, length};
+ghost use Rattle.std.specs.Prelude.{◌≡◌, ◌*◌, ◌^◌, length};
 ghost use Rattle.rtp_values.specs.StandardTimes.{IsNearestTime};
 ghost use Rattle.rtp_values.specs.Values.{big_endian};
-ghost use Rattle.rtp_c.specs.Status.{ok, bad_field, short_buffer};
-ghost use Rattle.rtp_c.specs.StandardData.{AreWritten, AreTooLong, AreNone};
+ghost use Rattle.rtp_c.specs.StandardData.{TellsValue, WritesData};
 ghost use Rattle.rtp_c.specs.StandardTimes.{AreSendTimeData};
 
 use super::putting::{put_data, tell};
@@ -16,10 +15,8 @@ use rtp_values::standard::{extend_send_time, parse_send_time, send_time_bytes};
 /// bytes, and then nothing is written.
 #[unsafe(no_mangle)]
 pub extern "C" fn rtpw_read_send_time(bytes: &[u8], units: &mut u32) -> i32
-    ensures read { result ≡ ok → units.new ≡ big_endian bytes.now }
-    ensures ok { (result ≡ ok) ↔ (length bytes.now ≡ 3) }
-    ensures statuses { (result ≡ ok) ⊎ (result ≡ bad_field) }
-    ensures unchanged { result ≢ ok → units.new ≡ units.old }
+    ensures { TellsValue (λ value. value ≡ big_endian bytes.now)
+        (length bytes.now ≡ 3) units.old units.new result }
 {
     tell(parse_send_time(bytes), units)
 }
@@ -30,11 +27,7 @@ pub extern "C" fn rtpw_read_send_time(bytes: &[u8], units: &mut u32) -> i32
 /// written.
 #[unsafe(no_mangle)]
 pub extern "C" fn rtpw_write_send_time(units: u32, buf: &mut [u8], len: &mut usize) -> i32
-    ensures written { result ≡ ok → AreWritten (AreSendTimeData units) buf.old buf.new len.new }
-    ensures short { result ≡ short_buffer → AreTooLong (AreSendTimeData units) (length buf.old) }
-    ensures bad_field { (result ≡ bad_field) ↔ AreNone (AreSendTimeData units) }
-    ensures statuses { (result ≡ ok) ⊎ ((result ≡ short_buffer) ⊎ (result ≡ bad_field)) }
-    ensures unchanged { result ≢ ok → (buf.new ≡ buf.old) × (len.new ≡ len.old) }
+    ensures { WritesData (AreSendTimeData units) buf.old buf.new len.old len.new result }
 {
     let Some(data) = send_time_bytes(units) else {
         return BAD_FIELD;

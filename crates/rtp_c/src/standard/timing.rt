@@ -1,14 +1,12 @@
 //! Video timing, in the form with flags and in the older one without.
 
-ghost use Rattle.std.specs.Prelude.{◌≡◌, ◌≢◌, ◌↔◌, ◌⊎◌, ◌≤◌, ◌<◌, length, take};
+ghost use Rattle.std.specs.Prelude.{◌≡◌, ◌⊎◌, length};
 ghost use Rattle.rtp_values.specs.StandardTiming.{timing_in, timing_data};
-ghost use Rattle.rtp_c.specs.Status.{ok, bad_field, short_buffer};
-ghost use Rattle.rtp_c.specs.StandardData.{StandAtFront};
+ghost use Rattle.rtp_c.specs.StandardData.{TellsValue, PutsBytes};
 ghost use Rattle.rtp_c.specs.StandardTiming.{IsViewOfTiming, given_timing};
 
-use super::putting::put_data;
+use super::putting::{put_data, tell};
 use crate::given::given;
-use crate::status::{BAD_FIELD, OK};
 use crate::values::told;
 use rtp_values::standard::Timing;
 
@@ -67,29 +65,14 @@ fn timing_of(view: &TimingView) -> Timing
     }
 }
 
-// Puts the data of the timing that is given to the front of the bytes, and returns how many they
-// are.
-fn put_timing(view: &TimingView, bytes: &mut [u8; 13]) -> usize
-    ensures put { timing_data (given_timing view.now) ≡ take result bytes.new }
-    ensures within { result ≤ 13 }
-{
-    timing_of(view).write_to(bytes)
-}
-
 /// Reads a video timing (WebRTC's `video-timing`). `OK`, or `BAD_FIELD` where there are neither 13
 /// bytes nor 12, and then nothing is written.
 #[unsafe(no_mangle)]
 pub extern "C" fn rtpw_read_timing(bytes: &[u8], timing: &mut TimingView) -> i32
-    ensures read { result ≡ ok → IsViewOfTiming (timing_in bytes.now) timing.new }
-    ensures ok { (result ≡ ok) ↔ (length bytes.now ≡ 12) ⊎ (length bytes.now ≡ 13) }
-    ensures statuses { (result ≡ ok) ⊎ (result ≡ bad_field) }
-    ensures unchanged { result ≢ ok → timing.new ≡ timing.old }
+    ensures { TellsValue (IsViewOfTiming (timing_in bytes.now))
+        ((length bytes.now ≡ 12) ⊎ (length bytes.now ≡ 13)) timing.old timing.new result }
 {
-    let Some(read) = Timing::parse(bytes) else {
-        return BAD_FIELD;
-    };
-    *timing = view_of(&read);
-    OK
+    tell(Timing::parse(bytes).map(|read| view_of(&read)), timing)
 }
 
 /// Writes a video timing to the front of the buffer (WebRTC's `video-timing`). `OK`, and how many
@@ -97,14 +80,9 @@ pub extern "C" fn rtpw_read_timing(bytes: &[u8], timing: &mut TimingView) -> i32
 /// them, and then nothing is written.
 #[unsafe(no_mangle)]
 pub extern "C" fn rtpw_write_timing(timing: &TimingView, buf: &mut [u8], len: &mut usize) -> i32
-    ensures written { result ≡ ok →
-        StandAtFront (timing_data (given_timing timing.now)) buf.old buf.new len.new }
-    ensures short { (result ≡ short_buffer) ↔
-        (length buf.old < length (timing_data (given_timing timing.now))) }
-    ensures statuses { (result ≡ ok) ⊎ (result ≡ short_buffer) }
-    ensures unchanged { result ≢ ok → (buf.new ≡ buf.old) × (len.new ≡ len.old) }
+    ensures { PutsBytes (timing_data (given_timing timing.now)) buf.old buf.new len.old len.new result }
 {
     let mut bytes = [0; 13];
-    let data_len = put_timing(timing, &mut bytes);
+    let data_len = timing_of(timing).write_to(&mut bytes);
     put_data(&bytes[..data_len], buf, len)
 }

@@ -1,10 +1,9 @@
 //! Transmission time offset (RFC 5450, 3).
 
-ghost use Rattle.std.specs.Prelude.{◌≡◌, ◌≢◌, ◌↔◌, ◌⊎◌, length};
+ghost use Rattle.std.specs.Prelude.{◌≡◌, length};
 ghost use Rattle.rtp_values.specs.Values.{big_endian};
 ghost use Rattle.rtp_values.specs.StandardNumbers.{signed_24};
-ghost use Rattle.rtp_c.specs.Status.{ok, bad_field, short_buffer};
-ghost use Rattle.rtp_c.specs.StandardData.{AreWritten, AreTooLong, AreNone};
+ghost use Rattle.rtp_c.specs.StandardData.{TellsValue, WritesData};
 ghost use Rattle.rtp_c.specs.StandardOffset.{AreOffsetData};
 
 use super::putting::{put_data, tell};
@@ -15,10 +14,8 @@ use rtp_values::standard::{parse_transmission_offset, transmission_offset_bytes}
 /// `BAD_FIELD` where there aren't three bytes, and then nothing is written.
 #[unsafe(no_mangle)]
 pub extern "C" fn rtpw_read_transmission_offset(bytes: &[u8], offset: &mut i32) -> i32
-    ensures read { result ≡ ok → offset.new ≡ signed_24 (big_endian bytes.now) }
-    ensures ok { (result ≡ ok) ↔ (length bytes.now ≡ 3) }
-    ensures statuses { (result ≡ ok) ⊎ (result ≡ bad_field) }
-    ensures unchanged { result ≢ ok → offset.new ≡ offset.old }
+    ensures { TellsValue (λ value. value ≡ signed_24 (big_endian bytes.now))
+        (length bytes.now ≡ 3) offset.old offset.new result }
 {
     tell(parse_transmission_offset(bytes), offset)
 }
@@ -33,11 +30,7 @@ pub extern "C" fn rtpw_write_transmission_offset(
     buf: &mut [u8],
     len: &mut usize,
 ) -> i32
-    ensures written { result ≡ ok → AreWritten (AreOffsetData offset) buf.old buf.new len.new }
-    ensures short { result ≡ short_buffer → AreTooLong (AreOffsetData offset) (length buf.old) }
-    ensures bad_field { (result ≡ bad_field) ↔ AreNone (AreOffsetData offset) }
-    ensures statuses { (result ≡ ok) ⊎ ((result ≡ short_buffer) ⊎ (result ≡ bad_field)) }
-    ensures unchanged { result ≢ ok → (buf.new ≡ buf.old) × (len.new ≡ len.old) }
+    ensures { WritesData (AreOffsetData offset) buf.old buf.new len.old len.new result }
 {
     let Some(data) = transmission_offset_bytes(offset) else {
         return BAD_FIELD;

@@ -1,8 +1,7 @@
 //! Transport-wide sequence number with a request for feedback (`transport-wide-cc-02`).
 
-ghost use Rattle.std.specs.Prelude.{◌≡◌, ◌≢◌, ◌↔◌, ◌⊎◌, ◌≤◌, length};
-ghost use Rattle.rtp_c.specs.Status.{ok, bad_field, short_buffer};
-ghost use Rattle.rtp_c.specs.StandardData.{AreWritten, AreTooLong, AreNone};
+ghost use Rattle.std.specs.Prelude.{◌≡◌, ◌⊎◌, ◌≤◌, length};
+ghost use Rattle.rtp_c.specs.StandardData.{TellsValue, WritesData};
 ghost use Rattle.rtp_c.specs.StandardTransport.{IsToldRequest, request_bits, AreTransportData};
 
 use super::putting::put_data;
@@ -32,11 +31,8 @@ const TIMESTAMPS: u16 = 0x8000;
 /// nothing is written.
 #[unsafe(no_mangle)]
 pub extern "C" fn rtpw_read_transport_number(bytes: &[u8], number: &mut TransportView) -> i32
-    ensures read { result ≡ ok → AreTransportData number.new bytes.now }
-    ensures request { result ≡ ok → IsToldRequest number.new }
-    ensures ok { (result ≡ ok) ↔ (length bytes.now ≡ 2) ⊎ (length bytes.now ≡ 4) }
-    ensures statuses { (result ≡ ok) ⊎ (result ≡ bad_field) }
-    ensures unchanged { result ≢ ok → number.new ≡ number.old }
+    ensures { TellsValue (λ told. AreTransportData told bytes.now × IsToldRequest told)
+        ((length bytes.now ≡ 2) ⊎ (length bytes.now ≡ 4)) number.old number.new result }
 {
     let mut read = TransportView {
         number: 0,
@@ -81,13 +77,7 @@ pub extern "C" fn rtpw_write_transport_number(
     buf: &mut [u8],
     len: &mut usize,
 ) -> i32
-    ensures written { result ≡ ok →
-        AreWritten (AreTransportData number.now) buf.old buf.new len.new }
-    ensures short { result ≡ short_buffer →
-        AreTooLong (AreTransportData number.now) (length buf.old) }
-    ensures bad_field { (result ≡ bad_field) ↔ AreNone (AreTransportData number.now) }
-    ensures statuses { (result ≡ ok) ⊎ ((result ≡ short_buffer) ⊎ (result ≡ bad_field)) }
-    ensures unchanged { result ≢ ok → (buf.new ≡ buf.old) × (len.new ≡ len.old) }
+    ensures { WritesData (AreTransportData number.now) buf.old buf.new len.old len.new result }
 {
     let [a, b] = number.number.to_be_bytes();
     if number.has_request == 0 {

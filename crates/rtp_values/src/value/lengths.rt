@@ -1,4 +1,4 @@
-//! How long the data of an element are, by its kind.
+//! How long the data of an element are, and whether they are empty.
 
 ghost use Rattle.std.specs.Prelude.{◌≡◌, ◌≤◌, ◌++◌, length, IfSome};
 ghost use Rattle.std.specs.Option.{option_map};
@@ -13,21 +13,21 @@ use crate::KnownKind;
 use rtp_base::{Mid, Rid};
 
 // The length where the value is there.
-fn len_of<T>(value: &Option<T>, len: usize) -> Option<usize>
+pub(super) fn len_of<T>(value: &Option<T>, len: usize) -> Option<usize>
     ensures { result ≡ option_map (λ _. len) value.now }
 {
     value.is_some().then_some(len)
 }
 
 // The length where both values are there.
-fn len_of_both<A, B>(first: &Option<A>, second: &Option<B>, len: usize) -> Option<usize>
+pub(super) fn len_of_both<A, B>(first: &Option<A>, second: &Option<B>, len: usize) -> Option<usize>
     ensures { result ≡ of_both (λ _ _. len) first.now second.now }
 {
     (first.is_some() && second.is_some()).then_some(len)
 }
 
 // The length of a capture time, which is followed by its offset where that is known.
-fn capture_len(time: &Option<AbsCaptureTime>) -> Option<usize>
+pub(super) fn capture_len(time: &Option<AbsCaptureTime>) -> Option<usize>
     ensures { result ≡ option_map
         (λ t. length (bytes_of_number 8 t.capture_time ++ offset_bytes t.clock_offset)) time.now }
 {
@@ -39,7 +39,7 @@ fn capture_len(time: &Option<AbsCaptureTime>) -> Option<usize>
 }
 
 // The length of a tag.
-fn mid_len<V: GetValues>(ev: &V) -> Option<usize>
+pub(super) fn mid_len<V: GetValues>(ev: &V) -> Option<usize>
     ensures length { result ≡ option_map length (spelled_data kind.RtpMid (V.values ev.now)) }
     ensures few { IfSome result (λ len. len ≤ 255) }
 {
@@ -48,7 +48,7 @@ fn mid_len<V: GetValues>(ev: &V) -> Option<usize>
 }
 
 // The length of a stream id.
-fn rid_len<V: GetValues>(ev: &V) -> Option<usize>
+pub(super) fn rid_len<V: GetValues>(ev: &V) -> Option<usize>
     ensures length { result ≡ option_map length (spelled_data kind.RtpStreamId (V.values ev.now)) }
     ensures few { IfSome result (λ len. len ≤ 255) }
 {
@@ -57,7 +57,7 @@ fn rid_len<V: GetValues>(ev: &V) -> Option<usize>
 }
 
 // The length of the id of the stream that is repaired.
-fn repaired_rid_len<V: GetValues>(ev: &V) -> Option<usize>
+pub(super) fn repaired_rid_len<V: GetValues>(ev: &V) -> Option<usize>
     ensures length { result
         ≡ option_map length (spelled_data kind.RepairedRtpStreamId (V.values ev.now)) }
     ensures few { IfSome result (λ len. len ≤ 255) }
@@ -116,34 +116,6 @@ impl KnownKind {
             KnownKind::RepairedRtpStreamId => is_empty_rid(&ev.rid_repair),
             KnownKind::RtpMid => is_empty_mid(&ev.mid),
             _ => false,
-        }
-    }
-
-    /// How many bytes [`write_to`](Self::write_to) writes, and `None` where it writes no element.
-    #[inline(always)]
-    pub fn data_len<V: GetValues>(self, ev: &V) -> Option<usize>
-        ensures length { result
-            ≡ option_map length (spelled_data (extension_of_kind self) (V.values ev.now)) }
-        ensures few { IfSome result (λ len. len ≤ 255) }
-    {
-        match self {
-            KnownKind::AbsoluteSendTime => len_of(&ev.send_time(), 3),
-            KnownKind::AbsoluteCaptureTime => capture_len(&ev.capture_time()),
-            KnownKind::AudioLevel => len_of_both(&ev.audio_level(), &ev.voice_activity(), 1),
-            KnownKind::TransmissionTimeOffset => len_of(&ev.transmission_offset(), 4),
-            KnownKind::VideoOrientation => len_of(&ev.video_orientation(), 1),
-            KnownKind::TransportSequenceNumber => len_of(&ev.transport_number(), 2),
-            KnownKind::PlayoutDelay => {
-                len_of_both(&ev.playout_delay_min(), &ev.playout_delay_max(), 3)
-            }
-            KnownKind::VideoContentType => len_of(&ev.video_content_type(), 1),
-            KnownKind::VideoTiming => len_of(&ev.video_timing(), 13),
-            KnownKind::RtpStreamId => rid_len(ev),
-            KnownKind::RepairedRtpStreamId => repaired_rid_len(ev),
-            KnownKind::RtpMid => mid_len(ev),
-            KnownKind::FrameMarking => len_of(&ev.frame_marking(), 4),
-            KnownKind::VideoLayersAllocation => ev.layers_len(),
-            KnownKind::ColorSpace => None,
         }
     }
 }

@@ -1,4 +1,4 @@
-//! The values of header extensions: a file for each kind, with its bytes in both directions.
+//! The values of header extensions, with the bytes of each kind in both directions.
 
 mod abs_capture_time;
 mod abs_send_time;
@@ -6,20 +6,17 @@ mod audio_level;
 mod carried_layers;
 mod dispatch;
 mod element_values;
-mod frame_marking;
 mod front;
 mod get_values;
 mod lengths;
 mod mid;
+mod numbers;
 mod of_extension;
 mod playout_delay;
 mod set_values;
 mod stream_id;
-mod transmission_offset;
-mod transport_sequence_number;
 mod value_kinds;
 mod values;
-mod video_content_type;
 mod video_layers_allocation;
 mod video_orientation;
 mod video_timing;

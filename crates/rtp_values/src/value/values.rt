@@ -3,7 +3,8 @@
 ghost use Rattle.std.specs.Prelude.{◌≡◌, IsOk, IfOk};
 ghost use Rattle.rtp_values.specs.Values.{TakesNoMemory};
 
-use super::{AbsCaptureTime, VideoOrientation, VideoTiming};
+use super::{AbsCaptureTime, ValueKinds, VideoOrientation, VideoTiming};
+use crate::KindSet;
 use rtp_base::{MediaTime, Mid, Rid};
 use rtp_vla::vla::VideoLayersAllocation;
 use std::alloc::{AllocError, Global};
@@ -152,5 +153,30 @@ impl ExtensionValues {
             video_layers_allocation,
             ..*self
         })
+    }
+}
+
+impl ValueKinds for ExtensionValues {
+    #[tactic(auto, using(crate::proofs::KindSetLemmas::flags_say, crate::proofs::KindSetLemmas::or_both))]
+    fn kinds(&self) -> KindSet {
+        KindSet {
+            flags: [
+                self.abs_send_time.is_some(),
+                self.abs_capture_time.is_some(),
+                self.audio_level.is_some() | self.voice_activity.is_some(),
+                self.tx_time_offs.is_some(),
+                self.video_orientation.is_some(),
+                self.transport_cc.is_some(),
+                self.play_delay_min.is_some() | self.play_delay_max.is_some(),
+                self.video_content_type.is_some(),
+                self.video_timing.is_some(),
+                self.rid.is_some(),
+                self.rid_repair.is_some(),
+                self.mid.is_some(),
+                self.frame_mark.is_some(),
+                false,
+                self.video_layers_allocation.is_some(),
+            ],
+        }
     }
 }

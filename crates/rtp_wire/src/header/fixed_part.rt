@@ -17,10 +17,12 @@ pub(crate) fn flag(is_set: bool, worth: u8) -> u8
     if is_set { worth } else { 0 }
 }
 
-// The twelve bytes that every header begins with, with this X. The ranges are those of the types, of
-// which a caller is told that doesn't read the fields itself.
+/// The twelve bytes that every header begins with, with this X (RFC 3550, 5.1). The ranges are those
+/// of the types, of which a caller is told that doesn't read the fields itself.
+///
+/// Requires a payload type of at most 127, and at most 15 contributing sources.
 #[inline(always)]
-pub(super) fn fixed_bytes<F: GetFields>(fields: &F, has_extension: bool) -> [u8; 12]
+pub fn fixed_bytes<F: GetFields>(fields: &F, has_extension: bool) -> [u8; 12]
     requires payload_type { (F.header fields.now).payload_type ≤ 127 }
     requires sources { (F.header fields.now).csrc_count ≤ 15 }
     ensures bytes { result
@@ -30,18 +32,17 @@ pub(super) fn fixed_bytes<F: GetFields>(fields: &F, has_extension: bool) -> [u8;
     ensures ssrc { (F.header fields.now).ssrc < 2 ^ 32 }
     ensures slots { length (F.header fields.now).csrc ≡ 15 }
 {
-    let sequence_number = fields.sequence_number();
-    let timestamp = fields.timestamp();
+    let fixed = fields.fixed();
     // The bits lie apart, so the sums are their `|`.
     let first = 0x80
-        + flag(fields.has_padding(), 0x20)
+        + flag(fixed.has_padding, 0x20)
         + flag(has_extension, 0x10)
-        + fields.csrc_count() as u8;
-    let second = flag(fields.marker(), 0x80) + fields.payload_type().get();
+        + fixed.csrc_count as u8;
+    let second = flag(fixed.marker, 0x80) + fixed.payload_type.get();
     let mut bytes = [first, second, 0, 0, 0, 0, 0, 0, 0, 0, 0, 0];
-    put(&mut bytes, 2, &sequence_number.to_be_bytes());
-    put(&mut bytes, 4, &timestamp.to_be_bytes());
-    put(&mut bytes, 8, &fields.ssrc().get().to_be_bytes());
+    put(&mut bytes, 2, &fixed.sequence_number.to_be_bytes());
+    put(&mut bytes, 4, &fixed.timestamp.to_be_bytes());
+    put(&mut bytes, 8, &fixed.ssrc.get().to_be_bytes());
     bytes
 }
 
@@ -57,7 +58,7 @@ pub(super) fn put_csrc<F: GetFields>(fields: &F, buf: &mut [u8], at: usize) -> u
     ensures in_range { (i : ℕ) → slice_index
         (take (F.header fields.now).csrc_count (F.header fields.now).csrc) i < 2 ^ 32 }
 {
-    let count = fields.csrc_count();
+    let count = fields.fixed().csrc_count;
     if count == 0 {
         return at;
     }

@@ -44,7 +44,7 @@ pub fn values_left_out<F: GetFields, K: Kinds, V: ValueKinds>(
         (with_values (F.header fields.now) (V.values values.now))).ext_vals
         (extension_of_kind kind) }
 {
-    if !fields.has_extension() {
+    if !fields.fixed().has_extension {
         return values.kinds();
     }
     left_out_of_block(&KnownIds::of(exts), values)

@@ -14,8 +14,9 @@ mod writing_values;
 mod writing_with;
 
 pub(crate) use block::{BLOCK_HEADER_LEN, in_words};
+pub use fixed_part::fixed_bytes;
 pub(crate) use fixed_part::flag;
-pub use get_fields::GetFields;
+pub use get_fields::{FixedFields, GetFields};
 pub use left_out::values_left_out;
 pub use not_a_header::NotAHeader;
 pub use rtp_header::RtpHeader;

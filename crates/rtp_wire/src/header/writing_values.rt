@@ -31,8 +31,9 @@ pub fn values_wire_len<F: GetFields, K: Kinds, V: ElementValues>(
     ensures small { HasNoIdAbove 16 (K.slots exts.now) → result ≤ 4188 }
     ensures bound { result ≤ 65612 }
 {
-    let before = 12 + 4 * fields.csrc_count();
-    if !fields.has_extension() {
+    let fixed = fields.fixed();
+    let before = 12 + 4 * fixed.csrc_count;
+    if !fixed.has_extension {
         return before;
     }
     let ids = KnownIds::of(exts);
@@ -67,19 +68,20 @@ pub fn try_write_values<F: GetFields, K: Kinds, V: ElementValues>(
         (with_values (F.header fields.now) (V.values values.now)) ++ rest)
         (image_of (K.slots exts.now) (with_values (F.header fields.now) (V.values values.now)))) }
 {
-    if fields.csrc_count() > 15 || fields.payload_type().get() > 127 {
+    let fixed = fields.fixed();
+    if fixed.csrc_count > 15 || fixed.payload_type.get() > 127 {
         return None;
     }
     if buf.len() < least_len(fields) {
         return None;
     }
-    if !fields.has_extension() {
+    if !fixed.has_extension {
         // So nothing of the map is looked at.
         return Some(write_in(fields, &KnownIds::of(exts), values, None, buf));
     }
     let ids = KnownIds::of(exts);
     let form = values_form(&ids, values);
-    let before = 12 + 4 * fields.csrc_count();
+    let before = 12 + 4 * fixed.csrc_count;
     if !block_fits(&ids, values, form, buf.len() - before) {
         return None;
     }
@@ -94,8 +96,9 @@ fn least_len<F: GetFields>(fields: &F) -> usize
         result ≤ length (wire_bytes exts (with_values (F.header fields.now) values)) }
     ensures before { 12 + 4 * (F.header fields.now).csrc_count ≤ result }
 {
-    let before = 12 + 4 * fields.csrc_count();
-    if fields.has_extension() {
+    let fixed = fields.fixed();
+    let before = 12 + 4 * fixed.csrc_count;
+    if fixed.has_extension {
         before + BLOCK_HEADER_LEN
     } else {
         before
@@ -129,7 +132,7 @@ pub(super) fn write_in<F: GetFields, K: Kinds, V: ElementValues>(
         (with_values (F.header fields.now) (V.values values.now)) ++ rest)
         (image_of ids.now (with_values (F.header fields.now) (V.values values.now))) }
 {
-    let end = put(buf, 0, &fixed_bytes(fields, fields.has_extension()));
+    let end = put(buf, 0, &fixed_bytes(fields, fields.fixed().has_extension));
     let end = put_csrc(fields, buf, end);
     let Some(form) = form else {
         return end;

@@ -15,7 +15,7 @@ use rtp_ext::{ElementList, ExtensionsForm};
 /// Writes the fixed part and the CSRC list of a header with these fields, and a block with these
 /// elements, to the front of the buffer and returns how many bytes they take; the bytes after them
 /// stay as they were (RFC 3550, 5.1; RFC 8285, 4.2 and 4.3). X is set whatever
-/// [`has_extension`](GetFields::has_extension) says, and of an [`RtpHeader`](super::RtpHeader)
+/// [`has_extension`](super::FixedFields::has_extension) says, and of an [`RtpHeader`](super::RtpHeader)
 /// nothing is written of `ext_vals`. Zeros fill the last word of the block. Nothing is allocated.
 ///
 /// Where `allowed` is `None` the block is in the one-byte form exactly where that can carry every
@@ -56,11 +56,11 @@ pub fn write_with<F: GetFields, L: ElementList>(
         AreElements (form_given allowed (L.elements elements))
         (body_with allowed (L.elements elements)) (L.elements elements)) }
 {
-    let count = fields.csrc_count();
-    if fields.payload_type().get() > 127 || count > 15 {
+    let fixed = fields.fixed();
+    if fixed.payload_type.get() > 127 || fixed.csrc_count > 15 {
         return None;
     }
-    let start = 12 + 4 * count;
+    let start = 12 + 4 * fixed.csrc_count;
     let form = block_form(buf.len().saturating_sub(start), elements, allowed)?;
     let end = put(buf, 0, &fixed_bytes(fields, true));
     let end = put_csrc(fields, buf, end);

@@ -1,8 +1,9 @@
-use Rattle.rtp_c.proofs.Common.{subst, Fields, IsPacket, with_header_fields}
-use Rattle.rtp_c.proofs.ChangeLemmas.{set-passed_on}
+use Rattle.rtp_c.proofs.Common.{ℤ, rules, sym, with_header_fields}
+use Rattle.rtp_c.specs.SetFields.{SetsParts, ChangesOnlyFields}
+use Rattle.rtp_c.proofs.StatusLemmas.{passed_on}
 use Rattle.rtp_c.proofs.changing.rtpw_set_fields.Goals as goal
 
 pub returns-clause-set : goal.returns-clause-set
-returns-clause-set c parts is can_be =
-    let done = c.set.ensures.set parts is in
-    set-passed_on c.set.result (done.0, subst (λ (f : Fields). IsPacket c.set.new.datagram (with_header_fields f parts)) c.given_fields.ensures done.1)
+returns-clause-set c can_be =
+    rw (sym c.given_fields.ensures) (passed_on c.set.result (search rules)
+    (λ (z : ℤ). SetsParts (with_header_fields c.given_fields.result) (ChangesOnlyFields c.given_fields.result) c.args.datagram.now c.set.new.datagram z) c.set.ensures)

@@ -1,5 +1,6 @@
-use Rattle.rtp_c.proofs.ChangeLemmas.{set-passed_on}
+use Rattle.rtp_c.proofs.Common.{rules}
+use Rattle.rtp_c.proofs.ChangeLemmas.{SetsParts-passed}
 use Rattle.rtp_c.proofs.changing.rtpw_set_marker.Goals as goal
 
-pub returns-clause-set : goal.returns-clause-set
-returns-clause-set c parts is = set-passed_on c.set.result (c.set.ensures.set parts is)
+pub returns : goal.returns
+returns c = SetsParts-passed (search rules) (search rules) c.set.ensures

@@ -15,4 +15,4 @@ returns-clause-none g c =
     λ none a is.
     let same = one_in c.args.view.now a is.are_given in
     none (subst Writable same is.is_writable) (subst (λ (b : Allocation). length (written_of b) ≤ 255) same is.few_bytes) in
-    weaker_none c.measure.result none (rw (c.new.ensures, c.given_streams.ensures) at c.measure.ensures.none)
+    weaker_none c.measure.result none (rw (c.new.ensures, c.counted.ensures) at c.measure.ensures.none)

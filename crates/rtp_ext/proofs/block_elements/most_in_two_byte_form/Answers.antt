@@ -12,10 +12,10 @@ loop-kind-preserved g c =
         omega (arith, w.most-is),
       )
     ] in (
-      λ values few. most-next values _ _ _ c.in-Some.field-0-0 c.loop-kind.most c.if-eq.most c.in-Some.kind few c.in-Some.ensures.some own.0 (c.loop-kind.invariant.0 values few),
+      λ values few. most-next values _ _ c.in-Some.field-0-0 c.loop-kind.most c.if-eq.most c.in-Some.kind few c.in-Some.ensures.some own.0 (c.loop-kind.invariant.0 values few),
       omega (arith, ap length c.in-Some.ensures.some, c.loop-kind.invariant.1, own.1),
     )
 
 pub returns-clause-most : goal.returns-clause-most
 returns-clause-most g c = λ values few.
-    most-end values _ _ c.loop-kind.most c.in_default.ensures.none (c.loop-kind.invariant.0 values few)
+    most-end values _ c.loop-kind.most c.in_default.ensures.none (c.loop-kind.invariant.0 values few)

@@ -14,7 +14,7 @@ returns-else-is_told-clause-most g c =
     let exts = c.args.ids.now in
     let values = g.V.ElementValues.values c.args.ev.now in
     subst (λ (form : ExtensionsForm). length (elements_bytes form (written_elements exts values)) ≤ c.most_in_two_byte_form.result) (sym c.in-TwoByte.is)
-    (written_at_most exts values c.iter.result c.most_in_two_byte_form.result c.iter.ensures.all (c.most_in_two_byte_form.ensures.most values c.requires.few))
+    (written_at_most exts values c.most_in_two_byte_form.result c.iter.ensures.all (c.most_in_two_byte_form.ensures.most values c.requires.few))
 
 pub returns-then-is_told-clause-most : goal.returns-then-is_told-clause-most
 returns-then-is_told-clause-most g c =

@@ -36,7 +36,7 @@ element_put g c =
     let room : c.element_header_len.result + length (unwrap_or bytes []) ≤ length c.args.buf.now - c.args.at =
     room-for_data c.args.form c.args.id bytes c.element_header_len.result
     (length c.args.buf.now - c.args.at) c.element_header_len.ensures (omega (arith, c.requires.room)) (omega (arith, c.requires.header, c.element_header_len.ensures c.args.id 0)) in
-    element_or_nothing-put c.args.form c.args.id c.in-Some.len c.args.at start c.args.buf.now _ c.write_header.new.buf bytes
+    element_or_nothing-put c.args.form c.args.id c.in-Some.len c.args.at start c.args.buf.now bytes
     (sym c.in-Some.is ∙ c.write_data.ensures.length_is) (ap (λ (h : ℕ). c.args.at + h) (c.element_header_len.ensures c.args.id c.in-Some.len)) c.requires.room
     (overwritten-rest c.args.buf.now c.write_data.new.buf (unwrap_or bytes []) start (omega (arith, room, c.requires.header, c.element_header_len.ensures c.args.id 0)) c.write_data.ensures.written)
     c.write_header.ensures

@@ -17,7 +17,7 @@ loop-id-init g c =
 pub write_element-at-requires : goal.write_element-at-requires
 write_element-at-requires g c =
     let exts = known_slots c.args.ids.now in
-    let next = IsUnderWay-next _ _ _ _ (items_from 0 exts) _ c.next_within.new.items (c.in-Some.id, (extension_of_kind c.in-Some.kind)) c.loop-id.at
+    let next = IsUnderWay-next c.next_within.new.items (c.in-Some.id, (extension_of_kind c.in-Some.kind))
     c.loop-id.invariant c.in-Some.ensures.some.1
     (omega (arith, c.requires.room, ap length (known_bytes c.args.form c.args.ids.now (known_slots c.args.ids.now) (g.V.ElementValues.values c.args.ev.now) refl))) in
     record {
@@ -30,8 +30,7 @@ write_element-at-requires g c =
 pub loop-id-preserved : goal.loop-id-preserved
 loop-id-preserved g c =
     let exts = known_slots c.args.ids.now in
-    IsUnderWay-step c.args.form (g.V.ElementValues.values c.args.ev.now) c.args.buf.now c.loop-id.buf _ (items_from 0 exts) _ c.next_within.new.items (c.in-Some.id, (extension_of_kind c.in-Some.kind))
-    c.loop-id.at _ c.loop-id.invariant c.in-Some.ensures.some.1
+    IsUnderWay-step c.next_within.new.items (c.in-Some.id, (extension_of_kind c.in-Some.kind)) c.loop-id.invariant c.in-Some.ensures.some.1
     (omega (arith, c.requires.room, ap length (known_bytes c.args.form c.args.ids.now (known_slots c.args.ids.now) (g.V.ElementValues.values c.args.ev.now) refl)))
     c.write_element-at.ensures.written c.write_element-at.ensures.end c.write_element-at.ensures.carried
 
@@ -42,7 +41,7 @@ ended : (g : _) (c : goal.In_default g) →
     ++ drop (length (items_bytes c.args.form (g.V.ElementValues.values c.args.ev.now) (items_from 0 (known_slots c.args.ids.now)))) c.args.buf.now)
     × AllByRecursion (IsCarried c.args.form (g.V.ElementValues.values c.args.ev.now)) (items_from 0 (known_slots c.args.ids.now))
 ended g c =
-    IsUnderWay-stopped _ _ _ _ _ _ c.loop-id.at c.element_header_len-header_len.result c.element_header_len-header_len.ensures
+    IsUnderWay-stopped c.element_header_len-header_len.result c.element_header_len-header_len.ensures
     (omega (arith, c.requires.room, ap length (known_bytes c.args.form c.args.ids.now (known_slots c.args.ids.now) (g.V.ElementValues.values c.args.ev.now) refl)))
     c.loop-id.invariant c.in_default.ensures.none
 

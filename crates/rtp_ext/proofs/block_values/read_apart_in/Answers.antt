@@ -40,7 +40,7 @@ loop-id-preserved-in_default-kind g c =
           c.in-Some.ensures.steps
           (ReadElements-parsed Shows exts [] element kind (c.loop-id.ev, c.loop-id.layers, c.loop-id.found) (c.loop-id.ev, c.loop-id.layers, c.loop-id.found)
           (c.parse_value.new.ev, c.loop-id.layers, c.loop-id.found) c.parse_value.result
-          (mapped-to exts c.in-Some.id c.get.result c.in-Some-get.kind c.get.ensures c.in-Some-get.is)
+          (mapped-to exts c.in-Some.id c.in-Some-get.kind c.get.ensures c.in-Some-get.is)
           (not_refused c.parse_value.result kind c.in-Some.bytes.now _ differs told.refused)
           (λ found. ReadsInto-apart g.V.SetValues.shows g.L.SetLayers.shows kind c.in-Some.bytes.now _ _ c.loop-id.layers c.loop-id.found differs (told.found found))
           told.only
@@ -57,8 +57,8 @@ loop-id-preserved-then-read_into g c =
       IsReadTo-more (ShowsApart g.V.SetValues.shows g.L.SetLayers.shows) exts c.new-elements.result c.loop-id.elements c.last_in_row-last.new.elements (element ∷ row.row)
           (c.args.ev.now, c.args.layers.now, false) _ _
           (c.in-Some.ensures.steps ∙ ap (λ (es : List Element). element ∷ es) row.elements_are)
-          (ReadElements-layers g.V.SetValues.shows g.L.SetLayers.shows exts element row.row c.last_in_row-last.result.now c.loop-id.ev c.loop-id.layers c.read_into.new.layers c.loop-id.found
-          (mapped-to-layers exts c.in-Some.id c.get.result c.in-Some-get.kind _ c.get.ensures c.in-Some-get.is c.in-VideoLayersAllocation.is refl)
+          (ReadElements-layers g.V.SetValues.shows g.L.SetLayers.shows element c.loop-id.ev c.loop-id.layers c.read_into.new.layers c.loop-id.found
+          (mapped-to-layers exts c.in-Some.id c.get.ensures c.in-Some-get.is c.in-VideoLayersAllocation.is refl)
           row.no_other row.last c.if-read_into.ensures.found)
           c.loop-id.invariant.0,
       λ none. absurd (false≢true (sym none)),
@@ -73,8 +73,8 @@ loop-id-preserved-else-read_into g c =
       IsReadTo-more (ShowsApart g.V.SetValues.shows g.L.SetLayers.shows) exts c.new-elements.result c.loop-id.elements c.last_in_row-last.new.elements (element ∷ row.row)
           (c.args.ev.now, c.args.layers.now, false) _ _
           (c.in-Some.ensures.steps ∙ ap (λ (es : List Element). element ∷ es) row.elements_are)
-          (ReadElements-no_layers g.V.SetValues.shows g.L.SetLayers.shows exts element row.row c.last_in_row-last.result.now c.loop-id.ev c.loop-id.layers c.read_into.new.layers c.loop-id.found c.read_into.result
-          (mapped-to-layers exts c.in-Some.id c.get.result c.in-Some-get.kind _ c.get.ensures c.in-Some-get.is c.in-VideoLayersAllocation.is refl)
+          (ReadElements-no_layers g.V.SetValues.shows g.L.SetLayers.shows element c.loop-id.ev c.loop-id.found
+          (mapped-to-layers exts c.in-Some.id c.get.ensures c.in-Some-get.is c.in-VideoLayersAllocation.is refl)
           row.no_other row.last c.read_into.ensures.only c.if-read_into.false same)
           c.loop-id.invariant.0,
       λ none. same ∙ c.loop-id.invariant.1 none,
@@ -86,4 +86,4 @@ returns-clause-read g c = λ elements are.
     let Shows = ShowsApart g.V.SetValues.shows g.L.SetLayers.shows in
     ReadElements-known Shows (g.K.Kinds.slots c.args.exts.now) _ elements _ _ (g.met.K.Kinds.known_is c.args.exts.now)
     (subst (λ es. ReadElements Shows exts es (c.args.ev.now, c.args.layers.now, false) (c.loop-id.ev, c.loop-id.layers, c.loop-id.found)) (sym (c.new-elements.ensures.only elements are))
-    (IsReadTo-end Shows exts c.new-elements.result c.loop-id.elements (c.args.ev.now, c.args.layers.now, false) _ c.in_default.ensures.steps.0 c.loop-id.invariant.0))
+    (IsReadTo-end Shows c.in_default.ensures.steps.0 c.loop-id.invariant.0))

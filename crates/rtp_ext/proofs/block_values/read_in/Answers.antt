@@ -15,8 +15,7 @@ loop-id-preserved g c =
     let exts = g.K.Kinds.known c.args.exts.now in
     let element : Element = (c.in-Some.id, c.in-Some.bytes.now) in
     let mapped = sym c.get.ensures ∙ ap (option_map extension_of_kind) c.in_default-get.is in
-    IsReadPastRow-more g.V.SetValues.shows exts c.new-elements.result c.loop-id.elements c.next.new.self [] element c.args.ev.now c.loop-id.ev c.loop-id.ev
-    c.in-Some.ensures.steps
+    IsReadPastRow-more g.V.SetValues.shows c.next.new.self [] element c.loop-id.ev c.in-Some.ensures.steps
     (ReadElements-passed g.V.SetValues.shows exts [] element c.loop-id.ev c.loop-id.ev
     (unmapped-carries exts element mapped)
     (ReadElements-none g.V.SetValues.shows exts c.loop-id.ev))
@@ -27,8 +26,8 @@ loop-id-preserved-in_ok-parse_value-in_default-kind g c =
     let exts = g.K.Kinds.known c.args.exts.now in
     let told = c.parse_value-in_default-kind.ensures in
     let element : Element = (c.in-Some.id, c.in-Some.bytes.now) in
-    let mapped = mapped-to exts c.in-Some.id c.get.result c.in-Some-get.kind c.get.ensures c.in-Some-get.is in
-    IsReadPastRow-more g.V.SetValues.shows exts c.new-elements.result c.loop-id.elements c.next.new.self [] element c.args.ev.now c.loop-id.ev c.parse_value-in_default-kind.new.ev
+    let mapped = mapped-to exts c.in-Some.id c.in-Some-get.kind c.get.ensures c.in-Some-get.is in
+    IsReadPastRow-more g.V.SetValues.shows c.next.new.self [] element c.parse_value-in_default-kind.new.ev
     c.in-Some.ensures.steps
     (ReadElements-parsed g.V.SetValues.shows exts [] element (extension_of_kind c.in-Some-get.kind) c.loop-id.ev c.loop-id.ev c.parse_value-in_default-kind.new.ev c.parse_value-in_default-kind.result
     mapped
@@ -44,13 +43,12 @@ loop-id-preserved-in_ok-parse_value-in-VideoLayersAllocation g c =
     let told = c.parse_value.ensures in
     let row = c.last_in_row-last.ensures.row in
     let element : Element = (c.in-Some.id, c.in-Some.bytes.now) in
-    IsReadPastRow-more g.V.SetValues.shows exts c.new-elements.result c.loop-id.elements c.last_in_row-last.new.elements row.row element
-    c.args.ev.now c.loop-id.ev c.parse_value.new.ev
+    IsReadPastRow-more g.V.SetValues.shows c.last_in_row-last.new.elements row.row element c.parse_value.new.ev
     (c.in-Some.ensures.steps ∙ ap (λ (es : List Element). element ∷ es) row.elements_are)
-    (ReadElements-row g.V.SetValues.shows exts element row.row c.last_in_row-last.result.now c.loop-id.ev c.parse_value.new.ev c.parse_value.result
-    (mapped-to-layers exts c.in-Some.id c.get.result c.in-Some-get.kind _ c.get.ensures c.in-Some-get.is c.in-VideoLayersAllocation.is refl)
+    (ReadElements-row g.V.SetValues.shows element c.loop-id.ev c.parse_value.new.ev c.parse_value.result
+    (mapped-to-layers exts c.in-Some.id c.get.ensures c.in-Some-get.is c.in-VideoLayersAllocation.is refl)
     row.no_other row.last (rw c.in_ok-parse_value-in-VideoLayersAllocation.was refl) told.found told.only told.unchanged)
-    (IsPastRow-row exts c.next.new.self row.row c.last_in_row-last.new.elements element row.elements_are
+    (IsPastRow-row exts row.row c.last_in_row-last.new.elements element row.elements_are
     c.last_in_row-last.ensures.whole c.last_in_row-last.ensures.short)
     c.loop-id.invariant
 
@@ -63,9 +61,8 @@ stopped g c elements are =
     let told = c.parse_value.ensures in
     ReadUntilRefused-known g.V.SetValues.shows (g.K.Kinds.slots c.args.exts.now) _ elements _ _ (g.met.K.Kinds.known_is c.args.exts.now)
     (subst (λ es. ReadUntilRefused g.V.SetValues.shows exts es c.args.ev.now c.parse_value.new.ev) (sym (c.new-elements.ensures.only elements are))
-    (IsReadPastRow-refused g.V.SetValues.shows exts c.new-elements.result c.loop-id.elements c.next.new.self element c.args.ev.now c.loop-id.ev c.parse_value.new.ev
-    c.in-Some.ensures.steps
-    (mapped-to-layers exts c.in-Some.id c.get.result c.in-Some-get.kind _ c.get.ensures c.in-Some-get.is c.in-VideoLayersAllocation.is refl)
+    (IsReadPastRow-refused g.V.SetValues.shows c.next.new.self element c.in-Some.ensures.steps
+    (mapped-to-layers exts c.in-Some.id c.get.ensures c.in-Some-get.is c.in-VideoLayersAllocation.is refl)
     (c.last_in_row-last.ensures.row.memory (told.refused (rw c.in_err-parse_value-in-VideoLayersAllocation.was refl)).1.1)
     (told.unchanged (λ same. let is = c.in_err-parse_value-in-VideoLayersAllocation.was in cc)) c.loop-id.invariant))
 
@@ -84,4 +81,4 @@ returns-clause-values g c = λ elements are.
     let exts = g.K.Kinds.known c.args.exts.now in
     ReadElements-known g.V.SetValues.shows (g.K.Kinds.slots c.args.exts.now) _ elements _ _ (g.met.K.Kinds.known_is c.args.exts.now)
     (subst (λ es. ReadElements g.V.SetValues.shows exts es c.args.ev.now c.loop-id.ev) (sym (c.new-elements.ensures.only elements are))
-    (IsReadTo-end g.V.SetValues.shows exts c.new-elements.result c.loop-id.elements c.args.ev.now c.loop-id.ev c.in_default.ensures.steps.0 c.loop-id.invariant.is_read))
+    (IsReadTo-end g.V.SetValues.shows c.in_default.ensures.steps.0 c.loop-id.invariant.is_read))

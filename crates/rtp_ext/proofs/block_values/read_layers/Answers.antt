@@ -6,10 +6,10 @@ use Rattle.rtp_ext.proofs.block_values.read_layers.Goals as goal
 use Rattle.rtp_ext.proofs.block_values.read_layers.Goals.{else-eq-via-then-eq+else-read_into, else-eq-via-else-eq}
 
 -- data of which none is read mean no allocation
-no_meaning : (bytes : List ℕ) (read : Bool) (New : Allocation → Type 0) (known : Option Allocation) → ((a : Allocation) → Means bytes a → (read ≡ true) × New a)
+no_meaning : (bytes : List ℕ) {read : Bool} (New : Allocation → Type 0) (known : Option Allocation) → ((a : Allocation) → Means bytes a → (read ≡ true) × New a)
     → read ≡ false → IsSomeAnd known (Means bytes) → ⊥
-no_meaning bytes read New None only is means = means
-no_meaning bytes read New (Some a) only is means = false≢true (sym is ∙ (only a means).0)
+no_meaning bytes New None only is means = means
+no_meaning bytes New (Some a) only is means = false≢true (sym is ∙ (only a means).0)
 
 -- an element that doesn't carry the allocation
 passed : (exts : Slots) (done : List Element) (element : Element) (known : Option Allocation) → (Carries exts VideoLayersAllocation element → ⊥)
@@ -22,7 +22,7 @@ loop-id-init g c = (None, AreValues-none (g.K.Kinds.known c.args.exts.now) no_va
 
 pub loop-id-preserved-then-read_into : goal.loop-id-preserved-then-read_into
 loop-id-preserved-then-read_into g c =
-    let mapped = sym c.get.ensures ∙ (kind-tested c.get.result c.eq.result c.eq.ensures).0 c.if-eq.true in
+    let mapped = sym c.get.ensures ∙ (kind-tested c.get.result c.eq.ensures).0 c.if-eq.true in
     let read = c.if-read_into.ensures.found in (
       Some read.0,
       simp map-append (last _ [] (c.in-Some.id, c.in-Some.element.now) refl mapped read.1
@@ -40,7 +40,7 @@ loop-id-preserved g c =
           let same = w.layers-is ∙ w.read_into.ensures.unchanged w.if-read_into.false in (
             so_far.0,
             simp map-append (passed (g.K.Kinds.known c.args.exts.now) _ (c.in-Some.id, c.in-Some.element.now) so_far.0
-                (λ carries. no_meaning _ w.read_into.result _ _ w.read_into.ensures.only w.if-read_into.false carries.1.1) so_far.1),
+                (λ carries. no_meaning _ _ _ w.read_into.ensures.only w.if-read_into.false carries.1.1) so_far.1),
             so_far.2,
             subst (λ layers. IfSome so_far.0 (g.L.SetLayers.shows layers)) (sym same) so_far.3,
             λ none. same ∙ so_far.4 none,
@@ -49,7 +49,7 @@ loop-id-preserved g c =
       | else-eq-via-else-eq w ↦ (
         so_far.0,
         simp map-append (passed (g.K.Kinds.known c.args.exts.now) _ (c.in-Some.id, c.in-Some.element.now) so_far.0
-            (λ carries. false≢true (sym w.if-eq.false ∙ (kind-tested c.get.result c.eq.result c.eq.ensures).1 (c.get.ensures ∙ carries.0))) so_far.1),
+            (λ carries. false≢true (sym w.if-eq.false ∙ (kind-tested c.get.result c.eq.ensures).1 (c.get.ensures ∙ carries.0))) so_far.1),
         so_far.2,
         subst (λ layers. IfSome so_far.0 (g.L.SetLayers.shows layers)) (sym w.layers-is) so_far.3,
         λ none. w.layers-is ∙ so_far.4 none,
@@ -64,7 +64,7 @@ known_is g c values says =
     c.new-id-items.result c.into_iter-id-iterator.ensures.into_iter_gives)
     c.loop-id.yielded _ c.loop-id.yielded_by _ _ c.in-None.is c.next.ensures.steps in
     let shown : ExtensionValues = record no_values { video_layers_allocation = c.loop-id.invariant.0 } in
-    ap (λ (v : ExtensionValues). v.video_layers_allocation) (sym (AreFields-one (g.K.Kinds.slots c.args.exts.now) says.elements VideoLayersAllocation no_values shown values
+    ap (λ (v : ExtensionValues). v.video_layers_allocation) (sym (AreFields-one
     (AreFields-known (g.K.Kinds.slots c.args.exts.now) says.elements VideoLayersAllocation no_values shown
     (subst (λ (slots : Slots). AreFields slots says.elements VideoLayersAllocation no_values shown) (g.met.K.Kinds.known_is c.args.exts.now)
     (subst (λ (es : List Element). AreFields (g.K.Kinds.known c.args.exts.now) es VideoLayersAllocation no_values shown)

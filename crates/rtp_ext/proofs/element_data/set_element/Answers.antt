@@ -8,13 +8,13 @@ returns-then-place-data-clause-answer c = λ elements are. (
   λ is. absurd (false≢true is),
   λ has.
       let place = c.in-Some.ensures.found in
-      let same = HasLast-only elements c.args.id has.0 place.was has.1 (HasLast-place c.args.form c.args.id c.args.body.now c.in-Some.place elements place are) in
+      let same = HasLast-only has.0 has.1 (HasLast-place place are) in
       absurd (omega (arith, c.if-place-data.true, place.end_is, ap length same, has.2)),
 )
 
 set_last : goal.returns-clause-set
 set_last c =
-    SetsLast-at c.args.form c.args.id c.args.data.now c.args.body.now c.put_few.new.buf c.in-Some.place c.in-Some.ensures.found c.if-place-data.false c.put_few.ensures
+    SetsLast-at c.args.form c.args.data.now c.in-Some.ensures.found c.if-place-data.false c.put_few.ensures
 
 pub returns-clause-set : goal.returns-clause-set
 returns-clause-set c = set_last c
@@ -33,7 +33,7 @@ returns-clause-answer c = λ elements are. (
   λ is.
       let place = c.in-Some.ensures.found in
       let as_many : length place.was ≡ length c.args.data.now = omega (arith, place.end_is, c.if-place-data.false) in
-      (place.was, HasLast-place c.args.form c.args.id c.args.body.now c.in-Some.place elements place are, as_many),
+      (place.was, HasLast-place place are, as_many),
   λ has. refl,
 )
 
@@ -47,5 +47,5 @@ returns-clause-other_values c exts kind old new mapped was says =
 pub returns-clause-values : goal.returns-clause-values
 returns-clause-values c exts kind new only well_formed says =
     let set : SetsLast c.args.form c.args.id c.args.data.now c.args.body.now c.put_few.new.buf = set_last c in
-    said_fields exts c.args.id kind set.before set.after c.args.data.now new only set.last well_formed
+    said_fields set.before set.after c.args.data.now new only set.last well_formed
     (subst (λ es. AreValues exts es no_values new) (AreElements-same c.args.form c.put_few.new.buf says.elements _ says.are_elements set.new_elements) says.are_values)

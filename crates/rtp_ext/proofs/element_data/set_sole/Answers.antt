@@ -7,7 +7,7 @@ use Rattle.rtp_ext.proofs.element_data.set_sole.Goals.{then-survey-ne1-via-then-
 pub returns-in_default-clause-answer : goal.returns-in_default-clause-answer
 returns-in_default-clause-answer c = λ form elements is are. (
   λ yes. absurd (false≢true yes),
-  λ sole. absurd (sole-absent form c.args.body.now c.args.id c.args.survey.now elements c.args.data.now is are c.in_default.is sole),
+  λ sole. absurd (sole-absent c.args.data.now is are c.in_default.is sole),
 )
 
 pub overflow_sub-place : goal.overflow_sub-place
@@ -30,8 +30,7 @@ put_few-requires c =
     omega arith
 
 pub returns-clause-set : goal.returns-clause-set
-returns-clause-set c = λ form is.
-    SetsLast-at form c.args.id c.args.data.now c.args.body.now c.put_few.new.buf c.in-Some.place
+returns-clause-set c = λ form is. SetsLast-at form c.args.data.now
     (last_known form c.args.body.now c.args.id c.args.survey.now c.in-Some.place is c.in-Some.is) c.if-place-data.false c.put_few.ensures
 
 pub returns-clause-answer : goal.returns-clause-answer

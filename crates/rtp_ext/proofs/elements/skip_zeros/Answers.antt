@@ -8,7 +8,7 @@ returns-then-byte-ne0 c =
 
 pub loop-byte-preserved : goal.loop-byte-preserved
 loop-byte-preserved c =
-    c.loop-byte.invariant ∙ without_padding-zero _ _ _ c.in-Some.ensures.cases c.if-byte-ne0.false
+    c.loop-byte.invariant ∙ without_padding-zero _ _ c.in-Some.ensures.cases c.if-byte-ne0.false
 
 pub returns : goal.returns
 returns c = sym (c.loop-byte.invariant ∙ without_padding-none _ c.in_default.ensures.cases)

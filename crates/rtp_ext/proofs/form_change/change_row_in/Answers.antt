@@ -3,7 +3,7 @@ use Rattle.rtp_ext.proofs.RowFormLemmas.{ChangesRowTo-start, ChangesRowTo-next, 
 use Rattle.rtp_ext.proofs.form_change.change_row_in.Goals as goal
 
 pub loop-place-init : goal.loop-place-init
-loop-place-init c = ChangesRowTo-start c.args.form c.args.new_form c.args.room.now c.args.len c.requires
+loop-place-init c = ChangesRowTo-start c.requires
 
 pub overflow_add-data_at : goal.overflow_add-data_at
 overflow_add-data_at c =
@@ -27,4 +27,4 @@ loop-place-preserved c =
     (omega (arith, c.element_header_len.ensures c.in-Some.place.id (length c.in-Some.ensures.found.bytes))) c.copy_within.ensures.after c.write_header.ensures
 
 pub returns : goal.returns
-returns c = ChangesRow-end c.args.form c.args.new_form c.args.room.now c.loop-place.room c.args.len c.loop-place.at c.loop-place.end c.loop-place.invariant c.in_default.ensures.none
+returns c = ChangesRow-end c.loop-place.invariant c.in_default.ensures.none

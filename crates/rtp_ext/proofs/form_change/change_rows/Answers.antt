@@ -1,21 +1,18 @@
-use Rattle.rtp_ext.proofs.Common.{other_form}
 use Rattle.rtp_ext.proofs.ChangedRowsLemmas.{first_for, second_for, rows_changed}
 use Rattle.rtp_ext.proofs.form_change.change_rows.Goals as goal
 
 pub change_row-front-requires : goal.change_row-front-requires
-change_row-front-requires c =
-    first_for c.args.form (other_form c.args.form) c.args.body.now c.copy_within.new.self c.copy_within-2.new.self c.args.front c.args.at c.args.count c.requires
-    c.copy_within.ensures.after c.copy_within-2.ensures.after
+change_row-front-requires c = first_for c.requires c.copy_within.ensures.after c.copy_within-2.ensures.after
 
 pub change_row-count-requires : goal.change_row-count-requires
 change_row-count-requires c =
-    second_for c.args.form (other_form c.args.form) c.args.body.now c.copy_within.new.self c.copy_within-2.new.self c.args.front c.args.at c.args.count c.requires
+    second_for c.requires
     c.copy_within.ensures.after c.copy_within-2.ensures.after
     c.change_row-front.new.room c.change_row-front.result c.change_row-front.ensures c.change_row-front.auto.room
 
 pub returns : goal.returns
 returns c = λ rows.
-    rows_changed c.args.form (other_form c.args.form) c.args.body.now c.copy_within.new.self c.copy_within-2.new.self c.args.front c.args.at c.args.count rows
+    rows_changed rows
     c.copy_within.ensures.after c.copy_within-2.ensures.after
     c.change_row-front.new.room c.change_row-front.result c.change_row-front.ensures c.change_row-front.auto.room
     c.change_row-count.new.room c.change_row-count.result c.change_row-count.ensures

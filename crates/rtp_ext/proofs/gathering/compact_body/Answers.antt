@@ -12,7 +12,7 @@ returns c =
       elements = gathered.elements;
       are_elements = gathered.are_elements;
       new_is = c.clear_after.ensures
-          ∙ row_to-zeros c.args.form (without 0 gathered.elements) c.gather_all-len.new.body c.gather_all-len.result _ gathered.length_is (gathered.row_is ∙ ap (elements_bytes c.args.form) row) count gathered.within;
+          ∙ row_to-zeros c.args.form (without 0 gathered.elements) c.gather_all-len.new.body gathered.length_is (gathered.row_is ∙ ap (elements_bytes c.args.form) row) count gathered.within;
       len_is = count;
       within = gathered.within;
     }

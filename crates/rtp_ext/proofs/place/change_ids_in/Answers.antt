@@ -16,21 +16,18 @@ pub write_id-requires-clause-lies : goal.write_id-requires-clause-lies
 write_id-requires-clause-lies c = LiesAt-next c.args.form c.loop-place.body c.loop-place.at c.in-Some.place (omega (arith, c.in-Some.ensures.further)) c.in-Some.ensures.found
 
 pub write_id-requires-clause-fits : goal.write_id-requires-clause-fits
-write_id-requires-clause-fits c =
-    fits-next c.args.form (ids_of c.args.change) c.args.body.now c.loop-place.body c.loop-place.at c.loop-place.lost c.in-Some.place c.new_id-id.result
+write_id-requires-clause-fits c = fits-next c.new_id-id.result
     c.loop-place.invariant c.in-Some.ensures.found c.new_id-id.ensures
 
 pub loop-place-preserved : goal.loop-place-preserved
 loop-place-preserved c =
     subst (λ b. HasOtherIdsTo c.args.form (ids_of c.args.change) c.args.body.now c.write_id.new.body c.in-Some.place.end (c.loop-place.lost || b))
     (sym (none_of c.new_id-id.result c.is_none-lost.result c.is_none-lost.ensures))
-    (HasOtherIdsTo-next c.args.form (ids_of c.args.change) c.args.body.now c.loop-place.body c.write_id.new.body c.loop-place.at c.loop-place.lost c.in-Some.place c.new_id-id.result
+    (HasOtherIdsTo-next c.write_id.new.body
     (omega (arith, c.in-Some.ensures.further)) c.loop-place.invariant c.in-Some.ensures.found c.new_id-id.ensures c.write_id.ensures)
 
 pub returns : goal.returns
 returns c = record {
-  changed =
-      HasOtherIdsTo-end c.args.form (ids_of c.args.change) c.args.body.now c.loop-place.body c.loop-place.at c.loop-place.lost c.loop-place.invariant c.in_default.ensures.none;
-  lost = λ elements are.
-      lost-end c.args.form (ids_of c.args.change) c.args.body.now c.loop-place.body c.loop-place.at c.loop-place.lost elements c.loop-place.invariant c.in_default.ensures.none are;
+  changed = HasOtherIdsTo-end c.loop-place.invariant c.in_default.ensures.none;
+  lost = λ elements are. lost-end c.loop-place.invariant c.in_default.ensures.none are;
 }

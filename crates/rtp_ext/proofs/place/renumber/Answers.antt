@@ -18,8 +18,7 @@ returns-clause-answer c = λ elements are.
     (c.if-not-carries_new_ids.ensures)
 
 elements_new : goal.returns-clause-elements
-elements_new c = λ elements are.
-    AreElements-renumbered c.args.form (new_id c.args.ids.now) c.args.body.now c.change_ids.new.body elements c.change_ids.ensures.changed are
+elements_new c = λ elements are. AreElements-renumbered c.change_ids.ensures.changed are
     (may-can c.args.form (new_id c.args.ids.now) elements
     (subst (All (CanRenumber c.args.form (new_id c.args.ids.now))) (sym (AreElements-only c.args.form c.args.body.now elements are)) (c.if-not-carries_new_ids.ensures.0 refl)))
 

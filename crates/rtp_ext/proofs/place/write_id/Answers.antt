@@ -10,11 +10,11 @@ pub returns-in-Some-2 : goal.returns-in-Some-2
 returns-in-Some-2 c = λ lies.
     let len : c.args.place.now.end - c.args.place.now.data_start ≡ length lies.bytes = omega (arith, lies.end_is) in
     rw c.in-Some-2.is
-    (c.write_header.ensures ∙ renumbered_at c.args.form c.args.body.now lies.front lies.bytes lies.after _ _ c.args.place.now.id c.in-Some-2.id lies.body_is lies.start_is len)
+    (c.write_header.ensures ∙ renumbered_at c.args.form lies.front lies.bytes lies.after c.args.place.now.id c.in-Some-2.id lies.body_is lies.start_is len)
 
 pub returns-in-None : goal.returns-in-None
 returns-in-None c = λ lies.
     let len : c.args.place.now.end - c.args.place.now.start ≡ length (element_bytes c.args.form (c.args.place.now.id, lies.bytes)) =
-    omega (arith, length-lies c.args.form c.args.body.now c.args.place.now lies) in
+    omega (arith, length-lies lies) in
     rw c.in-None.is
-    (c.clear.ensures ∙ zeros_at c.args.form c.args.body.now lies.front lies.bytes lies.after _ _ c.args.place.now.id lies.body_is lies.start_is len)
+    (c.clear.ensures ∙ zeros_at c.args.form lies.front lies.bytes lies.after c.args.place.now.id lies.body_is lies.start_is len)

@@ -7,7 +7,7 @@ put_element-at-requires g c =
     let elements = g.L.ElementList.elements c.args.elements in
     let i = c.loop-index.index in
     let element : Element = (c.at-id.result.0, c.at-id.result.1.now) in
-    let fits = AreUnderWay-room c.args.form c.args.buf.now c.loop-index.buf elements _ (drop (i + 1) elements) element c.loop-index.at
+    let fits = AreUnderWay-room (drop (i + 1) elements) element
     c.loop-index.invariant (left-more elements i element c.at-id.ensures) in
     record { room = fits.0; writable = fits.1 }
 
@@ -16,8 +16,7 @@ loop-index-preserved g c =
     let elements = g.L.ElementList.elements c.args.elements in
     let i = c.loop-index.index in
     let element : Element = (c.at-id.result.0, c.at-id.result.1.now) in
-    AreUnderWay-step c.args.form c.args.buf.now c.loop-index.buf c.put_element-at.new.buf elements _ (drop (i + 1) elements)
-    element c.loop-index.at c.put_element-at.result
+    AreUnderWay-step (drop (i + 1) elements) element
     c.loop-index.invariant (left-more elements i element c.at-id.ensures) c.put_element-at.ensures.written c.put_element-at.ensures.end
 
 -- all are written
@@ -25,8 +24,7 @@ all : (g : _) (c : goal.After-loop-index g) → (c.loop-index.at ≡ length (ele
     × (c.loop-index.buf ≡ elements_bytes c.args.form (g.L.ElementList.elements c.args.elements) ++ drop c.loop-index.at c.args.buf.now)
 all g c =
     let elements = g.L.ElementList.elements c.args.elements in
-    AreUnderWay-end c.args.form c.args.buf.now c.loop-index.buf elements _ c.loop-index.at
-    c.loop-index.invariant (drop_all c.loop-index.index elements (omega arith))
+    AreUnderWay-end c.loop-index.invariant (drop_all c.loop-index.index elements (omega arith))
 
 pub returns-clause-length : goal.returns-clause-length
 returns-clause-length g c = (all g c).0
@@ -35,4 +33,4 @@ pub returns-clause-written : goal.returns-clause-written
 returns-clause-written g c = (all g c).1
 
 pub returns-clause-elements : goal.returns-clause-elements
-returns-clause-elements g c zeros = AreWritableIn-read c.args.form (g.L.ElementList.elements c.args.elements) (length c.args.buf.now) zeros c.requires
+returns-clause-elements g c zeros = AreWritableIn-read zeros c.requires

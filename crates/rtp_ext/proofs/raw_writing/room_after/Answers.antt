@@ -13,8 +13,7 @@ overflow_add-element_header_len c =
     )
 
 taken : (c : goal.After-checked_sub) → IsRoomAfter c.args.form (c.args.id, c.args.bytes.now) c.args.room c.checked_sub.result
-taken c =
-    IsRoomAfter-taken c.args.form c.args.id c.args.bytes.now c.args.room c.element_header_len.result c.checked_sub.result
+taken c = IsRoomAfter-taken c.args.form c.args.id c.args.bytes.now c.args.room c.checked_sub.result
     (c.can_carry.ensures.carried.0 c.if-not-can_carry.false) (c.element_header_len.ensures c.args.id (length c.args.bytes.now)) c.checked_sub.ensures
 
 pub returns-clause-some : goal.returns-clause-some

@@ -4,5 +4,5 @@ use Rattle.rtp_ext.proofs.raw_writing.write_elements.Goals as goal
 
 pub returns-clause-elements : goal.returns-clause-elements
 returns-clause-elements g c zeros =
-    AreElements-front c.args.form (g.L.ElementList.elements c.args.elements) c.put_elements.new.buf (drop c.put_elements.result c.args.buf.now) c.put_elements.result zeros
+    AreElements-front (drop c.put_elements.result c.args.buf.now) zeros
     c.put_elements.ensures.length c.put_elements.ensures.written (c.put_elements.ensures.elements zeros)

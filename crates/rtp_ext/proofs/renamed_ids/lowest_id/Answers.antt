@@ -1,5 +1,6 @@
 use Rattle.rtp_ext.proofs.Common.{refl, ◌≡◌, sym, ap, same_true, same_false, the_type, extension_of_kind}
-use Rattle.rtp_ext.proofs.RenamedIdLemmas.{same_kind, AreLeft-start, AreLeft-next, IsLowest-left, IsUnmapped-left, IsLowest-known, IsUnmapped-known}
+use Rattle.rtp_ext.proofs.RenamedIdLemmas.{AreLeft-start, AreLeft-next, IsLowest-left, IsUnmapped-left, IsLowest-known, IsUnmapped-known}
+use Rattle.rtp_values.proofs.KindSetLemmas.{same_kind}
 use Rattle.rtp_ext.proofs.renamed_ids.lowest_id.Goals as goal
 
 pub loop-id-init : goal.loop-id-init

@@ -7,15 +7,15 @@ use Rattle.rtp_ext.proofs.rewriting.others_len.Goals.{Else-changes_form}
 
 pub returns-then-changes_form-clause-length : goal.returns-then-changes_form-clause-length
 returns-then-changes_form-clause-length c = λ elements are.
-    c.row_len.ensures.length elements (read_elements c.args.form c.args.body.now c.args.goes c.args.survey.now c.requires.survey elements are)
+    c.row_len.ensures.length elements (read_elements c.requires.survey elements are)
 
 pub returns-then-changes_form-clause-carried : goal.returns-then-changes_form-clause-carried
 returns-then-changes_form-clause-carried c = λ elements are.
-    c.row_len.ensures.carried elements (read_elements c.args.form c.args.body.now c.args.goes c.args.survey.now c.requires.survey elements are)
+    c.row_len.ensures.carried elements (read_elements c.requires.survey elements are)
 
 pub returns-then-changes_form-clause-none : goal.returns-then-changes_form-clause-none
 returns-then-changes_form-clause-none c = λ elements are.
-    c.row_len.ensures.none elements (read_elements c.args.form c.args.body.now c.args.goes c.args.survey.now c.requires.survey elements are)
+    c.row_len.ensures.none elements (read_elements c.requires.survey elements are)
 
 counted : (c : Else-changes_form) (elements : List Element) → AreElements c.args.form c.args.body.now elements → c.args.survey.now.others_len ≡ length (elements_bytes c.args.form (others c.args.goes elements))
 counted c elements are =
@@ -35,4 +35,4 @@ returns-clause-length c = λ elements are.
 
 pub returns-clause-carried : goal.returns-clause-carried
 returns-clause-carried c = λ elements are.
-    stays-writable c.args.form c.args.new_form (others c.args.goes elements) (stays c elements are) (others-writable c.args.form c.args.goes c.args.body.now elements are)
+    stays-writable c.args.form c.args.new_form (others c.args.goes elements) (stays c elements are) (others-writable c.args.goes are)

@@ -14,6 +14,6 @@ returns c =
     let front : take (length bytes) c.put_added.new.body ≡ bytes =
     ap (take (length bytes)) (c.put_added.ensures ∙ overwritten-front c.args.body.now bytes) ∙ take-append_seam bytes _ in
     c.clear_after.ensures
-    ∙ row_to-zeros c.args.form (elements_added c.args.comes) c.put_added.new.body c.added_len.result (length c.args.body.now) c.put_added.auto.body
+    ∙ row_to-zeros c.args.form (elements_added c.args.comes) c.put_added.new.body c.put_added.auto.body
     (ap (λ (n : ℕ). take n c.put_added.new.body) c.added_len.ensures.length ∙ front)
     c.added_len.ensures.length (omega (arith, c.requires.room, c.added_len.ensures.length))

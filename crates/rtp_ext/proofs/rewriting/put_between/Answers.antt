@@ -5,5 +5,5 @@ use Rattle.rtp_ext.proofs.rewriting.put_between.Goals as goal
 
 pub returns-clause-row : goal.returns-clause-row
 returns-clause-row c =
-    between_is c.args.body.now c.copy_within.new.self c.put_added.new.body (elements_bytes c.args.form (elements_added c.args.comes)) c.args.front c.args.at c.args.count
+    between_is c.args.body.now (elements_bytes c.args.form (elements_added c.args.comes)) c.args.front c.args.at c.args.count
     (c.args.front + c.added_len.result) (omega (arith, c.added_len.ensures.length)) c.requires.order c.requires.within c.requires.room c.copy_within.ensures.after c.put_added.ensures

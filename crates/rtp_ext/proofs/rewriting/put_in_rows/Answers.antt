@@ -2,6 +2,5 @@ use Rattle.rtp_ext.proofs.RowLemmas.{HasRows-already}
 use Rattle.rtp_ext.proofs.rewriting.put_in_rows.Goals as goal
 
 pub returns-then-survey-end : goal.returns-then-survey-end
-returns-then-survey-end c =
-    HasRows-already c.args.form c.args.goes c.args.body.now c.args.body_len c.args.survey.now c.args.start c.args.end
+returns-then-survey-end c = HasRows-already c.args.body.now c.args.body_len
     c.requires.within c.requires.survey c.requires.start c.requires.end c.if-survey-end.true

@@ -10,8 +10,8 @@ use Rattle.rtp_ext.proofs.rewriting.rewrite_body.Goals as goal
 use Rattle.rtp_ext.proofs.rewriting.rewrite_body.Goals.{Joined-changes_form, then-changes_form, else-changes_form}
 
 -- what a row is read as
-elements-row : (form : ExtensionsForm) (all : List Element) (len : ℕ) (body : List ℕ) → body ≡ row_to form all len → AllByRecursion (IsWritable form) all → AreElements form body all
-elements-row form all len body is each =
+elements-row : (form : ExtensionsForm) (all : List Element) (len : ℕ) {body : List ℕ} → body ≡ row_to form all len → AllByRecursion (IsWritable form) all → AreElements form body all
+elements-row form all len is each =
     subst (λ (b : List ℕ). AreElements form b all) (sym is) (AreElements-in_a_row form all (len - length (elements_bytes form all)) (each_element form all each))
 
 -- ---- a body of no bytes
@@ -30,7 +30,7 @@ returns-then-body_len-eq0-clause-row c = λ elements are.
 
 pub returns-then-body_len-eq0-clause-elements : goal.returns-then-body_len-eq0-clause-elements
 returns-then-body_len-eq0-clause-elements c = λ elements are.
-    elements-row c.args.new_form _ (length c.args.body.now) _ (returns-then-body_len-eq0-clause-row c elements are) (c.requires.carried elements are)
+    elements-row c.args.new_form _ (length c.args.body.now) (returns-then-body_len-eq0-clause-row c elements are) (c.requires.carried elements are)
 
 -- ---- the elements that stay, and what comes
 
@@ -82,9 +82,7 @@ put_between-len-requires-clause-within c = (rows (goal.at.put_between-len-requir
 long : (c : Joined-changes_form) (elements : List Element) → AreElements c.args.form (take c.args.body_len c.args.body.now) elements
     → c.if-changes_form.front.0 + length (elements_bytes c.args.new_form (elements_added c.args.comes)) + c.if-changes_form.front.2
     ≡ length (elements_bytes c.args.new_form (rewritten_elements c.args.goes (elements_added c.args.comes) elements))
-long c elements are =
-    len-between c.args.new_form (others c.args.goes c.put_in_rows-front.ensures.before) (elements_added c.args.comes) (others c.args.goes c.put_in_rows-front.ensures.after)
-    (rewritten_elements c.args.goes (elements_added c.args.comes) elements) c.if-changes_form.body c.if-changes_form.front.0 c.if-changes_form.front.1 c.if-changes_form.front.2 (among c elements are) (rows c)
+long c elements are = len-between (elements_added c.args.comes) (among c elements are) (rows c)
 
 fits : (c : Joined-changes_form) → c.if-changes_form.front.0 + length (elements_bytes c.args.new_form (elements_added c.args.comes)) + c.if-changes_form.front.2 ≤ length c.if-changes_form.body
 fits c =
@@ -101,13 +99,12 @@ pub returns-clause-row : goal.returns-clause-row
 returns-clause-row c = λ elements are.
     let j = (goal.at.returns-clause-row c).Joined-changes_form in
     let row = c.put_between-len.ensures.row
-    ∙ row-between c.args.new_form (others c.args.goes c.put_in_rows-front.ensures.before) (elements_added c.args.comes) (others c.args.goes c.put_in_rows-front.ensures.after)
-    (rewritten_elements c.args.goes (elements_added c.args.comes) elements) c.if-changes_form.body c.if-changes_form.front.0 c.if-changes_form.front.1 c.if-changes_form.front.2 (among j elements are) (rows j) in
+    ∙ row-between (elements_added c.args.comes) (among j elements are) (rows j) in
     let all : length c.put_between-len.new.body ≡ length c.args.body.now = omega (arith, c.put_between-len.auto.body, c.if-changes_form.auto.body, c.put_in_rows-front.ensures.length_is) in
     c.clear_after.ensures
-    ∙ row_to-zeros c.args.new_form (rewritten_elements c.args.goes (elements_added c.args.comes) elements) c.put_between-len.new.body c.put_between-len.result (length c.args.body.now) all row
+    ∙ row_to-zeros c.args.new_form (rewritten_elements c.args.goes (elements_added c.args.comes) elements) c.put_between-len.new.body all row
     (c.put_between-len.ensures.end ∙ long j elements are) (omega (arith, fits j, c.put_between-len.ensures.end, all, c.put_between-len.auto.body))
 
 pub returns-clause-elements : goal.returns-clause-elements
 returns-clause-elements c = λ elements are.
-    elements-row c.args.new_form _ (length c.args.body.now) _ (returns-clause-row c elements are) (c.requires.carried elements are)
+    elements-row c.args.new_form _ (length c.args.body.now) (returns-clause-row c elements are) (c.requires.carried elements are)

@@ -8,7 +8,7 @@ loop-index-init c = IsCopiedTo-start c.args.from.now c.args.to.now (sym c.requir
 pub loop-index-preserved : goal.loop-index-preserved
 loop-index-preserved c =
     let within : c.loop-index.index < length c.args.from.now = omega (arith, c.loop-index-test.true, c.from-index-end.ensures, c.requires.within) in
-    IsCopiedTo-next c.args.from.now c.loop-index.to c.loop-index.index c.in_ok-to.field-0 c.loop-index.invariant within
+    IsCopiedTo-next c.loop-index.invariant within
     (c.in_ok-to.ensures.same ∙ c.index-from-index.is ∙ sym (get_or_default c.args.from.now c.loop-index.index None c.index-from-index.result within))
 
 pub returns-in_err-to-clause-known : goal.returns-in_err-to-clause-known
@@ -18,6 +18,5 @@ returns-in_err-to-clause-known c = λ no_text.
     absurd (false≢true (c.in_err-to.ensures.known (λ extension is. no_text (suc c.loop-index.index) extension (ap extension_of here ∙ is))))
 
 pub returns-clause-same : goal.returns-clause-same
-returns-clause-same c =
-    IsCopiedTo-end c.args.from.now c.loop-index.to c.args.last c.loop-index.index c.loop-index.invariant c.requires.none_above
+returns-clause-same c = IsCopiedTo-end c.args.last c.loop-index.invariant c.requires.none_above
     (omega (arith, c.loop-index-test.false, c.from-index-end.ensures))

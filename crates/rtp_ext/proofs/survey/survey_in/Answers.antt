@@ -13,6 +13,5 @@ pub loop-place-preserved : goal.loop-place-preserved
 loop-place-preserved c = (c.in-Some.ensures.left, c.in-Some.ensures.some c.loop-place.last c.loop-place.invariant.1)
 
 pub returns : goal.returns
-returns c =
-    IsSurvey-end c.args.form c.args.body.now _ c.args.id c.loop-place.last c.next_of.new.self.count c.next_of.new.self.others_len
+returns c = IsSurvey-end
     (c.in_default.ensures.none c.loop-place.last c.loop-place.invariant.1) c.in_default.ensures.end

@@ -10,9 +10,9 @@ returns c =
     elim c.if-ne.branch [
       | then-ne w ↦
           front-other c.args.buf.now c.args.front.now (length c.args.front.now - 4) (omega (arith, c.requires.some)) c.args.was c.args.form c.args.body_len c.put-2.new.buf c.to_be_bytes.result c.if-ne.buf
-          c.to_be_bytes.ensures c.put-2.ensures.written w.serialize.result c.put.new.buf (differs_true the_type _ _ (sym w.if-ne.ensures)) w.serialize.ensures c.put.ensures.written
-          (w.buf-is ∙ w.put-then-ne.ensures.written)
+          c.to_be_bytes.ensures c.put-2.ensures.written w.serialize.result c.put_header.new.buf (differs_true the_type _ _ (sym w.if-ne.ensures)) w.serialize.ensures c.put_header.ensures
+          (w.buf-is ∙ w.put.ensures.written)
       | else-ne w ↦
           front-same c.args.buf.now c.args.front.now (length c.args.front.now - 4) (omega (arith, c.requires.some)) c.args.was c.args.form c.args.body_len c.put-2.new.buf c.to_be_bytes.result c.if-ne.buf
-          c.to_be_bytes.ensures c.put-2.ensures.written (differs_false the_type tt _ _ (sym w.if-ne.ensures)) (w.buf-is ∙ c.put.ensures.written)
+          c.to_be_bytes.ensures c.put-2.ensures.written (differs_false the_type tt _ _ (sym w.if-ne.ensures)) (w.buf-is ∙ c.put_header.ensures)
     ]

@@ -1,4 +1,4 @@
-use Rattle.std.proofs.Common.{◌≡◌, ◌∙◌, ◌-◌, List, [], length, take, drop, refl, sym, ap, subst, arith}
+use Rattle.std.proofs.Common.{◌≡◌, ◌∙◌, ◌-◌, ◌+◌, ◌*◌, ◌/◌, List, [], length, take, drop, refl, sym, ap, subst, arith}
 use Rattle.std.specs.List.{filter_map}
 use Rattle.rtp_ext.specs.Elements.{Element, elements_bytes, AreElements}
 use Rattle.rtp_ext.specs.ElementsInPlace.{renumbered}
@@ -27,14 +27,14 @@ returns-clause-written g c elements are =
     let written = c.in_ok-len.ensures.written at c.args.buf.now kept.written c.requires.some kept.are_written in
     let row : List Element = put_all news kept.written in
     let same : row ≡ put_all news (filter_map (renumbered ids) elements) = put_all-like news kept.written (filter_map (renumbered ids) elements) kept.like in
-    let rounded = c.next_multiple_of-end.ensures in
-    let body : take (c.next_multiple_of-end.result - at) (drop at c.fill_word.new.buf) ≡ filled (elements_bytes form row) =
-    body-filled c.args.buf.now c.write_lacking.new.buf c.fill_word.new.buf (elements_bytes form row) at c.in_ok-len.len c.next_multiple_of-end.result written.0.bytes_are written.0.at_is
-    (omega (arith, written.0.as_long, c.in_ok-len.ensures.within, c.write_kept.auto.buf)) (omega (arith, rounded.lower_bound)) (omega (arith, rounded.upper_bound)) (omega (arith, rounded.multiple)) c.requires.whole
+    let end = (c.in_ok-len.len + 3) / 4 * 4 in
+    let body : take (end - at) (drop at c.fill_word.new.buf) ≡ filled (elements_bytes form row) =
+    body-filled c.args.buf.now c.write_lacking.new.buf c.fill_word.new.buf (elements_bytes form row) at c.in_ok-len.len end written.0.bytes_are written.0.at_is
+    (omega (arith, written.0.as_long, c.in_ok-len.ensures.within, c.write_kept.auto.buf)) (omega arith) (omega arith) (omega arith) c.requires.whole
     c.fill_word.ensures.written in
     record {
-      after = omega (arith, written.0.at_is, rounded.lower_bound);
-      whole = omega (arith, rounded.multiple);
+      after = omega (arith, written.0.at_is);
+      whole = omega arith;
       carried = kept.carried;
       no_zero = like-none 0 news kept.written (filter_map (renumbered ids) elements) kept.like (written-no_zero form kept.written kept.are_written.writable);
       body_is = body ∙ ap (λ (es : List Element). filled (elements_bytes form es)) same;

@@ -5,7 +5,7 @@ use Rattle.rtp_ext.proofs.form.ExtensionsForm.for_elements.Goals as goal
 
 pub returns-then-not-can_carry-clause-refused : goal.returns-then-not-can_carry-clause-refused
 returns-then-not-can_carry-clause-refused g c = (
-  λ _. AreNotWritableIn-one c.args.allowed c.unwrap_or-widest.result (g.L.ElementList.elements c.args.elements) c.loop-index.index (c.at-id.result.0, c.at-id.result.1.now) c.args.room c.at-id.ensures
+  λ _. AreNotWritableIn-one c.args.allowed (g.L.ElementList.elements c.args.elements) c.loop-index.index (c.at-id.result.0, c.at-id.result.1.now) c.args.room c.at-id.ensures
       c.unwrap_or-widest.ensures (λ carried. true≢false (sym (c.if-not-can_carry.ensures.carried.1 carried))) c.if-not-can_carry.ensures.neither,
   λ _. refl,
 )
@@ -15,7 +15,7 @@ returns-in_err-left-clause-refused g c =
     let elements = g.L.ElementList.elements c.args.elements in
     let i = c.loop-index.index in
     let element : Element = (c.at-id.result.0, c.at-id.result.1.now) in (
-      λ _. AreCounted-short c.args.allowed elements _ (drop (i + 1) elements) element c.loop-index.form c.args.room c.loop-index.left
+      λ _. AreCounted-short (drop (i + 1) elements) element
           (left-more elements i element c.at-id.ensures) c.in_err-left.ensures c.loop-index.invariant,
       λ _. search rules,
     )
@@ -25,13 +25,13 @@ loop-index-preserved g c =
     let elements = g.L.ElementList.elements c.args.elements in
     let i = c.loop-index.index in
     let element : Element = (c.at-id.result.0, c.at-id.result.1.now) in
-    AreCounted-step c.args.allowed elements _ (drop (i + 1) elements) element c.loop-index.form c.form_with-form.result c.args.room c.loop-index.left c.in_ok-left.left
+    AreCounted-step (drop (i + 1) elements) element
     (left-more elements i element c.at-id.ensures) (subst (λ (f : ExtensionsForm). IsWritable f element) c.unwrap_or-widest.ensures (c.if-not-can_carry.ensures.carried.0 refl)) c.form_with-form.ensures c.in_ok-left.ensures.0 c.in_ok-left.ensures.1 c.loop-index.invariant
 
 pub returns-then-left-longer_by-clause-refused : goal.returns-then-left-longer_by-clause-refused
 returns-then-left-longer_by-clause-refused g c =
     let elements = g.L.ElementList.elements c.args.elements in (
-      λ _. AreCounted-longer c.args.allowed elements _ c.loop-index.form c.args.room c.loop-index.left c.longer_by.result
+      λ _. AreCounted-longer c.longer_by.result
           (drop_all c.loop-index.index elements (omega arith)) c.loop-index.invariant
           (c.longer_by.ensures elements (sym c.count-count.ensures)) (λ fits. omega (arith, c.if-left-longer_by.true)),
       λ _. refl,
@@ -42,8 +42,7 @@ all : (g : _) (c : goal.Else-left-longer_by g) → (c.loop-index.form ≡ form_g
     × AreWritableIn c.loop-index.form (g.L.ElementList.elements c.args.elements) c.args.room
 all g c =
     let elements = g.L.ElementList.elements c.args.elements in
-    AreCounted-fit c.args.allowed elements _ c.loop-index.form c.args.room c.loop-index.left c.longer_by.result
-    (drop_all c.loop-index.index elements (omega arith)) c.loop-index.invariant
+    AreCounted-fit c.longer_by.result (drop_all c.loop-index.index elements (omega arith)) c.loop-index.invariant
     (c.longer_by.ensures elements (sym c.count-count.ensures)) (omega (arith, c.if-left-longer_by.false))
 
 pub returns-clause-refused : goal.returns-clause-refused

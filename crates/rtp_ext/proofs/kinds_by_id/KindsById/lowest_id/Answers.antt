@@ -1,5 +1,6 @@
 use Rattle.rtp_ext.proofs.Common.{◌≡◌, length, arith, refl, rules, sym, ap, same_true, same_false, the_type, subst, ℕ, drop, items_from, extension_of_kind, slots_of}
-use Rattle.rtp_ext.proofs.RenamedIdLemmas.{AreLeft, same_kind, AreLeft-start, AreLeft-next, IsLowest-left, IsUnmapped-left}
+use Rattle.rtp_ext.proofs.RenamedIdLemmas.{AreLeft, AreLeft-start, AreLeft-next, IsLowest-left, IsUnmapped-left}
+use Rattle.rtp_values.proofs.KindSetLemmas.{same_kind}
 use Rattle.rtp_ext.proofs.kinds_by_id.KindsById.lowest_id.Goals as goal
 
 pub loop-id-init : goal.loop-id-init

@@ -6,4 +6,4 @@ use Rattle.rtp_ext.proofs.map.ExtensionMap.iter_by_media_type.Goals as goal
 pub returns : goal.returns
 returns c =
     subst (spec.ListsItems c.args.self.now (spec.is_of_medium c.args.audio)) (sym c.new.ensures)
-    (ListsItems-filter c.args.self.now (spec.is_of_medium c.args.audio) _ c.iter.ensures.listing)
+    (ListsItems-filter (spec.is_of_medium c.args.audio) c.iter.ensures.listing)

@@ -11,14 +11,14 @@ invariant_of-self c =
     let index : k + 1 ≡ c.args.id = omega (arith, c.from.ensures, c.requires.0) in
     let here : k < length slots = omega (arith, index, c.requires.1, c.self.invariant.0) in (
       length-set slots k _ ∙ c.self.invariant.0,
-      IsLastId-put slots _ c.self.inside.last c.max-self-inside.result c.args.id _ c.self.invariant.1
-          (Puts-replaced slots slots k c.args.id _ _ refl index here c.from-new.ensures) (omega (arith, c.max-self-inside.ensures)) (omega (arith, c.max-self-inside.ensures)) (search rules),
+      IsLastId-put c.max-self-inside.result _ c.self.invariant.1
+          (Puts-replaced slots slots k _ _ refl index here c.from-new.ensures) (omega (arith, c.max-self-inside.ensures)) (omega (arith, c.max-self-inside.ensures)) (search rules),
       known_slots-put slots _ _ k c.args.id _ _ c.self.invariant.2 index c.set.ensures c.known_kind.ensures,
     )
 
 pub returns : goal.returns
 returns c =
     let index : (c.from.result - 1) + 1 ≡ c.args.id = omega (arith, c.from.ensures, c.requires.0) in
-    let put = Puts-replaced c.self.inside.slots c.args.self.now (c.from.result - 1) c.args.id _ _ c.self.view_is index
+    let put = Puts-replaced c.self.inside.slots c.args.self.now (c.from.result - 1) _ _ c.self.view_is index
     (omega (arith, index, c.requires.1, c.self.invariant.0)) c.from-new.ensures in
     record { this = put.this; others = put.others }

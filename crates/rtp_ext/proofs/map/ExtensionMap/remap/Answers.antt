@@ -8,7 +8,6 @@ loop-id-init c = (λ new all. all, IsRenumbered-same _ _ refl)
 pub loop-id-preserved : goal.loop-id-preserved
 loop-id-preserved c = (
   λ new rest. c.loop-id.invariant.0 new
-      (AreRemapped-more (λ step. (step.0, step.1.now)) c.args.steps.now c.loop-id.id-index c.loop-id-item.result
-      c.loop-id.self c.remap_one.new.self new c.loop-id-test.true c.loop-id-item.is c.remap_one.ensures.step rest),
+      (AreRemapped-more (λ step. (step.0, step.1.now)) c.args.steps.now c.loop-id.id-index new c.loop-id-test.true c.loop-id-item.is c.remap_one.ensures.step rest),
   IsRenumbered-then _ _ _ c.loop-id.invariant.1 c.remap_one.ensures.renumbered,
 )

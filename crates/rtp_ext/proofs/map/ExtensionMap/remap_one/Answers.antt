@@ -13,7 +13,7 @@ returns-then-lowest-id-clause-renumbered c =
     let lowest = c.in-Some.ensures in
     let is_id : IsId c.args.id = (omega (arith, c.if-id-eq0.false), omega (arith, c.ranges.id.fits)) in
     let found = subst (IsLowest c.args.self.now c.args.ext.now) c.if-lowest-id.true lowest.found in
-    let step = IsStep-locked c.args.self.now c.lock.new.self c.args.id c.args.ext.now is_id found (record { this = c.lock.ensures.this; others = c.lock.ensures.others }) in
+    let step = IsStep-locked c.lock.new.self is_id found (record { this = c.lock.ensures.this; others = c.lock.ensures.others }) in
     step.renumbered
 
 pub returns-then-is_locked-clause-step : goal.returns-then-is_locked-clause-step
@@ -31,7 +31,7 @@ moved_step : (c : goal.After-lock-2) → IsStep c.args.self.now c.lock-2.new.sel
 moved_step c =
     let told = c.if-is_locked.ensures in
     let is_id : IsId c.args.id = (omega (arith, c.if-id-eq0.false), omega (arith, c.ranges.id.fits)) in
-    IsStep-moved c.args.self.now c.exchange.new.self c.lock-2.new.self c.in-Some.lowest c.args.id c.args.ext.now is_id c.in-Some.ensures.found c.if-lowest-id.false
+    IsStep-moved is_id c.in-Some.ensures.found c.if-lowest-id.false
     (λ is_locked. false≢true (told.1 is_locked)) c.exchange.ensures c.lock-2.ensures
 
 pub returns-clause-step : goal.returns-clause-step

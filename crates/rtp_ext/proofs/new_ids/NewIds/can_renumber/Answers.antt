@@ -8,7 +8,7 @@ pub returns-in-TwoByte : goal.returns-in-TwoByte
 returns-in-TwoByte c =
     let ids = new_id c.args.self.now in
     let left = elements_left c.args.form c.args.body.now in
-    carried-CanRenumber c.args.form ids c.args.body.now left true
+    carried-CanRenumber ids
     (λ id new is. IsId-bytes c.self.inside.ids id new c.self.invariant.2 (ap (λ slots. new_id slots id) c.self.view_is ∙ is))
     (AreElements-found c.args.form c.args.body.now (λ i. omega (arith, c.type_inv.body i)))
     (subst (λ form. true ≡ list_all (λ (e : Element). carries_id form (ids e.0)) left) (sym c.in-TwoByte.is) (two_byte-carried ids left))
@@ -25,7 +25,7 @@ returns-in-OneByte c =
       subst (λ slots. b ≡ carries_id OneByte (new_id slots x.0)) c.self.view_is
           (subst (λ id. b ≡ carries_id OneByte id) (sym (new_id-byte c.self.inside.ids x.0)) (search (rules, told))),
     )) in
-    carried-CanRenumber c.args.form ids c.args.body.now left c.all.result
+    carried-CanRenumber ids
     (λ id new is. IsId-bytes c.self.inside.ids id new c.self.invariant.2 (ap (λ slots. new_id slots id) c.self.view_is ∙ is)) are
     (ran ∙ (ap (list_all (λ (e : Element). carries_id OneByte (ids e.0))) (sym (c.new.ensures.only left are))
     ∙ ap (λ form. list_all (λ (e : Element). carries_id form (ids e.0)) left) (sym c.in-OneByte.is)))

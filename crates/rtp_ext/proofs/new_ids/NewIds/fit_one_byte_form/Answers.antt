@@ -19,14 +19,14 @@ byte_short ids low high id few = elim (cases_lt id 8) [
       subst (λ byte. byte ≤ 14) (get_or-take 8 (drop 7 ids) k 0 here ∙ get_or-drop 7 ids k 0 ∙ ap (λ i. get_or ids i 0) place) (high k here)
 ]
 
-short_ids : (ids : List ℕ) (slots : List (Option ℕ)) (test : Bool) → map id_in_byte ids ≡ slots → ((k : ℕ) → k < 8 → get_or (take 8 ids) k 0 ≤ 14)
+short_ids : (ids : List ℕ) {slots : List (Option ℕ)} (test : Bool) → map id_in_byte ids ≡ slots → ((k : ℕ) → k < 8 → get_or (take 8 ids) k 0 ≤ 14)
     → OnTrue test ((k : ℕ) → k < 8 → get_or (take 8 (drop 7 ids)) k 0 ≤ 14)
     → OnTrue test ((id : ℕ) → id ≤ 14 → IfSome (new_id slots id) (λ new. (1 ≤ new) × (new ≤ 14)))
-short_ids ids slots false is low high = tt
-short_ids ids slots true is low high = λ id few.
+short_ids ids false is low high = tt
+short_ids ids true is low high = λ id few.
     subst (λ found. IfSome (new_id found id) (λ new. (1 ≤ new) × (new ≤ 14))) is
     (subst (λ found. IfSome found (λ new. (1 ≤ new) × (new ≤ 14))) (sym (new_id-byte ids id)) (short_id (get_or ids id 0) (byte_short ids low high id few)))
 
 pub returns-then-are_short : goal.returns-then-are_short
 returns-then-are_short c =
-    short_ids c.self.inside.ids c.args.self.now c.are_short-then-are_short.result c.self.view_is c.if-are_short.ensures c.are_short-then-are_short.ensures
+    short_ids c.self.inside.ids c.are_short-then-are_short.result c.self.view_is c.if-are_short.ensures c.are_short-then-are_short.ensures

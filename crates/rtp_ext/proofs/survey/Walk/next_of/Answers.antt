@@ -1,4 +1,4 @@
-use Rattle.rtp_ext.proofs.Common.{ℕ, ◌+◌, ◌-◌, length, Some, arith, refl, sym, ◌∙◌, subst, false≢true, BeginsWithElement, IsSurveyedTo}
+use Rattle.rtp_ext.proofs.Common.{ℕ, ◌+◌, length, Some, arith, refl, sym, ◌∙◌, subst, false≢true, BeginsWithElement, IsSurveyedTo}
 use Rattle.rtp_ext.proofs.SurveyLemmas.{IsSurveyedTo-this, IsSurveyedTo-zero, IsSurveyedTo-other}
 use Rattle.rtp_ext.proofs.PlaceLemmas.{length-header-some}
 use Rattle.rtp_ext.proofs.LeftLemmas.{IsLeft-next, next_left, place_left, next_other, end_other, id_other, len_other, fits_all}
@@ -14,8 +14,7 @@ returns-then-other-id-clause-some c = λ last was.
     let next = next_left c.args.form c.args.body.now c.loop-other.self.left.now c.args.id c.in-Some.data.now c.in-Some.after.now c.loop-other.invariant.0 begins
     c.place_before.result c.place_before.ensures.id c.place_before.ensures.start c.place_before.ensures.data_start c.place_before.ensures.end in
     subst (λ (at : ℕ). IsSurveyedTo c.args.form c.args.body.now at c.args.id (Some c.place_before.result) (c.loop-other.self.count + 1) c.loop-other.self.others_len) (omega (arith, c.place_before.ensures.end))
-    (IsSurveyedTo-this c.args.form c.args.body.now (length c.args.body.now - length c.loop-other.self.left.now) c.args.id last c.loop-other.self.count c.loop-other.self.others_len
-    c.place_before.result (c.loop-other.invariant.4 last was) next c.place_before.ensures.id)
+    (IsSurveyedTo-this (c.loop-other.invariant.4 last was) next c.place_before.ensures.id)
 
 pub overflow_add-self-else-is_paddings : goal.overflow_add-self-else-is_paddings
 overflow_add-self-else-is_paddings c =
@@ -46,8 +45,7 @@ loop-other-preserved-then-is_paddings c =
       λ last was.
           subst (λ (at : ℕ). IsSurveyedTo c.args.form c.args.body.now at c.args.id last c.one_more-self.result c.loop-other.self.others_len) end
           (subst (λ (more : ℕ). IsSurveyedTo c.args.form c.args.body.now place.end c.args.id last more c.loop-other.self.others_len) (sym c.one_more-self.ensures)
-          (IsSurveyedTo-zero c.args.form c.args.body.now (length c.args.body.now - length c.loop-other.self.left.now) c.args.id last c.loop-other.self.count c.loop-other.self.others_len place
-          (c.loop-other.invariant.4 last was)
+          (IsSurveyedTo-zero (c.loop-other.invariant.4 last was)
           (next_other c.args.form c.args.body.now c.loop-other.self.left.now c.in-Some.other c.in-Some.data.now c.in-Some.after.now left c.in-Some.ensures)
           (λ same. c.if-other-id.false (sym id ∙ same)) (id ∙ c.if-is_paddings.ensures.0 refl))),
     )
@@ -71,8 +69,7 @@ loop-other-preserved c =
       λ last was.
           subst (λ (at : ℕ). IsSurveyedTo c.args.form c.args.body.now at c.args.id last c.loop-other.self.count (c.loop-other.self.others_len + (c.element_header_len.result + length c.in-Some.data.now))) end
           (subst (λ (more : ℕ). IsSurveyedTo c.args.form c.args.body.now place.end c.args.id last c.loop-other.self.count (c.loop-other.self.others_len + more)) (omega (arith, len, header))
-          (IsSurveyedTo-other c.args.form c.args.body.now (length c.args.body.now - length c.loop-other.self.left.now) c.args.id last c.loop-other.self.count c.loop-other.self.others_len place
-          (c.loop-other.invariant.4 last was)
+          (IsSurveyedTo-other (c.loop-other.invariant.4 last was)
           (next_other c.args.form c.args.body.now c.loop-other.self.left.now c.in-Some.other c.in-Some.data.now c.in-Some.after.now left c.in-Some.ensures)
           (λ same. c.if-other-id.false (sym id ∙ same)) (λ zero_id. absurd (false≢true (c.if-is_paddings.ensures.1 (sym id ∙ zero_id)))))),
     )

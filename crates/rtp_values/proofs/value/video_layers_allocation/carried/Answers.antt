@@ -1,5 +1,3 @@
-use Rattle.std.proofs.Common.{◌≡◌, ap, arith}
-use Rattle.rtp_vla.specs.AllocationWritten.{written_of}
 use Rattle.rtp_vla.proofs.MeasuringLemmas.{if_none}
 use Rattle.rtp_values.proofs.ValueLemmas.{not_carried}
 use Rattle.rtp_values.proofs.value.video_layers_allocation.carried.Goals as goal

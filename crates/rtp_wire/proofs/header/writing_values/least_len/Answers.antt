@@ -3,20 +3,20 @@ use Rattle.rtp_wire.proofs.RoundTrip.{length-wire_bytes}
 use Rattle.rtp_wire.proofs.WrittenInFormLemmas.{least_part}
 use Rattle.rtp_wire.proofs.header.writing_values.least_len.Goals as goal
 
-pub returns-then-has_extension-clause-least : goal.returns-then-has_extension-clause-least
-returns-then-has_extension-clause-least g c exts values =
+pub returns-then-fixed-clause-least : goal.returns-then-fixed-clause-least
+returns-then-fixed-clause-least g c exts values =
     let header = g.F.GetFields.header c.args.fields.now in
     omega (
       arith,
-      c.csrc_count.ensures.count,
-      length-wire_bytes exts (with_values header values) (omega (arith, c.requires, c.csrc_count.ensures.slots)),
-      least_part exts header.has_extension values (sym c.has_extension.ensures ∙ c.if-has_extension.true),
+      c.fixed-fixed.ensures.csrc_count,
+      length-wire_bytes exts (with_values header values) (omega (arith, c.requires, c.fixed-fixed.ensures.slots)),
+      least_part exts header.has_extension values (sym c.fixed-fixed.ensures.has_extension ∙ c.if-fixed.true),
     )
 
-pub returns-else-has_extension-clause-least : goal.returns-else-has_extension-clause-least
-returns-else-has_extension-clause-least g c exts values =
+pub returns-else-fixed-clause-least : goal.returns-else-fixed-clause-least
+returns-else-fixed-clause-least g c exts values =
     omega (
       arith,
-      c.csrc_count.ensures.count,
-      length-wire_bytes exts (with_values (g.F.GetFields.header c.args.fields.now) values) (omega (arith, c.requires, c.csrc_count.ensures.slots)),
+      c.fixed-fixed.ensures.csrc_count,
+      length-wire_bytes exts (with_values (g.F.GetFields.header c.args.fields.now) values) (omega (arith, c.requires, c.fixed-fixed.ensures.slots)),
     )

@@ -1,26 +1,27 @@
 use Rattle.rtp_wire.proofs.Common.{◌+◌, ◌*◌, Some, sym, ap, ◌∙◌, arith, length, with_values}
+use Rattle.std.proofs.lemmas.Bool.{not-true, not-false}
 use Rattle.rtp_wire.proofs.RoundTrip.{sources_within, length-wire_bytes}
 use Rattle.rtp_wire.proofs.WrittenInFormLemmas.{IsLength, no_part, announced-clear, announced-set, length-with_block_of}
 use Rattle.rtp_wire.proofs.header.writing_values.values_wire_len.Goals as goal
 
-pub returns-then-not-has_extension-clause-length : goal.returns-then-not-has_extension-clause-length
-returns-then-not-has_extension-clause-length g c =
+pub returns-then-not-fixed-clause-length : goal.returns-then-not-fixed-clause-length
+returns-then-not-fixed-clause-length g c =
     let exts = g.K.Kinds.slots c.args.exts.now in
     let values = g.V.ElementValues.values c.args.values.now in
     omega (
       arith,
-      c.csrc_count.ensures.count,
-      length-wire_bytes exts (with_values (g.F.GetFields.header c.args.fields.now) values) (sources_within c.requires.sources c.csrc_count.ensures.slots),
-      ap length (no_part exts (g.F.GetFields.header c.args.fields.now).has_extension values (announced-clear exts (g.F.GetFields.header c.args.fields.now).has_extension values (sym c.has_extension.ensures ∙ c.if-not-has_extension.true))),
+      c.fixed-fixed.ensures.csrc_count,
+      length-wire_bytes exts (with_values (g.F.GetFields.header c.args.fields.now) values) (sources_within c.requires.sources c.fixed-fixed.ensures.slots),
+      ap length (no_part exts (g.F.GetFields.header c.args.fields.now).has_extension values (announced-clear exts (g.F.GetFields.header c.args.fields.now).has_extension values (sym c.fixed-fixed.ensures.has_extension ∙ not-true _ c.if-not-fixed.true))),
     )
 
-with_block : (g : _) (c : goal.After-block_len g) → IsLength (g.K.Kinds.slots c.args.exts.now) (with_values (g.F.GetFields.header c.args.fields.now) (g.V.ElementValues.values c.args.values.now)) (12 + 4 * c.csrc_count.result + c.block_len.result)
+with_block : (g : _) (c : goal.After-block_len g) → IsLength (g.K.Kinds.slots c.args.exts.now) (with_values (g.F.GetFields.header c.args.fields.now) (g.V.ElementValues.values c.args.values.now)) (12 + 4 * c.fixed-fixed.result.csrc_count + c.block_len.result)
 with_block g c =
     let values = g.V.ElementValues.values c.args.values.now in
-    rw c.csrc_count.ensures.count (length-with_block_of c.of-ids.result (g.K.Kinds.slots c.args.exts.now)
-    (with_values (g.F.GetFields.header c.args.fields.now) values) c.values_form.result c.block_len.result c.of-ids.ensures c.requires.sources c.csrc_count.ensures.slots
+    rw c.fixed-fixed.ensures.csrc_count (length-with_block_of c.of-ids.result (g.K.Kinds.slots c.args.exts.now)
+    (with_values (g.F.GetFields.header c.args.fields.now) values) c.values_form.result c.block_len.result c.of-ids.ensures c.requires.sources c.fixed-fixed.ensures.slots
     (announced-set c.of-ids.result (g.F.GetFields.header c.args.fields.now).has_extension values c.values_form.result
-    (sym c.has_extension.ensures ∙ c.if-not-has_extension.false) (ap Some c.values_form.ensures.form))
+    (sym c.fixed-fixed.ensures.has_extension ∙ not-false _ c.if-not-fixed.false) (ap Some c.values_form.ensures.form))
     c.block_len.ensures.length c.block_len.ensures.few)
 
 pub returns-clause-length : goal.returns-clause-length

@@ -12,7 +12,7 @@ put-end-requires g c =
       length-wire_bytes c.args.ids.now (with_values (g.F.GetFields.header c.args.fields.now) (g.V.ElementValues.values c.args.values.now))
           (sources_within c.requires.sources c.fixed_bytes.ensures.slots),
       ap length
-          (fixed_with (g.F.GetFields.header c.args.fields.now) c.fixed_bytes.ensures.bytes c.has_extension.ensures),
+          (fixed_with (g.F.GetFields.header c.args.fields.now) c.fixed_bytes.ensures.bytes c.fixed.ensures.has_extension),
     )
 
 pub put_csrc-end-requires : goal.put_csrc-end-requires
@@ -22,7 +22,7 @@ put_csrc-end-requires g c =
       c.requires.room,
       length-wire_bytes c.args.ids.now (with_values (g.F.GetFields.header c.args.fields.now) (g.V.ElementValues.values c.args.values.now))
           (sources_within c.requires.sources c.fixed_bytes.ensures.slots),
-      ap length (fixed_with (g.F.GetFields.header c.args.fields.now) c.fixed_bytes.ensures.bytes c.has_extension.ensures),
+      ap length (fixed_with (g.F.GetFields.header c.args.fields.now) c.fixed_bytes.ensures.bytes c.fixed.ensures.has_extension),
       c.put-end.ensures.end,
       length-take-le (g.F.GetFields.header c.args.fields.now).csrc_count (g.F.GetFields.header c.args.fields.now).csrc (sources_within c.requires.sources c.fixed_bytes.ensures.slots),
     )
@@ -38,7 +38,7 @@ none_put g c =
     wire_bytes-from_pieces (with_values (g.F.GetFields.header c.args.fields.now)
     (g.V.ElementValues.values c.args.values.now)) c.args.ids.now c.args.buf.now c.put-end.new.buf c.put_csrc-end.new.buf c.put_csrc-end.new.buf
     c.fixed_bytes.result c.put-end.result c.put_csrc-end.result c.put_csrc-end.result (sources_within c.requires.sources c.fixed_bytes.ensures.slots) c.requires.room
-    (fixed_with (g.F.GetFields.header c.args.fields.now) c.fixed_bytes.ensures.bytes c.has_extension.ensures)
+    (fixed_with (g.F.GetFields.header c.args.fields.now) c.fixed_bytes.ensures.bytes c.fixed.ensures.has_extension)
     c.put-end.ensures.written c.put-end.ensures.end c.put_csrc-end.ensures.written c.put_csrc-end.ensures.end
     (rw (none g c) (sym (overwritten-nil c.put_csrc-end.new.buf c.put_csrc-end.result))) (omega (arith, ap length (none g c)))
 
@@ -83,21 +83,21 @@ slice_bounds-write_block-count g c =
     let there = room c.args.ids.now (with_values (g.F.GetFields.header c.args.fields.now)
     (g.V.ElementValues.values c.args.values.now)) c.in-Some.form c.fixed_bytes.result c.put-end.result c.put_csrc-end.result (length c.args.buf.now)
     (sources_within c.requires.sources c.fixed_bytes.ensures.slots)
-    (sym c.in-Some.is ∙ c.requires.form) c.requires.room (fixed_with (g.F.GetFields.header c.args.fields.now) c.fixed_bytes.ensures.bytes c.has_extension.ensures) c.put-end.ensures.end c.put_csrc-end.ensures.end in omega (arith, there)
+    (sym c.in-Some.is ∙ c.requires.form) c.requires.room (fixed_with (g.F.GetFields.header c.args.fields.now) c.fixed_bytes.ensures.bytes c.fixed.ensures.has_extension) c.put-end.ensures.end c.put_csrc-end.ensures.end in omega (arith, there)
 
 pub slice_bounds-write_block-start : goal.slice_bounds-write_block-start
 slice_bounds-write_block-start g c =
     let there = room c.args.ids.now (with_values (g.F.GetFields.header c.args.fields.now)
     (g.V.ElementValues.values c.args.values.now)) c.in-Some.form c.fixed_bytes.result c.put-end.result c.put_csrc-end.result (length c.args.buf.now)
     (sources_within c.requires.sources c.fixed_bytes.ensures.slots)
-    (sym c.in-Some.is ∙ c.requires.form) c.requires.room (fixed_with (g.F.GetFields.header c.args.fields.now) c.fixed_bytes.ensures.bytes c.has_extension.ensures) c.put-end.ensures.end c.put_csrc-end.ensures.end in omega (arith, there)
+    (sym c.in-Some.is ∙ c.requires.form) c.requires.room (fixed_with (g.F.GetFields.header c.args.fields.now) c.fixed_bytes.ensures.bytes c.fixed.ensures.has_extension) c.put-end.ensures.end c.put_csrc-end.ensures.end in omega (arith, there)
 
 pub write_block-requires-clause-room : goal.write_block-requires-clause-room
 write_block-requires-clause-room g c =
     let there = room c.args.ids.now (with_values (g.F.GetFields.header c.args.fields.now)
     (g.V.ElementValues.values c.args.values.now)) c.in-Some.form c.fixed_bytes.result c.put-end.result c.put_csrc-end.result (length c.args.buf.now)
     (sources_within c.requires.sources c.fixed_bytes.ensures.slots)
-    (sym c.in-Some.is ∙ c.requires.form) c.requires.room (fixed_with (g.F.GetFields.header c.args.fields.now) c.fixed_bytes.ensures.bytes c.has_extension.ensures) c.put-end.ensures.end c.put_csrc-end.ensures.end in omega (arith, there)
+    (sym c.in-Some.is ∙ c.requires.form) c.requires.room (fixed_with (g.F.GetFields.header c.args.fields.now) c.fixed_bytes.ensures.bytes c.fixed.ensures.has_extension) c.put-end.ensures.end c.put_csrc-end.ensures.end in omega (arith, there)
 
 -- what was put, and where it ends
 all_put : (g : _) (c : goal.After-slice_known-4-1 g) (put : List ℕ)
@@ -110,7 +110,7 @@ all_put g c put is =
     (g.V.ElementValues.values c.args.values.now)) c.args.ids.now c.args.buf.now c.put-end.new.buf c.put_csrc-end.new.buf put
     c.fixed_bytes.result c.put-end.result c.put_csrc-end.result (c.put_csrc-end.result + c.write_block.result)
     (sources_within c.requires.sources c.fixed_bytes.ensures.slots) c.requires.room
-    (fixed_with (g.F.GetFields.header c.args.fields.now) c.fixed_bytes.ensures.bytes c.has_extension.ensures)
+    (fixed_with (g.F.GetFields.header c.args.fields.now) c.fixed_bytes.ensures.bytes c.fixed.ensures.has_extension)
     c.put-end.ensures.written c.put-end.ensures.end c.put_csrc-end.ensures.written c.put_csrc-end.ensures.end
     (is ∙ ap (overwritten c.put_csrc-end.new.buf c.put_csrc-end.result) (sym (a_part c.args.ids.now (g.F.GetFields.header c.args.fields.now).has_extension
     (g.V.ElementValues.values c.args.values.now) c.in-Some.form (sym c.in-Some.is ∙ c.requires.form))))
@@ -129,7 +129,7 @@ returns-clause-written g c =
     let fits = room c.args.ids.now (with_values (g.F.GetFields.header c.args.fields.now)
     (g.V.ElementValues.values c.args.values.now)) c.in-Some.form c.fixed_bytes.result c.put-end.result c.put_csrc-end.result (length c.args.buf.now)
     (sources_within c.requires.sources c.fixed_bytes.ensures.slots)
-    (sym c.in-Some.is ∙ c.requires.form) c.requires.room (fixed_with (g.F.GetFields.header c.args.fields.now) c.fixed_bytes.ensures.bytes c.has_extension.ensures) c.put-end.ensures.end c.put_csrc-end.ensures.end in
+    (sym c.in-Some.is ∙ c.requires.form) c.requires.room (fixed_with (g.F.GetFields.header c.args.fields.now) c.fixed_bytes.ensures.bytes c.fixed.ensures.has_extension) c.put-end.ensures.end c.put_csrc-end.ensures.end in
     let there : at + length bytes ≤ length buf = omega (arith, fits) in
     (all_put g c _ (overwritten-rest buf c.write_block.new.buf bytes at there
     (c.write_block.ensures.written ∙ ap (λ (k : ℕ). bytes ++ drop k (take (length buf - at) (drop at buf))) c.write_block.ensures.length))).1

@@ -15,7 +15,7 @@ can : (g : _) (c : goal.After-slice_known-4-1 g) → CanBeWrittenWith (g.F.GetFi
 can g c = record {
   payload_type = omega arith;
   count = omega arith;
-  slots = c.csrc_count-count.ensures.slots;
+  slots = c.fixed-fixed.ensures.slots;
   left_is = omega (arith, c.saturating_sub.ensures);
   form_is = c.in_ok-form.ensures.form;
   fit = c.in_ok-form.ensures.fit;
@@ -51,7 +51,7 @@ returns-clause-read_back g c rest =
     IsPacket-written_with (g.F.GetFields.header c.args.fields.now) c.args.allowed (g.L.ElementList.elements c.args.elements) c.in_ok-form.form rest (record {
       payload_type = omega arith;
       count = omega arith;
-      slots = c.csrc_count-count.ensures.slots;
+      slots = c.fixed-fixed.ensures.slots;
       number = c.fixed_bytes.ensures.number;
       timestamp = c.fixed_bytes.ensures.timestamp;
       ssrc = c.fixed_bytes.ensures.ssrc;
