@@ -55,8 +55,12 @@ STRUCTS = {
 }
 SOURCES = [it.read_text("utf-8") for it in sorted(HERE.glob("src/*.c"))]
 # Of the receivers for a sender that may start again the package has the one with a window of any size, and its version
-# is that of its metadata, and many packets with values are whole ones.
-OF_C_ALONE = {"rtpw_restarting_receive", "rtpw_version", "rtpw_parse_many"}
+# is that of its metadata, and many packets with values are whole ones. Go's package alone reads and writes a fixed
+# part by itself and writes a block of data.
+OF_C_ALONE = {
+    *("rtpw_restarting_receive", "rtpw_version", "rtpw_parse_many"),
+    *("rtpw_read_fixed_part", "rtpw_write_fixed_part", "rtpw_write_data_elements"),
+}
 NUMBERS: Dict[str, Any] = {
     "void": None,
     "bool": ctypes.c_bool,
