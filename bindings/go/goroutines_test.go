@@ -26,6 +26,28 @@ func TestManyGoroutines(t *testing.T) {
 	group.Wait()
 }
 
+// So do those of more goroutines than any stack was made for beforehand, all of which are there before the first call.
+func TestEachGoroutineItsOwnStack(t *testing.T) {
+	if testing.Short() {
+		t.Skip("it takes as many stacks")
+	}
+	var there, done sync.WaitGroup
+	begin := make(chan struct{})
+	there.Add(manyGoroutines)
+	done.Add(manyGoroutines)
+	for i := 0; i < manyGoroutines; i++ {
+		go func(i int) {
+			defer done.Done()
+			there.Done()
+			<-begin
+			alone(t, byte(i%8+1), uint16(i/8%4096))
+		}(i)
+	}
+	there.Wait()
+	close(begin)
+	done.Wait()
+}
+
 // No call keeps anything in memory that goroutines share: no word of data is in the texts but those that are only read.
 func TestNothingIsKept(t *testing.T) {
 	names, err := filepath.Glob("rtp_wire_*.s")

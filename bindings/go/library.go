@@ -1,9 +1,6 @@
 package rtpwire
 
-import (
-	"encoding/binary"
-	"unsafe"
-)
+import "unsafe"
 
 // This file and calls.go have all calls of the library, and with the race*.go beside them all that is unsafe. Structs of
 // Go that lie in memory as those of rtp_wire.h, which layout_test.go tests, are given to it by their addresses: none of
@@ -132,12 +129,12 @@ func (p *Packet) hasChanged() bool {
 	if packetParse(p.datagram, &now) != statusOK || now != p.fields {
 		return true
 	}
-	for i, source := range p.CSRC() {
-		if at := 12 + 4*i; binary.BigEndian.Uint32(p.datagram[at:]) != source {
-			return true
-		}
+	if now.csrcCount == 0 {
+		return false
 	}
-	return false
+	again := Packet{datagram: p.datagram, fields: now}
+	again.parseOthers()
+	return again.csrc != p.csrc
 }
 
 func (l *Layers) parse(datagram []byte, m *Map) error {
@@ -262,18 +259,23 @@ func standingIn(r *rtpw_wide_restarting_receiver, words []uint64, number uint64)
 	return Standing(wideReceiverStandingOf(&epoch, words, number))
 }
 
-// make makes the header, where the buffer is too short in one that isn't.
+// make makes the header in the buffer that there is, which may be too short.
 func (t *HeaderTemplate) make(datagram []byte, group *Group, data []byte) int32 {
-	status := rtpw_make_template(first(datagram), uintptr(len(datagram)), group.ids().c(), first(data), uintptr(len(data)),
+	return rtpw_make_template(first(datagram), uintptr(len(datagram)), group.ids().c(), first(data), uintptr(len(data)),
 		firstElement(group.Elements), uintptr(len(group.Elements)), uint8(group.Allowed), first(t.buf),
 		uintptr(len(t.buf)), t.made.c())
-	if status == statusShortBuffer && t.grow(datagram, len(group.Elements)) {
-		return t.make(datagram, group, data)
-	}
-	return status
 }
 
-// makePrepared makes the header as make does.
+// makeWithRoom makes the header where the buffer was too short for make, and any header of the datagram has room in
+// another one.
+func (t *HeaderTemplate) makeWithRoom(datagram []byte, group *Group, data []byte) int32 {
+	if !t.grow(datagram, len(group.Elements)) {
+		return statusShortBuffer
+	}
+	return t.make(datagram, group, data)
+}
+
+// makePrepared makes the header, where the buffer is too short in one that isn't.
 func (t *HeaderTemplate) makePrepared(datagram []byte, group *PreparedGroup) int32 {
 	status := rtpw_make_from_group(group.c(), first(datagram), uintptr(len(datagram)), first(t.buf), uintptr(len(t.buf)), t.made.c())
 	if status == statusShortBuffer && t.grow(datagram, int(group.count)) {
@@ -295,6 +297,6 @@ func (b *RouteBatch) write(t *HeaderTemplate, made int32, data, buf []byte) erro
 		b.buf = nil
 		return errorOf(status)
 	}
-	b.buf, b.written = buf, b.given
+	b.buf, b.count = buf, len(b.given)
 	return nil
 }

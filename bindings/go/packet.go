@@ -234,16 +234,16 @@ func (p *Packet) BlockProfile() uint16 {
 	return p.fields.profile
 }
 
-// PeekSSRC is where a packet has its SSRC, to find the Receiver of a datagram before [Receiver.ReceivePacket] reads
-// it. It is not ok of fewer than twelve bytes, nor of RTCP ([IsRTCP]), whose bytes 8 to 11 are something else, and says
-// nothing else of the datagram. Where it isn't ok there is no receiver to find: ReceivePacket would return an error. A
-// stream with payload types 64 to 95, on a port of its own, is read by [Packet.Parse], which tells its SSRC.
+// PeekSSRC is the SSRC of a packet, to find the Receiver of a datagram before [Receiver.ReceivePacket] reads it. It is not
+// ok of what is no packet, nor of RTCP ([IsRTCP]), whose bytes 8 to 11 are something else: there is no receiver to find
+// then, and ReceivePacket would return an error. A stream with payload types 64 to 95, on a port of its own, is read by
+// [Packet.Parse], which tells its SSRC.
 func PeekSSRC(datagram []byte) (ssrc uint32, ok bool) {
-	if len(datagram) < 12 || isRTCP(datagram) {
+	var fields PacketFields
+	if isRTCP(datagram) || packetParse(datagram, &fields) != statusOK {
 		return 0, false
 	}
-	b := datagram[8:12]
-	return uint32(b[0])<<24 | uint32(b[1])<<16 | uint32(b[2])<<8 | uint32(b[3]), true
+	return fields.SSRC, true
 }
 
 // IsRTCP is whether a datagram on a port that RTP and RTCP share is RTCP (RFC 5761, 4): it has version 2, and its

@@ -283,6 +283,15 @@ func TestPeekSSRC(t *testing.T) {
 	ssrc, ok := rtpwire.PeekSSRC([]byte{0x80, 0, 0, 1, 0, 0, 0, 2, 0xFE, 0xDC, 0xBA, 0x98})
 	same(t, "SSRC", ssrc, uint32(0xFEDCBA98))
 	same(t, "there is one", ok, true)
+	for what, datagram := range map[string][]byte{
+		"of version 1":            {0x40, 0, 0, 1, 0, 0, 0, 2, 0, 0, 0, 3},
+		"with a source cut short": {0x81, 0, 0, 1, 0, 0, 0, 2, 0, 0, 0, 3, 0, 0, 4},
+		"with a block cut short":  {0x90, 0, 0, 1, 0, 0, 0, 2, 0, 0, 0, 3, 0xBE, 0xDE, 0, 1, 0x10, 0x8A},
+		"that is a whole payload": []byte("twelve bytes"),
+	} {
+		ssrc, ok := rtpwire.PeekSSRC(datagram)
+		same(t, what, []any{ssrc, ok}, []any{uint32(0), false})
+	}
 	for second := 0; second < 256; second++ {
 		datagram := sample()
 		datagram[1] = byte(second)

@@ -47,6 +47,6 @@ func (t *HeaderTemplate) MakePrepared(datagram []byte, group *PreparedGroup) err
 //
 // It returns the errors of [HeaderTemplate.MakePrepared]. Nothing is written then, and Len is 0.
 func (b *RouteBatch) RoutePrepared(datagram []byte, group *PreparedGroup, data, buf []byte) error {
-	b.written = b.written[:0]
+	b.count = 0
 	return b.write(&b.own, b.own.makePrepared(datagram, group), data, buf)
 }

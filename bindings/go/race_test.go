@@ -11,6 +11,9 @@ import (
 	"rtp-wire.example/rtpwire"
 )
 
+// manyGoroutines are half as many as the race detector knows at once.
+const manyGoroutines = 4_000
+
 // What two goroutines do at once, each in a program of its own, and whether a race detector has to report it.
 var races = map[string]struct {
 	isReported bool

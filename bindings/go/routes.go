@@ -62,7 +62,11 @@ const mostHeader = 12 + 15*4 + 4 + 4*65535
 // bytes of data, ErrOtherForm, ErrLongID, [ErrFormNotAllowed] or ErrLongBlock. No header is made then.
 func (t *HeaderTemplate) Make(datagram []byte, group *Group, data []byte) error {
 	t.claim()
-	return t.ended(t.make(datagram, group, data))
+	status := t.make(datagram, group, data)
+	if status == statusShortBuffer {
+		status = t.makeWithRoom(datagram, group, data)
+	}
+	return t.ended(status)
 }
 
 // grow gives the buffer the room that any header of such a datagram takes, and is whether it hadn't it.
@@ -144,15 +148,15 @@ type routedHeader struct {
 // P is the packet's, so that its payload is sent with its padding ([Packet.Payload]); where [RouteBatch.ClearPadding]
 // cleared it, without ([Packet.UnpaddedPayload]).
 type RouteBatch struct {
-	buf     []byte
-	given   []routedHeader
-	written []routedHeader
-	own     HeaderTemplate
+	buf   []byte
+	given []routedHeader
+	count int // of those given, so many are written
+	own   HeaderTemplate
 }
 
 // Reset takes all receivers away.
 func (b *RouteBatch) Reset() {
-	b.buf, b.given, b.written = nil, b.given[:0], nil
+	b.buf, b.given, b.count = nil, b.given[:0], 0
 }
 
 // Add adds a receiver. Its data begin there in the data: those of the group's elements, one after the other in the
@@ -238,7 +242,7 @@ func (b *RouteBatch) ClearPadding(i int, clears bool) {
 // It returns ErrBadField where the template has no header: it was never made, the last Make failed, or it is a copy of
 // another one. Nothing is written then, and Len is 0.
 func (b *RouteBatch) Write(t *HeaderTemplate, data, buf []byte) error {
-	b.written = b.written[:0]
+	b.count = 0
 	made := int32(statusOK)
 	if t.HeaderLen() == 0 {
 		made = statusBadField
@@ -251,13 +255,17 @@ func (b *RouteBatch) Write(t *HeaderTemplate, data, buf []byte) error {
 //
 // It returns the errors of Make. Nothing is written then, and Len is 0.
 func (b *RouteBatch) Route(datagram []byte, group *Group, data, buf []byte) error {
-	b.written = b.written[:0]
-	return b.write(&b.own, b.own.make(datagram, group, data), data, buf)
+	b.count = 0
+	made := b.own.make(datagram, group, data)
+	if made == statusShortBuffer {
+		made = b.own.makeWithRoom(datagram, group, data)
+	}
+	return b.write(&b.own, made, data, buf)
 }
 
 // Len is for how many receivers the last Write or Route wrote; 0 after a Reset.
 func (b *RouteBatch) Len() int {
-	return len(b.written)
+	return b.count
 }
 
 // At is the header of a receiver, and behind that of a retransmission the number: a part of the buffer, which an append
@@ -266,7 +274,7 @@ func (b *RouteBatch) Len() int {
 // It returns nil, and ErrBadField where the receiver's fields have a payload type above 127, or its data reach past the
 // data; and else ErrShortBuffer where its header would reach past the buffer. It takes no bytes of the buffer then.
 func (b *RouteBatch) At(i int) ([]byte, error) {
-	r := &b.written[i]
+	r := &b.given[:b.count][i]
 	if r.status != 0 {
 		return nil, errorOf(r.status)
 	}

@@ -1,7 +1,10 @@
 #!/usr/bin/env bash
 # Tests the package for Go: its text, by Go's own tools, and its tests in each way in which Go builds a program. Prints a
 # line for each thing that was checked, ends at the first that fails, and leaves out with a line what isn't there. Go finds
-# no C compiler but for its race detector. It needs no network.
+# no C compiler but for its race detector and for external linking. It needs no network.
+#
+# usage: bindings/test/go.sh           all but what follows
+#        bindings/test/go.sh stacks    the tests with each stack moved wherever it might be, which takes four minutes
 set -euo pipefail
 here=$(cd -- "$(dirname -- "$(readlink -f -- "${BASH_SOURCE[0]}")")/../.." && pwd)
 cd -- "$here/bindings/go"
@@ -84,6 +87,14 @@ tests() {
     quietly go test -count=1 -buildmode=pie .
     quietly go test -count=1 -cover .
     said 'Go: go test, without optimizations, with checkptr, as PIE, and with -cover'
+    debug
+    if gcc --version >/dev/null 2>&1; then
+        CGO_ENABLED=1 CC=gcc quietly go test -count=1 -ldflags=-linkmode=external ./...
+        CGO_ENABLED=1 CC=gcc quietly go test -count=1 -ldflags='-linkmode=external -extldflags=-static' ./...
+        said 'Go: go test, linked by the linker of C, also without shared libraries'
+    else
+        said "Go: external linking was left out: it takes gcc"
+    fi
     if "${TSAN_CC:-gcc}" --version >/dev/null 2>&1; then
         CGO_ENABLED=1 CC=gcc quietly go test -count=1 -race .
         said 'Go: go test -race'
@@ -92,13 +103,34 @@ tests() {
     fi
 }
 
+# The tests as a program without shared libraries, with what the runtime can be asked to do otherwise. Three settings are
+# left out: with gcstoptheworld=2 each program of Go 1.19 ends, with efence=1 each that asks how much memory it has, and
+# with sbrk=1 nothing is collected, for which a test waits.
+debug() {
+    local it settings=({gcstoptheworld,gccheckmark,clobberfree,asyncpreemptoff,gcshrinkstackoff,adaptivestackstart}'=1' 'cgocheck=2')
+    quietly go test -c -o "$scratch/tests" .
+    ! grep -aq '/ld-linux' "$scratch/tests" || {
+        echo 'go.sh: a program without cgo takes shared libraries' >&2
+        exit 1
+    }
+    for it in "${settings[@]}"; do GODEBUG=$it quietly "$scratch/tests"; done
+    said "Go: the tests in a static program, with GODEBUG of ${settings[*]}"
+}
+
+# Before each test whether the stack has room Go moves the stack, also under the functions of the text.
+stacks() {
+    local moves=-d=maymorestack=runtime.mayMoreStackMove
+    quietly go test -count=1 -gcflags="all=$moves" -asmflags="all=$moves" ./...
+    said 'Go: the tests with each stack moved wherever it might be'
+}
+
 # The tests on ARM and on Windows, and by each other Go that is installed beside Debian's own.
 elsewhere() {
     local it
     if has qemu-aarch64; then
         GOARCH=arm64 quietly go test -c -o "$scratch/arm64" .
         quietly qemu-aarch64 "$scratch/arm64"
-        GOGC=1 quietly qemu-aarch64 "$scratch/arm64" -test.cpuprofile "$scratch/profile"
+        GOGC=1 quietly qemu-aarch64 "$scratch/arm64" -test.short -test.cpuprofile "$scratch/profile"
         said 'Go: the tests on ARM by qemu-aarch64, also with endless collection and a profile'
     else
         said 'Go: ARM was left out: there is no qemu-aarch64'
@@ -113,8 +145,9 @@ elsewhere() {
     fi
     for it in /usr/lib/go-*/bin/go; do
         [ "$("$it" version)" = "$(go version)" ] || {
-            quietly "$it" vet .
-            quietly "$it" test -count=1 .
+            quietly "$it" vet ./...
+            quietly "$it" test -count=1 ./...
+            GOARCH=arm64 quietly "$it" vet .
             said "Go: go vet and go test by $("$it" version)"
         }
     done
@@ -147,6 +180,10 @@ beside_pion() {
     said "Go: the benchmark beside pion's package, and the SFUs over UDP, of which none loses a packet"
 }
 
+if [ "${1-}" = stacks ]; then
+    stacks
+    exit
+fi
 text
 tools
 tests
