@@ -66,7 +66,7 @@ LANGUAGES = {
         ("go",),
         ("bindings/go",),
         f"mkdir -p out && cd bindings/go && case $EDITED in */sfu/*) {GO_TESTS}/examples/sfu ;; "
-        f"*/lines/*) go build -o ../../out/lines_go ./examples/lines ;; *) {GO_TESTS} ;; esac",
+        f"*/lines/*) go build -o ../../out/lines_go ./examples/lines ;; */rtp/*) {GO_TESTS}/rtp ;; *) {GO_TESTS} ;; esac",
         'if [ -e out/tests ]; then cd bindings/go && ../../out/tests -test.run "^${TEST:-.*}\\$"; '
         f"else {EXAMPLES}; fi",
         r"^(?:--- FAIL|FAIL): (\w+)",
@@ -188,7 +188,8 @@ def run(command, room, edited="", test=""):
 def part_of(edit):
     """Which of the programs of a language an edit is a part of."""
     examples = "/examples/lines/", "/examples/sfu/", "/examples/"
-    parts = ("/backend/",) if edit.language == "python" else (*examples, "generated/", ".hpp", "_sanitized.h", ".sh", "/described/")
+    others = "/go/rtp/", "generated/", ".hpp", "_sanitized.h", ".sh", "/described/"
+    parts = ("/backend/",) if edit.language == "python" else (*examples, *others)
     return next((it for it in parts if it in edit.file), "")
 
 

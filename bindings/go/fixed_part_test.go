@@ -137,3 +137,19 @@ func TestDataElementsOfTheBuffer(t *testing.T) {
 		t.Error(allocations)
 	}
 }
+
+// One element's data are written as they were wherever they begin in the buffer, with no other element that lies there.
+func TestOneDataElementOfTheBuffer(t *testing.T) {
+	fixed := rtpwire.FixedPart{PayloadType: 33}
+	for at := 0; at <= 18; at++ {
+		buf := make([]byte, 20)
+		for i := range buf {
+			buf[i] = byte(100 + i)
+		}
+		n, err := fixed.WriteWith(buf, rtpwire.OneByteForm, []rtpwire.DataElement{{ID: 1, Data: buf[at : at+2]}})
+		wanted := []byte{0xBE, 0xDE, 0, 1, 0x11, byte(100 + at), byte(101 + at), 0}
+		if n != 20 || err != nil || !bytes.Equal(buf[12:], wanted) {
+			t.Error(at, n, err, buf)
+		}
+	}
+}

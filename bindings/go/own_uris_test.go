@@ -119,6 +119,42 @@ func TestTwoTablesOfURIs(t *testing.T) {
 	same(t, "by hand", rtpwire.NewIDsBetween(&to, &byHand).Get(4), uint8(8))
 }
 
+// Between maps of two tables the elements of each known kind go on, also of those that have no value here.
+func TestKnownKindsBetweenTwoTables(t *testing.T) {
+	var first, second rtpwire.OwnURIs
+	var from, to rtpwire.Map
+	for kind := rtpwire.KindAbsSendTime; kind <= rtpwire.KindNTP56; kind++ {
+		same(t, kind.String(), []error{from.Set(uint8(kind), kind), to.Set(100+uint8(kind), kind)}, []error{nil, nil})
+	}
+	_, errFrom := first.SetURI(&from, 50, "urn:a")
+	_, errTo := second.SetURI(&to, 60, "urn:a")
+	same(t, "set", []error{errFrom, errTo}, []error{nil, nil})
+	ids := rtpwire.NewIDsBetween(&from, &to)
+	for kind := rtpwire.KindAbsSendTime; kind <= rtpwire.KindNTP56; kind++ {
+		same(t, kind.String(), ids.Get(uint8(kind)), 100+uint8(kind))
+	}
+	same(t, "of two tables", ids.Get(50), uint8(0))
+}
+
+// The last kind that a full table gives is KindOwn, and is of its table as the others are.
+func TestTheLastKindOfAFullTable(t *testing.T) {
+	var first, second rtpwire.OwnURIs
+	for i := 1; i < 128; i++ {
+		first.KindOf(fmt.Sprint("urn:first:", i))
+		second.KindOf(fmt.Sprint("urn:second:", i))
+	}
+	var from, to rtpwire.Map
+	kind, err := first.SetURI(&from, 1, "urn:last")
+	same(t, "the last one", []any{kind, err}, []any{rtpwire.KindOwn, nil})
+	kind, err = second.SetURI(&to, 2, "urn:last of the second")
+	same(t, "the last one of the second", []any{kind, err}, []any{rtpwire.KindOwn, nil})
+	same(t, "of two tables", rtpwire.NewIDsBetween(&from, &to).Get(1), uint8(0))
+	kind, err = second.SetURI(&from, 3, "urn:second:1")
+	same(t, "of another table", []any{kind, err, from.Get(3)}, []any{rtpwire.KindNone, rtpwire.ErrBadField, rtpwire.KindNone})
+	from.Remove(1)
+	same(t, "none is left", from == rtpwire.Map{}, true)
+}
+
 // A URI is known by all of its letters, as it is written (RFC 8285, 5).
 func TestLettersOfOwnURIs(t *testing.T) {
 	var own rtpwire.OwnURIs

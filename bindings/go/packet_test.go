@@ -262,15 +262,19 @@ func TestPacketsInALine(t *testing.T) {
 	changed.SSRC = 7
 	written := rtpwire.NewHeader(rtpwire.Values{})
 	written.PayloadType, written.SequenceNumber, written.Timestamp, written.SSRC = 127, 65535, 1<<32-1, 1<<32-1
+	shortest := parsed(t, []byte{0x80, 33, 0, 5, 0, 0, 0, 160, 0, 0, 0, 7}, nil)
 	same(t, "lines", []string{
 		packet.String(), fmt.Sprint(packet), fmt.Sprintf("%v", *packet), fmt.Sprint(packet.Header()), fmt.Sprint(*packet.Header()),
 		changed.String(), written.String(), fmt.Sprint(rtpwire.Packet{}), fmt.Sprint(none),
+		shortest.String(), shortest.Header().String(),
 	}, []string{
 		fields + ", header 32 bytes, payload 5 bytes", fields + ", header 32 bytes, payload 5 bytes",
 		fields + ", header 32 bytes, payload 5 bytes", fields + ", header 32 bytes", fields + ", header 32 bytes",
 		"SSRC 7" + fields[len("SSRC 44"):] + ", header 32 bytes",
 		"SSRC 4294967295, payload type 127, number 65535, timestamp 4294967295",
 		"SSRC 0, payload type 0, number 0, timestamp 0, payload 0 bytes", "<nil>",
+		"SSRC 7, payload type 33, number 5, timestamp 160, header 12 bytes, payload 0 bytes",
+		"SSRC 7, payload type 33, number 5, timestamp 160, header 12 bytes",
 	})
 }
 
@@ -413,5 +417,30 @@ func TestFieldsAlone(t *testing.T) {
 		unpadded, ok := fields.UnpaddedPayload(datagram)
 		wantedUnpadded, wantedOK := packet.UnpaddedPayload()
 		same(t, "unpadded", []any{string(unpadded), ok}, []any{string(wantedUnpadded), wantedOK})
+	}
+}
+
+// The last element is found where no padding follows it, and where it is as short as one can be: one byte of data behind its
+// header in the one-byte form, and none in the two-byte form (RFC 8285, 4.2 and 4.3).
+func TestLastPlaceWithoutPadding(t *testing.T) {
+	fixed := []byte{0x90, 96, 0, 5, 0, 0, 0, 160, 0, 0, 0, 7}
+	for _, it := range []struct {
+		block  []byte
+		wanted [][3]int // the id, and where the data begin and how many they are
+	}{
+		{[]byte{0xBE, 0xDE, 0, 1, 0x10, 0xAA, 0x20, 0xBB}, [][3]int{{1, 1, 1}, {2, 3, 1}}},
+		{[]byte{0xBE, 0xDE, 0, 1, 0x12, 1, 2, 3}, [][3]int{{1, 1, 3}}},
+		{[]byte{0x10, 0, 0, 1, 5, 0, 6, 0}, [][3]int{{5, 2, 0}, {6, 4, 0}}},
+		{[]byte{0x10, 0, 0, 1, 0, 5, 1, 9}, [][3]int{{5, 3, 1}}},
+	} {
+		datagram := append(fixed[:12:12], it.block...)
+		var fields rtpwire.PacketFields
+		same(t, "read", fields.Parse(datagram), nil)
+		var place rtpwire.Place
+		var places [][3]int
+		for fields.NextPlace(&place, datagram) {
+			places = append(places, [3]int{int(place.ID), place.At, place.Len})
+		}
+		same(t, "places", places, it.wanted)
 	}
 }

@@ -76,6 +76,226 @@ func TestWhatIsNotWritten(t *testing.T) {
 	}
 }
 
+// An extension is taken to the ends of what its block can carry (RFC 8285, 4.2 and 4.3), also where the two-byte form has
+// appbits; a first one gets the form that can carry it. Where it is refused nothing changes.
+func TestEndsOfExtensions(t *testing.T) {
+	block := func(profile uint16) rtp.Header { return rtp.Header{Extension: true, ExtensionProfile: profile} }
+	for _, it := range []struct {
+		header  rtp.Header
+		id      uint8
+		length  int
+		profile uint16 // that the block then has; 0 where it is refused
+	}{
+		{rtp.Header{}, 1, 1, 0xBEDE}, {rtp.Header{}, 14, 16, 0xBEDE}, {rtp.Header{}, 1, 0, 0x1000}, {rtp.Header{}, 15, 1, 0x1000},
+		{rtp.Header{}, 1, 17, 0x1000}, {rtp.Header{}, 255, 255, 0x1000}, {rtp.Header{}, 1, 256, 0}, {rtp.Header{}, 0, 1, 0},
+		{rtp.Header{}, 0, 0, 0},
+		{block(0xBEDE), 14, 16, 0xBEDE}, {block(0xBEDE), 15, 1, 0}, {block(0xBEDE), 0, 1, 0}, {block(0xBEDE), 1, 0, 0},
+		{block(0xBEDE), 1, 17, 0},
+		{block(0x1000), 255, 255, 0x1000}, {block(0x1000), 1, 0, 0x1000}, {block(0x1000), 0, 1, 0}, {block(0x1000), 1, 256, 0},
+		{block(0x1007), 255, 255, 0x1007}, {block(0x1007), 1, 0, 0x1007}, {block(0x1007), 0, 1, 0}, {block(0x1007), 1, 256, 0},
+		{block(0x1010), 0, 4, 0x1010}, {block(0x1010), 1, 4, 0}, {block(0xABAC), 0, 4, 0xABAC}, {block(0xABAC), 1, 4, 0},
+	} {
+		header := it.header
+		err := header.SetExtension(it.id, make([]byte, it.length))
+		if it.profile == 0 {
+			if err == nil || !reflect.DeepEqual(header, it.header) {
+				t.Error(it, err, header)
+			}
+			continue
+		}
+		if err != nil || !header.Extension || header.ExtensionProfile != it.profile || len(header.GetExtension(it.id)) != it.length ||
+			!reflect.DeepEqual(header.GetExtensionIDs(), []uint8{it.id}) {
+			t.Error(it, err, header)
+		}
+		if _, err := header.Marshal(); err != nil {
+			t.Error(it, err)
+		}
+	}
+}
+
+// Of several extensions of an id the first is told, set and taken away. The block stays where the last of all is taken away, as
+// pion's does; a header that isn't marked as one with a block has none.
+func TestExtensionsOfOneID(t *testing.T) {
+	fixed := []byte{0x90, 96, 0, 5, 0, 0, 0, 160, 0, 0, 0, 7}
+	var header rtp.Header
+	if _, err := header.Unmarshal(append(fixed[:12:12], 0xBE, 0xDE, 0, 2, 0x10, 0xA, 0x20, 0xB, 0x10, 0xC, 0, 0)); err != nil {
+		t.Fatal(err)
+	}
+	unmarked := header
+	unmarked.Extension = false
+	if unmarked.GetExtensionIDs() != nil || unmarked.GetExtension(1) != nil || unmarked.DelExtension(1) == nil {
+		t.Error(unmarked)
+	}
+	if !bytes.Equal(header.GetExtension(1), []byte{0xA}) || header.SetExtension(1, []byte{0xD}) != nil ||
+		!bytes.Equal(header.GetExtension(1), []byte{0xD}) || !reflect.DeepEqual(header.GetExtensionIDs(), []uint8{1, 2, 1}) {
+		t.Error(header)
+	}
+	if header.DelExtension(1) != nil || !reflect.DeepEqual(header.GetExtensionIDs(), []uint8{2, 1}) ||
+		!bytes.Equal(header.GetExtension(1), []byte{0xC}) {
+		t.Error(header)
+	}
+	if header.DelExtension(2) != nil || header.DelExtension(1) != nil || header.DelExtension(1) == nil || !header.Extension {
+		t.Error(header)
+	}
+	if written, err := header.Marshal(); err != nil || !bytes.Equal(written, append(fixed[:12:12], 0xBE, 0xDE, 0, 0)) {
+		t.Error(written, err)
+	}
+}
+
+// With sources each form is written as it is without them, and read so, whatever sources the header had before.
+func TestWrittenWithSources(t *testing.T) {
+	var read rtp.Header
+	for _, profile := range []uint16{0xBEDE, 0x1000, 0x1007} {
+		for _, length := range []int{1, 4, 5, 16} {
+			for count := 1; count <= 14; count++ {
+				without := blockOf(profile, length, count)
+				var header rtp.Header
+				if _, err := header.Unmarshal(without); err != nil {
+					t.Fatal(err)
+				}
+				header.CSRC = []uint32{0x01020304, 0xFFFFFFFE}
+				wanted := append([]byte{0x92}, without[1:12]...)
+				wanted = append(append(wanted, 1, 2, 3, 4, 0xFF, 0xFF, 0xFF, 0xFE), without[12:]...)
+				if written, err := header.Marshal(); err != nil || !bytes.Equal(written, wanted) || header.MarshalSize() != len(wanted) {
+					t.Fatal(profile, length, count, written, err)
+				}
+				for _, it := range []struct {
+					buf     []byte
+					sources []uint32
+				}{{wanted, header.CSRC}, {wanted, header.CSRC}, {without, []uint32{}}} {
+					if n, err := read.Unmarshal(it.buf); n != len(it.buf) || err != nil || !reflect.DeepEqual(read.CSRC, it.sources) ||
+						!reflect.DeepEqual(read.Extensions, header.Extensions) {
+						t.Fatal(profile, length, count, n, err, read)
+					}
+				}
+			}
+		}
+	}
+	other := rtp.Header{Extension: true, ExtensionProfile: 0xABAC, PayloadType: 96, CSRC: []uint32{9}}
+	wanted := []byte{0x91, 96, 0, 0, 0, 0, 0, 0, 0, 0, 0, 0, 0, 0, 0, 9, 0xAB, 0xAC, 0, 1, 1, 2, 3, 4}
+	if err := other.SetExtension(0, []byte{1, 2, 3, 4}); err != nil {
+		t.Fatal(err)
+	}
+	if written, err := other.Marshal(); err != nil || !bytes.Equal(written, wanted) {
+		t.Error(written, err)
+	}
+}
+
+// A block of another form is written by its first extension, whose data are whole words (RFC 3550, 5.3.1), and has its size;
+// without one it has no words. An append to what was read of it copies.
+func TestBlocksOfAnotherForm(t *testing.T) {
+	var header rtp.Header
+	if _, err := header.Unmarshal(blockOf(0xBEDE, 4, 2)); err != nil {
+		t.Fatal(err)
+	}
+	header.ExtensionProfile = 0xABAC
+	wanted := append(blockOf(0xBEDE, 4, 2)[:12], 0xAB, 0xAC, 0, 1, 1, 2, 3, 4)
+	if written, err := header.Marshal(); err != nil || !bytes.Equal(written, wanted) || header.MarshalSize() != len(wanted) {
+		t.Error(written, err, header.MarshalSize())
+	}
+	if _, err := header.Unmarshal(append(wanted, 5, 6)); err != nil || !bytes.Equal(header.GetExtension(0), []byte{1, 2, 3, 4}) ||
+		cap(header.GetExtension(0)) != 4 {
+		t.Error(err, header)
+	}
+	empty := rtp.Header{Extension: true, ExtensionProfile: 0xABAC, PayloadType: 96}
+	wanted = []byte{0x90, 96, 0, 0, 0, 0, 0, 0, 0, 0, 0, 0, 0xAB, 0xAC, 0, 0}
+	if written, err := empty.Marshal(); err != nil || !bytes.Equal(written, wanted) || empty.MarshalSize() != 16 {
+		t.Error(written, err, empty.MarshalSize())
+	}
+	for length := 1; length < 4; length++ {
+		cut := rtp.Header{Extension: true, ExtensionProfile: 0xABAC}
+		if err := cut.SetExtension(0, make([]byte, length)); err != nil {
+			t.Fatal(err)
+		}
+		if n, err := cut.MarshalTo(make([]byte, 100)); n != 0 || err != io.ErrShortBuffer {
+			t.Error(length, n, err)
+		}
+	}
+}
+
+// A packet is written over whatever lies in the buffer: its padding is zeros and the byte that counts it (RFC 3550, 5.1), and
+// without padding P is clear, whatever the header holds. The bytes behind it stay.
+func TestPaddingIsWritten(t *testing.T) {
+	fixed := []byte{0x80, 96, 0, 5, 0, 0, 0, 160, 0, 0, 0, 7}
+	for _, it := range []struct {
+		size   byte
+		first  byte
+		behind []byte
+	}{
+		{0, 0x80, []byte{'h', 'i'}}, {1, 0xA0, []byte{'h', 'i', 1}}, {4, 0xA0, []byte{'h', 'i', 0, 0, 0, 4}},
+		{255, 0xA0, append(append([]byte{'h', 'i'}, make([]byte, 254)...), 255)},
+	} {
+		for _, isMarked := range []bool{false, true} {
+			packet := rtp.Packet{Payload: []byte("hi"), PaddingSize: it.size}
+			if _, err := packet.Header.Unmarshal(fixed); err != nil {
+				t.Fatal(err)
+			}
+			packet.Padding = isMarked
+			wanted := append(append([]byte{it.first}, fixed[1:]...), it.behind...)
+			buf := bytes.Repeat([]byte{0xEE}, len(wanted)+1)
+			if n, err := packet.MarshalTo(buf[:len(wanted)-1]); n != 0 || err != io.ErrShortBuffer {
+				t.Error(it.size, n, err)
+			}
+			if n, err := packet.MarshalTo(buf); n != len(wanted) || err != nil || !bytes.Equal(buf, append(wanted, 0xEE)) {
+				t.Error(it.size, n, err, buf)
+			}
+		}
+	}
+}
+
+// What is written through a clone changes neither the packet nor the bytes that it was read from.
+func TestClonesShareNothing(t *testing.T) {
+	buf := append([]byte(nil), datagram...)
+	var packet, again rtp.Packet
+	if packet.Unmarshal(buf) != nil || again.Unmarshal(datagram) != nil {
+		t.Fatal("no packet")
+	}
+	clone := packet.Clone()
+	if !reflect.DeepEqual(*clone, packet) {
+		t.Error(clone)
+	}
+	clone.CSRC[0]++
+	clone.Payload[0]++
+	clone.GetExtension(1)[0]++
+	clone.GetExtension(3)[2]++
+	if err := clone.SetExtension(1, []byte{7}); err != nil || !bytes.Equal(buf, datagram) || !reflect.DeepEqual(packet, again) {
+		t.Error(err, buf, packet)
+	}
+}
+
+// A clone has room of its own also where there is nothing in it, and what is nil or has no bytes is so in the clone.
+func TestClonesOfNothing(t *testing.T) {
+	packet := rtp.Packet{Payload: []byte{}}
+	packet.Extension, packet.ExtensionProfile = true, 0x1000
+	packet.CSRC, packet.Extensions = make([]uint32, 0, 4), make([]rtp.Extension, 0, 4)
+	clone := packet.Clone()
+	if !reflect.DeepEqual(*clone, packet) || !reflect.DeepEqual(*(rtp.Packet{}).Clone(), rtp.Packet{}) {
+		t.Error(clone)
+	}
+	clone.CSRC = append(clone.CSRC, 7)
+	if err := clone.SetExtension(1, []byte{}); err != nil || packet.CSRC[:1][0] != 0 ||
+		!reflect.DeepEqual(packet.Extensions[:1], make([]rtp.Extension, 1)) {
+		t.Error(err, packet)
+	}
+	if !reflect.DeepEqual(*clone.Clone(), *clone) {
+		t.Error(clone)
+	}
+}
+
+// The fields in lines, as pion's package says them.
+func TestPacketInLines(t *testing.T) {
+	var packet rtp.Packet
+	if err := packet.Unmarshal(datagram); err != nil {
+		t.Fatal(err)
+	}
+	packet.SSRC = 0xABC
+	const wanted = "RTP PACKET:\n\tVersion: 2\n\tMarker: true\n\tPayload Type: 96\n\tSequence Number: 5\n\tTimestamp: 160\n" +
+		"\tSSRC: 2748 (abc)\n\tPayload Length: 2\n"
+	if packet.String() != wanted {
+		t.Error(packet.String())
+	}
+}
+
 // As many elements as fit, of each length, in each form: they are read, and written as they were.
 func TestElementsOfEachLength(t *testing.T) {
 	type form struct {
@@ -189,6 +409,14 @@ func TestElementsInTheRoomThereIs(t *testing.T) {
 	}
 }
 
+// The sources of a header without any are none and not nil, as pion's are, whatever it was read into.
+func TestSourcesOfAFirstHeader(t *testing.T) {
+	var header rtp.Header
+	if n, err := header.Unmarshal(append([]byte{0x80}, datagram[1:12]...)); n != 12 || err != nil || header.CSRC == nil || len(header.CSRC) != 0 {
+		t.Error(n, err, header)
+	}
+}
+
 // One header is read into again: nothing of the packet before stays, and no memory is taken.
 func TestReadAgain(t *testing.T) {
 	var packet rtp.Packet
@@ -243,6 +471,24 @@ func TestValues(t *testing.T) {
 	var sent rtp.AbsSendTimeExtension
 	if err != nil || !bytes.Equal(data, []byte{0xAB, 0xCD, 0xEF}) || sent.Unmarshal(data) != nil || sent.Timestamp != 0xABCDEF {
 		t.Error(data, err, sent)
+	}
+}
+
+// A value is read from the front of the data, as pion's are: what stands behind it isn't looked at. Fewer bytes are none.
+func TestValuesOfLongerData(t *testing.T) {
+	data := []byte{0x8A, 0x34, 0x56, 0x78, 0x9A}
+	for length := 0; length <= len(data); length++ {
+		var level rtp.AudioLevelExtension
+		var number rtp.TransportCCExtension
+		var sent rtp.AbsSendTimeExtension
+		errs := []error{level.Unmarshal(data[:length]), number.Unmarshal(data[:length]), sent.Unmarshal(data[:length])}
+		if (errs[0] == nil) != (length >= 1) || (errs[1] == nil) != (length >= 2) || (errs[2] == nil) != (length >= 3) {
+			t.Error(length, errs)
+		}
+		if errs[0] == nil && level != (rtp.AudioLevelExtension{Level: 10, Voice: true}) ||
+			errs[1] == nil && number.TransportSequence != 0x8A34 || errs[2] == nil && sent.Timestamp != 0x8A3456 {
+			t.Error(length, level, number, sent)
+		}
 	}
 }
 
