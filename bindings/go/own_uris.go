@@ -53,20 +53,23 @@ func (o *OwnURIs) KindOf(uri string) Kind {
 
 // SetURI makes the id of the map mean the kind that the URI names here, and returns it, as [Map.SetURI] does with the
 // URIs of the whole program: KindNone, and then the id means nothing, where KindOf has none. It returns ErrBadField, and
-// changes nothing, where the id is 0, or the map has kinds of another OwnURIs and the URI one of this.
+// changes nothing, where the id is 0, or the map has kinds of another OwnURIs and the library doesn't know the URI.
 func (o *OwnURIs) SetURI(m *Map, id uint8, uri string) (Kind, error) {
 	if id == 0 {
 		return KindNone, ErrBadField
 	}
-	kind := o.KindOf(uri)
+	kind := KindOfURI(uri)
+	if kind == KindNone && uri != "" {
+		if m.own != nil && m.own != o {
+			return KindNone, ErrBadField
+		}
+		kind = o.KindOf(uri)
+	}
 	if kind == KindNone {
 		m.Remove(id)
 		return KindNone, nil
 	}
 	if kind.IsOwn() {
-		if m.own != nil && m.own != o {
-			return KindNone, ErrBadField
-		}
 		m.own = o
 	}
 	return kind, m.Set(id, kind)

@@ -99,6 +99,13 @@ func TestTwoTablesOfURIs(t *testing.T) {
 	}
 	kind, err := first.SetURI(&to, 9, mid)
 	same(t, "a known one", []any{kind, err}, []any{rtpwire.KindMID, nil})
+	for i := 0; i < 128; i++ {
+		kind, err := first.SetURI(&to, 9, fmt.Sprint("urn:refused:", i))
+		same(t, "of another table", []any{kind, err}, []any{rtpwire.KindNone, rtpwire.ErrBadField})
+	}
+	same(t, "the first after urn:a and urn:b, since what is refused takes none", first.KindOf("urn:c"), rtpwire.Kind(253))
+	kind, err = first.SetURI(&to, 9, "")
+	same(t, "no URI", []any{kind, err, to.Get(9)}, []any{rtpwire.KindNone, nil, rtpwire.KindNone})
 
 	for _, row := range []struct {
 		from, to *rtpwire.Map

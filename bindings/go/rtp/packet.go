@@ -16,20 +16,20 @@ type Packet struct {
 
 // Unmarshal reads the packet that the buffer is. Its payload and the data of its extensions are parts of the buffer. It
 // returns the errors of [Header.Unmarshal], and one that is no rtpwire.Cause where the padding's last byte counts more bytes
-// than the payload has.
+// than the payload has: the header is the packet's then, and the payload stays.
 func (p *Packet) Unmarshal(buf []byte) error {
 	var layout rtpwire.Layout
 	if cause := p.Header.fixedPart().Parse(buf, &layout); cause != 0 {
 		return errorOf(cause)
+	}
+	if !p.Header.takeNone(&layout) {
+		p.Header.takeMore(&layout, buf)
 	}
 	payload, ok := layout.UnpaddedPayload(buf)
 	if !ok {
 		return errTooSmall
 	}
 	p.Payload, p.PaddingSize = payload, byte(len(buf)-layout.HeaderLen()-len(payload))
-	if !p.Header.takeNone(&layout) {
-		p.Header.takeMore(&layout, buf)
-	}
 	return nil
 }
 

@@ -449,6 +449,25 @@ func TestReadAgain(t *testing.T) {
 	}
 }
 
+// A packet whose padding has no room gives its header alone.
+func TestPaddingWithoutRoom(t *testing.T) {
+	var packet rtp.Packet
+	if err := packet.Unmarshal(datagram); err != nil {
+		t.Fatal(err)
+	}
+	payload := string(packet.Payload)
+	bad := []byte{0xB1, 97, 0, 6, 0, 0, 0, 9, 0, 0, 0, 8, 0, 0, 0, 5, 0xBE, 0xDE, 0, 1, 0x20, 7, 0, 0, 1, 3}
+	if err := packet.Unmarshal(bad); err == nil || errors.Is(err, rtpwire.ErrNotAPacket) {
+		t.Error(err)
+	}
+	ids := packet.GetExtensionIDs()
+	if packet.SequenceNumber != 6 || packet.SSRC != 8 || !packet.Padding || len(packet.CSRC) != 1 || packet.CSRC[0] != 5 ||
+		packet.ExtensionProfile != 0xBEDE || len(ids) != 1 || ids[0] != 2 || !bytes.Equal(packet.GetExtension(2), []byte{7}) ||
+		string(packet.Payload) != payload {
+		t.Error(packet)
+	}
+}
+
 func TestValues(t *testing.T) {
 	data, err := rtp.AudioLevelExtension{Level: 10, Voice: true}.Marshal()
 	var level rtp.AudioLevelExtension
