@@ -166,16 +166,9 @@ def numbered(text, label):
     return "\n".join(lines)
 
 
-def in_rows(lines):
-    """The bytes or words of a table, sixteen in a line."""
-    word, items = lines[1], re.findall(r"\t(\S+)\n", lines[0])
-    return "".join(f"\t{word}\t{','.join(items[at : at + 16])}\n" for at in range(0, len(items), 16))
-
-
 def text_for(text, triple, exports, labels):
     """The code of a text: without the names of the compiler's files, with numbers for labels, or such as meet no others, with a
-    comma alone between operands, tables in rows, and on Linux with call frame information where debuggers and profilers look
-    for it."""
+    comma alone between operands, and on Linux with call frame information where debuggers and profilers look for it."""
     system = next(it for it in UNKNOWN if it in triple)
     mark = "_" if system == "apple" else ""
     text = re.sub(f"(?m)^(?:{UNKNOWN[system]})", "", text)
@@ -190,7 +183,6 @@ def text_for(text, triple, exports, labels):
         give_up(f"{triple}: a stack of several pages, which is to be probed")
     text = re.sub(r"(?m)^\.Lfunc_end\d+:\n(\t\.size\t.*), \.Lfunc_end\d+-", r"\1, .-", text)
     text = re.sub(r"(?m)^\t[^\"\n]*$", lambda line: line[0].replace(", ", ","), numbered(text, NUMBERED[system]))
-    text = re.sub(r"(?m)^\t(\.byte|\.long|\.word)\t\S+\n(?:\t\1\t\S+\n)+", in_rows, text)
     return re.sub(
         rf"(?m)^(?!\t\.asci).*$", lambda line: re.sub(LABEL[system], rf"\g<1>{labels}", line[0]), text
     )

@@ -138,11 +138,6 @@ fn put_ascii(text: &[u8], bytes: &mut [u8]) -> bool
     ensures rest { OnTrue result
         (drop (length text.now) bytes.new ≡ drop (length text.now) bytes.old) }
 {
-    // The one character of most mids is put at a known place, so that the bytes stay in a register.
-    if text.len() == 1 && text[0] < 128 {
-        bytes[0] = id_byte(text[0]);
-        return true;
-    }
     for (index, byte) in text.iter().enumerate() {
         if *byte >= 128 {
             return false;
