@@ -70,6 +70,21 @@ func TestRetransmissionGrows(t *testing.T) {
 	same(t, "no number", err, rtpwire.ErrNotFound)
 }
 
+// What repeats no packet is returned as it was, with the error: the payload has no whole number, the payload type is above
+// 127, or it is no packet.
+func TestWhatRepeatsNoPacketStays(t *testing.T) {
+	for _, it := range []struct {
+		length      int
+		payloadType uint8
+		err         error
+	}{{12, 96, rtpwire.ErrNotFound}, {13, 96, rtpwire.ErrNotFound}, {14, 128, rtpwire.ErrBadField}, {11, 96, rtpwire.CutFixedPart}} {
+		packet := []byte{0x80, 97, 0, 9, 0, 0, 0, 100, 0, 0, 0, 45, 0, 5}
+		made, err := rtpwire.FromRetransmission(packet[:it.length], 44, it.payloadType, new(rtpwire.NewIDs))
+		same(t, "returned", []any{len(made), err}, []any{it.length, it.err})
+		same(t, "as it was", []any{packet, &made[0] == &packet[0]}, []any{[]byte{0x80, 97, 0, 9, 0, 0, 0, 100, 0, 0, 0, 45, 0, 5}, true})
+	}
+}
+
 func TestHeaderIsAppended(t *testing.T) {
 	var values rtpwire.Values
 	values.SetTransportNumber(7)
@@ -112,6 +127,30 @@ func TestLengthOfElements(t *testing.T) {
 			length, err = header.WireLenWithForm(form, data, places)
 			same(t, form.String(), []any{length, err}, []any{written, wanted})
 		}
+	}
+}
+
+// An element without data needs the two-byte form, in which each takes two bytes more, and the length is that. The fixed part
+// has 12 bytes, the source 4 and the beginning of the block 4; behind them are whole words.
+func TestLengthOfElementsWithoutData(t *testing.T) {
+	var header rtpwire.Header
+	same(t, "source", header.SetCSRC([]uint32{7}), nil)
+	for _, it := range []struct {
+		places []rtpwire.Place
+		length int
+	}{
+		{[]rtpwire.Place{{ID: 1}, {ID: 2, Len: 2}}, 28},                    // 2 + 4
+		{[]rtpwire.Place{{ID: 1, Len: 1}, {ID: 2}}, 28},                    // 3 + 2
+		{[]rtpwire.Place{{ID: 1}, {ID: 2}}, 24},                            // 2 + 2
+		{[]rtpwire.Place{{ID: 1}, {ID: 2}, {ID: 3}}, 28},                   // 2 + 2 + 2
+		{[]rtpwire.Place{{ID: 1, Len: 1}, {ID: 2, At: 1, Len: 1}}, 24},     // in the one-byte form 2 + 2
+		{[]rtpwire.Place{{ID: 1, Len: 3}, {ID: 2, Len: 2}, {ID: 3}}, 32},   // 5 + 4 + 2
+		{[]rtpwire.Place{{ID: 14, Len: 16}, {ID: 2, Len: 2}, {ID: 3}}, 44}, // 18 + 4 + 2
+	} {
+		length, err := header.WireLenWith(make([]byte, 16), it.places)
+		same(t, "length", []any{length, err}, []any{it.length, nil})
+		made, err := header.AppendWith(nil, make([]byte, 16), it.places)
+		same(t, "appended", []any{len(made), err}, []any{it.length, nil})
 	}
 }
 

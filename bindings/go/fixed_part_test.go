@@ -153,3 +153,22 @@ func TestOneDataElementOfTheBuffer(t *testing.T) {
 		}
 	}
 }
+
+// The data of the only element may begin before the buffer and reach into it: 16 bytes, of which these many lie before it.
+func TestDataElementThatReachesIntoTheBuffer(t *testing.T) {
+	fixed := rtpwire.FixedPart{PayloadType: 33}
+	for before := 0; before <= 16; before++ {
+		whole := make([]byte, 60)
+		for i := range whole {
+			whole[i] = byte(100 + i)
+		}
+		buf, wanted := whole[16:52], []byte{0xBE, 0xDE, 0, 5, 0x1F}
+		for i := 0; i < 16; i++ {
+			wanted = append(wanted, byte(116-before+i))
+		}
+		n, err := fixed.WriteWith(buf, rtpwire.OneByteForm, []rtpwire.DataElement{{ID: 1, Data: whole[16-before : 32-before]}})
+		if n != 36 || err != nil || !bytes.Equal(buf[12:], append(wanted, 0, 0, 0)) {
+			t.Error(before, n, err, buf)
+		}
+	}
+}

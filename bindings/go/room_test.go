@@ -1,6 +1,7 @@
 package rtpwire_test
 
 import (
+	"bytes"
 	"testing"
 
 	"rtp-wire.example/rtpwire"
@@ -12,6 +13,21 @@ func TestFirstBlockGrows(t *testing.T) {
 	made, err := rtpwire.PutBlock(packet[:13:13], 0xABAC, make([]byte, 8))
 	wanted := append([]byte{0x90, 96, 0, 5, 0, 0, 0, 100, 0, 0, 0, 44, 0xAB, 0xAC, 0, 2}, append(make([]byte, 8), 1)...)
 	same(t, "made", []any{made, err}, []any{wanted, nil})
+}
+
+// A header alone, in a slice without room, gets an element of 255 bytes too: with the first four bytes of the block, its id
+// and its length these are 261 bytes, and 264 in whole words, 65 of them behind the first.
+func TestLongestElementBehindAHeaderAlone(t *testing.T) {
+	data := bytes.Repeat([]byte{7}, 255)
+	wanted := append([]byte{0x90, 96, 0, 5, 0, 0, 0, 100, 0, 0, 0, 44, 0x10, 0, 0, 65, 3, 255}, data...)
+	wanted = append(wanted, 0, 0, 0)
+	for name, call := range map[string]func([]byte, uint8, []byte, rtpwire.Forms) ([]byte, error){
+		"put": rtpwire.PutElement, "added": rtpwire.AddElement,
+	} {
+		header := []byte{0x80, 96, 0, 5, 0, 0, 0, 100, 0, 0, 0, 44}
+		made, err := call(header[:12:12], 3, data, rtpwire.AnyForm)
+		same(t, name, []any{made, err}, []any{wanted, nil})
+	}
 }
 
 // A long payload is copied with the room that a header takes at most, and not with as much again.

@@ -344,6 +344,34 @@ func blockOf(profile uint16, length, count int) []byte {
 	return append([]byte{0x90, 96, 0, 5, 0, 0, 0, 160, 0, 0, 0, 7, byte(profile >> 8), byte(profile), byte(words >> 8), byte(words)}, body...)
 }
 
+// In the two-byte form a block has more elements than the one-byte form has ids (RFC 8285, 4.3): all of them are written, with
+// a source and without one, and read.
+func TestMoreElementsThanTheOneByteFormHasIDs(t *testing.T) {
+	for _, count := range []int{14, 15, 16, 64, 255} {
+		wanted := blockOf(0x1000, 2, count)
+		header := rtp.Header{PayloadType: 96, SequenceNumber: 5, Timestamp: 160, SSRC: 7, Extension: true, ExtensionProfile: 0x1000}
+		var ids []uint8
+		for id := 1; id <= count; id++ {
+			if err := header.SetExtension(uint8(id), []byte{byte(id), byte(id + 1)}); err != nil {
+				t.Fatal(count, id, err)
+			}
+			ids = append(ids, uint8(id))
+		}
+		if written, err := header.Marshal(); err != nil || !bytes.Equal(written, wanted) || header.MarshalSize() != len(wanted) {
+			t.Error(count, written, err, header.MarshalSize())
+		}
+		var read rtp.Header
+		if n, err := read.Unmarshal(wanted); n != len(wanted) || err != nil || !bytes.Equal(read.GetExtensionIDs(), ids) {
+			t.Error(count, n, err, read)
+		}
+		header.CSRC = []uint32{9}
+		withSource := append(append(append([]byte{0x91}, wanted[1:12]...), 0, 0, 0, 9), wanted[12:]...)
+		if written, err := header.Marshal(); err != nil || !bytes.Equal(written, withSource) {
+			t.Error(count, written, err)
+		}
+	}
+}
+
 // A header of twelve bytes is written as one with a source and without it, whatever lies in the buffer, and no byte behind it.
 func TestFixedPart(t *testing.T) {
 	for flags := 0; flags < 4; flags++ {
@@ -495,8 +523,8 @@ func TestValues(t *testing.T) {
 
 // A value is read from the front of the data, as pion's are: what stands behind it isn't looked at. Fewer bytes are none.
 func TestValuesOfLongerData(t *testing.T) {
-	data := []byte{0x8A, 0x34, 0x56, 0x78, 0x9A}
-	for length := 0; length <= len(data); length++ {
+	data := append([]byte{0x8A, 0x34, 0x56, 0x78, 0x9A}, make([]byte, 251)...)
+	for _, length := range []int{0, 1, 2, 3, 4, 5, 255, 256} { // no element has 256
 		var level rtp.AudioLevelExtension
 		var number rtp.TransportCCExtension
 		var sent rtp.AbsSendTimeExtension
