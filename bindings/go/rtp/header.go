@@ -267,18 +267,26 @@ func (h *Header) layOut(data []byte, places []rtpwire.Place) (n int, fit bool) {
 	return n, true
 }
 
-// writeBlock writes a header with a block of another profile, or one in the two-byte form with appbits.
+// writeBlock writes a header with a block of another profile, or one in the two-byte form with appbits. It is made apart, since
+// the body may lie in the buffer.
 func (h *Header) writeBlock(w *rtpwire.Header, buf []byte) (int, error) {
 	body, err := h.body()
 	if err != nil {
 		return 0, err
 	}
-	n, err := w.WriteInto(buf, nil)
+	if len(buf) < h.MarshalSize() {
+		return 0, io.ErrShortBuffer
+	}
+	made := make([]byte, h.MarshalSize())
+	n, err := w.WriteInto(made, nil)
 	if err != nil {
 		return 0, err
 	}
-	whole, err := rtpwire.PutBlockIn(buf, n, h.ExtensionProfile, body)
-	return len(whole), err
+	whole, err := rtpwire.PutBlockIn(made, n, h.ExtensionProfile, body)
+	if err != nil {
+		return 0, err
+	}
+	return copy(buf, whole), nil
 }
 
 // body is that of the block.

@@ -213,6 +213,43 @@ func TestBlocksOfAnotherForm(t *testing.T) {
 	}
 }
 
+// A block of another form may be written where it was read, behind sources that it hadn't.
+func TestBlockWrittenWhereItWasRead(t *testing.T) {
+	buf := []byte{0x90, 96, 0, 5, 0, 0, 0, 160, 0, 0, 0, 7, 0xAB, 0xAC, 0, 2, 1, 2, 3, 4, 5, 6, 7, 8, 24: 0xEE, 33: 0xEE}
+	var header rtp.Header
+	if n, err := header.Unmarshal(buf[:24]); n != 24 || err != nil {
+		t.Fatal(n, err)
+	}
+	header.CSRC = []uint32{0x11111111, 0x22222222}
+	wanted := []byte{0x92, 96, 0, 5, 0, 0, 0, 160, 0, 0, 0, 7, 0x11, 0x11, 0x11, 0x11, 0x22, 0x22, 0x22, 0x22,
+		0xAB, 0xAC, 0, 2, 1, 2, 3, 4, 5, 6, 7, 8, 0, 0xEE}
+	if n, err := header.MarshalTo(buf); n != 32 || err != nil || !bytes.Equal(buf, wanted) {
+		t.Error(n, err, buf)
+	}
+}
+
+// Where there is no room nothing is written, whatever the form of the block is.
+func TestWithoutRoomNothingIsWritten(t *testing.T) {
+	for _, profile := range []uint16{0xBEDE, 0x1000, 0x1001, 0xABAC} {
+		header := rtp.Header{Version: 2, Extension: true, ExtensionProfile: profile}
+		id := uint8(1)
+		if profile == 0xABAC {
+			id = 0
+		}
+		if err := header.SetExtension(id, []byte{1, 2, 3, 4}); err != nil {
+			t.Fatal(err)
+		}
+		size := header.MarshalSize()
+		buf := bytes.Repeat([]byte{0xEE}, size-1)
+		if n, err := header.MarshalTo(buf); n != 0 || !errors.Is(err, io.ErrShortBuffer) || !bytes.Equal(buf, bytes.Repeat([]byte{0xEE}, size-1)) {
+			t.Errorf("%x: %d, %v, % x", profile, n, err, buf)
+		}
+		if n, err := header.MarshalTo(make([]byte, size)); n != size || err != nil {
+			t.Errorf("%x: %d, %v", profile, n, err)
+		}
+	}
+}
+
 // A packet is written over whatever lies in the buffer: its padding is zeros and the byte that counts it (RFC 3550, 5.1), and
 // without padding P is clear, whatever the header holds. The bytes behind it stay.
 func TestPaddingIsWritten(t *testing.T) {
