@@ -11,6 +11,9 @@ import struct
 from linked import APART_AT, MOST_UNASKED, insist
 
 NAME, TOOLS, FILL, AFTER = "amd64", "", "", 4
+# No jump crosses a place that divides by 32, nor ends at one: Intel's processors from Skylake to Cascade Lake take such jumps from
+# no cache of what they have decoded. What fills up are nops.
+AS = ("-malign-branch-boundary=32", "-malign-branch=jcc+fused+jmp", "-malign-branch-prefix-size=0")
 RETURN_ADDRESS, RED_ZONE = 8, 128  # what a function may use below its stack pointer is the red zone
 ABSOLUTE = (1, 10, 11)
 NEVER = re.compile(r"%[fg]s:|\b(syscall|int|ldmxcsr|fldcw|std|[xyz]*mm(1[6-9]|[23]\d)|[yz]mm\d+)\b|\b(call|callq)\s+\*")

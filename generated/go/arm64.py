@@ -15,6 +15,7 @@ from frames import BOTTOM, with_frames
 from linked import APART_AT, TABLE_AT, insist
 
 NAME, TOOLS, FILL, AFTER = "arm64", "aarch64-linux-gnu-", " =0x1f2003d5", 0
+AS = ()
 RETURN_ADDRESS, RED_ZONE = 0, 0
 ABSOLUTE = (257,)
 # Go has its goroutine in x28, which a signal handler takes there, and Darwin and Windows have x18 for themselves.

@@ -61,7 +61,7 @@ def main():
         place = program.address(name)
         begins = range(place, place + 1) if name == "rtp_wire" else range(place, place + 100)
         differ = min((differing(program, begin, wanted, sites) for begin in begins), key=len)
-        if differ or name == "rtp_wire" and place % 16:
+        if differ or name == "rtp_wire" and place % {"amd64": 32, "arm64": 16}[arch]:
             sys.exit(f"compare.py: {arch}: {len(differ)} bytes of {name} are others, first at {differ[:4]}; it lies at {place:x}")
         print(f"{arch}: the {len(wanted)} bytes of {name} are those that Go linked, but for {len(sites)} places that its linker fills in")
 

@@ -63,7 +63,7 @@ class Text:
         rest = [lambda to, place=place, width=width: f"\t{p.LOAD[width]} {place}(FP), {to}" for place, width in given[len(p.ARGUMENTS) :]]
         store = f"\t{p.STORE[size]} {p.RESULT}, ret+{end}(FP)" if size else None
         frame = p.frame_for(need, len(rest))
-        self.emit(f"// {it.name} and what it calls take at most {need} bytes of the stack.")
+        self.emit(f"// At most {need} bytes of the stack.")
         self.emit(f"TEXT ·{go.text_of(it)}(SB), {0 if frame else 'NOSPLIT'}, ${frame}-{end + size}")
         self.emit("\tNO_LOCAL_POINTERS")
         if it.name in linked.apart:
@@ -106,7 +106,7 @@ def objects_of(processor, texts, folder):
         lines = re.sub(r"\n+$", "\n", Path(text).read_text()).split("\n")
         prepared, to = folder / (Path(text).stem + ".s"), folder / (Path(text).stem + ".o")
         prepared.write_text("\n".join(processor.prepared(lines)))
-        run(processor.TOOLS + "as", prepared, "-o", to)
+        run(processor.TOOLS + "as", *processor.AS, prepared, "-o", to)
         yield to
 
 
