@@ -63,6 +63,49 @@ func TestFixedPartIsRead(t *testing.T) {
 	}
 }
 
+// Where the padding's last byte counts more bytes than the payload has, no media are lent: of a payload of one byte that
+// says 2, and of one of four bytes, behind a source and a block, whose last one says 5.
+func TestNoMediaBehindWrongPadding(t *testing.T) {
+	fixedAlone := []byte{0xA0, 0xE0, 0, 5, 0, 0, 0, 160, 0, 0, 0, 7, 2}
+	withBlock := append(append([]byte(nil), sixElements[:35]...), 5)
+	for _, datagram := range [][]byte{fixedAlone, withBlock} {
+		var fixed rtpwire.FixedPart
+		var layout rtpwire.Layout
+		if cause := fixed.Parse(datagram, &layout); cause != 0 {
+			t.Fatal(cause)
+		}
+		if payload, ok := layout.UnpaddedPayload(datagram); payload != nil || ok {
+			t.Error("a layout", payload, ok)
+		}
+		var fields rtpwire.PacketFields
+		if err := fields.Parse(datagram); err != nil {
+			t.Fatal(err)
+		}
+		if payload, ok := fields.UnpaddedPayload(datagram); payload != nil || ok {
+			t.Error("fields", payload, ok)
+		}
+		var packet rtpwire.Packet
+		if err := packet.Parse(datagram, nil); err != nil {
+			t.Fatal(err)
+		}
+		if payload, ok := packet.UnpaddedPayload(); payload != nil || ok {
+			t.Error("a packet", payload, ok)
+		}
+		var headers rtpwire.HeaderBatch
+		var packets rtpwire.PacketBatch
+		headers.Add(0, len(datagram))
+		packets.Add(0, len(datagram))
+		headers.Parse(datagram, nil)
+		packets.Parse(datagram)
+		if payload, ok := headers.UnpaddedPayload(0); payload != nil || ok {
+			t.Error("a batch of headers", payload, ok)
+		}
+		if payload, ok := packets.UnpaddedPayload(0); payload != nil || ok {
+			t.Error("a batch of packets", payload, ok)
+		}
+	}
+}
+
 func TestFixedPartIsWritten(t *testing.T) {
 	fixed := rtpwire.FixedPart{
 		Version: 1, HasPadding: true, HasExtension: true, Marker: true, PayloadType: 127, SequenceNumber: 0xB798, Timestamp: 10000, SSRC: 44,

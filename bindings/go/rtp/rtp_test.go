@@ -142,6 +142,32 @@ func TestExtensionsOfOneID(t *testing.T) {
 	}
 }
 
+// The ids are nil where a block has no extension: one of padding alone, read anew or where another was read before, one of no
+// words, and one of which the last extension was taken away.
+func TestIDsOfABlockWithoutExtensions(t *testing.T) {
+	fixed := []byte{0x90, 96, 0, 5, 0, 0, 0, 160, 0, 0, 0, 7}
+	padding := append(fixed[:12:12], 0xBE, 0xDE, 0, 1, 0, 0, 0, 0)
+	noWords := append(fixed[:12:12], 0x10, 0, 0, 0)
+	var again rtp.Header
+	for _, buf := range [][]byte{padding, noWords} {
+		if _, err := again.Unmarshal(datagram); err != nil || len(again.GetExtensionIDs()) == 0 {
+			t.Fatal(again, err)
+		}
+		var anew rtp.Header
+		for _, header := range []*rtp.Header{&anew, &again} {
+			if _, err := header.Unmarshal(buf); err != nil || !header.Extension || header.GetExtensionIDs() != nil {
+				t.Error(buf, header, err)
+			}
+		}
+	}
+	if err := again.SetExtension(3, []byte{1}); err != nil || !bytes.Equal(again.GetExtensionIDs(), []byte{3}) {
+		t.Error(again, err)
+	}
+	if err := again.DelExtension(3); err != nil || !again.Extension || again.GetExtensionIDs() != nil {
+		t.Error(again, err)
+	}
+}
+
 // With sources each form is written as it is without them, and read so, whatever sources the header had before.
 func TestWrittenWithSources(t *testing.T) {
 	var read rtp.Header
