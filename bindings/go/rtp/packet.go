@@ -2,7 +2,6 @@ package rtp
 
 import (
 	"fmt"
-	"io"
 
 	"rtp-wire.example/rtpwire"
 )
@@ -44,18 +43,27 @@ func (p Packet) Marshal() (buf []byte, err error) {
 }
 
 // MarshalTo writes the packet to the front of the buffer, and returns how many bytes it took. P is set exactly where there
-// is padding, which is zeros before the byte that counts it.
+// is padding, which is zeros before the byte that counts it. The payload may lie in the buffer. It returns the errors of
+// [Header.MarshalTo], also where the packet has no room; nothing is written then.
 func (p Packet) MarshalTo(buf []byte) (n int, err error) {
 	p.Header.Padding = p.PaddingSize != 0
-	n, err = p.Header.MarshalTo(buf)
+	behind := len(p.Payload) + int(p.PaddingSize)
+	room := len(buf) - behind
+	if room < 0 {
+		room = 0
+	}
+	payload := p.Payload
+	if overlap(payload, buf) {
+		if size := p.Header.MarshalSize(); size <= room && overlap(payload, buf[:size]) {
+			payload = clone(payload)
+		}
+	}
+	n, err = p.Header.MarshalTo(buf[:room])
 	if err != nil {
 		return 0, err
 	}
-	end := n + len(p.Payload) + int(p.PaddingSize)
-	if end > len(buf) {
-		return 0, io.ErrShortBuffer
-	}
-	n += copy(buf[n:], p.Payload)
+	end := n + behind
+	n += copy(buf[n:], payload)
 	if p.PaddingSize != 0 {
 		for i := range buf[n:end] {
 			buf[n+i] = 0

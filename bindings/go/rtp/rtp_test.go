@@ -254,6 +254,57 @@ func TestBlockWrittenWhereItWasRead(t *testing.T) {
 	}
 }
 
+// A packet may be written where it was read: its payload moves on, or back, with the end of the header.
+func TestPacketWrittenWhereItWasRead(t *testing.T) {
+	front := []byte{0x90, 96, 0, 5, 0, 0, 0, 160, 0, 0, 0, 7}
+	read := append(front[:12:12], 0xBE, 0xDE, 0, 2, 0x10, 0x8A, 0x32, 1, 2, 3, 0, 0, 'a', 'b', 'c', 'd', 'e', 'f')
+	for what, row := range map[string]struct {
+		change func(header *rtp.Header) error
+		wanted []byte
+	}{
+		"as it was": {func(header *rtp.Header) error { return nil }, read},
+		"a longer header": {
+			func(header *rtp.Header) error { return header.SetExtension(4, []byte{9, 8}) },
+			append(front[:12:12], 0xBE, 0xDE, 0, 3, 0x10, 0x8A, 0x32, 1, 2, 3, 0x41, 9, 8, 0, 0, 0, 'a', 'b', 'c', 'd', 'e', 'f'),
+		},
+		"a shorter header": {
+			func(header *rtp.Header) error { return header.DelExtension(3) },
+			append(front[:12:12], 0xBE, 0xDE, 0, 1, 0x10, 0x8A, 0, 0, 'a', 'b', 'c', 'd', 'e', 'f'),
+		},
+	} {
+		buf := append(read[:len(read):len(read)], make([]byte, 20)...)
+		var packet rtp.Packet
+		if err := packet.Unmarshal(buf[:len(read)]); err != nil {
+			t.Fatal(err)
+		}
+		if err := row.change(&packet.Header); err != nil {
+			t.Fatal(err)
+		}
+		if n, err := packet.MarshalTo(buf); err != nil || !bytes.Equal(buf[:n], row.wanted) {
+			t.Errorf("%s: %v, % x", what, err, buf[:n])
+		}
+	}
+}
+
+// Nor is a part of a packet written whose payload or padding has no room.
+func TestPacketWithoutRoom(t *testing.T) {
+	for _, packet := range []rtp.Packet{
+		{Header: rtp.Header{Version: 2, PayloadType: 96, SSRC: 7}, Payload: []byte("abc")},
+		{Header: rtp.Header{Version: 2, PayloadType: 96, SSRC: 7}, Payload: []byte("a"), PaddingSize: 2},
+	} {
+		for size := 0; size < 15; size++ {
+			buf := bytes.Repeat([]byte{0xEE}, size)
+			if n, err := packet.MarshalTo(buf); n != 0 || !errors.Is(err, io.ErrShortBuffer) || bytes.Count(buf, []byte{0xEE}) != size {
+				t.Errorf("%d bytes: %d, %v, % x", size, n, err, buf)
+			}
+		}
+		packet.PayloadType = 128
+		if n, err := packet.MarshalTo(nil); n != 0 || !errors.Is(err, rtpwire.ErrBadField) {
+			t.Error(n, err)
+		}
+	}
+}
+
 // Where there is no room nothing is written, whatever the form of the block is.
 func TestWithoutRoomNothingIsWritten(t *testing.T) {
 	for _, profile := range []uint16{0xBEDE, 0x1000, 0x1001, 0xABAC} {
