@@ -433,6 +433,7 @@ static void elements_are_written_in_one_form(void) {
     CHECK(len == 24 && memcmp(buf + 12, "\x10\0\0\x02\x0E\0\x02\x02\xBB\xCC\0\0", 12) == 0);
 }
 
+#ifndef MODULE_ALONE /* JavaScript's module exports no such call */
 static void fixed_parts_are_read(void) {
     static const uint8_t datagram[] = {0xB1, 0xE0, 0, 5, 0, 0, 0, 160, 0, 0, 0, 7, 0, 0, 0, 9, 0xBE, 0xDE,
                                        0, 1, 0x10, 0x8A, 0, 0, 'h', 'i', 0, 2};
@@ -505,6 +506,7 @@ static void data_elements_are_written(void) {
     CHECK(rtpw_write_data_elements(&fixed, elements, 0, RTPW_ONE_BYTE_FORM, buf, 32, &len) == RTPW_OK && len == 16);
     CHECK(memcmp(buf + 12, "\xBE\xDE\0\0", 4) == 0);
 }
+#endif
 
 static uint8_t kind_of(const char *uri) {
     return rtpw_kind_of_uri((const uint8_t *)uri, strlen(uri));
@@ -681,9 +683,11 @@ int main(void) {
     layers_are_refused();
     elements_are_written();
     elements_are_written_in_one_form();
+#ifndef MODULE_ALONE
     fixed_parts_are_read();
     fixed_parts_are_written();
     data_elements_are_written();
+#endif
     maps_are_filled();
     is_renumbered();
     kinds_without_a_field();

@@ -3,7 +3,8 @@
 # bytes, bindings/test/hostile*.c, and those that are worked out by hand, bindings/c/test. FOLDER/native runs the former
 # with the library for this machine, its text or $LIBRARY. usage: beside.sh FOLDER
 #
-# They are compiled by LLVM 14: later ones give pointers to functions 64 bits, which can't be lowered.
+# They are compiled by LLVM 14: later ones give pointers to functions 64 bits, which can't be lowered. With MODULE_ALONE they
+# leave out the calls that the module doesn't export, which C, C++ and Go alone have.
 set -euo pipefail
 top=$(cd -- "$(dirname -- "$(readlink -f -- "${BASH_SOURCE[0]}")")/../../.." && pwd)
 # shellcheck source=generated/wasm/link.sh
@@ -15,7 +16,7 @@ python3 "$top/generated/wasm/glue.py" "$folder"
 
 compile() { # file, object file, more words
     "${CLANG_14:-clang}" --target=wasm64-unknown-unknown -mbulk-memory -msign-ext -std=c99 -O1 -ffreestanding -D_GNU_SOURCE \
-        -Dmain=main_of_test -isystem "$here" "${@:3}" -c "$1" -o "$2"
+        -DMODULE_ALONE -Dmain=main_of_test -isystem "$here" "${@:3}" -c "$1" -o "$2"
 }
 # The memory is the module's: what is here lies behind what is there.
 link_test() { # name, object files
@@ -53,9 +54,9 @@ rm -- "$folder"/*.o
 native=$top/generated/rtp_wire-Linux-$(uname -m).s
 if [ -z "${LIBRARY-}" ] && [ -e "$native" ]; then LIBRARY=$native; fi
 if [ ${#digest[@]} -ne 0 ] && [ -n "${LIBRARY-}" ]; then
-    cc -std=c99 -O1 -D_GNU_SOURCE "${digest[@]}" -c "$top/bindings/test/hostile.c" -D DIGEST_MAIN -o "$folder/main.o"
+    cc -std=c99 -O1 -D_GNU_SOURCE -DMODULE_ALONE "${digest[@]}" -c "$top/bindings/test/hostile.c" -D DIGEST_MAIN -o "$folder/main.o"
     others=$(find "$top/bindings/test" -name 'hostile_*.c')
     # shellcheck disable=SC2086
-    cc -std=c99 -O1 -D_GNU_SOURCE "${digest[@]}" $others "$folder/main.o" "$LIBRARY" -o "$folder/native"
+    cc -std=c99 -O1 -D_GNU_SOURCE -DMODULE_ALONE "${digest[@]}" $others "$folder/main.o" "$LIBRARY" -o "$folder/native"
     rm -- "$folder/main.o"
 fi
